@@ -1,0 +1,5 @@
+-- Laws about the definitions, by subject.
+pub mod Lists
+pub mod Counting
+pub mod Prices
+pub mod Best

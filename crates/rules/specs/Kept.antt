@@ -1,0 +1,53 @@
+-- Document 01, "Best quote and kept time": kept milliseconds and kept time.
+use Prim.Native.Nat.{ℕ}
+use mathlib.Core.List.{List}
+use mathlib.Core.Bool.{Bool, false, _||_}
+use lib.Dec.{leb}
+use lib.IntN.{ℤ, pos, _-ℤ_, _*ℤ_}
+use lib.Signed.{leZ}
+use Rattle.rules.specs.declared.Side.the-variants.{Buy, Sell}
+use Rattle.rules.specs.declared.Quote.{Quote}
+use Rattle.rules.specs.declared.Quote.the-variants.{Absent, At}
+use Rattle.rules.specs.declared.Order.{Order}
+use Rattle.rules.specs.declared.Row.{Row}
+use Rattle.rules.specs.declared.Event.{Event}
+use Rattle.rules.specs.Lists.{keep, count}
+use Rattle.rules.specs.Orders.{timeOf, live}
+use Rattle.rules.specs.Quotes.{best}
+
+-- "D is best ask less best bid, and may be negative."
+abbrev pub gap : ℤ → ℤ → ℤ
+gap bid ask = ask -ℤ bid
+
+-- "D × 100,000 ≤ a × SP or D ≤ b"
+abbrev pub spreadKeeps : ℕ → ℕ → ℤ → ℤ → Bool
+spreadKeeps a b sp d = leZ (d *ℤ pos 100000) (pos a *ℤ sp) || leZ d (pos b)
+
+-- "both quotes exist and" their D is so
+unfoldable pub quotesKeep : ℕ → ℕ → ℤ → Quote → Quote → Bool
+quotesKeep a b sp Absent ask = false
+quotesKeep a b sp (At bid) Absent = false
+quotesKeep a b sp (At bid) (At ask) = spreadKeeps a b sp (gap (bid .0) (ask .0))
+
+-- the best bid and the best ask of live orders, for the row's M
+abbrev pub bestBid : Row → List Order → Quote
+bestBid row orders = best Buy (row .least .0) orders
+
+abbrev pub bestAsk : Row → List Order → Quote
+bestAsk row orders = best Sell (row .least .0) orders
+
+-- the live orders keep the quote
+unfoldable pub ordersKeep : Row → ℤ → List Order → Bool
+ordersKeep row sp orders = quotesKeep (row .a) (row .b) sp (bestBid row orders) (bestAsk row orders)
+
+-- "all accepted events with t at most m"
+unfoldable pub upTo : ℕ → List Event → List Event
+upTo m events = keep (λ (e : Event). leb (timeOf e) m) events
+
+-- "A millisecond m is kept if, after all accepted events with t at most m," the quote is kept
+unfoldable pub keptAt : Row → ℤ → List Event → ℕ → Bool
+keptAt row sp events m = ordersKeep row sp (live (upTo m events))
+
+-- K below a time: "the number of kept m below the present time; after close, below L"
+unfoldable pub keptBelow : Row → ℤ → List Event → ℕ → ℕ
+keptBelow row sp events n = count (keptAt row sp events) n

@@ -1,0 +1,14 @@
+-- The numbers of document 01 that its definitions take from one place, so that the same definitions can be read at other numbers.
+use Prim.Native.Nat.{ℕ}
+
+pub record Terms : Type 0 where
+  -- how many parts of a share make the whole
+  pub whole : ℕ
+  -- the greatest required share p, in those parts
+  pub most-share : ℕ
+  -- the greatest charge A or P, in kopecks
+  pub most-charge : ℕ
+
+-- "p the required share in percent (1 to 79)"; "0 to 1,000,000,000 kopecks each"
+abbrev pub paper : Terms
+paper = record { whole = 100; most-share = 79; most-charge = 1000000000 }

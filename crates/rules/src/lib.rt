@@ -1,0 +1,180 @@
+// The types that the meter's crates hand to each other, and the refusal's number. What they mean is in specs/.
+ghost use mathlib.Core.Path.{_≡_};
+ghost use Rattle.rules.specs.Answers.{numberOf};
+
+// Units: milliseconds, price steps, contracts and kopecks.
+pub struct Millis(pub u32);
+
+pub struct Steps(pub i32);
+
+pub struct Contracts(pub u32);
+
+pub struct Kopecks(pub u64);
+
+pub enum Side {
+    Buy,
+    Sell,
+}
+
+// A best quote on a side.
+pub enum Quote {
+    Absent,
+    At(Steps),
+}
+
+// A live order.
+pub struct Order {
+    pub id: u32,
+    pub side: Side,
+    pub price: Steps,
+    pub volume: Contracts,
+}
+
+// A row of the programme's table: length is L, least M, share p; b counts price steps and is never negative.
+pub struct Row {
+    pub expiry: u32,
+    pub quantum: u32,
+    pub length: Millis,
+    pub least: Contracts,
+    pub a: u32,
+    pub b: u32,
+    pub share: u32,
+}
+
+// A cell of the month: kept is K, length L, share p, active A, passive P.
+pub struct Cell {
+    pub filled: bool,
+    pub kept: Millis,
+    pub length: Millis,
+    pub share: u32,
+    pub active: Kopecks,
+    pub passive: Kopecks,
+}
+
+pub enum Event {
+    Add {
+        t: Millis,
+        id: u32,
+        side: Side,
+        price: Steps,
+        volume: Contracts,
+    },
+    Amend {
+        t: Millis,
+        id: u32,
+        price: Steps,
+        volume: Contracts,
+    },
+    Cancel {
+        t: Millis,
+        id: u32,
+    },
+    Deal {
+        t: Millis,
+        id: u32,
+        volume: Contracts,
+    },
+    Tick {
+        t: Millis,
+    },
+}
+
+// Why a call is refused, in the order of the numbers 1 to 16.
+pub enum Refusal {
+    RowNotSevenWords,
+    RowWordOutOfRange,
+    ArgumentOutOfRange,
+    CellFilled,
+    CellBlank,
+    QuantumOpen,
+    NoQuantumOpen,
+    TimeBackwards,
+    TimePastEnd,
+    IdLive,
+    IdNotLive,
+    PriceOrVolumeOutOfRange,
+    TooManyOrders,
+    DealAboveLeft,
+    BadRecord,
+    BufferShort,
+}
+
+// The answer of a call that shows nothing when it is accepted.
+pub enum Answer {
+    Accepted,
+    Refused(Refusal),
+}
+
+// A filled cell with its verdict and weight.
+pub struct CellView {
+    pub cell: Cell,
+    pub met: bool,
+    pub weight: u32,
+}
+
+// The answer of look.
+pub enum Looked {
+    Found(CellView),
+    Refused(Refusal),
+}
+
+// The answer of report: it is never refused. The six failure counts are those of expiry 1, quantum 0, 1, 2, then expiry 2.
+pub struct Report {
+    pub running: bool,
+    pub time: Millis,
+    pub orders: u32,
+    pub bid: Quote,
+    pub ask: Quote,
+    pub kept: Millis,
+    pub failures: [u32; 6],
+    pub fee: Kopecks,
+}
+
+// A row read from words.
+pub enum RowRead {
+    Read(Row),
+    Refused(Refusal),
+}
+
+// An event read from a record.
+pub enum RecordRead {
+    Read(Event),
+    Refused(Refusal),
+}
+
+// The answer of a session run: K, w and the number of pairs, or a refusal and its place.
+pub enum SessionAnswer {
+    Finished {
+        kept: Millis,
+        weight: u32,
+        pairs: u32,
+    },
+    Refused {
+        refusal: Refusal,
+        place: u32,
+    },
+}
+
+// The refusal's number in document 01.
+pub fn number(refusal: Refusal) -> u32
+    ensures { λ r. ⌜ r ≡ numberOf refusal ⌝ }
+{
+    match refusal {
+        Refusal::RowNotSevenWords => 1,
+        Refusal::RowWordOutOfRange => 2,
+        Refusal::ArgumentOutOfRange => 3,
+        Refusal::CellFilled => 4,
+        Refusal::CellBlank => 5,
+        Refusal::QuantumOpen => 6,
+        Refusal::NoQuantumOpen => 7,
+        Refusal::TimeBackwards => 8,
+        Refusal::TimePastEnd => 9,
+        Refusal::IdLive => 10,
+        Refusal::IdNotLive => 11,
+        Refusal::PriceOrVolumeOutOfRange => 12,
+        Refusal::TooManyOrders => 13,
+        Refusal::DealAboveLeft => 14,
+        Refusal::BadRecord => 15,
+        Refusal::BufferShort => 16,
+    }
+}
