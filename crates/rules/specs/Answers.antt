@@ -1,6 +1,6 @@
 -- Document 01, "Refused calls": the numbers, and what each answer shows: its number and values, case by case. That two different
 -- answers never show the same is in proofs/Answers.
-use Prim.Native.Nat.{ℕ}
+use Prim.Native.Nat.{ℕ, zero, suc}
 use Rattle.rules.specs.declared.Row.{Row}
 use Rattle.rules.specs.declared.Event.{Event}
 use Rattle.rules.specs.declared.Millis.{Millis}
@@ -49,6 +49,11 @@ numberOf BufferShort = 16
 pub data Outcome (A : Type 0) : Type 0 where
   accepted : A → Outcome A
   refused : ℕ → Outcome A
+
+-- refused by the number, or accepted with the values where it is 0
+abbrev pub outcomeBy : {A : Type 0} → ℕ → A → Outcome A
+outcomeBy zero values = accepted values
+outcomeBy (suc n) values = refused (suc n)
 
 -- what an accepted call of the month shows
 pub data Reply : Type 0 where

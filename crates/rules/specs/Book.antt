@@ -22,7 +22,7 @@ use Rattle.rules.specs.Cells.{blankCells, blankCell, goodCell, placeOf, 
 use Rattle.rules.specs.Orders.{isLive, left, live, timeOf, present}
 use Rattle.rules.specs.Kept.{bestBid, bestAsk, keptBelow}
 use Rattle.rules.specs.Pay.{viewOf, allFailures, fee}
-use Rattle.rules.specs.Answers.{Outcome, accepted, refused, Reply, done, cell, report}
+use Rattle.rules.specs.Answers.{Outcome, outcomeBy, Reply, done, cell, report}
 
 -- The calls, "each by its name and its arguments other than the month". Send is add, amend, cancel, deal or tick: an event.
 pub data Call : Type 0 where
@@ -105,6 +105,10 @@ module _ (terms : Terms) where
   -- 1 row not seven words; 2 a word outside its range
   abbrev pub rowCauses : List ℕ → List Cause
   rowCauses words = cause 1 (not (eqb (length words) 7)) ∷ cause 2 (not (goodRow terms (rowOf words))) ∷ []
+
+  -- a row read from words: the row, or 1 or 2
+  unfoldable pub readRow : List ℕ → Outcome Row
+  readRow words = outcomeBy (lowest (rowCauses words)) (rowOf words)
 
   abbrev pub goodCharges : Kopecks → Kopecks → Bool
   goodCharges active passive = goodCharge terms (active .0) && goodCharge terms (passive .0)
@@ -235,12 +239,8 @@ module _ (terms : Terms) where
   replyOf b Report = report (reportOf b)
 
   -- "the call is refused by the lowest number and the book stays as it is; else the call is accepted"
-  abbrev pub answerBy : ℕ → Book → Call → Outcome Reply
-  answerBy zero b c = accepted (replyOf b c)
-  answerBy (suc n) b c = refused (suc n)
-
   unfoldable pub answerOf : Book → Call → Outcome Reply
-  answerOf b c = answerBy (refusalOf terms b c) b c
+  answerOf b c = outcomeBy (refusalOf terms b c) (replyOf b c)
 
   abbrev pub stepBy : ℕ → Book → Call → Book
   stepBy zero b c = changed b c

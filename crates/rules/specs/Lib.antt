@@ -14,3 +14,4 @@ pub mod Book
 pub mod Choosing
 pub mod Records
 pub mod Session
+pub mod Bounds
