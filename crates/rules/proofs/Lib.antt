@@ -3,3 +3,4 @@ pub mod Lists
 pub mod Counting
 pub mod Prices
 pub mod Best
+pub mod Stretches

@@ -8,6 +8,7 @@ pub mod Orders
 pub mod Quotes
 pub mod Kept
 pub mod Stretches
+pub mod Runs
 pub mod Pay
 pub mod Answers
 pub mod Book
