@@ -4,3 +4,5 @@ pub mod Counting
 pub mod Prices
 pub mod Best
 pub mod Stretches
+pub mod Checks
+pub mod Answers

@@ -16,3 +16,4 @@ pub mod Choosing
 pub mod Records
 pub mod Session
 pub mod Bounds
+pub mod Checks

@@ -1,0 +1,159 @@
+-- Document 01, "Checks on paper": C1 to C12 and the unmarked ones, each with what the definitions give and what the paper prints. That
+-- the two agree is proved once, over the list, in proofs/Checks.
+use Prim.Native.Nat.{ℕ, _+_}
+use mathlib.Core.List.{List, [], _∷_, _++_, map}
+use mathlib.Core.Bool.{Bool, true, false}
+use lib.IntN.{ℤ, pos, negℤ}
+use lib.ListN.{set}
+use Rattle.rules.specs.declared.Side.{Side}
+use Rattle.rules.specs.declared.Side.the-variants.{Buy, Sell}
+use Rattle.rules.specs.declared.Quote.{Quote}
+use Rattle.rules.specs.declared.Quote.the-variants.{At}
+use Rattle.rules.specs.declared.Row.{Row}
+use Rattle.rules.specs.declared.Cell.{Cell}
+use Rattle.rules.specs.declared.Event.{Event}
+use Rattle.rules.specs.declared.Event.the-variants.{Add, Cancel}
+use Rattle.rules.specs.Lists.{below}
+use Rattle.rules.specs.Terms.{paper}
+use Rattle.rules.specs.Units.{millis, steps, contracts, kopecks}
+use Rattle.rules.specs.Cells.{blankCells, placeOf}
+use Rattle.rules.specs.Orders.{live}
+use Rattle.rules.specs.Kept.{quotesKeep, bestBid, keptBelow}
+use Rattle.rules.specs.Pay.{weight, fee}
+use Rattle.rules.specs.Records.{recordOf}
+use Rattle.rules.specs.Session.{Session, session, sheetLimit}
+
+pub data Name : Type 0 where
+  C1 C2 C3 C4 C5 C6 C7 C8 C9 C10 C11 C12 fifteenFailed sixteenFailed eventAtEnd negativePrice : Name
+
+pub data Value : Type 0 where
+  quote : Quote → Value
+  keeps : Bool → Value
+  number : ℕ → Value
+
+pub record Check : Type 0 where
+  pub name : Name
+  pub found : List Value
+  pub printed : List Value
+
+abbrev check : Name → List Value → List Value → Check
+check name found printed = record { name = name; found = found; printed = printed }
+
+-- M 500, a 100, b 1, p 60, in a quantum of a second
+abbrev row : Row
+row =
+    record {
+      expiry = 1;
+      quantum = 1;
+      length = millis 1000;
+      least = contracts 500;
+      a = 100;
+      b = 1;
+      share = 60;
+    }
+
+abbrev add : ℕ → Side → ℕ → ℕ → Event
+add id side price volume = Add (millis 0) id side (steps (pos price)) (contracts volume)
+
+-- C1 to C3
+abbrev bid : List Event → Value
+bid events = quote (bestBid row (live events))
+
+abbrev at : ℕ → Value
+at price = quote (At (steps (pos price)))
+
+abbrev first : Event
+first = add 1 Buy 100 300
+
+abbrev second : Event
+second = add 2 Buy 99 200
+
+abbrev third : Event
+third = add 3 Buy 98 400
+
+-- C4 and C5: a 100, b 1, a bid of 100 and an ask D above it
+abbrev kept : ℤ → ℕ → Value
+kept sp d = keeps (quotesKeep 100 1 sp (At (steps (pos 100))) (At (steps (pos (100 + d)))))
+
+-- C6 to C10: p 60, L 31,500,000
+abbrev weighed : ℕ → Value
+weighed k = number (weight paper k 31500000 60)
+
+-- C11 and C12: one filled cell alone
+abbrev filled : ℕ → ℕ → ℕ → Cell
+filled k active passive =
+    record {
+      filled = true;
+      kept = millis k;
+      length = millis 31500000;
+      share = 60;
+      active = kopecks active;
+      passive = kopecks passive;
+    }
+
+abbrev paying : Cell
+paying = filled 22050000 10000 20000
+
+abbrev alone : Cell → List Cell
+alone c = set blankCells (placeOf 31 2 2) c
+
+-- failed cells on the first n days of a series, over other cells
+unfoldable pub failing : List ℕ → List Cell → List Cell
+failing [] cells = cells
+failing (d ∷ ds) cells = set (failing ds cells) (placeOf (d + 1) 1 0) (filled 0 0 0)
+
+-- a quote that is kept from the start, and a cancel at t = L
+abbrev quoting : List Event
+quoting = add 1 Buy 99 500 ∷ add 2 Sell 101 500 ∷ []
+
+abbrev quotingToTheEnd : List Event
+quotingToTheEnd = add 1 Buy 99 500 ∷ add 2 Sell 101 500 ∷ Cancel (millis 1000) 2 ∷ []
+
+abbrev keptIn : List Event → Value
+keptIn events = number (keptBelow row (pos 2000) events 1000)
+
+abbrev pub checks : List Check
+checks =
+    check C1 (bid (first ∷ second ∷ []) ∷ []) (at 99 ∷ [])
+    ∷ check C2 (bid (first ∷ second ∷ third ∷ []) ∷ []) (at 99 ∷ [])
+    ∷ check C3 (bid (first ∷ second ∷ third ∷ Cancel (millis 0) 1 ∷ []) ∷ []) (at 98 ∷ [])
+    ∷ check C4 (kept (pos 2000) 2 ∷ kept (pos 2000) 3 ∷ []) (keeps true ∷ keeps false ∷ [])
+    ∷ check C5 (kept (pos 1999) 2 ∷ kept (pos 1999) 1 ∷ []) (keeps false ∷ keeps true ∷ [])
+    ∷ check C6 (weighed 18899999 ∷ []) (number 0 ∷ [])
+    ∷ check C7 (weighed 18900000 ∷ []) (number 10000 ∷ [])
+    ∷ check C8 (weighed 22050000 ∷ []) (number 10312 ∷ [])
+    ∷ check C9 (weighed 25199999 ∷ []) (number 19752 ∷ [])
+    ∷ check C10 (weighed 25200000 ∷ []) (number 20000 ∷ [])
+    ∷ check C11 (number (fee paper (alone paying)) ∷ []) (number 10312 ∷ [])
+    ∷ check C12 (number (fee paper (alone (filled 25200000 1000000000 1000000000))) ∷ []) (number 120000000 ∷ [])
+    ∷ check fifteenFailed (number (fee paper (failing (below 15) (alone paying))) ∷ []) (number 10312 ∷ [])
+    ∷ check sixteenFailed (number (fee paper (failing (below 16) (alone paying))) ∷ []) (number 0 ∷ [])
+    ∷ check eventAtEnd (keptIn quoting ∷ keptIn quotingToTheEnd ∷ []) (number 1000 ∷ number 1000 ∷ [])
+    ∷ check negativePrice (kept (negℤ (pos 5)) 1 ∷ kept (negℤ (pos 5)) 2 ∷ []) (keeps true ∷ keeps false ∷ [])
+    ∷ []
+
+-- the session that "Event records and the session run" prints: its row, its SP and its events
+abbrev pub sheetWords : List ℕ
+sheetWords = 1 ∷ 1 ∷ 10000 ∷ 500 ∷ 100 ∷ 1 ∷ 60 ∷ []
+
+abbrev pub sheetEvents : List Event
+sheetEvents =
+    add 1 Buy 99 500
+    ∷ add 2 Sell 101 500
+    ∷ Cancel (millis 4000) 2
+    ∷ Add (millis 4000) 3 Sell (steps (pos 101)) (contracts 500)
+    ∷ Cancel (millis 6000) 1
+    ∷ []
+
+abbrev pub recordsOfAll : List Event → List ℕ
+recordsOfAll [] = []
+recordsOfAll (e ∷ es) = recordOf e ++ recordsOfAll es
+
+abbrev pub sheetSession : Session
+sheetSession = session paper sheetLimit sheetWords (steps (pos 2000)) (recordsOfAll sheetEvents)
+
+abbrev pub allFound : List Check → List (List Value)
+allFound cs = map (λ (c : Check). c .found) cs
+
+abbrev pub allPrinted : List Check → List (List Value)
+allPrinted cs = map (λ (c : Check). c .printed) cs
