@@ -6,3 +6,6 @@ pub mod Best
 pub mod Stretches
 pub mod Checks
 pub mod Answers
+pub mod Members
+pub mod Orders
+pub mod Kept

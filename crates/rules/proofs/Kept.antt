@@ -1,0 +1,111 @@
+-- Laws of kept time: events at or before a millisecond are all seen at it, a later one is not. Assumes nothing.
+use Prim.Native.Nat.{ℕ, _+_, _-_, _≤_, _<_}
+use native.Mathlib.Omega.{arith}
+use mathlib.Core.Path.{_≡_, refl, ap, _∙_}
+use mathlib.Core.List.{List, [], _∷_, _++_}
+use lib.Dec.{leb}
+use lib.IntN.{ℤ}
+use borrow.Author.Tests.{le-leb, lt-leb}
+use Rattle.rules.specs.declared.Row.{Row}
+use Rattle.rules.specs.declared.Event.{Event}
+use Rattle.rules.specs.Lists.{if_then_else_, keep, count}
+use Rattle.rules.specs.Orders.{live, timeOf, timeFrom, present}
+use Rattle.rules.specs.Kept.{ordersKeep, upTo, keptAt, keptBelow}
+use Rattle.rules.specs.Bounds.{Ordered}
+use Rattle.rules.proofs.Counting.{count-ext, count-stretch, count-le}
+use Rattle.rules.proofs.Orders.{present-snoc}
+
+-- ---- times never backwards
+
+-- no event is later than m
+abbrev pub Before : ℕ → List Event → Type 0
+Before m [] = Unit
+Before m (e ∷ es) = (timeOf e ≤ m) × Before m es
+
+pub before-later : (m n : ℕ) (es : List Event) → m ≤ n → Before m es → Before n es
+before-later m n [] h b = tt
+before-later m n (e ∷ es) h b = (omega (arith, b .0), before-later m n es h (b .1))
+
+from-le : (t : ℕ) (es : List Event) → Ordered t es → t ≤ timeFrom t es
+unfolding timeFrom
+from-le t [] o = omega arith
+from-le t (e ∷ es) o = omega (arith, o .0, from-le (timeOf e) es (o .1))
+
+from-before : (t : ℕ) (es : List Event) → Ordered t es → Before (timeFrom t es) es
+unfolding timeFrom
+from-before t [] o = tt
+from-before t (e ∷ es) o = (from-le (timeOf e) es (o .1), from-before (timeOf e) es (o .1))
+
+-- every event's time is at most the present
+pub ordered-before : (es : List Event) → Ordered 0 es → Before (present es) es
+unfolding present
+ordered-before es o = from-before 0 es o
+
+from-snoc : (t : ℕ) (es : List Event) (e : Event) → Ordered t es → timeFrom t es ≤ timeOf e → Ordered t (es ++ (e ∷ []))
+unfolding timeFrom
+from-snoc t [] e o h = (h, tt)
+from-snoc t (d ∷ es) e o h = (o .0, from-snoc (timeOf d) es e (o .1) h)
+
+pub ordered-snoc : (es : List Event) (e : Event) → Ordered 0 es → present es ≤ timeOf e → Ordered 0 (es ++ (e ∷ []))
+unfolding present
+ordered-snoc es e o h = from-snoc 0 es e o h
+
+from-init : (t : ℕ) (es : List Event) (e : Event) → Ordered t (es ++ (e ∷ [])) → Ordered t es × (timeFrom t es ≤ timeOf e)
+unfolding timeFrom
+from-init t [] e o = (tt, o .0)
+from-init t (d ∷ es) e o = let (a, b) = from-init (timeOf d) es e (o .1) in ((o .0, a), b)
+
+pub ordered-init : (es : List Event) (e : Event) → Ordered 0 (es ++ (e ∷ [])) → Ordered 0 es × (present es ≤ timeOf e)
+unfolding present
+ordered-init es e o = from-init 0 es e o
+
+-- ---- the events seen at m
+
+-- all of them, where none is later
+pub upTo-all : (m : ℕ) (es : List Event) → Before m es → upTo m es ≡ es
+unfolding upTo keep
+upTo-all m [] b = refl
+upTo-all m (e ∷ es) b = rw (le-leb (timeOf e) m (b .0)) (ap (λ (l : List Event). e ∷ l) (upTo-all m es (b .1)))
+
+-- not a later one
+pub upTo-snoc : (m : ℕ) (es : List Event) (e : Event) → m < timeOf e → upTo m (es ++ (e ∷ [])) ≡ upTo m es
+unfolding upTo keep
+upTo-snoc m [] e h = rw (lt-leb (timeOf e) m h) refl
+upTo-snoc m (d ∷ es) e h = ap (λ (l : List Event). if leb (timeOf d) m then d ∷ l else l) (upTo-snoc m es e h)
+
+-- ---- kept time
+
+module _ (row : Row) (sp : ℤ) (es : List Event) where
+  -- from the present on, a millisecond is kept if the live orders of now keep the quote
+  pub keptAt-now : Ordered 0 es → (m : ℕ) → present es ≤ m → keptAt row sp es m ≡ ordersKeep row sp (live es)
+  unfolding keptAt
+  keptAt-now o m h =
+      ap (λ (l : List Event). ordersKeep row sp (live l)) (upTo-all m es (before-later (present es) m es h (ordered-before es o)))
+
+  pub kept-onward : Ordered 0 es → (t : ℕ) → present es ≤ t
+      → keptBelow row sp es t ≡ keptBelow row sp es (present es) + (if ordersKeep row sp (live es) then t - present es else 0)
+  unfolding keptBelow
+  kept-onward o t h =
+      let to : t ≡ present es + (t - present es) = omega arith in
+      ap (count (keptAt row sp es)) to
+      ∙ count-stretch (keptAt row sp es) (present es) (t - present es) (ordersKeep row sp (live es)) (λ m l u. keptAt-now o m l)
+
+  -- an event changes nothing below its own time
+  pub keptAt-snoc : (e : Event) (m : ℕ) → m < timeOf e → keptAt row sp (es ++ (e ∷ [])) m ≡ keptAt row sp es m
+  unfolding keptAt
+  keptAt-snoc e m h = ap (λ (l : List Event). ordersKeep row sp (live l)) (upTo-snoc m es e h)
+
+  pub kept-snoc : (e : Event) (n : ℕ) → n ≤ timeOf e → keptBelow row sp (es ++ (e ∷ [])) n ≡ keptBelow row sp es n
+  unfolding keptBelow
+  kept-snoc e n h =
+      count-ext (keptAt row sp (es ++ (e ∷ []))) (keptAt row sp es) n (λ m l. keptAt-snoc e m (omega arith))
+
+  pub kept-le : (n : ℕ) → keptBelow row sp es n ≤ n
+  unfolding keptBelow
+  kept-le n = count-le (keptAt row sp es) n
+
+  -- kept so far, one event further
+  pub kept-more : Ordered 0 es → (e : Event) → present es ≤ timeOf e
+      → keptBelow row sp (es ++ (e ∷ [])) (present (es ++ (e ∷ [])))
+      ≡ keptBelow row sp es (present es) + (if ordersKeep row sp (live es) then timeOf e - present es else 0)
+  kept-more o e h = ap (keptBelow row sp (es ++ (e ∷ []))) (present-snoc es e) ∙ kept-snoc e (timeOf e) (omega arith) ∙ kept-onward o (timeOf e) h
