@@ -9,3 +9,4 @@ pub mod Answers
 pub mod Members
 pub mod Orders
 pub mod Kept
+pub mod Refusals

@@ -6,7 +6,7 @@ use mathlib.Core.Path.{_≡_, refl, sym, ap, _∙_}
 use mathlib.Core.Logic.{_⊎_, inl, inr}
 use mathlib.Core.List.{List, [], _∷_, _++_, map, List·Memᴰ, List·Memᴰ·head, List·Memᴰ·tail, List·Memᴰ·not-nil}
 use mathlib.Core.Bool.{Bool, true, false, true≢false, false≢true, _||_}
-use lib.ListN.{length, getD, set}
+use lib.ListN.{length, getD, set, replicate}
 use Rattle.rules.specs.Lists.{if_then_else_, keep, any}
 use Rattle.rules.proofs.Lists.{kept-in}
 
@@ -100,3 +100,8 @@ module _ {A : Type 0} where
       go : (x ≡ a) ⊎ List·Memᴰ x ys → (x ≡ a) ⊎ List·Memᴰ x (y ∷ ys)
       go (inl e) = inl e
       go (inr m) = inr (List·Memᴰ·tail m)
+
+  pub in-replicate : (n : ℕ) (a : A) {x : A} → List·Memᴰ x (replicate n a) → x ≡ a
+  in-replicate zero a m = absurd (List·Memᴰ·not-nil m)
+  in-replicate (suc n) a (List·Memᴰ·head q) = q
+  in-replicate (suc n) a (List·Memᴰ·tail m) = in-replicate n a m

@@ -1,0 +1,296 @@
+-- Laws of `lowest`; what an accepted event or call has passed, cause by cause, and that what has passed is accepted; the book's step and
+-- answer by the refusal. Assumes nothing.
+use Prim.Native.Nat.{ℕ, suc, _≤_, _<_}
+use native.Mathlib.Omega.{arith}
+use mathlib.Core.Path.{_≡_, refl, ap}
+use mathlib.Core.List.{List, [], _∷_, _++_}
+use mathlib.Core.Bool.{Bool, true, false, true≢false, not, _&&_}
+use lib.Dec.{leb, eqb}
+use lib.ListN.{length}
+use borrow.Author.Tests.{ltb-false, le-ltb, leb-true, leb-false, lt-leb, eqb-true, eq-eqb, not-false}
+use Rattle.rules.specs.declared.Steps.{Steps}
+use Rattle.rules.specs.declared.Contracts.{Contracts}
+use Rattle.rules.specs.declared.Kopecks.{Kopecks}
+use Rattle.rules.specs.declared.Order.{Order}
+use Rattle.rules.specs.declared.Row.{Row}
+use Rattle.rules.specs.declared.Event.{Event}
+use Rattle.rules.specs.declared.Event.the-variants.{Add, Amend, Cancel, Deal, Tick}
+use Rattle.rules.specs.Lists.{within}
+use Rattle.rules.specs.Terms.{Terms}
+use Rattle.rules.specs.Units.{goodPrice, goodVolume, goodCharge}
+use Rattle.rules.specs.Rows.{rowOf, goodRow}
+use Rattle.rules.specs.Cells.{goodCell, placeOf, cellAt}
+use Rattle.rules.specs.Orders.{isLive, left, live, timeOf, present}
+use Rattle.rules.specs.Answers.{accepted, refused, outcomeBy}
+use Rattle.rules.specs.Book.{Call, Open, Send, Close, Drop, Charge, Withdraw, Look, Report, Running, Idle, Quoting, Book, isOpen, Cause, cause, lowest, traderCauses, eventCauses, eventRefusal, sendCauses, goodCharges, causes, refusalOf, changed, replyOf, answerOf, stepBy, step}
+use Rattle.rules.proofs.Lists.{both, and}
+
+-- ---- the lowest number
+
+-- cause by cause: `skip _ _ e (skip _ _ f (stop _ _ g))` is a refusal by the third
+pub skip : (n : ℕ) {b : Bool} (cs : List Cause) {m : ℕ} → b ≡ false → lowest cs ≡ m → lowest (cause n b ∷ cs) ≡ m
+unfolding lowest
+skip n cs e h = rw e h
+
+pub stop : (n : ℕ) {b : Bool} (cs : List Cause) → b ≡ true → lowest (cause n b ∷ cs) ≡ n
+unfolding lowest
+stop n cs e = rw e refl
+
+pub clear : lowest [] ≡ 0
+unfolding lowest
+clear = refl
+
+-- no number: the first cause does not apply, nor do the others
+pub passed : (n : ℕ) (b : Bool) (cs : List Cause) → lowest (cause (suc n) b ∷ cs) ≡ 0 → (b ≡ false) × (lowest cs ≡ 0)
+unfolding lowest
+passed n true cs h = absurd (omega arith)
+passed n false cs h = (refl, h)
+
+-- for a list not written out
+abbrev pub NoneApplies : List Cause → Type 0
+NoneApplies [] = Unit
+NoneApplies (c ∷ cs) = (c .applies ≡ false) × NoneApplies cs
+
+pub lowest-after : (cs ds : List Cause) → NoneApplies cs → lowest (cs ++ ds) ≡ lowest ds
+lowest-after [] ds h = refl
+lowest-after (c ∷ cs) ds h = skip (c .number) (cs ++ ds) (h .0) (lowest-after cs ds (h .1))
+
+pub lowest-at : (cs : List Cause) (n : ℕ) (b : Bool) (ds : List Cause) → NoneApplies cs → b ≡ true → lowest (cs ++ (cause n b ∷ ds)) ≡ n
+lowest-at cs n b ds h e = rw (lowest-after cs (cause n b ∷ ds) h) (stop n ds e)
+
+-- ---- tests
+
+pub within-parts : (low high n : ℕ) → within low high n ≡ true → (low ≤ n) × (n ≤ high)
+within-parts low high n e =
+    let (a, b) = both (leb low n) (leb n high) e in
+    (leb-true low n a, leb-true n high b)
+
+-- the cause "not both" does not apply: both are so
+not-both : (a b : Bool) → not (a && b) ≡ false → (a ≡ true) × (b ≡ true)
+not-both a b e = both a b (not-false (a && b) e)
+
+both-not : {a b : Bool} → a ≡ true → b ≡ true → not (a && b) ≡ false
+both-not e f = ap not (and e f)
+
+-- ---- what an accepted event has passed
+
+pub record Addable (orders : List Order) (id : ℕ) (price : Steps) (volume : Contracts) : Type 0 where
+  pub fresh : isLive id orders ≡ false
+  pub price-good : goodPrice (price .0) ≡ true
+  pub volume-good : goodVolume (volume .0) ≡ true
+  pub room : length orders < 64
+
+pub record Amendable (orders : List Order) (id : ℕ) (price : Steps) (volume : Contracts) : Type 0 where
+  pub known : isLive id orders ≡ true
+  pub price-good : goodPrice (price .0) ≡ true
+  pub volume-good : goodVolume (volume .0) ≡ true
+
+pub record Cancellable (orders : List Order) (id : ℕ) : Type 0 where
+  pub known : isLive id orders ≡ true
+
+pub record Dealable (orders : List Order) (id : ℕ) (volume : Contracts) : Type 0 where
+  pub known : isLive id orders ≡ true
+  pub volume-good : goodVolume (volume .0) ≡ true
+  pub enough : volume .0 ≤ left id orders
+
+abbrev pub TraderPasses : List Order → Event → Type 0
+TraderPasses orders (Add t id side price volume) = Addable orders id price volume
+TraderPasses orders (Amend t id price volume) = Amendable orders id price volume
+TraderPasses orders (Cancel t id) = Cancellable orders id
+TraderPasses orders (Deal t id volume) = Dealable orders id volume
+TraderPasses orders (Tick t) = Unit
+
+pub trader-passes : (orders : List Order) (e : Event) → lowest (traderCauses orders e) ≡ 0 → TraderPasses orders e
+trader-passes orders (Add t id side price volume) h =
+    let a = passed 9 _ _ h in
+    let b = passed 11 _ _ (a .1) in
+    let c = passed 12 _ _ (b .1) in
+    let (p, v) = not-both (goodPrice (price .0)) (goodVolume (volume .0)) (b .0) in
+    record { fresh = a .0; price-good = p; volume-good = v; room = leb-false 64 (length orders) (c .0) }
+trader-passes orders (Amend t id price volume) h =
+    let a = passed 10 _ _ h in
+    let b = passed 11 _ _ (a .1) in
+    let (p, v) = not-both (goodPrice (price .0)) (goodVolume (volume .0)) (b .0) in
+    record { known = not-false (isLive id orders) (a .0); price-good = p; volume-good = v }
+trader-passes orders (Cancel t id) h = let a = passed 10 _ _ h in record { known = not-false (isLive id orders) (a .0) }
+trader-passes orders (Deal t id volume) h =
+    let a = passed 10 _ _ h in
+    let b = passed 11 _ _ (a .1) in
+    let c = passed 13 _ _ (b .1) in
+    record {
+      known = not-false (isLive id orders) (a .0);
+      volume-good = not-false (goodVolume (volume .0)) (b .0);
+      enough = ltb-false (left id orders) (volume .0) (c .0);
+    }
+trader-passes orders (Tick t) h = tt
+
+pub passes-trader : (orders : List Order) (e : Event) → TraderPasses orders e → lowest (traderCauses orders e) ≡ 0
+passes-trader orders (Add t id side price volume) p =
+    skip _ _ (p .fresh) (skip _ _ (both-not (p .price-good) (p .volume-good)) (skip _ _ (lt-leb 64 (length orders) (p .room)) clear))
+passes-trader orders (Amend t id price volume) p =
+    skip _ _ (ap not (p .known)) (skip _ _ (both-not (p .price-good) (p .volume-good)) clear)
+passes-trader orders (Cancel t id) p = skip _ _ (ap not (p .known)) clear
+passes-trader orders (Deal t id volume) p =
+    skip _ _ (ap not (p .known)) (skip _ _ (ap not (p .volume-good)) (skip _ _ (le-ltb (left id orders) (volume .0) (p .enough)) clear))
+passes-trader orders (Tick t) p = clear
+
+pub record EventPasses (row : Row) (events : List Event) (e : Event) : Type 0 where
+  pub onward : present events ≤ timeOf e
+  pub inside : timeOf e ≤ row .length .0
+  pub trader : TraderPasses (live events) e
+
+pub event-passes : (row : Row) (events : List Event) (e : Event) → eventRefusal row events e ≡ 0 → EventPasses row events e
+unfolding eventRefusal eventCauses
+event-passes row events e h =
+    let a = passed 7 _ _ h in
+    let b = passed 8 _ _ (a .1) in
+    record {
+      onward = ltb-false (timeOf e) (present events) (a .0);
+      inside = ltb-false (row .length .0) (timeOf e) (b .0);
+      trader = trader-passes (live events) e (b .1);
+    }
+
+pub passes-event : (row : Row) (events : List Event) (e : Event) → EventPasses row events e → eventRefusal row events e ≡ 0
+unfolding eventRefusal eventCauses
+passes-event row events e p =
+    skip _ _ (le-ltb (timeOf e) (present events) (p .onward))
+    (skip _ _ (le-ltb (row .length .0) (timeOf e) (p .inside)) (passes-trader (live events) e (p .trader)))
+
+-- ---- what an accepted call has passed
+
+pub record OpenPasses (terms : Terms) (b : Book) (words : List ℕ) (day : ℕ) (sp : Steps) : Type 0 where
+  pub seven : length words ≡ 7
+  pub row-good : goodRow terms (rowOf words) ≡ true
+  pub day-good : within 1 31 day ≡ true
+  pub price-good : goodPrice (sp .0) ≡ true
+  pub blank : cellAt (b .cells) (placeOf day (rowOf words .expiry) (rowOf words .quantum)) .filled ≡ false
+  pub idle : isOpen (b .running) ≡ false
+
+abbrev pub SendPasses : Running → Event → Type 0
+SendPasses Idle e = ⊥
+SendPasses (Quoting place row sp events) e = EventPasses row events e
+
+pub record ClosePasses (terms : Terms) (b : Book) (active passive : Kopecks) : Type 0 where
+  pub active-good : goodCharge terms (active .0) ≡ true
+  pub passive-good : goodCharge terms (passive .0) ≡ true
+  pub quoting : isOpen (b .running) ≡ true
+
+pub record DropPasses (b : Book) : Type 0 where
+  pub quoting : isOpen (b .running) ≡ true
+
+-- withdraw and look
+pub record CellPasses (b : Book) (day expiry quantum : ℕ) : Type 0 where
+  pub cell-good : goodCell day expiry quantum ≡ true
+  pub filled : cellAt (b .cells) (placeOf day expiry quantum) .filled ≡ true
+
+pub record ChargePasses (terms : Terms) (b : Book) (day expiry quantum : ℕ) (active passive : Kopecks) : Type 0 where
+  pub cell-good : goodCell day expiry quantum ≡ true
+  pub active-good : goodCharge terms (active .0) ≡ true
+  pub passive-good : goodCharge terms (passive .0) ≡ true
+  pub filled : cellAt (b .cells) (placeOf day expiry quantum) .filled ≡ true
+
+send-passes : (r : Running) (e : Event) → lowest (sendCauses r e) ≡ 0 → SendPasses r e
+unfolding eventRefusal
+send-passes Idle e h = absurd (true≢false (passed 6 true [] h .0))
+send-passes (Quoting place row sp events) e h = event-passes row events e h
+
+passes-send : (r : Running) (e : Event) → SendPasses r e → lowest (sendCauses r e) ≡ 0
+unfolding eventRefusal
+passes-send Idle e p = absurd p
+passes-send (Quoting place row sp events) e p = passes-event row events e p
+
+module _ (terms : Terms) where
+  abbrev pub CallPasses : Book → Call → Type 0
+  CallPasses b (Open words day sp) = OpenPasses terms b words day sp
+  CallPasses b (Send e) = SendPasses (b .running) e
+  CallPasses b (Close active passive) = ClosePasses terms b active passive
+  CallPasses b Drop = DropPasses b
+  CallPasses b (Charge day expiry quantum active passive) = ChargePasses terms b day expiry quantum active passive
+  CallPasses b (Withdraw day expiry quantum) = CellPasses b day expiry quantum
+  CallPasses b (Look day expiry quantum) = CellPasses b day expiry quantum
+  CallPasses b Report = Unit
+
+  pub call-passes : (b : Book) (c : Call) → refusalOf terms b c ≡ 0 → CallPasses b c
+  unfolding refusalOf causes
+  call-passes b (Open words day sp) h =
+      let a1 = passed 0 _ _ h in
+      let a2 = passed 1 _ _ (a1 .1) in
+      let a3 = passed 2 _ _ (a2 .1) in
+      let a4 = passed 3 _ _ (a3 .1) in
+      let a6 = passed 5 _ _ (a4 .1) in
+      let (d, p) = not-both (within 1 31 day) (goodPrice (sp .0)) (a3 .0) in
+      record {
+        seven = eqb-true (length words) 7 (not-false (eqb (length words) 7) (a1 .0));
+        row-good = not-false (goodRow terms (rowOf words)) (a2 .0);
+        day-good = d;
+        price-good = p;
+        blank = a4 .0;
+        idle = a6 .0;
+      }
+  call-passes b (Send e) h = send-passes (b .running) e h
+  call-passes b (Close active passive) h =
+      let a3 = passed 2 _ _ h in
+      let a7 = passed 6 _ _ (a3 .1) in
+      let (a, p) = not-both (goodCharge terms (active .0)) (goodCharge terms (passive .0)) (a3 .0) in
+      record { active-good = a; passive-good = p; quoting = not-false (isOpen (b .running)) (a7 .0) }
+  call-passes b Drop h = let a7 = passed 6 _ _ h in record { quoting = not-false (isOpen (b .running)) (a7 .0) }
+  call-passes b (Charge day expiry quantum active passive) h =
+      let a3 = passed 2 _ _ h in
+      let a5 = passed 4 _ _ (a3 .1) in
+      let (c, g) = not-both (goodCell day expiry quantum) (goodCharges terms active passive) (a3 .0) in
+      let (a, p) = both (goodCharge terms (active .0)) (goodCharge terms (passive .0)) g in
+      record {
+        cell-good = c;
+        active-good = a;
+        passive-good = p;
+        filled = not-false (cellAt (b .cells) (placeOf day expiry quantum) .filled) (a5 .0);
+      }
+  call-passes b (Withdraw day expiry quantum) h =
+      let a3 = passed 2 _ _ h in
+      let a5 = passed 4 _ _ (a3 .1) in
+      record {
+        cell-good = not-false (goodCell day expiry quantum) (a3 .0);
+        filled = not-false (cellAt (b .cells) (placeOf day expiry quantum) .filled) (a5 .0);
+      }
+  call-passes b (Look day expiry quantum) h =
+      let a3 = passed 2 _ _ h in
+      let a5 = passed 4 _ _ (a3 .1) in
+      record {
+        cell-good = not-false (goodCell day expiry quantum) (a3 .0);
+        filled = not-false (cellAt (b .cells) (placeOf day expiry quantum) .filled) (a5 .0);
+      }
+  call-passes b Report h = tt
+
+  pub passes-call : (b : Book) (c : Call) → CallPasses b c → refusalOf terms b c ≡ 0
+  unfolding refusalOf causes
+  passes-call b (Open words day sp) p =
+      skip _ _ (ap not (eq-eqb (length words) 7 (p .seven)))
+      (skip _ _ (ap not (p .row-good)) (skip _ _ (both-not (p .day-good) (p .price-good)) (skip _ _ (p .blank) (skip _ _ (p .idle) clear))))
+  passes-call b (Send e) p = passes-send (b .running) e p
+  passes-call b (Close active passive) p =
+      skip _ _ (both-not (p .active-good) (p .passive-good)) (skip _ _ (ap not (p .quoting)) clear)
+  passes-call b Drop p = skip _ _ (ap not (p .quoting)) clear
+  passes-call b (Charge day expiry quantum active passive) p =
+      skip _ _ (both-not (p .cell-good) (and (p .active-good) (p .passive-good))) (skip _ _ (ap not (p .filled)) clear)
+  passes-call b (Withdraw day expiry quantum) p = skip _ _ (ap not (p .cell-good)) (skip _ _ (ap not (p .filled)) clear)
+  passes-call b (Look day expiry quantum) p = skip _ _ (ap not (p .cell-good)) (skip _ _ (ap not (p .filled)) clear)
+  passes-call b Report p = clear
+
+  -- ---- the book's step and answer, by the refusal
+
+  module _ (b : Book) (c : Call) where
+    pub step-accepted : refusalOf terms b c ≡ 0 → step terms b c ≡ changed b c
+    unfolding step
+    step-accepted h = ap (λ (n : ℕ). stepBy terms n b c) h
+
+    pub step-refused : (n : ℕ) → refusalOf terms b c ≡ suc n → step terms b c ≡ b
+    unfolding step
+    step-refused n h = ap (λ (n : ℕ). stepBy terms n b c) h
+
+    pub answer-accepted : refusalOf terms b c ≡ 0 → answerOf terms b c ≡ accepted (replyOf terms b c)
+    unfolding answerOf
+    answer-accepted h = ap (λ (n : ℕ). outcomeBy n (replyOf terms b c)) h
+
+    pub answer-refused : (n : ℕ) → refusalOf terms b c ≡ suc n → answerOf terms b c ≡ refused (suc n)
+    unfolding answerOf
+    answer-refused n h = ap (λ (n : ℕ). outcomeBy n (replyOf terms b c)) h
