@@ -10,3 +10,4 @@ pub mod Members
 pub mod Orders
 pub mod Kept
 pub mod Refusals
+pub mod Bounds
