@@ -11,3 +11,4 @@ pub mod Orders
 pub mod Kept
 pub mod Refusals
 pub mod Bounds
+pub mod Choosing

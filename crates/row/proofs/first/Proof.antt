@@ -1,0 +1,81 @@
+-- The row that the search found, by the laws of the first that passes. Assumes nothing.
+use Prim.Native.Nat.{ℕ, _+_, _*_, _-_, _/_, _≤_, _<_}
+use mathlib.Core.Path.{_≡_, ap, sym, _∙_}
+use mathlib.Core.List.{List, []}
+use native.Mathlib.Omega.{arith}
+use borrow.Author.Needs.{needs}
+use lib.ListN.{length, take, drop}
+use Rattle.rules.specs.Choosing.{firstRow}
+use Rattle.rules.proofs.Choosing.{row-none, row-at}
+use Rattle.row.specs.Found.{Found}
+use Rattle.row.proofs.first.Statement.{statement}
+use Rattle.row.proofs.first.Tie as tie
+
+module _ (expiry quantum : ℕ) (table : List ℕ) (k : ℕ) (found : Found expiry quantum table k) where
+  there : k < length table / 7 → take (7 * k + 7 - 7 * k) (drop (7 * k) table) ≡ firstRow expiry quantum table
+  there l =
+      let e : 7 * k + 7 - 7 * k ≡ 7 = omega arith in
+      ap (λ (n : ℕ). take n (drop (7 * k) table)) e
+      ∙ sym (row-at expiry quantum table k l (found .none-before) (found .passes l))
+
+  missing : length table / 7 ≤ k → [] ≡ firstRow expiry quantum table
+  missing l = sym (row-none expiry quantum table (λ j m. found .none-before j (omega arith)))
+
+find-requires : tie.Need-find-requires
+find-requires c κs = search needs
+
+mul-from : tie.Need-mul-from
+mul-from c = search needs
+
+add-to : tie.Need-add-to
+add-to c = search needs
+
+mul-result : tie.Need-mul-result
+mul-result c = search needs
+
+sub-result : tie.Need-sub-result
+sub-result c = search needs
+
+part-result-start : tie.Need-part-result-start
+part-result-start c = search needs
+
+part-result-end : tie.Need-part-result-end
+part-result-end c = search needs
+
+returns : tie.Need-returns
+returns c =
+    let a = c .before .before .before .before .args in
+    there (a .expiry) (a .quantum) (a .table .now) (c .before .before .find .result) (c .before .before .find .ensures)
+    (omega arith)
+
+sub-result-2 : tie.Need-sub-result-2
+sub-result-2 c = search needs
+
+part-result-start-2 : tie.Need-part-result-start-2
+part-result-start-2 c = search needs
+
+part-result-end-2 : tie.Need-part-result-end-2
+part-result-end-2 c = search needs
+
+returns-2 : tie.Need-returns-2
+returns-2 c =
+    let a = c .before .before .before .before .args in
+    missing (a .expiry) (a .quantum) (a .table .now) (c .before .before .find .result) (c .before .before .find .ensures)
+    (omega arith)
+
+pub first-spec : {M : Type 1} → statement M
+first-spec =
+    tie.close
+    (tie.spec
+    find-requires
+    mul-from
+    add-to
+    mul-result
+    sub-result
+    part-result-start
+    part-result-end
+    returns
+    sub-result-2
+    part-result-start-2
+    part-result-end-2
+    returns-2)

@@ -1,0 +1,135 @@
+// The row: read from words, and chosen from the two lent tables.
+ghost use mathlib.Core.Path.{_≡_};
+ghost use mathlib.Core.Bool.{_&&_};
+ghost use Prim.Native.Nat.{_+_, _*_, _≤_};
+ghost use lib.Dec.{leb};
+ghost use lib.ListN.{length};
+ghost use Rattle.rules.specs.Lists.{within};
+ghost use Rattle.rules.specs.Terms.{paper};
+ghost use Rattle.rules.specs.Rows.{goodLength, goodRow};
+ghost use Rattle.rules.specs.Answers.{shownRow};
+ghost use Rattle.rules.specs.Book.{readRow};
+ghost use Rattle.rules.specs.Choosing.{rowWords, isFor, firstRow, chosenRow};
+ghost use Rattle.row.specs.Found.{Found};
+use rules::Contracts;
+use rules::Millis;
+use rules::Refusal;
+use rules::Row;
+use rules::RowRead;
+
+fn both(a: bool, b: bool) -> bool
+    ensures { λ r. ⌜ r ≡ a && b ⌝ }
+{
+    if a { b } else { false }
+}
+
+fn at_most(n: u32, high: u32) -> bool
+    ensures { λ r. ⌜ r ≡ leb n high ⌝ }
+{
+    n <= high
+}
+
+fn between(low: u32, high: u32, n: u32) -> bool
+    ensures { λ r. ⌜ r ≡ within low high n ⌝ }
+{
+    both(at_most(low, n), at_most(n, high))
+}
+
+fn is_length(l: u32) -> bool
+    ensures { λ r. ⌜ r ≡ goodLength l ⌝ }
+{
+    both(between(1000, 86400000, l), l % 1000 == 0)
+}
+
+// Whether each word of a row is in its range.
+pub fn is_good(row: Row) -> bool
+    ensures { λ r. ⌜ r ≡ goodRow paper row ⌝ }
+{
+    let length = row.length;
+    let least = row.least;
+    let good = both(between(1, 2, row.expiry), at_most(row.quantum, 2));
+    let good = both(good, is_length(length.0));
+    let good = both(good, between(1, 100000, least.0));
+    let good = both(good, at_most(row.a, 100000));
+    let good = both(good, at_most(row.b, 1000000));
+    both(good, between(1, 79, row.share))
+}
+
+// Reading a row: the row, or refusal 1 or 2.
+pub fn read(words: &[u32]) -> RowRead
+    ensures { λ r. ⌜ shownRow r ≡ readRow paper (now (words .entry)) ⌝ }
+{
+    if words.len() != 7 {
+        return RowRead::Refused(Refusal::RowNotSevenWords);
+    }
+    let row = Row {
+        expiry: words[0],
+        quantum: words[1],
+        length: Millis(words[2]),
+        least: Contracts(words[3]),
+        a: words[4],
+        b: words[5],
+        share: words[6],
+    };
+    if is_good(row) {
+        return RowRead::Read(row);
+    }
+    RowRead::Refused(Refusal::RowWordOutOfRange)
+}
+
+// Whether the row counted k from 0 has that expiry and quantum.
+fn is_for(table: &[u32], k: usize, expiry: u32, quantum: u32) -> bool
+    requires { ⌜ 7 * k + 7 ≤ length (now table) ⌝ }
+    ensures { λ r. ⌜ r ≡ isFor expiry quantum (rowWords (now (table .entry)) k) ⌝ }
+{
+    let at = 7 * k;
+    both(table[at] == expiry, table[at + 1] == quantum)
+}
+
+// The first full row with that expiry and quantum, counted from 0; the number of full rows where there is none.
+fn find(table: &[u32], expiry: u32, quantum: u32) -> usize
+    ensures { λ r. ⌜ Found expiry quantum (now (table .entry)) r ⌝ }
+{
+    let n = table.len() / 7;
+    let mut k = 0;
+    while k < n {
+        if is_for(table, k, expiry, quantum) {
+            return k;
+        }
+        k += 1;
+    }
+    k
+}
+
+// The seven words of that row, or an empty part.
+fn first(table: &[u32], expiry: u32, quantum: u32) -> &[u32]
+    ensures { λ r. ⌜ now r ≡ firstRow expiry quantum (now (table .entry)) ⌝ }
+{
+    let k = find(table, expiry, quantum);
+    if k < table.len() / 7 {
+        let from = 7 * k;
+        let to = from + 7;
+        return &table[from..to];
+    }
+    &table[0..0]
+}
+
+// Choosing the row: seven words of one of two lent tables, or an empty part.
+pub fn choose<'r>(
+    usual: &'r [u32],
+    holiday: &'r [u32],
+    is_holiday: bool,
+    expiry: u32,
+    quantum: u32,
+) -> &'r [u32]
+    ensures { λ r. ⌜ now r ≡ chosenRow «is_holiday» expiry quantum (now (usual .entry)) (now (holiday .entry)) ⌝ }
+{
+    if !is_holiday {
+        return first(usual, expiry, quantum);
+    }
+    let part = first(holiday, expiry, quantum);
+    if part.len() == 0 {
+        return first(usual, expiry, quantum);
+    }
+    part
+}
