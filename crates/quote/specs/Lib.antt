@@ -1,0 +1,2 @@
+-- What the code's spread test compares with.
+pub mod Limit
