@@ -11,29 +11,14 @@ ghost use Rattle.rules.specs.Answers.{shownRow};
 ghost use Rattle.rules.specs.Book.{readRow};
 ghost use Rattle.rules.specs.Choosing.{rowWords, isFor, firstRow, chosenRow};
 ghost use Rattle.row.specs.Found.{Found};
+use ranges::at_most;
+use ranges::between;
+use ranges::both;
 use rules::Contracts;
 use rules::Millis;
 use rules::Refusal;
 use rules::Row;
 use rules::RowRead;
-
-fn both(a: bool, b: bool) -> bool
-    ensures { λ r. ⌜ r ≡ a && b ⌝ }
-{
-    if a { b } else { false }
-}
-
-fn at_most(n: u32, high: u32) -> bool
-    ensures { λ r. ⌜ r ≡ leb n high ⌝ }
-{
-    n <= high
-}
-
-fn between(low: u32, high: u32, n: u32) -> bool
-    ensures { λ r. ⌜ r ≡ within low high n ⌝ }
-{
-    both(at_most(low, n), at_most(n, high))
-}
 
 fn is_length(l: u32) -> bool
     ensures { λ r. ⌜ r ≡ goodLength l ⌝ }

@@ -1,8 +1,8 @@
 -- The two tests of `within`. Assumes nothing.
 use mathlib.Core.Path.{_∙_}
 use borrow.Author.Needs.{needs}
-use Rattle.row.proofs.between.Statement.{statement}
-use Rattle.row.proofs.between.Tie as tie
+use Rattle.ranges.proofs.between.Statement.{statement}
+use Rattle.ranges.proofs.between.Tie as tie
 
 at-most-requires : tie.Need-at-most-requires
 at-most-requires c κs = search needs

@@ -1,0 +1,68 @@
+// The ranges of document 01's numbers, each as a test.
+ghost use mathlib.Core.Path.{_≡_};
+ghost use mathlib.Core.Bool.{_&&_};
+ghost use lib.Dec.{leb};
+ghost use lib.Signed.{leZ};
+ghost use Rattle.rules.specs.Lists.{within};
+ghost use Rattle.rules.specs.Terms.{paper};
+ghost use Rattle.rules.specs.Units.{goodPrice, goodVolume, goodCharge};
+ghost use Rattle.rules.specs.Cells.{goodCell};
+use rules::Contracts;
+use rules::Kopecks;
+use rules::Steps;
+
+// Tests are joined by calls, so that no branches meet.
+pub fn both(a: bool, b: bool) -> bool
+    ensures { λ r. ⌜ r ≡ a && b ⌝ }
+{
+    if a { b } else { false }
+}
+
+pub fn at_most(n: u32, high: u32) -> bool
+    ensures { λ r. ⌜ r ≡ leb n high ⌝ }
+{
+    n <= high
+}
+
+pub fn between(low: u32, high: u32, n: u32) -> bool
+    ensures { λ r. ⌜ r ≡ within low high n ⌝ }
+{
+    both(at_most(low, n), at_most(n, high))
+}
+
+fn price_at_most(p: Steps, q: Steps) -> bool
+    ensures { λ r. ⌜ r ≡ leZ (p .0) (q .0) ⌝ }
+{
+    p.0 <= q.0
+}
+
+// A price, or SP.
+pub fn price(p: Steps) -> bool
+    ensures { λ r. ⌜ r ≡ goodPrice (p .0) ⌝ }
+{
+    both(
+        price_at_most(Steps(-1000000000), p),
+        price_at_most(p, Steps(1000000000)),
+    )
+}
+
+pub fn volume(v: Contracts) -> bool
+    ensures { λ r. ⌜ r ≡ goodVolume (v .0) ⌝ }
+{
+    between(1, 1000000, v.0)
+}
+
+// A or P.
+pub fn charge(k: Kopecks) -> bool
+    ensures { λ r. ⌜ r ≡ goodCharge paper (k .0) ⌝ }
+{
+    k.0 <= 1000000000
+}
+
+// A day, an expiry and a quantum that name a cell.
+pub fn cell(day: u32, expiry: u32, quantum: u32) -> bool
+    ensures { λ r. ⌜ r ≡ goodCell day expiry quantum ⌝ }
+{
+    let named = both(between(1, 31, day), between(1, 2, expiry));
+    both(named, at_most(quantum, 2))
+}
