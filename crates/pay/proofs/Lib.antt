@@ -1,0 +1,3 @@
+-- Laws about numbers and lists that the crate's proofs cite.
+pub mod Weights
+pub mod Series

@@ -1,0 +1,103 @@
+-- The numbers of verdict and weight: what fits, and the bounds of a weight. Assumes nothing.
+use Prim.Native.Nat.{ℕ, zero, suc, _+_, _-_, _*_, _/_, _^_, _≤_, _<_}
+use native.Mathlib.Nat.{mul-assoc, mul-comm, one-mul, mul-le-mul, mul-le-mul-left, pow-le-pow-left, pow-suc, pow-zero, one-le-pow, div-le-of-le-mul, le-div-iff-mul-le}
+use native.Mathlib.Omega.{arith}
+use mathlib.Core.Path.{_≡_, refl, sym, ap, _∙_}
+use mathlib.Core.Bool.{Bool, true, false}
+use borrow.Author.Tests.{leb-true, leb-false, le-leb, lt-leb}
+use lib.Dec.{leb}
+use Rattle.rules.specs.Lists.{if_then_else_}
+use Rattle.rules.specs.Terms.{paper}
+use Rattle.rules.specs.Pay.{thousandths, met, weightMet, weight}
+
+-- two 32-bit numbers
+pub product-fits : (a b : ℕ) → a ≤ 4294967295 → b ≤ 4294967295 → a * b ≤ 18446744065119617025
+product-fits a b h k = mul-le-mul h k
+
+-- ---- the fifth power, step by step
+
+module _ (x : ℕ) (h : x ≤ 800) where
+  pub square-most : x * x ≤ 640000
+  square-most = mul-le-mul h h
+
+  pub fourth-most : (x * x) * (x * x) ≤ 409600000000
+  fourth-most = mul-le-mul square-most square-most
+
+  pub fifth-most : ((x * x) * (x * x)) * x ≤ 327680000000000
+  fifth-most = mul-le-mul fourth-most h
+
+pub fifth-power : (x : ℕ) → ((x * x) * (x * x)) * x ≡ x ^ 5
+fifth-power x = simp (pow-suc x 4, pow-suc x 3, pow-suc x 2, pow-suc x 1, pow-suc x 0, pow-zero x, one-mul, mul-assoc)
+
+power-most : (x : ℕ) → x ≤ 800 → x ^ 5 ≤ 327680000000000
+power-most x h = rw (← fifth-power x) (fifth-most x h)
+
+power-least : (x : ℕ) → 1 ≤ x → 1 ≤ x ^ 5
+power-least x h = one-le-pow 5 x h
+
+-- n⁵ / d⁵ is at most 1 where n is at most d
+pub ratio-most : (n d : ℕ) → n ≤ d → (10000 * n ^ 5) / d ^ 5 ≤ 10000
+ratio-most n d h =
+    div-le-of-le-mul (d ^ 5) (omega (arith, mul-le-mul-left 10000 (pow-le-pow-left h 5), mul-comm (d ^ 5) 10000))
+
+-- the weight of what is met, from f and the two fifth powers
+pub weightMet-high : (f share : ℕ) → 800 ≤ f → 20000 ≡ weightMet paper f share
+unfolding weightMet
+weightMet-high f share h = rw (le-leb 800 f h) refl
+
+module _ (f share n d : ℕ) (low : f < 800) (small : share ≤ 79) (n-is : n ≡ (f - 10 * share) ^ 5) (d-is : d ≡ (800 - 10 * share) ^ 5) where
+  pub product-most : 10000 * n ≤ 3276800000000000000
+  product-most = omega (arith, power-most (f - 10 * share) (omega arith))
+
+  pub divisor-least : 0 < d
+  divisor-least = omega (arith, power-least (800 - 10 * share) (omega arith))
+
+  pub quotient-most : (10000 * n) / d ≤ 10000
+  quotient-most = rw (n-is, d-is) (ratio-most (f - 10 * share) (800 - 10 * share) (omega arith))
+
+  pub weightMet-low : 10000 + (10000 * n) / d ≡ weightMet paper f share
+  unfolding weightMet
+  weightMet-low = rw (lt-leb 800 f low, n-is, d-is) refl
+
+pub weightMet-most : (f share : ℕ) → share ≤ 79 → weightMet paper f share ≤ 20000
+unfolding weightMet
+weightMet-most f share h = go (leb 800 f) refl
+  where
+    go : (b : Bool) → leb 800 f ≡ b
+        → (if b then 20000 else 10000 + (10000 * (f - 10 * share) ^ 5) / (800 - 10 * share) ^ 5) ≤ 20000
+    go true e = omega arith
+    go false e =
+        let low = leb-false 800 f e in
+        omega (arith, ratio-most (f - 10 * share) (800 - 10 * share) (omega arith))
+
+-- the weight by the verdict
+module _ (kept length share : ℕ) where
+  pub weight-met : met paper kept length share ≡ true → weight paper kept length share ≡ weightMet paper (thousandths kept length) share
+  unfolding weight
+  weight-met h = rw h refl
+
+  pub weight-failed : met paper kept length share ≡ false → weight paper kept length share ≡ 0
+  unfolding weight
+  weight-failed h = rw h refl
+
+pub weight-most : (kept length share : ℕ) → share ≤ 79 → weight paper kept length share ≤ 20000
+unfolding weight
+weight-most kept length share h = go (met paper kept length share)
+  where
+    go : (b : Bool) → (if b then weightMet paper (thousandths kept length) share else 0) ≤ 20000
+    go true = weightMet-most (thousandths kept length) share h
+    go false = omega arith
+
+-- what is met is at least 10p thousandths
+pub met-least : (kept length share : ℕ) → 1 ≤ length → met paper kept length share ≡ true → 10 * share ≤ thousandths kept length
+unfolding met
+met-least kept length share l h =
+    let k = leb-true (share * length) (100 * kept) h in
+    le-div-iff-mul-le {k = length} {x = 10 * share} {y = 1000 * kept} l .1 (omega (arith, mul-assoc 10 share length))
+
+-- ---- what a cell earns
+
+pub earned-most : (active passive w : ℕ) → active ≤ 1000000000 → passive ≤ 1000000000 → w ≤ 20000
+    → (2 * active + 3 * passive) * w ≤ 100000000000000
+earned-most active passive w a p h =
+    mul-le-mul {n₁ = 2 * active + 3 * passive} {m₁ = w} {n₂ = 5000000000} {m₂ = 20000} (omega arith) h

@@ -1,0 +1,80 @@
+-- The invariant: no count passed is above 15. Assumes nothing.
+use Prim.Native.Nat.{ℕ, _+_, _-_, _≤_}
+use mathlib.Core.Path.{_≡_, refl, sym, ap, _∙_}
+use mathlib.Core.Bool.{Bool, true, false}
+use native.Mathlib.Omega.{arith}
+use borrow.Author.Needs.{needs}
+use borrow.Author.Tests.{lt-ltb, le-ltb}
+use lib.Dec.{ltb}
+use lib.ListN.{length, take, getD}
+use lib.Seq.{take-all}
+use Rattle.rules.specs.Lists.{any}
+use Rattle.pay.proofs.Series.{any-front, any-early}
+use Rattle.pay.proofs.too_many.Statement.{statement}
+use Rattle.pay.proofs.too_many.Tie as tie
+
+abbrev over : ℕ → Bool
+over n = ltb 15 n
+
+abbrev Inv-loop : tie.InvT-loop
+Inv-loop counts i₀ i = (i ≤ 6) × (any over (take i counts) ≡ false)
+
+abbrev μ-loop : tie.MeasureT-loop
+μ-loop counts i₀ i = 6 - i
+
+long : (c : tie.Start Inv-loop μ-loop) → length (c .args .t1) ≡ 6
+long c = search needs
+
+loop-holds : tie.Need-loop-holds Inv-loop μ-loop
+unfolding any
+loop-holds c = search needs
+
+mul-if1 : tie.Need-mul-if1 Inv-loop μ-loop
+mul-if1 c = omega arith
+
+array-read-if1 : tie.Need-array-read-if1 Inv-loop μ-loop
+array-read-if1 c = search needs
+
+returns : tie.Need-returns Inv-loop μ-loop
+returns c =
+    let a = c .before .before .before in
+    let l = c .before .before .loop in
+    let n : length (a .args .t1) ≡ 6 = long a in
+    let here = lt-ltb 15 (getD (a .args .t1) (l .i) 0) (c .if1 .taken) in
+    sym (any-early over (a .args .t1) (l .i + 1) (any-front over (a .args .t1) (l .i) 0 true (omega arith) (l .inv .1) here))
+
+add-i : tie.Need-add-i Inv-loop μ-loop
+add-i c = omega arith
+
+loop-less : tie.Need-loop-less Inv-loop μ-loop
+loop-less c = omega arith
+
+loop-again : tie.Need-loop-again Inv-loop μ-loop
+loop-again c =
+    let a = c .before .before .before in
+    let l = c .before .before .loop in
+    let n : length (a .args .t1) ≡ 6 = long a in
+    let here = le-ltb 15 (getD (a .args .t1) (l .i) 0) (c .if1 .left) in
+    (omega arith, any-front over (a .args .t1) (l .i) 0 false (omega arith) (l .inv .1) here)
+
+returns-2 : tie.Need-returns-2 Inv-loop μ-loop
+returns-2 c =
+    let a = c .before .before in
+    let l = c .before .loop in
+    let n : length (a .args .t1) ≡ 6 = long a in
+    sym (ap (any over) (sym (take-all (l .i) (a .args .t1) (omega arith))) ∙ l .inv .1)
+
+pub too-many-spec : {M : Type 1} → statement M
+too-many-spec =
+    tie.close
+    (tie.spec
+    Inv-loop
+    μ-loop
+    loop-holds
+    mul-if1
+    array-read-if1
+    returns
+    add-i
+    loop-less
+    loop-again
+    returns-2)

@@ -1,0 +1,55 @@
+-- `weight_met` meets its contract: the quotient is at most 10,000. Assumes nothing.
+use native.Mathlib.Omega.{arith}
+use Rattle.pay.proofs.Weights.{weightMet-high, product-most, divisor-least, quotient-most, weightMet-low}
+use borrow.Author.Needs.{needs}
+use Rattle.pay.proofs.weight_met.Statement.{statement}
+use Rattle.pay.proofs.weight_met.Tie as tie
+
+returns : tie.Need-returns
+returns c = weightMet-high (c .before .args .f) (c .before .args .share) (c .if1 .taken)
+
+mul-required : tie.Need-mul-required
+mul-required c = search needs
+
+sub-n : tie.Need-sub-n
+sub-n c = search needs
+
+sub-d : tie.Need-sub-d
+sub-d c = search needs
+
+fifth-requires : tie.Need-fifth-requires
+fifth-requires c κs = search needs
+
+fifth-requires-2 : tie.Need-fifth-requires-2
+fifth-requires-2 c κs = search needs
+
+mul-result : tie.Need-mul-result
+mul-result c = omega (arith, product-most (c .before .before .before .args .f) (c .before .before .before .args .share) (c .before .fifth .result) (c .fifth2 .result) (c .before .before .if1 .left) (c .before .before .before .pre .0) (c .before .fifth .ensures) (c .fifth2 .ensures))
+
+div-result : tie.Need-div-result
+div-result c = divisor-least (c .before .before .before .args .f) (c .before .before .before .args .share) (c .before .fifth .result) (c .fifth2 .result) (c .before .before .if1 .left) (c .before .before .before .pre .0) (c .before .fifth .ensures) (c .fifth2 .ensures)
+
+cast-result : tie.Need-cast-result
+cast-result c = omega (arith, quotient-most (c .before .before .before .args .f) (c .before .before .before .args .share) (c .before .fifth .result) (c .fifth2 .result) (c .before .before .if1 .left) (c .before .before .before .pre .0) (c .before .fifth .ensures) (c .fifth2 .ensures))
+
+add-result : tie.Need-add-result
+add-result c = omega (arith, quotient-most (c .before .before .before .args .f) (c .before .before .before .args .share) (c .before .fifth .result) (c .fifth2 .result) (c .before .before .if1 .left) (c .before .before .before .pre .0) (c .before .fifth .ensures) (c .fifth2 .ensures))
+
+returns-2 : tie.Need-returns-2
+returns-2 c = weightMet-low (c .before .before .before .args .f) (c .before .before .before .args .share) (c .before .fifth .result) (c .fifth2 .result) (c .before .before .if1 .left) (c .before .before .before .pre .0) (c .before .fifth .ensures) (c .fifth2 .ensures)
+
+pub weight-met-spec : {M : Type 1} → statement M
+weight-met-spec =
+    tie.close
+    (tie.spec
+    returns
+    mul-required
+    sub-n
+    sub-d
+    fifth-requires
+    fifth-requires-2
+    mul-result
+    div-result
+    cast-result
+    add-result
+    returns-2)
