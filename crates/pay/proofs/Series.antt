@@ -1,5 +1,5 @@
 -- Counting along the days, and along an array. Assumes nothing.
-use Prim.Native.Nat.{ℕ, zero, suc, _+_, _-_, _*_, _/_, _≤_, _<_, min}
+use Prim.Native.Nat.{ℕ, zero, suc, _+_, _-_, _*_, _/_, _<_, min}
 use native.Mathlib.Omega.{arith}
 use native.Mathlib.Numerals.{add-one}
 use mathlib.Core.Path.{_≡_, refl, sym, ap, _∙_}
@@ -14,10 +14,6 @@ use Rattle.rules.specs.Cells.{placeOf, cellAt}
 use Rattle.rules.specs.Pay.{cellFailed, allFailures, earned, fee}
 use Rattle.rules.specs.Lists.{if_then_else_, sum, below, any, howMany}
 use Rattle.rules.proofs.Lists.{sum-append}
-
-pub one-most : (b : Bool) → (if b then 1 else 0) ≤ 1
-one-most true = omega arith
-one-most false = omega arith
 
 sum-one : (n : ℕ) → sum (n ∷ []) ≡ n
 unfolding sum
@@ -88,6 +84,7 @@ failed-next cells expiry quantum d count more e k =
 
 -- ---- the fee, by the failure counts
 
+-- more than 15
 abbrev pub over : ℕ → Bool
 over n = ltb 15 n
 

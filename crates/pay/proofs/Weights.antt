@@ -1,8 +1,8 @@
 -- The numbers of verdict and weight: what fits, and the bounds of a weight. Assumes nothing.
-use Prim.Native.Nat.{ℕ, zero, suc, _+_, _-_, _*_, _/_, _^_, _≤_, _<_}
+use Prim.Native.Nat.{ℕ, _+_, _-_, _*_, _/_, _^_, _≤_, _<_}
 use native.Mathlib.Nat.{mul-assoc, mul-comm, one-mul, mul-le-mul, mul-le-mul-left, pow-le-pow-left, pow-suc, pow-zero, one-le-pow, div-le-of-le-mul, le-div-iff-mul-le}
 use native.Mathlib.Omega.{arith}
-use mathlib.Core.Path.{_≡_, refl, sym, ap, _∙_}
+use mathlib.Core.Path.{_≡_, refl}
 use mathlib.Core.Bool.{Bool, true, false}
 use borrow.Author.Tests.{leb-true, leb-false, le-leb, lt-leb}
 use lib.Dec.{leb}
@@ -45,7 +45,14 @@ pub weightMet-high : (f share : ℕ) → 800 ≤ f → 20000 ≡ weightMet paper
 unfolding weightMet
 weightMet-high f share h = rw (le-leb 800 f h) refl
 
-module _ (f share n d : ℕ) (low : f < 800) (small : share ≤ 79) (n-is : n ≡ (f - 10 * share) ^ 5) (d-is : d ≡ (800 - 10 * share) ^ 5) where
+-- what is known of n⁵ and d⁵ where f is below 800
+pub record Powers (f share n d : ℕ) : Type 0 where
+  pub low : f < 800
+  pub small : share ≤ 79
+  pub n-is : n ≡ (f - 10 * share) ^ 5
+  pub d-is : d ≡ (800 - 10 * share) ^ 5
+
+module _ {f share n d : ℕ} (h : Powers f share n d) where
   pub product-most : 10000 * n ≤ 3276800000000000000
   product-most = omega (arith, power-most (f - 10 * share) (omega arith))
 
@@ -53,11 +60,11 @@ module _ (f share n d : ℕ) (low : f < 800) (small : share ≤ 79) (n-is : n �
   divisor-least = omega (arith, power-least (800 - 10 * share) (omega arith))
 
   pub quotient-most : (10000 * n) / d ≤ 10000
-  quotient-most = rw (n-is, d-is) (ratio-most (f - 10 * share) (800 - 10 * share) (omega arith))
+  quotient-most = rw (h .n-is, h .d-is) (ratio-most (f - 10 * share) (800 - 10 * share) (omega arith))
 
   pub weightMet-low : 10000 + (10000 * n) / d ≡ weightMet paper f share
   unfolding weightMet
-  weightMet-low = rw (lt-leb 800 f low, n-is, d-is) refl
+  weightMet-low = rw (lt-leb 800 f (h .low), h .n-is, h .d-is) refl
 
 pub weightMet-most : (f share : ℕ) → share ≤ 79 → weightMet paper f share ≤ 20000
 unfolding weightMet

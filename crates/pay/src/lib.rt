@@ -2,7 +2,7 @@
 ghost use mathlib.Core.Path.{_≡_};
 ghost use mathlib.Core.Bool.{true};
 ghost use mathlib.Core.List.{List·Memᴰ, map};
-ghost use Prim.Native.Nat.{ℕ, _*_, _/_, _^_, _≤_, min};
+ghost use Prim.Native.Nat.{ℕ, _*_, _^_, _≤_, min};
 ghost use lib.Dec.{ltb};
 ghost use Rattle.rules.specs.declared.Cell.{Cell};
 ghost use Rattle.rules.specs.Lists.{if_then_else_, sum, any};
@@ -106,14 +106,13 @@ pub fn view(cell: Cell) -> CellView
 
 // 1 for a filled cell that is failed.
 fn tally(cell: Cell) -> u32
-    ensures { λ r. ⌜ r ≡ (if cellFailed paper cell then 1 else 0) ⌝ }
+    ensures { λ r. ⌜ (r ≡ (if cellFailed paper cell then 1 else 0)) × (r ≤ 1) ⌝ }
 {
-    let counts = cell.filled;
-    if counts {
-        if met(cell) { 0 } else { 1 }
-    } else {
-        0
+    let filled = cell.filled;
+    if !filled {
+        return 0;
     }
+    if met(cell) { 0 } else { 1 }
 }
 
 // The failure count of one series: its cells stand 6 apart, one for each day.

@@ -1,6 +1,9 @@
 -- `earned` meets its contract: with bounded charges and a weight of at most 20,000 the product fits. Assumes nothing.
 use Prim.Native.Nat.{_+_, _*_, _≤_}
 use native.Mathlib.Omega.{arith}
+use Rattle.rules.specs.declared.Cell.{Cell}
+use Rattle.rules.specs.Terms.{paper}
+use Rattle.rules.specs.Bounds.{CellBounds}
 use Rattle.rules.specs.Pay.{earned}
 use Rattle.pay.proofs.Weights.{weight-most, earned-most}
 use borrow.Author.Needs.{needs}
@@ -8,26 +11,35 @@ use Rattle.pay.proofs.earned.Statement.{statement}
 use Rattle.pay.proofs.earned.Tie as tie
 
 mul-charges : tie.Need-mul-charges
-mul-charges c = let b = c .before .before .before .before .pre (c .before .before .before .if1 .taken) in omega arith
+mul-charges c =
+    let b = c .before .before .before .before .pre (c .before .before .before .if1 .taken) in
+    omega arith
+
+-- the bounds of a filled cell
+bounds : (c : tie.After-struct-known2) → CellBounds paper (c .before .before .before .before .before .args .cell)
+bounds c = c .before .before .before .before .before .pre (c .before .before .before .before .if1 .taken)
 
 mul-charges-2 : tie.Need-mul-charges-2
-mul-charges-2 c = let b = c .before .before .before .before .before .pre (c .before .before .before .before .if1 .taken) in omega arith
+mul-charges-2 c = let b = bounds c in omega arith
 
 add-charges : tie.Need-add-charges
-add-charges c = let b = c .before .before .before .before .before .pre (c .before .before .before .before .if1 .taken) in omega arith
+add-charges c = let b = bounds c in omega arith
 
 weight-requires : tie.Need-weight-requires
-weight-requires c κs = c .before .before .before .before .before .pre (c .before .before .before .before .if1 .taken)
+weight-requires c κs = bounds c
 
 cast-result : tie.Need-cast-result
 cast-result c = search needs
 
-most : (c : tie.After-weight) → (2 * c .before .before .before .before .before .before .args .cell .active .0 + 3 * c .before .before .before .before .before .before .args .cell .passive .0) * c .weight .result ≤ 100000000000000
+abbrev cell : tie.After-weight → Cell
+cell c = c .before .before .before .before .before .before .args .cell
+
+most : (c : tie.After-weight) → (2 * cell c .active .0 + 3 * cell c .passive .0) * c .weight .result ≤ 100000000000000
 most c =
-    let a = c .before .before .before .before .before .before in
-    let b = a .pre (c .before .before .before .before .before .if1 .taken) in
-    earned-most (a .args .cell .active .0) (a .args .cell .passive .0) (c .weight .result) (b .active-most) (b .passive-most)
-    (omega (arith, c .weight .ensures, weight-most (a .args .cell .kept .0) (a .args .cell .length .0) (a .args .cell .share) (b .share-most)))
+    let b = bounds (c .before) in
+    let w = weight-most (cell c .kept .0) (cell c .length .0) (cell c .share) (b .share-most) in
+    earned-most (cell c .active .0) (cell c .passive .0) (c .weight .result) (b .active-most) (b .passive-most)
+    (omega (arith, c .weight .ensures))
 
 mul-result : tie.Need-mul-result
 mul-result c = omega (arith, most c)

@@ -1,14 +1,12 @@
 -- The invariant: the count is that of the days passed, at most one for each. Assumes nothing.
-use Prim.Native.Nat.{ℕ, _+_, _-_, _*_, _≤_}
-use mathlib.Core.Path.{_≡_, refl, ap, _∙_}
+use Prim.Native.Nat.{ℕ, _-_, _≤_}
+use mathlib.Core.Path.{_≡_, ap, _∙_}
 use native.Mathlib.Omega.{arith}
 use borrow.Author.Needs.{needs}
-use lib.ListN.{length}
 use Rattle.rules.specs.Lists.{below, howMany}
-use Rattle.rules.specs.Terms.{paper}
-use Rattle.rules.specs.Cells.{cellAt, series}
-use Rattle.rules.specs.Pay.{cellFailed, failures}
-use Rattle.pay.proofs.Series.{failedBefore, failed-next, one-most}
+use Rattle.rules.specs.Cells.{series}
+use Rattle.rules.specs.Pay.{failures}
+use Rattle.pay.proofs.Series.{failedBefore, failed-next}
 use Rattle.pay.proofs.failed_in.Statement.{statement}
 use Rattle.pay.proofs.failed_in.Tie as tie
 
@@ -47,15 +45,8 @@ array-copy-out-tally c = omega arith
 tally-requires : tie.Need-tally-requires Inv-loop μ-loop
 tally-requires c κs = search needs
 
--- a tally is at most 1
-small : (c : tie.After-tally Inv-loop μ-loop) → c .tally .result ≤ 1
-small c =
-    let a = c .before .before .before .before .args in
-    let day = c .before .before .before .loop .day in
-    omega (arith, c .tally .ensures, one-most (cellFailed paper (cellAt (a .t1) (day * 6 + ((a .expiry - 1) * 3 + a .quantum)))))
-
 add-count : tie.Need-add-count Inv-loop μ-loop
-add-count c = omega (arith, small c)
+add-count c = omega arith
 
 add-day : tie.Need-add-day Inv-loop μ-loop
 add-day c = omega arith
@@ -68,8 +59,8 @@ loop-again c =
     let a = c .before .before .before .before .args in
     let l = c .before .before .before .loop in (
       omega arith,
-      failed-next (a .t1) (a .expiry) (a .quantum) (l .day) (l .count) (c .tally .result) (l .inv .1) (c .tally .ensures),
-      omega (arith, small c),
+      failed-next (a .t1) (a .expiry) (a .quantum) (l .day) (l .count) (c .tally .result) (l .inv .1) (c .tally .ensures .0),
+      omega arith,
     )
 
 returns : tie.Need-returns Inv-loop μ-loop

@@ -1,20 +1,16 @@
 -- The invariant: no count passed is above 15. Assumes nothing.
-use Prim.Native.Nat.{ℕ, _+_, _-_, _≤_}
-use mathlib.Core.Path.{_≡_, refl, sym, ap, _∙_}
-use mathlib.Core.Bool.{Bool, true, false}
+use Prim.Native.Nat.{_+_, _-_, _≤_}
+use mathlib.Core.Path.{_≡_, sym, ap, _∙_}
+use mathlib.Core.Bool.{true, false}
 use native.Mathlib.Omega.{arith}
 use borrow.Author.Needs.{needs}
 use borrow.Author.Tests.{lt-ltb, le-ltb}
-use lib.Dec.{ltb}
 use lib.ListN.{length, take, getD}
 use lib.Seq.{take-all}
 use Rattle.rules.specs.Lists.{any}
-use Rattle.pay.proofs.Series.{any-front, any-early}
+use Rattle.pay.proofs.Series.{over, any-front, any-early}
 use Rattle.pay.proofs.too_many.Statement.{statement}
 use Rattle.pay.proofs.too_many.Tie as tie
-
-abbrev over : ℕ → Bool
-over n = ltb 15 n
 
 abbrev Inv-loop : tie.InvT-loop
 Inv-loop counts i₀ i = (i ≤ 6) × (any over (take i counts) ≡ false)

@@ -1,7 +1,7 @@
--- `weight_met` meets its contract: the quotient is at most 10,000. Assumes nothing.
+-- `weight_met` meets its contract: the quotient of the fifth powers is at most 10,000. Assumes nothing.
 use native.Mathlib.Omega.{arith}
-use Rattle.pay.proofs.Weights.{weightMet-high, product-most, divisor-least, quotient-most, weightMet-low}
 use borrow.Author.Needs.{needs}
+use Rattle.pay.proofs.Weights.{Powers, weightMet-high, product-most, divisor-least, quotient-most, weightMet-low}
 use Rattle.pay.proofs.weight_met.Statement.{statement}
 use Rattle.pay.proofs.weight_met.Tie as tie
 
@@ -23,20 +23,30 @@ fifth-requires c κs = search needs
 fifth-requires-2 : tie.Need-fifth-requires-2
 fifth-requires-2 c κs = search needs
 
+powers : (c : tie.After-fifth2)
+    → Powers (c .before .before .before .args .f) (c .before .before .before .args .share) (c .before .fifth .result) (c .fifth2 .result)
+powers c =
+    record {
+      low = c .before .before .if1 .left;
+      small = c .before .before .before .pre .0;
+      n-is = c .before .fifth .ensures;
+      d-is = c .fifth2 .ensures;
+    }
+
 mul-result : tie.Need-mul-result
-mul-result c = omega (arith, product-most (c .before .before .before .args .f) (c .before .before .before .args .share) (c .before .fifth .result) (c .fifth2 .result) (c .before .before .if1 .left) (c .before .before .before .pre .0) (c .before .fifth .ensures) (c .fifth2 .ensures))
+mul-result c = omega (arith, product-most (powers c))
 
 div-result : tie.Need-div-result
-div-result c = divisor-least (c .before .before .before .args .f) (c .before .before .before .args .share) (c .before .fifth .result) (c .fifth2 .result) (c .before .before .if1 .left) (c .before .before .before .pre .0) (c .before .fifth .ensures) (c .fifth2 .ensures)
+div-result c = omega (arith, divisor-least (powers c))
 
 cast-result : tie.Need-cast-result
-cast-result c = omega (arith, quotient-most (c .before .before .before .args .f) (c .before .before .before .args .share) (c .before .fifth .result) (c .fifth2 .result) (c .before .before .if1 .left) (c .before .before .before .pre .0) (c .before .fifth .ensures) (c .fifth2 .ensures))
+cast-result c = omega (arith, quotient-most (powers c))
 
 add-result : tie.Need-add-result
-add-result c = omega (arith, quotient-most (c .before .before .before .args .f) (c .before .before .before .args .share) (c .before .fifth .result) (c .fifth2 .result) (c .before .before .if1 .left) (c .before .before .before .pre .0) (c .before .fifth .ensures) (c .fifth2 .ensures))
+add-result c = omega (arith, quotient-most (powers c))
 
 returns-2 : tie.Need-returns-2
-returns-2 c = weightMet-low (c .before .before .before .args .f) (c .before .before .before .args .share) (c .before .fifth .result) (c .fifth2 .result) (c .before .before .if1 .left) (c .before .before .before .pre .0) (c .before .fifth .ensures) (c .fifth2 .ensures)
+returns-2 c = weightMet-low (powers c)
 
 pub weight-met-spec : {M : Type 1} → statement M
 weight-met-spec =
