@@ -1,0 +1,278 @@
+-- What an accepted event does to the live orders by the place of the order that it names, which side it leaves as it was, and both best
+-- quotes after it. Assumes nothing.
+use Prim.Native.Nat.{ℕ, suc, _-_, _≤_, _<_}
+use native.Mathlib.Omega.{arith}
+use mathlib.Core.Path.{_≡_, refl, sym, ap, _∙_, subst}
+use mathlib.Core.List.{List, [], _∷_, _++_, append-nil, List·Memᴰ}
+use mathlib.Core.Bool.{Bool, true, false, false≢true}
+use lib.Dec.{leb}
+use lib.ListN.{length, take, drop, set, getD}
+use lib.Seq.{split-at, set-split}
+use borrow.Author.Tests.{leb-true, leb-false, le-leb, lt-leb}
+use Rattle.rules.specs.declared.Side.{Side}
+use Rattle.rules.specs.declared.Side.the-variants.{Buy, Sell}
+use Rattle.rules.specs.declared.Quote.{Quote}
+use Rattle.rules.specs.declared.Order.{Order}
+use Rattle.rules.specs.declared.Row.{Row}
+use Rattle.rules.specs.declared.Contracts.{Contracts}
+use Rattle.rules.specs.declared.Event.{Event}
+use Rattle.rules.specs.declared.Event.the-variants.{Add, Amend, Cancel, Deal, Tick}
+use Rattle.rules.specs.Lists.{keep}
+use Rattle.rules.specs.Units.{contracts}
+use Rattle.rules.specs.Orders.{hasId, left, apply}
+use Rattle.rules.specs.Quotes.{same, best}
+use Rattle.rules.specs.Book.{lowest, traderCauses}
+use Rattle.rules.proofs.Lists.{keep-append, keep-skip}
+use Rattle.rules.proofs.Orders.{left-at, amend-at, cancel-at, deal-some, deal-all}
+use Rattle.rules.proofs.Refusals.{trader-passes}
+use Rattle.rules.proofs.Bounds.{volume-bounds}
+use Rattle.rules.proofs.Best.{sided, one-side}
+use Rattle.orders.specs.declared.Orders.{Orders}
+use Rattle.orders.specs.Packed.{Packed, positionOf, blankOrder}
+use Rattle.orders.proofs.Slots.{count-is, front-is}
+use Rattle.quantum.specs.declared.Quotes.{Quotes}
+use Rattle.quantum.specs.declared.Touched.{Touched}
+use Rattle.quantum.specs.declared.Touched.the-variants.{Nothing, One}
+use Rattle.quantum.specs.Steps.{placeIn, Good, Accepts, Searchable, repriced, lessenedAt, quotesOf, other, Untouched}
+use Rattle.quantum.proofs.Position.{live-position, position-has}
+
+-- ---- one order lessened
+
+module _ (place volume : ℕ) (live : List Order) (o : Order) (e : o ≡ getD live place blankOrder) where
+  pub lessened-all : o .volume .0 ≤ volume → lessenedAt place volume live ≡ take place live ++ drop (suc place) live
+  unfolding lessenedAt
+  lessened-all h =
+      let l : leb (getD live place blankOrder .volume .0) volume ≡ true = rw (← e) (le-leb (o .volume .0) volume h) in
+      rw l refl
+
+  pub lessened-some : volume < o .volume .0
+      → lessenedAt place volume live
+      ≡ set live place (repriced (o .price) (contracts (o .volume .0 - volume)) (getD live place blankOrder))
+  unfolding lessenedAt
+  lessened-some h =
+      let l : leb (getD live place blankOrder .volume .0) volume ≡ false = rw (← e) (lt-leb (o .volume .0) volume h) in
+      rw (l, e) refl
+
+-- ---- the place of an accepted event
+
+-- the event names a live order
+abbrev pub names : Event → Bool
+names (Add t id side price volume) = false
+names (Amend t id price volume) = true
+names (Cancel t id) = true
+names (Deal t id volume) = true
+names (Tick t) = false
+
+abbrev pub adds : Event → Bool
+adds (Add t id side price volume) = true
+adds (Amend t id price volume) = false
+adds (Cancel t id) = false
+adds (Deal t id volume) = false
+adds (Tick t) = false
+
+module _ (live : List Order) where
+  inside : (e : Event) → lowest (traderCauses live e) ≡ 0 → names e ≡ true → placeIn e live < length live
+  inside (Add t id side price volume) h n = absurd (false≢true n)
+  inside (Amend t id price volume) h n = live-position id live (trader-passes live (Amend t id price volume) h .known)
+  inside (Cancel t id) h n = live-position id live (trader-passes live (Cancel t id) h .known)
+  inside (Deal t id volume) h n = live-position id live (trader-passes live (Deal t id volume) h .known)
+  inside (Tick t) h n = absurd (false≢true n)
+
+  room : (e : Event) → lowest (traderCauses live e) ≡ 0 → adds e ≡ true → length live < 64
+  room (Add t id side price volume) h n = trader-passes live (Add t id side price volume) h .room
+  room (Amend t id price volume) h n = absurd (false≢true n)
+  room (Cancel t id) h n = absurd (false≢true n)
+  room (Deal t id volume) h n = absurd (false≢true n)
+  room (Tick t) h n = absurd (false≢true n)
+
+module _ (orders : Orders) (e : Event) (place : ℕ) (a : Accepts orders e place) where
+  whole : Packed orders
+  whole = record { live = a .live; few = a .good .few; is = a .is }
+
+  -- what the store by position asks
+  pub stands-there : names e ≡ true → Packed orders × (place < orders .count)
+  stands-there n =
+      (whole, omega (arith, inside (a .live) e (a .passes) n, a .at, count-is orders (a .live) (a .is)))
+
+  pub has-room : adds e ≡ true → Packed orders × (orders .count < 64)
+  has-room n = (whole, omega (arith, room (a .live) e (a .passes) n, count-is orders (a .live) (a .is)))
+
+-- ---- the orders after the event, by its place
+
+abbrev pub doneAt : List Order → ℕ → Event → List Order
+doneAt live place (Add t id side price volume) = live ++ (record { id = id; side = side; price = price; volume = volume } ∷ [])
+doneAt live place (Amend t id price volume) = set live place (repriced price volume (getD live place blankOrder))
+doneAt live place (Cancel t id) = take place live ++ drop (suc place) live
+doneAt live place (Deal t id volume) = lessenedAt place (volume .0) live
+doneAt live place (Tick t) = live
+
+-- a deal is not above what is left
+abbrev pub Enough : List Order → ℕ → Event → Type 0
+Enough live place (Add t id side price volume) = Unit
+Enough live place (Amend t id price volume) = Unit
+Enough live place (Cancel t id) = Unit
+Enough live place (Deal t id volume) = volume .0 ≤ getD live place blankOrder .volume .0
+Enough live place (Tick t) = Unit
+
+module _ (live : List Order) (good : Good live) where
+  enough-there : (e : Event) → lowest (traderCauses live e) ≡ 0 → Enough live (placeIn e live) e
+  enough-there (Add t id side price volume) h = tt
+  enough-there (Amend t id price volume) h = tt
+  enough-there (Cancel t id) h = tt
+  enough-there (Deal t id volume) h =
+      let d = trader-passes live (Deal t id volume) h in
+      let l = live-position id live (d .known) in
+      omega (arith, d .enough, left-at id live (positionOf id live) blankOrder (good .distinct) l (position-has id live l))
+  enough-there (Tick t) h = tt
+
+  apply-there : (e : Event) → lowest (traderCauses live e) ≡ 0 → apply live e ≡ doneAt live (placeIn e live) e
+  unfolding apply
+  apply-there (Add t id side price volume) h = refl
+  apply-there (Amend t id price volume) h =
+      let l = live-position id live (trader-passes live (Amend t id price volume) h .known) in
+      amend-at id live (positionOf id live) blankOrder (good .distinct) l (position-has id live l) price volume
+  apply-there (Cancel t id) h =
+      let l = live-position id live (trader-passes live (Cancel t id) h .known) in
+      cancel-at id live (positionOf id live) blankOrder (good .distinct) l (position-has id live l)
+  apply-there (Deal t id volume) h = go (leb (getD live place blankOrder .volume .0) (volume .0)) refl
+    where
+      place : ℕ
+      place = positionOf id live
+
+      there : place < length live
+      there = live-position id live (trader-passes live (Deal t id volume) h .known)
+
+      has : hasId id (getD live place blankOrder) ≡ true
+      has = position-has id live there
+
+      some : (o : Order) → List·Memᴰ o live → 1 ≤ o .volume .0
+      some o m = volume-bounds (o .volume .0) (good .volumes o m) .0
+
+      left-is : left id live ≡ getD live place blankOrder .volume .0
+      left-is = left-at id live place blankOrder (good .distinct) there has
+
+      go : (b : Bool) → leb (getD live place blankOrder .volume .0) (volume .0) ≡ b
+          → apply live (Deal t id volume) ≡ lessenedAt place (volume .0) live
+      go true e =
+          let k = leb-true (getD live place blankOrder .volume .0) (volume .0) e in
+          deal-all id live place blankOrder (good .distinct) there has some t volume
+          (omega (arith, k, enough-there (Deal t id volume) h, left-is))
+          ∙ sym (lessened-all place (volume .0) live (getD live place blankOrder) refl k)
+      go false e =
+          let k = leb-false (getD live place blankOrder .volume .0) (volume .0) e in
+          deal-some id live place blankOrder (good .distinct) there has some t volume (omega (arith, k, left-is))
+          ∙ sym (lessened-some place (volume .0) live (getD live place blankOrder) refl k)
+  apply-there (Tick t) h = refl
+
+module _ (live : List Order) (place : ℕ) (e : Event) (at : place ≡ placeIn e live) (good : Good live) (h : lowest (traderCauses live e) ≡ 0) where
+  pub enough : Enough live place e
+  enough = subst (λ (n : ℕ). Enough live n e) (sym at) (enough-there live good e h)
+
+  pub apply-is : apply live e ≡ doneAt live place e
+  apply-is = apply-there live good e h ∙ ap (λ (n : ℕ). doneAt live n e) (sym at)
+
+-- ---- the orders that stay
+
+-- one order that a test keeps out: added, in the place of another such one, or removed
+module _ (p : Order → Bool) (xs : List Order) where
+  keep-snoc : (o : Order) → p o ≡ false → keep p xs ≡ keep p (xs ++ (o ∷ []))
+  unfolding keep
+  keep-snoc o e = sym (keep-append p xs (o ∷ []) ∙ ap (λ (l : List Order). keep p xs ++ l) (keep-skip p o [] e) ∙ append-nil (keep p xs))
+
+  module _ (k : ℕ) (h : k < length xs) (e : p (getD xs k blankOrder) ≡ false) where
+    around : (o : Order) → p o ≡ false → keep p (take k xs ++ o ∷ drop (suc k) xs) ≡ keep p (take k xs) ++ keep p (drop (suc k) xs)
+    around o f =
+        keep-append p (take k xs) (o ∷ drop (suc k) xs) ∙ ap (λ (l : List Order). keep p (take k xs) ++ l) (keep-skip p o (drop (suc k) xs) f)
+
+    kept : keep p xs ≡ keep p (take k xs) ++ keep p (drop (suc k) xs)
+    kept = ap (keep p) (split-at xs k blankOrder h) ∙ around (getD xs k blankOrder) e
+
+    keep-set : (n : Order) → p n ≡ false → keep p xs ≡ keep p (set xs k n)
+    keep-set n f = kept ∙ sym (ap (keep p) (set-split xs k n h) ∙ around n f)
+
+    keep-without : keep p xs ≡ keep p (take k xs ++ drop (suc k) xs)
+    keep-without = kept ∙ sym (keep-append p (take k xs) (drop (suc k) xs))
+
+other-side : (side : Side) → same (other side) side ≡ false
+other-side Buy = refl
+other-side Sell = refl
+
+-- the side of the order that an event adds or names
+abbrev pub touchedOf : List Order → ℕ → Event → Touched
+touchedOf live place (Add t id side price volume) = One side
+touchedOf live place (Amend t id price volume) = One (getD live place blankOrder .side)
+touchedOf live place (Cancel t id) = One (getD live place blankOrder .side)
+touchedOf live place (Deal t id volume) = One (getD live place blankOrder .side)
+touchedOf live place (Tick t) = Nothing
+
+untouched-done : (live : List Order) (place : ℕ) (e : Event) → (names e ≡ true → place < length live)
+    → Untouched (touchedOf live place e) live (doneAt live place e)
+untouched-done live place (Add t id side price volume) h =
+    keep-snoc (sided (other side)) live (record { id = id; side = side; price = price; volume = volume }) (other-side side)
+untouched-done live place (Amend t id price volume) h =
+    let o = getD live place blankOrder in
+    keep-set (sided (other (o .side))) live place (h refl) (other-side (o .side)) (repriced price volume o) (other-side (o .side))
+untouched-done live place (Cancel t id) h =
+    let o = getD live place blankOrder in
+    keep-without (sided (other (o .side))) live place (h refl) (other-side (o .side))
+untouched-done live place (Deal t id volume) h = go (leb (o .volume .0) (volume .0)) refl
+  where
+    o : Order
+    o = getD live place blankOrder
+
+    p : Order → Bool
+    p = sided (other (o .side))
+
+    go : (b : Bool) → leb (o .volume .0) (volume .0) ≡ b → keep p live ≡ keep p (lessenedAt place (volume .0) live)
+    go true e =
+        keep-without p live place (h refl) (other-side (o .side))
+        ∙ ap (keep p) (sym (lessened-all place (volume .0) live o refl (leb-true (o .volume .0) (volume .0) e)))
+    go false e =
+        keep-set p live place (h refl) (other-side (o .side)) (repriced (o .price) (contracts (o .volume .0 - volume .0)) o) (other-side (o .side))
+        ∙ ap (keep p) (sym (lessened-some place (volume .0) live o refl (leb-false (o .volume .0) (volume .0) e)))
+untouched-done live place (Tick t) h = refl
+
+pub untouched : (live : List Order) (place : ℕ) (e : Event) → place ≡ placeIn e live → Good live → lowest (traderCauses live e) ≡ 0
+    → (r : Touched) → r ≡ touchedOf live place e → Untouched r live (apply live e)
+untouched live place e at good h r is =
+    subst (λ (r : Touched). Untouched r live (apply live e)) (sym is)
+    (subst (λ (l : List Order). Untouched (touchedOf live place e) live l) (sym (apply-is live place e at good h))
+    (untouched-done live place e (λ n. omega (arith, inside live e h n, at))))
+
+-- ---- the best quotes
+
+pub searchable : (orders : Orders) → Searchable orders
+    → Packed orders × ((o : Order) → List·Memᴰ o (take (orders .count) (orders .slots)) → o .volume .0 ≤ 1000000)
+searchable orders s = (
+  record { live = s .live; few = s .few; is = s .is },
+  λ o m. s .volumes o (subst (List·Memᴰ o) (front-is orders (s .live) (s .is)) m),
+)
+
+abbrev pub quotes : Quote → Quote → Quotes
+quotes bid ask = record { bid = bid; ask = ask }
+
+module _ (row : Row) (before after : List Order) (old : Quotes) (touched : Touched) (was : old ≡ quotesOf row before)
+    (stays : Untouched touched before after) where
+  pub none-again : touched ≡ Nothing → old ≡ quotesOf row after
+  none-again e =
+      let same-list : before ≡ after = subst (λ (t : Touched). Untouched t before after) e stays in
+      was ∙ ap (quotesOf row) same-list
+
+  module _ (least : Contracts) (side : Side) (found : Quote) (m : least ≡ row .least) (e : touched ≡ One side)
+      (f : found ≡ best side (least .0) after) where
+    found-is : (s : Side) → side ≡ s → found ≡ best s (row .least .0) after
+    found-is s g = f ∙ ap (λ (c : Contracts). best side (c .0) after) m ∙ ap (λ (s : Side). best s (row .least .0) after) g
+
+    stays-is : (s : Side) → side ≡ s → best (other s) (row .least .0) before ≡ best (other s) (row .least .0) after
+    stays-is s g =
+        one-side (other s) (row .least .0) before after (subst (λ (t : Touched). Untouched t before after) (e ∙ ap One g) stays)
+
+    pub bid-again : side ≡ Buy → quotes found (old .ask) ≡ quotesOf row after
+    bid-again g =
+        ap (λ (q : Quote). quotes q (old .ask)) (found-is Buy g)
+        ∙ ap (λ (q : Quote). quotes (best Buy (row .least .0) after) q) (ap (λ (q : Quotes). q .ask) was ∙ stays-is Buy g)
+
+    pub ask-again : side ≡ Sell → quotes (old .bid) found ≡ quotesOf row after
+    ask-again g =
+        ap (λ (q : Quote). quotes (old .bid) q) (found-is Sell g)
+        ∙ ap (λ (q : Quote). quotes q (best Sell (row .least .0) after)) (ap (λ (q : Quotes). q .bid) was ∙ stays-is Sell g)

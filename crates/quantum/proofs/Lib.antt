@@ -1,0 +1,4 @@
+pub mod Position
+pub mod Causes
+pub mod Changes
+pub mod Standing

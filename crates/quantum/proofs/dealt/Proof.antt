@@ -1,0 +1,37 @@
+-- `quantum::dealt` meets its contract: each branch is a case of `lessenedAt`. Assumes nothing.
+use mathlib.Core.Path.{ap, sym, _∙_}
+use borrow.Author.Needs.{needs}
+use Rattle.orders.specs.Packed.{packed}
+use Rattle.quantum.proofs.Changes.{lessened-all, lessened-some}
+use Rattle.quantum.proofs.dealt.Statement.{statement}
+use Rattle.quantum.proofs.dealt.Tie as tie
+
+at-requires : tie.Need-at-requires
+at-requires c κs = search needs
+
+without-requires : tie.Need-without-requires
+without-requires c κs = search needs
+
+returns : tie.Need-returns
+returns c = λ live is h.
+    let at = c .before .before .before .before .before in
+    let a = at .before .args in
+    c .without .ensures live is
+    ∙ ap packed (sym (lessened-all (a .place) (a .volume .0) live (at .at .result) (at .at .ensures live is) (c .before .if1 .taken)))
+
+sub-t8 : tie.Need-sub-t8
+sub-t8 c = search needs
+
+amended-requires : tie.Need-amended-requires
+amended-requires c κs = search needs
+
+returns-2 : tie.Need-returns-2
+returns-2 c = λ live is h.
+    let else = c .before .before .before .before in
+    let at = else .before .before .before .before in
+    let a = at .before .args in
+    c .amended .ensures live is
+    ∙ ap packed (sym (lessened-some (a .place) (a .volume .0) live (at .at .result) (at .at .ensures live is) (else .if1 .left)))
+
+pub dealt-spec : {M : Type 1} → statement M
+dealt-spec = tie.close (tie.spec at-requires without-requires returns sub-t8 amended-requires returns-2)

@@ -1,0 +1,99 @@
+-- What the quantum's private functions promise to each other.
+use Prim.Native.Nat.{ℕ, suc, _-_, _≤_}
+use mathlib.Core.Path.{_≡_}
+use mathlib.Core.List.{List, _++_, List·Memᴰ}
+use mathlib.Core.Bool.{Bool, true}
+use lib.Dec.{leb}
+use lib.IntN.{ℤ}
+use lib.ListN.{length, take, drop, set, getD}
+use Rattle.rules.specs.declared.Side.{Side}
+use Rattle.rules.specs.declared.Side.the-variants.{Buy, Sell}
+use Rattle.rules.specs.declared.Order.{Order}
+use Rattle.rules.specs.declared.Row.{Row}
+use Rattle.rules.specs.declared.Event.{Event}
+use Rattle.rules.specs.declared.Event.the-variants.{Add, Amend, Cancel, Deal, Tick}
+use Rattle.rules.specs.declared.Millis.{Millis}
+use Rattle.rules.specs.declared.Steps.{Steps}
+use Rattle.rules.specs.declared.Contracts.{Contracts}
+use Rattle.rules.specs.Lists.{if_then_else_, keep}
+use Rattle.rules.specs.Units.{contracts, goodVolume}
+use Rattle.rules.specs.Orders.{live}
+use Rattle.rules.specs.Quotes.{same}
+use Rattle.rules.specs.Kept.{bestBid, bestAsk}
+use Rattle.rules.specs.Bounds.{Distinct, EventBounds}
+use Rattle.rules.specs.Book.{lowest, traderCauses, eventRefusal}
+use Rattle.orders.specs.declared.Orders.{Orders}
+use Rattle.orders.specs.Packed.{packed, positionOf, blankOrder}
+use Rattle.quantum.specs.declared.Quantum.{Quantum}
+use Rattle.quantum.specs.declared.Quotes.{Quotes}
+use Rattle.quantum.specs.declared.Touched.{Touched}
+use Rattle.quantum.specs.declared.Touched.the-variants.{Nothing, One}
+use Rattle.quantum.specs.Standing.{standing}
+
+-- where the order that an event names stands among the live ones; a tick names none
+abbrev pub placeIn : Event → List Order → ℕ
+placeIn (Add t id side price volume) orders = positionOf id orders
+placeIn (Amend t id price volume) orders = positionOf id orders
+placeIn (Cancel t id) orders = positionOf id orders
+placeIn (Deal t id volume) orders = positionOf id orders
+placeIn (Tick t) orders = 0
+
+-- live orders as the book's bounds have them
+pub record Good (orders : List Order) : Type 0 where
+  pub few : length orders ≤ 64
+  pub distinct : Distinct orders
+  pub volumes : (o : Order) → List·Memᴰ o orders → goodVolume (o .volume .0) ≡ true
+
+-- an event that the trader's causes let pass, with its place
+pub record Accepts (orders : Orders) (e : Event) (place : ℕ) : Type 0 where
+  pub live : List Order
+  pub good : Good live
+  pub is : orders ≡ packed live
+  pub at : place ≡ placeIn e live
+  pub passes : lowest (traderCauses live e) ≡ 0
+
+-- an order with another price and volume
+abbrev pub repriced : Steps → Contracts → Order → Order
+repriced price volume o = record { id = o .id; side = o .side; price = price; volume = volume }
+
+-- the order at a place lessened by a volume, and removed at nothing left
+unfoldable pub lessenedAt : ℕ → ℕ → List Order → List Order
+lessenedAt place volume live =
+    let o = getD live place blankOrder in
+    if leb (o .volume .0) volume then take place live ++ drop (suc place) live
+    else set live place (repriced (o .price) (contracts (o .volume .0 - volume)) o)
+
+-- what the search asks
+pub record Searchable (orders : Orders) : Type 0 where
+  pub live : List Order
+  pub few : length live ≤ 64
+  pub is : orders ≡ packed live
+  pub volumes : (o : Order) → List·Memᴰ o live → o .volume .0 ≤ 1000000
+
+-- time may run on to t
+pub record Onward (q : Quantum) (t : Millis) : Type 0 where
+  pub kept-most : q .kept .0 ≤ q .time .0
+  pub onward : q .time .0 ≤ t .0
+
+-- an event that nothing refuses, with its place
+pub record Taking (q : Quantum) (e : Event) (place : ℕ) : Type 0 where
+  pub row : Row
+  pub sp : ℤ
+  pub events : List Event
+  pub bounds : EventBounds row events
+  pub is : q ≡ standing row sp events
+  pub at : place ≡ placeIn e (live events)
+  pub passes : eventRefusal row events e ≡ 0
+
+abbrev pub quotesOf : Row → List Order → Quotes
+quotesOf row orders = record { bid = bestBid row orders; ask = bestAsk row orders }
+
+abbrev pub other : Side → Side
+other Buy = Sell
+other Sell = Buy
+
+-- the orders that are not of the touched side are the same before and after
+abbrev pub Untouched : Touched → List Order → List Order → Type 0
+Untouched Nothing before after = before ≡ after
+Untouched (One side) before after =
+    keep (λ (o : Order). same (other side) (o .side)) before ≡ keep (λ (o : Order). same (other side) (o .side)) after

@@ -1,0 +1,518 @@
+// An open quantum by value: its live orders, the time, kept time and both best quotes.
+ghost use mathlib.Core.Path.{_≡_};
+ghost use mathlib.Core.List.{List, [], _∷_, _++_};
+ghost use mathlib.Core.Bool.{true, not};
+ghost use Prim.Native.Nat.{ℕ, _≤_, _<_};
+ghost use lib.Dec.{ltb, leb};
+ghost use lib.IntN.{ℤ};
+ghost use lib.ListN.{length, set, getD};
+ghost use Rattle.rules.specs.declared.Order.{Order};
+ghost use Rattle.rules.specs.declared.Row.{Row};
+ghost use Rattle.rules.specs.declared.Event.{Event};
+ghost use Rattle.rules.specs.Terms.{paper};
+ghost use Rattle.rules.specs.Rows.{goodRow};
+ghost use Rattle.rules.specs.Orders.{live, left, present, timeOf, apply};
+ghost use Rattle.rules.specs.Kept.{keptBelow};
+ghost use Rattle.rules.specs.Answers.{outcomeBy, done, shownAnswer};
+ghost use Rattle.rules.specs.Book.{cause, lowest, traderCauses, eventRefusal};
+ghost use Rattle.rules.specs.Bounds.{EventBounds};
+ghost use Rattle.orders.specs.Packed.{Packed, packed, positionOf, blankOrder};
+ghost use Rattle.quantum.specs.Standing.{running, standing, Reached, Answered};
+ghost use Rattle.quantum.specs.Steps.{placeIn, Good, Accepts, Searchable, Untouched, quotesOf, repriced, lessenedAt, Onward, Taking};
+use orders::Orders;
+use ranges::both;
+use rules::Answer;
+use rules::Contracts;
+use rules::Event;
+use rules::Millis;
+use rules::Order;
+use rules::Quote;
+use rules::Refusal;
+use rules::Row;
+use rules::Side;
+use rules::Steps;
+
+pub struct Quantum {
+    length: Millis,
+    least: Contracts,
+    limit: u32,
+    time: Millis,
+    kept: Millis,
+    orders: Orders,
+    bid: Quote,
+    ask: Quote,
+}
+
+// What an event hands back.
+pub struct Sent {
+    pub quantum: Quantum,
+    pub answer: Answer,
+}
+
+// Both best quotes.
+struct Quotes {
+    bid: Quote,
+    ask: Quote,
+}
+
+// The side whose best quote an event can change.
+enum Touched {
+    Nothing,
+    One(Side),
+}
+
+fn time_of(e: Event) -> Millis
+    ensures { λ r. ⌜ r .0 ≡ timeOf e ⌝ }
+{
+    match e {
+        Event::Add {
+            t,
+            id: _,
+            side: _,
+            price: _,
+            volume: _,
+        } => t,
+        Event::Amend {
+            t,
+            id: _,
+            price: _,
+            volume: _,
+        } => t,
+        Event::Cancel { t, id: _ } => t,
+        Event::Deal {
+            t,
+            id: _,
+            volume: _,
+        } => t,
+        Event::Tick { t } => t,
+    }
+}
+
+// ---- the causes
+
+fn add_answer(live: bool, good: bool, full: bool) -> Answer
+    ensures { λ r. ⌜ shownAnswer r ≡ outcomeBy (lowest (cause 10 live ∷ cause 12 (not good) ∷ cause 13 full ∷ [])) done ⌝ }
+{
+    if live {
+        return Answer::Refused(Refusal::IdLive);
+    }
+    if good {
+        if full {
+            return Answer::Refused(Refusal::TooManyOrders);
+        }
+        return Answer::Accepted;
+    }
+    Answer::Refused(Refusal::PriceOrVolumeOutOfRange)
+}
+
+fn amend_answer(live: bool, good: bool) -> Answer
+    ensures { λ r. ⌜ shownAnswer r ≡ outcomeBy (lowest (cause 11 (not live) ∷ cause 12 (not good) ∷ [])) done ⌝ }
+{
+    if live {
+        if good {
+            return Answer::Accepted;
+        }
+        return Answer::Refused(Refusal::PriceOrVolumeOutOfRange);
+    }
+    Answer::Refused(Refusal::IdNotLive)
+}
+
+fn cancel_answer(live: bool) -> Answer
+    ensures { λ r. ⌜ shownAnswer r ≡ outcomeBy (lowest (cause 11 (not live) ∷ [])) done ⌝ }
+{
+    if live {
+        return Answer::Accepted;
+    }
+    Answer::Refused(Refusal::IdNotLive)
+}
+
+fn deal_answer(live: bool, good: bool, above: bool) -> Answer
+    ensures { λ r. ⌜ shownAnswer r ≡ outcomeBy (lowest (cause 11 (not live) ∷ cause 12 (not good) ∷ cause 14 above ∷ [])) done ⌝ }
+{
+    if live {
+        if good {
+            if above {
+                return Answer::Refused(Refusal::DealAboveLeft);
+            }
+            return Answer::Accepted;
+        }
+        return Answer::Refused(Refusal::PriceOrVolumeOutOfRange);
+    }
+    Answer::Refused(Refusal::IdNotLive)
+}
+
+// Where the order that an event names stands.
+fn located(orders: Orders, e: Event) -> usize
+    requires { ⌜ Packed orders ⌝ }
+    ensures { λ r. ⌜ ((live : List Order) → orders ≡ packed live → r ≡ placeIn e live) ⌝ }
+{
+    match e {
+        Event::Add {
+            t: _,
+            id,
+            side: _,
+            price: _,
+            volume: _,
+        } => orders.find(id),
+        Event::Amend {
+            t: _,
+            id,
+            price: _,
+            volume: _,
+        } => orders.find(id),
+        Event::Cancel { t: _, id } => orders.find(id),
+        Event::Deal {
+            t: _,
+            id,
+            volume: _,
+        } => orders.find(id),
+        Event::Tick { t: _ } => 0,
+    }
+}
+
+fn is_below(a: usize, b: usize) -> bool
+    ensures { λ r. ⌜ r ≡ ltb a b ⌝ }
+{
+    a < b
+}
+
+fn is_full(count: usize) -> bool
+    ensures { λ r. ⌜ r ≡ leb 64 count ⌝ }
+{
+    64 <= count
+}
+
+// Whether a volume is above what is left of the order at a place.
+fn is_above(orders: Orders, place: usize, volume: Contracts) -> bool
+    requires { ⌜ Packed orders ⌝ }
+    ensures { λ r. ⌜ ((live : List Order) (id : ℕ) → orders ≡ packed live → place ≡ positionOf id live → r ≡ ltb (left id live) (volume .0)) ⌝ }
+{
+    let count = orders.len();
+    if place < count {
+        let o = orders.at(place);
+        let v = o.volume;
+        return v.0 < volume.0;
+    }
+    0 < volume.0
+}
+
+// The trader's causes, in the order of the numbers.
+fn trader_answer(orders: Orders, e: Event, place: usize) -> Answer
+    requires { ⌜ Packed orders ⌝ }
+    ensures { λ r. ⌜ ((live : List Order) → orders ≡ packed live → place ≡ placeIn e live → shownAnswer r ≡ outcomeBy (lowest (traderCauses live e)) done) ⌝ }
+{
+    let count = orders.len();
+    let live = is_below(place, count);
+    match e {
+        Event::Add {
+            t: _,
+            id: _,
+            side: _,
+            price,
+            volume,
+        } => add_answer(
+            live,
+            both(ranges::price(price), ranges::volume(volume)),
+            is_full(count),
+        ),
+        Event::Amend {
+            t: _,
+            id: _,
+            price,
+            volume,
+        } => amend_answer(live, both(ranges::price(price), ranges::volume(volume))),
+        Event::Cancel { t: _, id: _ } => cancel_answer(live),
+        Event::Deal {
+            t: _,
+            id: _,
+            volume,
+        } => {
+            deal_answer(
+                live,
+                ranges::volume(volume),
+                is_above(orders, place, volume),
+            )
+        }
+        Event::Tick { t: _ } => Answer::Accepted,
+    }
+}
+
+// ---- what an accepted event does
+
+// The order at a place with another price and volume.
+fn amended(orders: Orders, place: usize, price: Steps, volume: Contracts) -> Orders
+    requires { ⌜ Packed orders × (place < orders .count) ⌝ }
+    ensures { λ r. ⌜ ((live : List Order) → orders ≡ packed live → r ≡ packed (set live place (repriced price volume (getD live place blankOrder)))) ⌝ }
+{
+    let o = orders.at(place);
+    let side = o.side;
+    let n = Order {
+        id: o.id,
+        side,
+        price,
+        volume,
+    };
+    orders.replaced(place, n)
+}
+
+// The order at a place lessened by a volume, and removed at nothing left.
+fn dealt(orders: Orders, place: usize, volume: Contracts) -> Orders
+    requires { ⌜ Packed orders × (place < orders .count) ⌝ }
+    ensures { λ r. ⌜ ((live : List Order) → orders ≡ packed live → volume .0 ≤ getD live place blankOrder .volume .0 → r ≡ packed (lessenedAt place (volume .0) live)) ⌝ }
+{
+    let o = orders.at(place);
+    let v = o.volume;
+    if v.0 <= volume.0 {
+        return orders.without(place);
+    }
+    let price = o.price;
+    amended(orders, place, price, Contracts(v.0 - volume.0))
+}
+
+// The orders after the event.
+fn changed(orders: Orders, e: Event, place: usize) -> Orders
+    requires { ⌜ Accepts orders e place ⌝ }
+    ensures { λ r. ⌜ ((live : List Order) → orders ≡ packed live → place ≡ placeIn e live → Good live → lowest (traderCauses live e) ≡ 0 → r ≡ packed (apply live e)) ⌝ }
+{
+    match e {
+        Event::Add {
+            t: _,
+            id,
+            side,
+            price,
+            volume,
+        } => orders.with(Order {
+            id,
+            side,
+            price,
+            volume,
+        }),
+        Event::Amend {
+            t: _,
+            id: _,
+            price,
+            volume,
+        } => amended(orders, place, price, volume),
+        Event::Cancel { t: _, id: _ } => orders.without(place),
+        Event::Deal {
+            t: _,
+            id: _,
+            volume,
+        } => dealt(orders, place, volume),
+        Event::Tick { t: _ } => orders,
+    }
+}
+
+fn side_at(orders: Orders, place: usize) -> Touched
+    requires { ⌜ Packed orders × (place < orders .count) ⌝ }
+    ensures { λ r. ⌜ ((live : List Order) → orders ≡ packed live → r ≡ Touched.One (getD live place blankOrder .side)) ⌝ }
+{
+    let o = orders.at(place);
+    let s = o.side;
+    Touched::One(s)
+}
+
+// Which side must be searched again after an accepted event.
+fn touched_side(orders: Orders, e: Event, place: usize) -> Touched
+    requires { ⌜ Accepts orders e place ⌝ }
+    ensures { λ r. ⌜ ((live : List Order) → orders ≡ packed live → place ≡ placeIn e live → Good live → lowest (traderCauses live e) ≡ 0 → Untouched r live (apply live e)) ⌝ }
+{
+    match e {
+        Event::Add {
+            t: _,
+            id: _,
+            side,
+            price: _,
+            volume: _,
+        } => Touched::One(side),
+        Event::Amend {
+            t: _,
+            id: _,
+            price: _,
+            volume: _,
+        } => side_at(orders, place),
+        Event::Cancel { t: _, id: _ } => side_at(orders, place),
+        Event::Deal {
+            t: _,
+            id: _,
+            volume: _,
+        } => side_at(orders, place),
+        Event::Tick { t: _ } => Touched::Nothing,
+    }
+}
+
+// Both best quotes of changed orders: the touched side is searched, the other one stays.
+fn requoted(old: Quotes, orders: Orders, touched: Touched, least: Contracts) -> Quotes
+    requires { ⌜ Searchable orders ⌝ }
+    ensures { λ r. ⌜ ((row : Row) (before after : List Order) → least ≡ row .least → old ≡ quotesOf row before → orders ≡ packed after → Untouched touched before after → r ≡ quotesOf row after) ⌝ }
+{
+    let bid = old.bid;
+    let ask = old.ask;
+    match touched {
+        Touched::Nothing => old,
+        Touched::One(side) => {
+            let found = orders.best(side, least);
+            match side {
+                Side::Buy => Quotes { bid: found, ask },
+                Side::Sell => Quotes { bid, ask: found },
+            }
+        }
+    }
+}
+
+// ---- the quantum
+
+impl Quantum {
+    // A quantum opens with no orders, at time 0.
+    pub fn opened(row: Row, sp: Steps) -> Quantum
+        requires { ⌜ goodRow paper row ≡ true ⌝ }
+        ensures { λ r. ⌜ r ≡ standing row (sp .0) [] ⌝ }
+    {
+        let length = row.length;
+        let least = row.least;
+        let limit = quote::spread_limit(row.a, row.b, sp);
+        let orders = Orders::none();
+        Quantum {
+            length,
+            least,
+            limit,
+            time: Millis(0),
+            kept: Millis(0),
+            orders,
+            bid: Quote::Absent,
+            ask: Quote::Absent,
+        }
+    }
+
+    // The milliseconds kept when time has run on to t: the quotes of before count up to there.
+    fn kept_at(self, t: Millis) -> Millis
+        requires { ⌜ Onward self t ⌝ }
+        ensures { λ r. ⌜ ((row : Row) (sp : ℤ) (events : List Event) → EventBounds row events → self ≡ standing row sp events → r .0 ≡ keptBelow row sp events (t .0)) ⌝ }
+    {
+        let limit = self.limit;
+        let bid = self.bid;
+        let ask = self.ask;
+        let time = self.time;
+        let kept = self.kept;
+        if quote::quotes_keep(limit, bid, ask) {
+            return Millis(kept.0 + (t.0 - time.0));
+        }
+        kept
+    }
+
+    // The causes of an event's refusal, in the order of the numbers.
+    fn judged(self, e: Event, place: usize) -> Answer
+        requires { ⌜ Reached self ⌝ }
+        ensures { λ r. ⌜ ((row : Row) (sp : ℤ) (events : List Event) → self ≡ standing row sp events → place ≡ placeIn e (live events) → shownAnswer r ≡ outcomeBy (eventRefusal row events e) done) ⌝ }
+    {
+        let t = time_of(e);
+        let time = self.time;
+        let end = self.length;
+        let orders = self.orders;
+        if t.0 < time.0 {
+            return Answer::Refused(Refusal::TimeBackwards);
+        }
+        if end.0 < t.0 {
+            return Answer::Refused(Refusal::TimePastEnd);
+        }
+        trader_answer(orders, e, place)
+    }
+
+    // After an accepted event.
+    fn with_event(self, e: Event, place: usize) -> Quantum
+        requires { ⌜ Taking self e place ⌝ }
+        ensures { λ r. ⌜ ((row : Row) (sp : ℤ) (events : List Event) → EventBounds row events → self ≡ standing row sp events → place ≡ placeIn e (live events) → eventRefusal row events e ≡ 0 → r ≡ standing row sp (events ++ (e ∷ []))) ⌝ }
+    {
+        let time = time_of(e);
+        let kept = self.kept_at(time);
+        let length = self.length;
+        let least = self.least;
+        let limit = self.limit;
+        let bid = self.bid;
+        let ask = self.ask;
+        let before = self.orders;
+        let side = touched_side(before, e, place);
+        let orders = changed(before, e, place);
+        let quotes = requoted(Quotes { bid, ask }, orders, side, least);
+        let best_bid = quotes.bid;
+        let best_ask = quotes.ask;
+        Quantum {
+            length,
+            least,
+            limit,
+            time,
+            kept,
+            orders,
+            bid: best_bid,
+            ask: best_ask,
+        }
+    }
+
+    // An event: taken, or refused with the quantum as it was.
+    pub fn send(self, e: Event) -> Sent
+        requires { ⌜ Reached self ⌝ }
+        ensures { λ r. ⌜ Answered self e r ⌝ }
+    {
+        let orders = self.orders;
+        let place = located(orders, e);
+        let answer = self.judged(e, place);
+        match answer {
+            Answer::Accepted => Sent {
+                quantum: self.with_event(e, place),
+                answer: Answer::Accepted,
+            },
+            Answer::Refused(r) => Sent {
+                quantum: self,
+                answer: Answer::Refused(r),
+            },
+        }
+    }
+
+    // Kept time at the quantum's end.
+    pub fn ended(self) -> Millis
+        requires { ⌜ Reached self ⌝ }
+        ensures { λ r. ⌜ ((row : Row) (sp : ℤ) (events : List Event) → EventBounds row events → self ≡ standing row sp events → r .0 ≡ keptBelow row sp events (row .length .0)) ⌝ }
+    {
+        let end = self.length;
+        self.kept_at(end)
+    }
+
+    // What a report shows.
+    pub fn now(self) -> Millis
+        ensures { λ r. ⌜ r ≡ self .time ⌝ }
+    {
+        self.time
+    }
+
+    pub fn kept_so_far(self) -> Millis
+        ensures { λ r. ⌜ r ≡ self .kept ⌝ }
+    {
+        self.kept
+    }
+
+    pub fn whole(self) -> Millis
+        ensures { λ r. ⌜ r ≡ self .length ⌝ }
+    {
+        self.length
+    }
+
+    pub fn best_bid(self) -> Quote
+        ensures { λ r. ⌜ r ≡ self .bid ⌝ }
+    {
+        self.bid
+    }
+
+    pub fn best_ask(self) -> Quote
+        ensures { λ r. ⌜ r ≡ self .ask ⌝ }
+    {
+        self.ask
+    }
+
+    pub fn live(self) -> u32
+        requires { ⌜ Reached self ⌝ }
+        ensures { λ r. ⌜ r ≡ self .orders .count ⌝ }
+    {
+        let orders = self.orders;
+        orders.len() as u32
+    }
+}
