@@ -12,3 +12,4 @@ pub mod Kept
 pub mod Refusals
 pub mod Bounds
 pub mod Choosing
+pub mod Records

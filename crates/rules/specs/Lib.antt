@@ -17,3 +17,4 @@ pub mod Records
 pub mod Session
 pub mod Bounds
 pub mod Checks
+pub mod Widths

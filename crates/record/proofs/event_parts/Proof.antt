@@ -1,0 +1,84 @@
+-- `record::event_parts` meets its contract, event by event. Assumes nothing.
+use borrow.Author.Needs.{needs}
+use Rattle.record.proofs.Writing.{add-fields, amend-fields, cancel-fields, deal-fields, tick-fields}
+use Rattle.record.proofs.event_parts.Statement.{statement}
+use Rattle.record.proofs.event_parts.Tie as tie
+
+enum-known-event : tie.Need-enum-known-event
+enum-known-event c = search needs
+
+add-kind-requires : tie.Need-add-kind-requires
+add-kind-requires c κs = search needs
+
+from-steps-requires : tie.Need-from-steps-requires
+from-steps-requires c κs = search needs
+
+made-requires : tie.Need-made-requires
+made-requires c κs = search needs
+
+enum-known-event-2 : tie.Need-enum-known-event-2
+enum-known-event-2 c = search needs
+
+from-steps-requires-2 : tie.Need-from-steps-requires-2
+from-steps-requires-2 c κs = search needs
+
+made-requires-2 : tie.Need-made-requires-2
+made-requires-2 c κs = search needs
+
+enum-known-event-3 : tie.Need-enum-known-event-3
+enum-known-event-3 c = search needs
+
+made-requires-3 : tie.Need-made-requires-3
+made-requires-3 c κs = search needs
+
+enum-known-event-4 : tie.Need-enum-known-event-4
+enum-known-event-4 c = search needs
+
+made-requires-4 : tie.Need-made-requires-4
+made-requires-4 c κs = search needs
+
+enum-known-event-5 : tie.Need-enum-known-event-5
+enum-known-event-5 c = search needs
+
+made-requires-5 : tie.Need-made-requires-5
+made-requires-5 c κs = search needs
+
+returns : tie.Need-returns
+returns c =
+    add-fields (c .before .before .before .before .event .given .1) (c .before .before .add-kind .ensures)
+    (c .before .from-steps .ensures) (c .made .ensures)
+
+returns-2 : tie.Need-returns-2
+returns-2 c = amend-fields (c .before .before .before .event2 .given .1) (c .before .from-steps2 .ensures) (c .made2 .ensures)
+
+returns-3 : tie.Need-returns-3
+returns-3 c = cancel-fields (c .before .before .event3 .given .1) (c .made3 .ensures)
+
+returns-4 : tie.Need-returns-4
+returns-4 c = deal-fields (c .before .before .event4 .given .1) (c .made4 .ensures)
+
+returns-5 : tie.Need-returns-5
+returns-5 c = tick-fields (c .before .before .event5 .given .1) (c .made5 .ensures)
+
+pub event-parts-spec : {M : Type 1} → statement M
+event-parts-spec =
+    tie.close
+    (tie.spec
+    enum-known-event
+    add-kind-requires
+    from-steps-requires
+    made-requires
+    enum-known-event-2
+    from-steps-requires-2
+    made-requires-2
+    enum-known-event-3
+    made-requires-3
+    enum-known-event-4
+    made-requires-4
+    enum-known-event-5
+    made-requires-5
+    returns
+    returns-2
+    returns-3
+    returns-4
+    returns-5)

@@ -1,0 +1,47 @@
+// Numbers in 32-bit words and bytes: two's complement, and a word from its four bytes.
+use rules::Steps;
+ghost use mathlib.Core.Path.{_≡_};
+ghost use Prim.Native.Nat.{_+_, _≤_, _<_};
+ghost use lib.ListN.{length};
+ghost use Rattle.rules.specs.Units.{steps};
+ghost use Rattle.rules.specs.Records.{signedOf, unsignedOf, wordAt};
+
+// The price that a word stands for, in two's complement.
+pub fn to_steps(w: u32) -> Steps
+    ensures { λ r. ⌜ r ≡ steps (signedOf w) ⌝ }
+{
+    if w < 2147483648 {
+        return Steps(w as i32);
+    }
+    let d = 4294967295 - w;
+    Steps(-1 - (d as i32))
+}
+
+// The word that stands for a price.
+pub fn from_steps(p: Steps) -> u32
+    ensures { λ r. ⌜ r ≡ unsignedOf (p .0) ⌝ }
+{
+    let x = p.0;
+    if 0 <= x {
+        return x as u32;
+    }
+    let d = (-1 - x) as u32;
+    4294967295 - d
+}
+
+fn wide(b: u8) -> u32
+    ensures { λ r. ⌜ (r ≡ b) × (r < 256) ⌝ }
+{
+    b as u32
+}
+
+// The word that starts at a byte, low byte first.
+pub fn word_at(bytes: &[u8], at: usize) -> u32
+    requires { ⌜ at + 4 ≤ length (now bytes) ⌝ }
+    ensures { λ r. ⌜ r ≡ wordAt (now (bytes .entry)) at ⌝ }
+{
+    wide(bytes[at])
+        + 256 * wide(bytes[at + 1])
+        + 65536 * wide(bytes[at + 2])
+        + 16777216 * wide(bytes[at + 3])
+}
