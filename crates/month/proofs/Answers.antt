@@ -1,0 +1,65 @@
+-- From one book to every list of calls: what a call shows of each book that the month stands for, it promises of each list. Assumes
+-- nothing.
+use Prim.Native.Nat.{ℕ, zero, suc}
+use mathlib.Core.Path.{_≡_, refl, ap, sym, _∙_, subst₂}
+use mathlib.Core.List.{List, [], _∷_, _++_}
+use native.Mathlib.Omega.{arith}
+use Rattle.rules.specs.declared.Answer.{Answer}
+use Rattle.rules.specs.Terms.{paper}
+use Rattle.rules.specs.Answers.{Outcome, accepted, refused, outcomeBy, Reply, done, shownAnswer}
+use Rattle.rules.specs.Book.{Call, Book, refusalOf, changed, replyOf, answerOf, step, after}
+use Rattle.rules.specs.Bounds.{BookBounds}
+use Rattle.rules.proofs.Refusals.{step-accepted, step-refused, answer-accepted, answer-refused}
+use Rattle.rules.proofs.Bounds.{bounds, after-snoc}
+use Rattle.month.specs.declared.Month.{Month}
+use Rattle.month.specs.declared.Turned.{Turned}
+use Rattle.month.specs.Represents.{monthOf, Reached, Answered}
+
+pub answered : (m next : Month) (c : Call) (shown : Outcome Reply)
+    → ((b : Book) → BookBounds paper b → m ≡ monthOf b → (next ≡ monthOf (step paper b c)) × (shown ≡ answerOf paper b c))
+    → Answered m c next shown
+answered m next c shown h =
+    record {
+      month = λ calls is. h (after paper calls) (bounds paper calls) is .0 ∙ ap monthOf (sym (after-snoc paper calls c));
+      answer = λ calls is. h (after paper calls) (bounds paper calls) is .1;
+    }
+
+-- a refused call
+pub stopped : (m : Month) (c : Call) (n : ℕ) → ((b : Book) → BookBounds paper b → m ≡ monthOf b → refusalOf paper b c ≡ suc n)
+    → Answered m c m (refused (suc n))
+stopped m c n h =
+    answered m m c (refused (suc n))
+    (λ b g is. (is ∙ ap monthOf (sym (step-refused paper b c n (h b g is))), sym (answer-refused paper b c n (h b g is))))
+
+-- the same, where the answer is known to show the refusal
+refused-number : (n k : ℕ) → _≡_ {A = Outcome Reply} (refused k) (outcomeBy n done) → (j : ℕ) × (n ≡ suc j) × (k ≡ suc j)
+refused-number zero k e = let z : _≡_ {A = ℕ} 0 1 = cc in absurd (omega arith)
+refused-number (suc j) k e = (j, refl, cc)
+
+pub stopped-by : (m : Month) (c : Call) (k : ℕ)
+    → ((b : Book) → BookBounds paper b → m ≡ monthOf b → _≡_ {A = Outcome Reply} (refused k) (outcomeBy (refusalOf paper b c) done))
+    → Answered m c m (refused k)
+stopped-by m c k h =
+    answered m m c (refused k)
+    (λ b g is.
+    let (j, n, e) = refused-number (refusalOf paper b c) k (h b g is) in
+    (is ∙ ap monthOf (sym (step-refused paper b c j n)), ap refused e ∙ sym (answer-refused paper b c j n)))
+
+-- an accepted call
+pub went : (m next : Month) (c : Call) (reply : Reply)
+    → ((b : Book) → BookBounds paper b → m ≡ monthOf b → (refusalOf paper b c ≡ 0) × (next ≡ monthOf (changed b c)) × (reply ≡ replyOf paper b c))
+    → Answered m c next (accepted reply)
+went m next c reply h =
+    answered m next c (accepted reply)
+    (λ b g is.
+    let (n, e, r) = h b g is in
+    (e ∙ ap monthOf (sym (step-accepted paper b c n)), ap accepted r ∙ sym (answer-accepted paper b c n)))
+
+-- a month that a call handed back is reached again
+pub reached-again : (m next : Month) (c : Call) (shown : Outcome Reply) → Reached m → Answered m c next shown → Reached next
+reached-again m next c shown r a = record { calls = r .calls ++ (c ∷ []); is = a .month (r .calls) (r .is) }
+
+-- what the ends `refused` and `accepted` hand on
+pub handed : (m : Month) (c : Call) (r : Turned) (next : Month) (a : Answer) → (r .month ≡ next) × (r .answer ≡ a)
+    → Answered m c next (shownAnswer a) → Answered m c (r .month) (shownAnswer (r .answer))
+handed m c r next a e h = subst₂ (λ (x : Month) (y : Answer). Answered m c x (shownAnswer y)) (sym (e .0)) (sym (e .1)) h

@@ -1,0 +1,380 @@
+-- Each call of the month, refusal by refusal and accepted, over the month's fields. Assumes nothing.
+use Prim.Native.Nat.{ℕ, zero, suc, _<_}
+use mathlib.Core.Path.{_≡_, refl, ap, sym, _∙_, subst}
+use mathlib.Core.Bool.{Bool, true, false, not, _&&_}
+use mathlib.Core.List.{List, [], _∷_, _++_}
+use native.Mathlib.Omega.{arith}
+use borrow.Author.Tests.{eq-eqb, eqb-true, not-false}
+use lib.Dec.{eqb}
+use lib.IntN.{ℤ}
+use lib.ListN.{length, set}
+use Rattle.rules.specs.declared.Millis.{Millis}
+use Rattle.rules.specs.declared.Steps.{Steps}
+use Rattle.rules.specs.declared.Kopecks.{Kopecks}
+use Rattle.rules.specs.declared.Row.{Row}
+use Rattle.rules.specs.declared.Cell.{Cell}
+use Rattle.rules.specs.declared.CellView.{CellView}
+use Rattle.rules.specs.declared.Event.{Event}
+use Rattle.rules.specs.declared.Answer.{Answer}
+use Rattle.rules.specs.declared.Answer.the-variants.{Accepted, Refused}
+use Rattle.rules.specs.declared.Refusal.{Refusal}
+use Rattle.rules.specs.declared.Report.{Report}
+use Rattle.rules.specs.Lists.{if_then_else_, within, keep, count}
+use Rattle.rules.specs.Terms.{paper}
+use Rattle.rules.specs.Units.{goodPrice, millis, kopecks}
+use Rattle.rules.specs.Rows.{rowOf, goodRow}
+use Rattle.rules.specs.Cells.{goodCell, placeOf, cellAt, blankCell}
+use Rattle.rules.specs.Orders.{live, applyAll, present, timeFrom}
+use Rattle.rules.specs.Quotes.{best, lead}
+use Rattle.rules.specs.Kept.{keptBelow}
+use Rattle.rules.specs.Pay.{viewOf, allFailures, fee}
+use Rattle.rules.specs.Answers.{Outcome, accepted, refused, outcomeBy, Reply, done, cell, report, numberOf, shownAnswer}
+use Rattle.rules.specs.Book.{Call, Open, Send, Close, Drop, Charge, Withdraw, Look, Running, Idle, Quoting, Book, isOpen, Cause, cause, lowest, rowCauses, readRow, goodCharges, sendCauses, eventCauses, eventRefusal, causes, refusalOf, noted, closed, closedCell, charged, changed, timeIn, ordersIn, bidIn, askIn, keptIn, reportOf}
+use Rattle.rules.specs.Book as B
+use Rattle.rules.specs.Bounds.{BookBounds, EventBounds, CellBounds}
+use Rattle.rules.proofs.Refusals.{skip, stop, clear, passed}
+use Rattle.orders.specs.Packed.{packed}
+use Rattle.quantum.specs.declared.Quantum.{Quantum}
+use Rattle.quantum.specs.declared.Sent.{Sent}
+use Rattle.quantum.specs.Standing as S
+use Rattle.quantum.specs.Standing.{standing, running, taken}
+use Rattle.quantum.proofs.Standing.{accepted-zero, length-is}
+use Rattle.month.specs.declared.Month.{Month}
+use Rattle.month.specs.Represents.{quantumIn, monthOf, Answered}
+use Rattle.month.specs.Parts.{withCell, withoutQuantum}
+use Rattle.month.proofs.Answers.{stopped, stopped-by, went}
+use Rattle.month.proofs.Fields.{running-is, quantum-is, cells-are, closed-is, open-is, Opened, opened}
+
+-- months with the same fields are the same
+same-month : (m n : Month) → m .running ≡ n .running → m .place ≡ n .place → m .share ≡ n .share → m .quantum ≡ n .quantum
+    → m .cells ≡ n .cells → m ≡ n
+same-month m n p q r s t = λ i. record { running = p i; place = q i; share = r i; quantum = s i; cells = t i }
+
+-- ---- open
+
+lowest-first : (cs ds : List Cause) (j : ℕ) → lowest cs ≡ suc j → lowest (cs ++ ds) ≡ suc j
+unfolding lowest
+lowest-first [] ds j e = absurd (omega arith)
+lowest-first (c ∷ cs) ds j e = go (c .applies) e (lowest-first cs ds j)
+  where
+    go : (b : Bool) → (if b then c .number else lowest cs) ≡ suc j → (lowest cs ≡ suc j → lowest (cs ++ ds) ≡ suc j)
+        → (if b then c .number else lowest (cs ++ ds)) ≡ suc j
+    go true e r = e
+    go false e r = r e
+
+-- the words were read as a row, or refused
+row-refused : (n k : ℕ) (row : Row) → refused k ≡ outcomeBy n row → (j : ℕ) × (n ≡ suc j) × (k ≡ suc j)
+row-refused zero k row e = let z : _≡_ {A = ℕ} 0 1 = cc in absurd (omega arith)
+row-refused (suc j) k row e = (j, refl, cc)
+
+row-accepted : (n : ℕ) (row read : Row) → accepted row ≡ outcomeBy n read → (n ≡ 0) × (row ≡ read)
+row-accepted zero row read e = (refl, cc)
+row-accepted (suc j) row read e = let z : _≡_ {A = ℕ} 0 1 = cc in absurd (omega arith)
+
+pub open-unread : (m : Month) (words : List ℕ) (day : ℕ) (sp : Steps) (k : ℕ) → refused k ≡ readRow paper words → Answered m (Open words day sp) m (refused k)
+unfolding readRow refusalOf causes
+open-unread m words day sp k e =
+    let (j, n, f) = row-refused (lowest (rowCauses paper words)) k (rowOf words) e in
+    subst (λ (x : ℕ). Answered m (Open words day sp) m (refused x)) (sym f)
+    (stopped m (Open words day sp) j (λ b g is. lowest-first (rowCauses paper words) _ j n))
+
+pub record ReadAs (words : List ℕ) (row : Row) : Type 0 where
+  pub seven : length words ≡ 7
+  pub is : rowOf words ≡ row
+  pub good : goodRow paper row ≡ true
+
+pub read-as : (words : List ℕ) (row : Row) → accepted row ≡ readRow paper words → ReadAs words row
+unfolding readRow
+read-as words row e =
+    let (n, f) = row-accepted (lowest (rowCauses paper words)) row (rowOf words) e in
+    let one = passed 0 _ _ n in
+    let two = passed 1 _ _ (one .1) in
+    record {
+      seven = eqb-true _ _ (not-false _ (one .0));
+      is = sym f;
+      good = ap (goodRow paper) f ∙ not-false _ (two .0);
+    }
+
+module _ (m : Month) (words : List ℕ) (row : Row) (read : ReadAs words row) (day : ℕ) (sp : Steps) where
+  row-passes : (rest : List Cause) → lowest (rowCauses paper words ++ rest) ≡ lowest rest
+  row-passes rest =
+      skip _ _ (ap not (eq-eqb _ _ (read .seven))) (skip _ _ (ap not (ap (goodRow paper) (read .is) ∙ read .good)) refl)
+
+  abbrev spot : ℕ
+  spot = placeOf day (row .expiry) (row .quantum)
+
+  spot-is : placeOf day (rowOf words .expiry) (rowOf words .quantum) ≡ spot
+  spot-is = ap (λ (r : Row). placeOf day (r .expiry) (r .quantum)) (read .is)
+
+  -- the named cell, by the book
+  named : (b : Book) → m ≡ monthOf b → cellAt (b .cells) (placeOf day (rowOf words .expiry) (rowOf words .quantum)) ≡ cellAt (m .cells) spot
+  named b is = ap (cellAt (b .cells)) spot-is ∙ ap (λ (cs : List Cell). cellAt cs spot) (sym (cells-are m b is))
+
+  pub open-range : (within 1 31 day && goodPrice (sp .0)) ≡ false → Answered m (Open words day sp) m (refused 3)
+  unfolding refusalOf causes
+  open-range h = stopped m (Open words day sp) 2 (λ b g is. row-passes _ ∙ stop _ _ (ap not h))
+
+  module _ (h : (within 1 31 day && goodPrice (sp .0)) ≡ true) where
+    pub open-filled : cellAt (m .cells) spot .filled ≡ true → Answered m (Open words day sp) m (refused 4)
+    unfolding refusalOf causes
+    open-filled k =
+        stopped m (Open words day sp) 3
+        (λ b g is. row-passes _ ∙ skip _ _ (ap not h) (stop _ _ (ap (λ (c : Cell). c .filled) (named b is) ∙ k)))
+
+    module _ (k : cellAt (m .cells) spot .filled ≡ false) where
+      pub open-running : m .running ≡ true → Answered m (Open words day sp) m (refused 6)
+      unfolding refusalOf causes
+      open-running l =
+          stopped m (Open words day sp) 5
+          (λ b g is.
+          row-passes _ ∙ skip _ _ (ap not h) (skip _ _ (ap (λ (c : Cell). c .filled) (named b is) ∙ k) (stop _ _ (open-is m b is l))))
+
+      pub open-done : m .running ≡ false → (q : Quantum) (place : ℕ) → q ≡ standing row (sp .0) [] → place ≡ spot
+          → Answered m (Open words day sp) (record { running = true; place = place; share = row .share; quantum = q; cells = m .cells }) (accepted done)
+      unfolding refusalOf causes changed monthOf
+      open-done l q place e f =
+          went m _ (Open words day sp) done
+          (λ b g is. (
+            row-passes _
+                ∙ skip _ _ (ap not h) (skip _ _ (ap (λ (c : Cell). c .filled) (named b is) ∙ k) (skip _ _ (closed-is m b is l) clear)),
+            same-month _ _ refl (f ∙ sym spot-is) (ap (λ (r : Row). r .share) (sym (read .is)))
+                (e ∙ ap (λ (r : Row). standing r (sp .0) []) (sym (read .is))) (cells-are m b is),
+            refl,
+          ))
+
+-- ---- events
+
+-- with none open
+idle-send : (r : Running) (e : Event) → isOpen r ≡ false → lowest (sendCauses r e) ≡ 7
+idle-send Idle e h = stop _ _ refl
+idle-send (Quoting place row sp events) e h = let z : _≡_ {A = ℕ} 0 1 = cc in absurd (omega arith)
+
+pub send-idle : (m : Month) (e : Event) → m .running ≡ false → Answered m (Send e) m (refused 7)
+unfolding refusalOf causes
+send-idle m e h = stopped m (Send e) 6 (λ b g is. idle-send (b .running) e (closed-is m b is h))
+
+-- the book's refusal is the open quantum's
+send-refusal : (m : Month) (b : Book) (e : Event) (o : Opened m b) → refusalOf paper b (Send e) ≡ eventRefusal (o .row) (o .events) e
+unfolding refusalOf causes eventRefusal
+send-refusal m b e o = ap (λ (r : Running). lowest (sendCauses r e)) (o .running)
+
+module _ (m : Month) (e : Event) (sent : Sent) (h : m .running ≡ true) (a : S.Answered (m .quantum) e sent) where
+  pub send-refused : (f : Refusal) → sent .answer ≡ Refused f → Answered m (Send e) m (refused (numberOf f))
+  send-refused f k =
+      stopped-by m (Send e) (numberOf f)
+      (λ b g is.
+      let o = opened m b g is h in
+      ap shownAnswer (sym k)
+      ∙ a .answer (o .row) (o .sp .0) (o .events) (o .bounds .events-good) (o .quantum)
+      ∙ ap (λ (n : ℕ). outcomeBy n done) (sym (send-refusal m b e o)))
+
+  pub send-done : sent .answer ≡ Accepted
+      → Answered m (Send e) (record { running = m .running; place = m .place; share = m .share; quantum = sent .quantum; cells = m .cells }) (accepted done)
+  unfolding changed monthOf
+  send-done k =
+      went m _ (Send e) done
+      (λ b g is.
+      let o = opened m b g is h in
+      let zero : eventRefusal (o .row) (o .events) e ≡ 0 =
+      accepted-zero _ (ap shownAnswer (sym k) ∙ a .answer (o .row) (o .sp .0) (o .events) (o .bounds .events-good) (o .quantum)) in
+      let next : sent .quantum ≡ standing (o .row) (o .sp .0) (o .events ++ (e ∷ [])) =
+      a .quantum (o .row) (o .sp .0) (o .events) (o .bounds .events-good) (o .quantum)
+      ∙ ap (λ (n : ℕ). standing (o .row) (o .sp .0) (taken n (o .events) e)) zero in (
+        send-refusal m b e o ∙ zero,
+        same-month _ _ h (o .at) (o .share) next (cells-are m b is)
+            ∙ ap (λ (r : Running). monthOf (record { running = noted r e; cells = b .cells })) (sym (o .running)),
+        refl,
+      ))
+
+-- ---- close and drop
+
+module _ (m : Month) (active passive : Kopecks) where
+  pub close-range : goodCharges paper active passive ≡ false → Answered m (Close active passive) m (refused 3)
+  unfolding refusalOf causes
+  close-range h = stopped m (Close active passive) 2 (λ b g is. stop _ _ (ap not h))
+
+  pub close-idle : goodCharges paper active passive ≡ true → m .running ≡ false → Answered m (Close active passive) m (refused 7)
+  unfolding refusalOf causes
+  close-idle h k = stopped m (Close active passive) 6 (λ b g is. skip _ _ (ap not h) (stop _ _ (ap not (closed-is m b is k))))
+
+  pub close-done : goodCharges paper active passive ≡ true → m .running ≡ true → (kept length : Millis)
+      → ((row : Row) (sp : ℤ) (events : List Event) → EventBounds row events → m .quantum ≡ standing row sp events → kept .0 ≡ keptBelow row sp events (row .length .0))
+      → length ≡ m .quantum .length
+      → Answered m (Close active passive)
+      (withoutQuantum (withCell m (m .place) (record { filled = true; kept = kept; length = length; share = m .share; active = active; passive = passive })))
+      (accepted done)
+  unfolding refusalOf causes changed monthOf
+  close-done h k kept length l w =
+      went m _ (Close active passive) done
+      (λ b g is.
+      let o = opened m b g is k in
+      let cell : _≡_ {A = Cell} (record { filled = true; kept = kept; length = length; share = m .share; active = active; passive = passive })
+      (closedCell (o .row) (o .sp) (o .events) active passive) =
+      λ i.
+      record {
+        filled = true;
+        kept = millis (l (o .row) (o .sp .0) (o .events) (o .bounds .events-good) (o .quantum) i);
+        length = (w ∙ length-is (o .row) (o .sp .0) (o .events) (m .quantum) (o .quantum)) i;
+        share = o .share i;
+        active = active;
+        passive = passive;
+      } in (
+        skip _ _ (ap not h) (skip _ _ (ap not (open-is m b is k)) clear),
+        same-month _ _ refl refl refl refl
+            ((λ i. set (cells-are m b is i) (o .at i) (cell i))
+            ∙ ap (λ (r : Running). closed r active passive (b .cells)) (sym (o .running))),
+        refl,
+      ))
+
+pub drop-idle : (m : Month) → m .running ≡ false → Answered m Drop m (refused 7)
+unfolding refusalOf causes
+drop-idle m k = stopped m Drop 6 (λ b g is. stop _ _ (ap not (closed-is m b is k)))
+
+pub drop-done : (m : Month) → m .running ≡ true → Answered m Drop (withoutQuantum m) (accepted done)
+unfolding refusalOf causes changed monthOf
+drop-done m k =
+    went m _ Drop done
+    (λ b g is. (skip _ _ (ap not (open-is m b is k)) clear, same-month _ _ refl refl refl refl (cells-are m b is), refl))
+
+-- ---- charge, withdraw and look: a named cell
+
+module _ (m : Month) (day expiry quantum : ℕ) where
+  -- the cell that the call names, by the book
+  cell-is : (b : Book) → m ≡ monthOf b → cellAt (b .cells) (placeOf day expiry quantum) ≡ cellAt (m .cells) (placeOf day expiry quantum)
+  cell-is b is = ap (λ (cs : List Cell). cellAt cs (placeOf day expiry quantum)) (sym (cells-are m b is))
+
+  filled-is : (t : Bool) → cellAt (m .cells) (placeOf day expiry quantum) .filled ≡ t → (b : Book) → m ≡ monthOf b
+      → not (cellAt (b .cells) (placeOf day expiry quantum) .filled) ≡ not t
+  filled-is t k b is = ap (λ (c : Cell). not (c .filled)) (cell-is b is) ∙ ap not k
+
+  module _ (active passive : Kopecks) where
+    pub charge-range : (goodCell day expiry quantum && goodCharges paper active passive) ≡ false
+        → Answered m (Charge day expiry quantum active passive) m (refused 3)
+    unfolding refusalOf causes
+    charge-range h = stopped m (Charge day expiry quantum active passive) 2 (λ b g is. stop _ _ (ap not h))
+
+    pub charge-blank : (goodCell day expiry quantum && goodCharges paper active passive) ≡ true
+        → cellAt (m .cells) (placeOf day expiry quantum) .filled ≡ false → Answered m (Charge day expiry quantum active passive) m (refused 5)
+    unfolding refusalOf causes
+    charge-blank h k =
+        stopped m (Charge day expiry quantum active passive) 4 (λ b g is. skip _ _ (ap not h) (stop _ _ (filled-is false k b is)))
+
+    pub charge-done : (goodCell day expiry quantum && goodCharges paper active passive) ≡ true
+        → cellAt (m .cells) (placeOf day expiry quantum) .filled ≡ true
+        → Answered m (Charge day expiry quantum active passive)
+        (withCell m (placeOf day expiry quantum) (charged active passive (cellAt (m .cells) (placeOf day expiry quantum)))) (accepted done)
+    unfolding refusalOf causes changed monthOf
+    charge-done h k =
+        went m _ (Charge day expiry quantum active passive) done
+        (λ b g is. (
+          skip _ _ (ap not h) (skip _ _ (filled-is true k b is) clear),
+          ap (λ (n : Month). withCell n (placeOf day expiry quantum) (charged active passive (cellAt (n .cells) (placeOf day expiry quantum)))) is,
+          refl,
+        ))
+
+  pub withdraw-range : goodCell day expiry quantum ≡ false → Answered m (Withdraw day expiry quantum) m (refused 3)
+  unfolding refusalOf causes
+  withdraw-range h = stopped m (Withdraw day expiry quantum) 2 (λ b g is. stop _ _ (ap not h))
+
+  pub look-range : goodCell day expiry quantum ≡ false → Answered m (Look day expiry quantum) m (refused 3)
+  unfolding refusalOf causes
+  look-range h = stopped m (Look day expiry quantum) 2 (λ b g is. stop _ _ (ap not h))
+
+  module _ (h : goodCell day expiry quantum ≡ true) where
+    pub withdraw-blank : cellAt (m .cells) (placeOf day expiry quantum) .filled ≡ false → Answered m (Withdraw day expiry quantum) m (refused 5)
+    unfolding refusalOf causes
+    withdraw-blank k = stopped m (Withdraw day expiry quantum) 4 (λ b g is. skip _ _ (ap not h) (stop _ _ (filled-is false k b is)))
+
+    pub look-blank : cellAt (m .cells) (placeOf day expiry quantum) .filled ≡ false → Answered m (Look day expiry quantum) m (refused 5)
+    unfolding refusalOf causes
+    look-blank k = stopped m (Look day expiry quantum) 4 (λ b g is. skip _ _ (ap not h) (stop _ _ (filled-is false k b is)))
+
+    pub withdraw-done : cellAt (m .cells) (placeOf day expiry quantum) .filled ≡ true
+        → Answered m (Withdraw day expiry quantum) (withCell m (placeOf day expiry quantum) blankCell) (accepted done)
+    unfolding refusalOf causes changed monthOf
+    withdraw-done k =
+        went m _ (Withdraw day expiry quantum) done
+        (λ b g is. (
+          skip _ _ (ap not h) (skip _ _ (filled-is true k b is) clear),
+          ap (λ (n : Month). withCell n (placeOf day expiry quantum) blankCell) is,
+          refl,
+        ))
+
+    pub look-done : cellAt (m .cells) (placeOf day expiry quantum) .filled ≡ true → (v : CellView)
+        → v ≡ viewOf paper (cellAt (m .cells) (placeOf day expiry quantum)) → Answered m (Look day expiry quantum) m (accepted (cell v))
+    unfolding refusalOf causes changed
+    look-done k v e =
+        went m m (Look day expiry quantum) (cell v)
+        (λ b g is. (
+          skip _ _ (ap not h) (skip _ _ (filled-is true k b is) clear),
+          is,
+          ap cell (e ∙ ap (viewOf paper) (sym (cell-is b is))),
+        ))
+
+-- ---- report
+
+-- what the quantum in the month shows is what the book's report says, also where none is open
+record Shows (r : Running) (q : Quantum) : Type 0 where
+  time : q .time ≡ millis (timeIn r)
+  orders : q .orders .count ≡ ordersIn r
+  bid : q .bid ≡ bidIn r
+  ask : q .ask ≡ askIn r
+  kept : q .kept ≡ millis (keptIn r)
+
+shows : (r : Running) (q : Quantum) → q ≡ quantumIn r → Shows r q
+unfolding standing running present timeFrom live applyAll keptBelow count best lead keep packed
+shows Idle q is =
+    record {
+      time = ap (λ (x : Quantum). x .time) is;
+      orders = ap (λ (x : Quantum). x .orders .count) is;
+      bid = ap (λ (x : Quantum). x .bid) is;
+      ask = ap (λ (x : Quantum). x .ask) is;
+      kept = ap (λ (x : Quantum). x .kept) is;
+    }
+shows (Quoting place row sp events) q is =
+    record {
+      time = ap (λ (x : Quantum). x .time) is;
+      orders = ap (λ (x : Quantum). x .orders .count) is;
+      bid = ap (λ (x : Quantum). x .bid) is;
+      ask = ap (λ (x : Quantum). x .ask) is;
+      kept = ap (λ (x : Quantum). x .kept) is;
+    }
+
+-- the report that the month's fields make
+abbrev reportBy : Bool → Quantum → List ℕ → Kopecks → Report
+reportBy on q fs charge =
+    record {
+      running = on;
+      time = q .time;
+      orders = q .orders .count;
+      bid = q .bid;
+      ask = q .ask;
+      kept = q .kept;
+      failures = fs;
+      fee = charge;
+    }
+
+pub report-done : (m : Month) (r : Report)
+    → r ≡ reportBy (m .running) (m .quantum) (allFailures paper (m .cells)) (kopecks (fee paper (m .cells)))
+    → Answered m B.Report m (accepted (report r))
+unfolding refusalOf causes changed reportOf
+report-done m r e =
+    went m m B.Report (report r)
+    (λ b g is.
+    let s = shows (b .running) (m .quantum) (quantum-is m b is) in (
+      clear,
+      is,
+      ap report
+          (e
+          ∙ λ i.
+          record {
+            running = running-is m b is i;
+            time = s .time i;
+            orders = s .orders i;
+            bid = s .bid i;
+            ask = s .ask i;
+            kept = s .kept i;
+            failures = allFailures paper (cells-are m b is i);
+            fee = kopecks (fee paper (cells-are m b is i));
+          }),
+    ))

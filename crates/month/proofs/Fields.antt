@@ -1,0 +1,154 @@
+-- The month's fields and the book that it stands for. Assumes nothing.
+use Prim.Native.Nat.{ℕ, _≤_, _<_}
+use mathlib.Core.Path.{_≡_, refl, ap, sym, _∙_, subst}
+use mathlib.Core.Bool.{true, false, false≢true, _&&_}
+use mathlib.Core.List.{List, [], List·Memᴰ}
+use native.Mathlib.Omega.{arith}
+use borrow.Author.Tests.{leb-true, le-leb}
+use lib.Dec.{leb}
+use lib.IntN.{pos}
+use lib.ListN.{length}
+use Rattle.rules.specs.declared.Row.{Row}
+use Rattle.rules.specs.declared.Steps.{Steps}
+use Rattle.rules.specs.declared.Cell.{Cell}
+use Rattle.rules.specs.declared.Event.{Event}
+use Rattle.rules.specs.Lists.{within}
+use Rattle.rules.specs.Terms.{paper}
+use Rattle.rules.specs.Rows.{goodRow}
+use Rattle.rules.specs.Cells.{goodCell, cellAt, blankCell, blankCells}
+use Rattle.rules.specs.Book.{Running, Idle, Quoting, Book, isOpen, freshBook, run, after}
+use Rattle.rules.specs.Bounds.{OpenBounds, RunningBounds, CellBounds, BookBounds}
+use Rattle.rules.proofs.Lists.{both, and}
+use Rattle.rules.proofs.Members.{getD-in}
+use Rattle.rules.proofs.Refusals.{within-parts}
+use Rattle.rules.proofs.Bounds.{bounds, event-bounds-none, row-bounds}
+use Rattle.quantum.specs.declared.Quantum.{Quantum}
+use Rattle.quantum.specs.Standing as S
+use Rattle.quantum.specs.Standing.{standing}
+use Rattle.month.specs.declared.Month.{Month}
+use Rattle.month.specs.Represents.{idleRow, quantumIn, placeIn, shareIn, monthOf, Reached}
+
+module _ (m : Month) (b : Book) (is : m ≡ monthOf b) where
+  pub running-is : m .running ≡ isOpen (b .running)
+  unfolding monthOf
+  running-is = ap (λ (x : Month). x .running) is
+
+  pub quantum-is : m .quantum ≡ quantumIn (b .running)
+  unfolding monthOf
+  quantum-is = ap (λ (x : Month). x .quantum) is
+
+  pub place-is : m .place ≡ placeIn (b .running)
+  unfolding monthOf
+  place-is = ap (λ (x : Month). x .place) is
+
+  pub share-is : m .share ≡ shareIn (b .running)
+  unfolding monthOf
+  share-is = ap (λ (x : Month). x .share) is
+
+  pub cells-are : m .cells ≡ b .cells
+  unfolding monthOf
+  cells-are = ap (λ (x : Month). x .cells) is
+
+  pub closed-is : m .running ≡ false → isOpen (b .running) ≡ false
+  closed-is h = sym running-is ∙ h
+
+  pub open-is : m .running ≡ true → isOpen (b .running) ≡ true
+  open-is h = sym running-is ∙ h
+
+-- the open quantum
+pub record Opened (m : Month) (b : Book) : Type 0 where
+  pub place : ℕ
+  pub row : Row
+  pub sp : Steps
+  pub events : List Event
+  pub running : b .running ≡ Quoting place row sp events
+  pub bounds : OpenBounds paper place row sp events
+  pub quantum : m .quantum ≡ standing row (sp .0) events
+  pub at : m .place ≡ place
+  pub share : m .share ≡ row .share
+
+pub opened : (m : Month) (b : Book) → BookBounds paper b → m ≡ monthOf b → m .running ≡ true → Opened m b
+opened m b g is h = go (b .running) refl (g .running)
+  where
+    go : (r : Running) → b .running ≡ r → RunningBounds paper r → Opened m b
+    go Idle e s = absurd (false≢true (sym (ap isOpen e) ∙ open-is m b is h))
+    go (Quoting place row sp events) e s =
+        record {
+          place = place;
+          row = row;
+          sp = sp;
+          events = events;
+          running = e;
+          bounds = s;
+          quantum = quantum-is m b is ∙ ap quantumIn e;
+          at = place-is m b is ∙ ap placeIn e;
+          share = share-is m b is ∙ ap shareIn e;
+        }
+
+-- the quantum in the month is one that its calls handed back, also where none is open
+in-running : (q : Quantum) (r : Running) → q ≡ quantumIn r → RunningBounds paper r → S.Reached q
+in-running q Idle e s = record { row = idleRow; sp = pos 0; events = []; bounds = event-bounds-none idleRow; is = e }
+in-running q (Quoting place row sp events) e s = record { row = row; sp = sp .0; events = events; bounds = s .events-good; is = e }
+
+pub quantum-reached : (m : Month) → Reached m → S.Reached (m .quantum)
+quantum-reached m r =
+    let b = after paper (r .calls) in
+    in-running (m .quantum) (b .running) (quantum-is m b (r .is)) (bounds paper (r .calls) .running)
+
+pub all-cells : (m : Month) → Reached m → length (m .cells) ≡ 186
+all-cells m r = ap length (cells-are m (after paper (r .calls)) (r .is)) ∙ bounds paper (r .calls) .all-cells
+
+place-small : (r : Running) → RunningBounds paper r → placeIn r < 186
+place-small Idle s = omega arith
+place-small (Quoting place row sp events) s = s .inside
+
+pub place-inside : (m : Month) → Reached m → m .place < 186
+place-inside m r =
+    let b = after paper (r .calls) in
+    omega (arith, place-is m b (r .is), place-small (b .running) (bounds paper (r .calls) .running))
+
+-- every filled cell is in its bounds
+pub cells-good : (m : Month) → Reached m → (c : Cell) → List·Memᴰ c (m .cells) → c .filled ≡ true → CellBounds paper c
+cells-good m r c k h =
+    let b = after paper (r .calls) in
+    bounds paper (r .calls) .filled c (subst (List·Memᴰ c) (cells-are m b (r .is)) k) h
+
+-- a named cell's numbers
+pub record InRange (day expiry quantum : ℕ) : Type 0 where
+  pub day-least : 1 ≤ day
+  pub day-most : day ≤ 31
+  pub expiry-least : 1 ≤ expiry
+  pub expiry-most : expiry ≤ 2
+  pub quantum-most : quantum ≤ 2
+
+pub in-range : (day expiry quantum : ℕ) → goodCell day expiry quantum ≡ true → InRange day expiry quantum
+in-range day expiry quantum h =
+    let a = both (within 1 31 day && within 1 2 expiry) (leb quantum 2) h in
+    let b = both (within 1 31 day) (within 1 2 expiry) (a .0) in
+    let d = within-parts 1 31 day (b .0) in
+    let e = within-parts 1 2 expiry (b .1) in
+    record {
+      day-least = d .0;
+      day-most = d .1;
+      expiry-least = e .0;
+      expiry-most = e .1;
+      quantum-most = leb-true quantum 2 (a .1);
+    }
+
+-- the cell at a place of a good month, where it is filled
+pub cell-good : (m : Month) → Reached m → (place : ℕ) → place < 186 → (c : Cell) → c ≡ cellAt (m .cells) place → c .filled ≡ true → CellBounds paper c
+cell-good m r place h c e f =
+    let n = all-cells m r in
+    cells-good m r c (subst (λ (x : Cell). List·Memᴰ x (m .cells)) (sym e) (getD-in (m .cells) place blankCell (omega arith))) f
+
+-- the fresh month
+pub fresh-is : (q : Quantum) (cells : List Cell) → q ≡ quantumIn Idle → cells ≡ blankCells
+    → _≡_ {A = Month} (record { running = false; place = 0; share = 0; quantum = q; cells = cells }) (monthOf (after paper []))
+unfolding monthOf after run freshBook
+fresh-is q cells e f = λ i. record { running = false; place = 0; share = 0; quantum = e i; cells = f i }
+
+-- a good row and a day name a cell
+pub row-names : (row : Row) (day : ℕ) → goodRow paper row ≡ true → within 1 31 day ≡ true → goodCell day (row .expiry) (row .quantum) ≡ true
+row-names row day g h =
+    let r = row-bounds paper row g in
+    and (and h (and (le-leb 1 (row .expiry) (r .expiry-least)) (le-leb (row .expiry) 2 (r .expiry-most)))) (le-leb (row .quantum) 2 (r .quantum-most))

@@ -1,0 +1,59 @@
+-- Each field as the book has it. Assumes nothing.
+use mathlib.Core.Path.{refl}
+use Rattle.month.proofs.Fields.{cells-good, quantum-reached}
+use Rattle.month.proofs.Calls.{report-done}
+use borrow.Author.Needs.{needs}
+use Rattle.month.proofs.Month.report.Statement.{statement}
+use Rattle.month.proofs.Month.report.Tie as tie
+
+failures-requires : tie.Need-failures-requires
+failures-requires c κs = search needs
+
+fee-requires : tie.Need-fee-requires
+fee-requires c κs = let s = c .before .before .before in cells-good (s .args .self) (s .pre)
+
+now-requires : tie.Need-now-requires
+now-requires c κs = search needs
+
+live-requires : tie.Need-live-requires
+live-requires c κs = let s = c .before .before .before .before .before in quantum-reached (s .args .self) (s .pre)
+
+best-bid-requires : tie.Need-best-bid-requires
+best-bid-requires c κs = search needs
+
+best-ask-requires : tie.Need-best-ask-requires
+best-ask-requires c κs = search needs
+
+kept-so-far-requires : tie.Need-kept-so-far-requires
+kept-so-far-requires c κs = search needs
+
+returns : tie.Need-returns
+returns c =
+    let m = c .before .before .before .before .before .before .before .before .before .args .self in (
+      refl,
+      report-done m _
+          (λ i.
+          record {
+            running = m .running;
+            time = c .before .before .before .before .now .ensures i;
+            orders = c .before .before .before .live .ensures i;
+            bid = c .before .before .best-bid .ensures i;
+            ask = c .before .best-ask .ensures i;
+            kept = c .kept-so-far .ensures i;
+            failures = c .before .before .before .before .before .before .failures .ensures i;
+            fee = c .before .before .before .before .before .fee .ensures i;
+          }),
+    )
+
+pub report-spec : {M : Type 1} → statement M
+report-spec =
+    tie.close
+    (tie.spec
+    failures-requires
+    fee-requires
+    now-requires
+    live-requires
+    best-bid-requires
+    best-ask-requires
+    kept-so-far-requires
+    returns)

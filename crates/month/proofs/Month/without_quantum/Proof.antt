@@ -1,0 +1,18 @@
+-- Only the quantum goes. Assumes nothing.
+use mathlib.Core.Path.{ap}
+use mathlib.Core.Bool.{false}
+use Rattle.quantum.specs.declared.Quantum.{Quantum}
+use borrow.Author.Needs.{needs}
+use Rattle.month.proofs.Month.without_quantum.Statement.{statement}
+use Rattle.month.proofs.Month.without_quantum.Tie as tie
+
+idle-requires : tie.Need-idle-requires
+idle-requires c κs = search needs
+
+returns : tie.Need-returns
+returns c =
+    let cells = c .before .before .args .self .cells in
+    ap (λ (q : Quantum). record { running = false; place = 0; share = 0; quantum = q; cells = cells }) (c .idle .ensures)
+
+pub without-quantum-spec : {M : Type 1} → statement M
+without-quantum-spec = tie.close (tie.spec idle-requires returns)

@@ -1,0 +1,59 @@
+-- The one value of the struct that stands for a book, and what the month's calls promise.
+use Prim.Native.Nat.{ℕ}
+use mathlib.Core.Path.{_≡_}
+use mathlib.Core.List.{List, [], _∷_, _++_}
+use lib.IntN.{pos}
+use Rattle.rules.specs.declared.Row.{Row}
+use Rattle.rules.specs.Terms.{paper}
+use Rattle.rules.specs.Units.{millis, contracts}
+use Rattle.rules.specs.Answers.{Outcome, Reply}
+use Rattle.rules.specs.Book.{Call, Running, Idle, Quoting, Book, isOpen, after, answerOf}
+use Rattle.quantum.specs.declared.Quantum.{Quantum}
+use Rattle.quantum.specs.Standing.{standing}
+use Rattle.month.specs.declared.Month.{Month}
+
+-- what stands in the place of the quantum while none is open: one that has just opened with this row
+abbrev pub idleRow : Row
+idleRow =
+    record {
+      expiry = 1;
+      quantum = 0;
+      length = millis 1000;
+      least = contracts 1;
+      a = 0;
+      b = 0;
+      share = 1;
+    }
+
+abbrev pub quantumIn : Running → Quantum
+quantumIn Idle = standing idleRow (pos 0) []
+quantumIn (Quoting place row sp events) = standing row (sp .0) events
+
+abbrev pub placeIn : Running → ℕ
+placeIn Idle = 0
+placeIn (Quoting place row sp events) = place
+
+abbrev pub shareIn : Running → ℕ
+shareIn Idle = 0
+shareIn (Quoting place row sp events) = row .share
+
+unfoldable pub monthOf : Book → Month
+monthOf b =
+    record {
+      running = isOpen (b .running);
+      place = placeIn (b .running);
+      share = shareIn (b .running);
+      quantum = quantumIn (b .running);
+      cells = b .cells;
+    }
+
+-- "A month is the fresh one or what a call handed back": the month of some list of calls
+pub record Reached (m : Month) : Type 0 where
+  pub calls : List Call
+  pub is : m ≡ monthOf (after paper calls)
+
+-- What a call promises: for every list of calls that led to the month m, the month that it hands back is the month of the longer list,
+-- and what its answer shows is what the plain book answers to this call after that list.
+pub record Answered (m : Month) (c : Call) (next : Month) (shown : Outcome Reply) : Type 0 where
+  pub month : (calls : List Call) → m ≡ monthOf (after paper calls) → next ≡ monthOf (after paper (calls ++ (c ∷ [])))
+  pub answer : (calls : List Call) → m ≡ monthOf (after paper calls) → shown ≡ answerOf paper (after paper calls) c

@@ -1,0 +1,431 @@
+// The month and its twelve calls. Each takes the month by value and hands back the month after it.
+ghost use mathlib.Core.Path.{_≡_};
+ghost use mathlib.Core.List.{List, [], _∷_};
+ghost use mathlib.Core.Bool.{true, not, _&&_};
+ghost use Prim.Native.Nat.{ℕ, _<_};
+ghost use lib.ListN.{length};
+ghost use Rattle.rules.specs.declared.Event.{Event};
+ghost use Rattle.rules.specs.declared.Event.the-variants.{Add, Amend, Cancel, Deal, Tick};
+ghost use Rattle.rules.specs.Terms.{paper};
+ghost use Rattle.rules.specs.Units.{goodCharge};
+ghost use Rattle.rules.specs.Rows.{goodRow, rowOf};
+ghost use Rattle.rules.specs.Cells.{goodCell, placeOf, blankCell, cellAt};
+ghost use Rattle.rules.specs.Answers.{shownAnswer, shownLooked, shownReport};
+ghost use Rattle.rules.specs.Book.{Idle, after};
+ghost use Rattle.rules.specs.Book as B;
+ghost use Rattle.month.specs.Represents.{monthOf, quantumIn, Reached, Answered};
+ghost use Rattle.month.specs.Parts.{withCell, withoutQuantum, namedIn};
+use quantum::Quantum;
+use ranges::both;
+use rules::Answer;
+use rules::Cell;
+use rules::Contracts;
+use rules::Event;
+use rules::Kopecks;
+use rules::Looked;
+use rules::Millis;
+use rules::Refusal;
+use rules::Report;
+use rules::Row;
+use rules::RowRead;
+use rules::Side;
+use rules::Steps;
+
+pub struct Month {
+    running: bool,
+    place: usize,
+    share: u32,
+    quantum: Quantum,
+    cells: [Cell; 186],
+}
+
+// What a call that shows nothing hands back.
+pub struct Turned {
+    pub month: Month,
+    pub answer: Answer,
+}
+
+// What look hands back.
+pub struct LookedAt {
+    pub month: Month,
+    pub answer: Looked,
+}
+
+// What report hands back.
+pub struct Reported {
+    pub month: Month,
+    pub answer: Report,
+}
+
+// A named cell.
+enum Named {
+    OutOfRange,
+    Blank,
+    Filled(usize, Cell),
+}
+
+// Every refused call ends here, with the month as it was ..
+fn refused(month: Month, refusal: Refusal) -> Turned
+    ensures { λ r. ⌜ (r .month ≡ month) × (r .answer ≡ Answer.Refused refusal) ⌝ }
+{
+    Turned {
+        month,
+        answer: Answer::Refused(refusal),
+    }
+}
+
+// .. and every accepted one here.
+fn accepted(month: Month) -> Turned
+    ensures { λ r. ⌜ (r .month ≡ month) × (r .answer ≡ Answer.Accepted) ⌝ }
+{
+    Turned {
+        month,
+        answer: Answer::Accepted,
+    }
+}
+
+fn blank_cell() -> Cell
+    ensures { λ r. ⌜ r ≡ blankCell ⌝ }
+{
+    Cell {
+        filled: false,
+        kept: Millis(0),
+        length: Millis(0),
+        share: 0,
+        active: Kopecks(0),
+        passive: Kopecks(0),
+    }
+}
+
+// What stands in the place of the quantum while none is open.
+fn idle() -> Quantum
+    ensures { λ r. ⌜ r ≡ quantumIn Idle ⌝ }
+{
+    let row = Row {
+        expiry: 1,
+        quantum: 0,
+        length: Millis(1000),
+        least: Contracts(1),
+        a: 0,
+        b: 0,
+        share: 1,
+    };
+    Quantum::opened(row, Steps(0))
+}
+
+// Where a cell stands among the 186.
+fn place_of(day: u32, expiry: u32, quantum: u32) -> usize
+    requires { ⌜ goodCell day expiry quantum ≡ true ⌝ }
+    ensures { λ r. ⌜ r ≡ placeOf day expiry quantum ⌝ }
+{
+    ((day - 1) * 6 + ((expiry - 1) * 3 + quantum)) as usize
+}
+
+fn both_charges(active: Kopecks, passive: Kopecks) -> bool
+    ensures { λ r. ⌜ r ≡ B.goodCharges paper active passive ⌝ }
+{
+    both(ranges::charge(active), ranges::charge(passive))
+}
+
+impl Month {
+    // The fresh month: no quantum open, 186 blank cells.
+    pub fn fresh() -> Month
+        ensures { λ r. ⌜ r ≡ monthOf (after paper []) ⌝ }
+    {
+        let blank = blank_cell();
+        let quantum = idle();
+        let cells = [blank; 186];
+        Month {
+            running: false,
+            place: 0,
+            share: 0,
+            quantum,
+            cells,
+        }
+    }
+
+    // The cell at a place.
+    fn cell_at(self, place: usize) -> Cell
+        requires { ⌜ place < 186 ⌝ }
+        ensures { λ r. ⌜ r ≡ cellAt (self .cells) place ⌝ }
+    {
+        let cells = self.cells;
+        cells[place]
+    }
+
+    // The month with another cell at a place.
+    fn with_cell(self, place: usize, cell: Cell) -> Month
+        requires { ⌜ place < 186 ⌝ }
+        ensures { λ r. ⌜ r ≡ withCell self place cell ⌝ }
+    {
+        let mut next = self;
+        next.cells[place] = cell;
+        next
+    }
+
+    // The month with no quantum open.
+    fn without_quantum(self) -> Month
+        ensures { λ r. ⌜ r ≡ withoutQuantum self ⌝ }
+    {
+        let cells = self.cells;
+        let quantum = idle();
+        Month {
+            running: false,
+            place: 0,
+            share: 0,
+            quantum,
+            cells,
+        }
+    }
+
+    // A row that was read: the other causes of open, then the quantum opens.
+    fn open_row(self, row: Row, day: u32, sp: Steps) -> Turned
+        requires { ⌜ Reached self × (goodRow paper row ≡ true) ⌝ }
+        ensures { λ r. ⌜ ((words : List ℕ) → length words ≡ 7 → rowOf words ≡ row → Answered self (B.Open words day sp) (r .month) (shownAnswer (r .answer))) ⌝ }
+    {
+        if !both(ranges::between(1, 31, day), ranges::price(sp)) {
+            return refused(self, Refusal::ArgumentOutOfRange);
+        }
+        let place = place_of(day, row.expiry, row.quantum);
+        let cell = self.cell_at(place);
+        if cell.filled {
+            return refused(self, Refusal::CellFilled);
+        }
+        if self.running {
+            return refused(self, Refusal::QuantumOpen);
+        }
+        let quantum = Quantum::opened(row, sp);
+        let cells = self.cells;
+        accepted(Month {
+            running: true,
+            place,
+            share: row.share,
+            quantum,
+            cells,
+        })
+    }
+
+    // The named cell's quantum opens with no orders, at time 0.
+    pub fn open(self, words: &[u32], day: u32, sp: Steps) -> Turned
+        requires { ⌜ Reached self ⌝ }
+        ensures { λ r. ⌜ Answered self (B.Open (now (words .entry)) day sp) (r .month) (shownAnswer (r .answer)) ⌝ }
+    {
+        let read = row::read(words);
+        match read {
+            RowRead::Read(row) => self.open_row(row, day, sp),
+            RowRead::Refused(r) => refused(self, r),
+        }
+    }
+
+    // An event of the open quantum.
+    pub fn send(self, e: Event) -> Turned
+        requires { ⌜ Reached self ⌝ }
+        ensures { λ r. ⌜ Answered self (B.Send e) (r .month) (shownAnswer (r .answer)) ⌝ }
+    {
+        if !self.running {
+            return refused(self, Refusal::NoQuantumOpen);
+        }
+        let before = self.quantum;
+        let sent = before.send(e);
+        let answer = sent.answer;
+        let quantum = sent.quantum;
+        match answer {
+            Answer::Accepted => {
+                let mut next = self;
+                next.quantum = quantum;
+                accepted(next)
+            }
+            Answer::Refused(r) => refused(self, r),
+        }
+    }
+
+    pub fn add(self, t: Millis, id: u32, side: Side, price: Steps, volume: Contracts) -> Turned
+        requires { ⌜ Reached self ⌝ }
+        ensures { λ r. ⌜ Answered self (B.Send (Add t id side price volume)) (r .month) (shownAnswer (r .answer)) ⌝ }
+    {
+        self.send(Event::Add {
+            t,
+            id,
+            side,
+            price,
+            volume,
+        })
+    }
+
+    // Keeps id and side, and puts the new price and volume in place of the old.
+    pub fn amend(self, t: Millis, id: u32, price: Steps, volume: Contracts) -> Turned
+        requires { ⌜ Reached self ⌝ }
+        ensures { λ r. ⌜ Answered self (B.Send (Amend t id price volume)) (r .month) (shownAnswer (r .answer)) ⌝ }
+    {
+        self.send(Event::Amend {
+            t,
+            id,
+            price,
+            volume,
+        })
+    }
+
+    pub fn cancel(self, t: Millis, id: u32) -> Turned
+        requires { ⌜ Reached self ⌝ }
+        ensures { λ r. ⌜ Answered self (B.Send (Cancel t id)) (r .month) (shownAnswer (r .answer)) ⌝ }
+    {
+        self.send(Event::Cancel { t, id })
+    }
+
+    // Lessens the order, and removes it at nothing left.
+    pub fn deal(self, t: Millis, id: u32, volume: Contracts) -> Turned
+        requires { ⌜ Reached self ⌝ }
+        ensures { λ r. ⌜ Answered self (B.Send (Deal t id volume)) (r .month) (shownAnswer (r .answer)) ⌝ }
+    {
+        self.send(Event::Deal { t, id, volume })
+    }
+
+    pub fn tick(self, t: Millis) -> Turned
+        requires { ⌜ Reached self ⌝ }
+        ensures { λ r. ⌜ Answered self (B.Send (Tick t)) (r .month) (shownAnswer (r .answer)) ⌝ }
+    {
+        self.send(Event::Tick { t })
+    }
+
+    // Time runs on to L, and the cell is filled with kept time, L, p, A and P.
+    pub fn close(self, active: Kopecks, passive: Kopecks) -> Turned
+        requires { ⌜ Reached self ⌝ }
+        ensures { λ r. ⌜ Answered self (B.Close active passive) (r .month) (shownAnswer (r .answer)) ⌝ }
+    {
+        if !both_charges(active, passive) {
+            return refused(self, Refusal::ArgumentOutOfRange);
+        }
+        if !self.running {
+            return refused(self, Refusal::NoQuantumOpen);
+        }
+        let q = self.quantum;
+        let cell = Cell {
+            filled: true,
+            kept: q.ended(),
+            length: q.whole(),
+            share: self.share,
+            active,
+            passive,
+        };
+        let place = self.place;
+        accepted(self.with_cell(place, cell).without_quantum())
+    }
+
+    // The open quantum is forgotten.
+    pub fn drop(self) -> Turned
+        requires { ⌜ Reached self ⌝ }
+        ensures { λ r. ⌜ Answered self B.Drop (r .month) (shownAnswer (r .answer)) ⌝ }
+    {
+        if !self.running {
+            return refused(self, Refusal::NoQuantumOpen);
+        }
+        accepted(self.without_quantum())
+    }
+
+    // The cell that a day, an expiry and a quantum name.
+    fn named(self, day: u32, expiry: u32, quantum: u32) -> Named
+        ensures { λ r. ⌜ r ≡ namedIn (self .cells) day expiry quantum ⌝ }
+    {
+        if !ranges::cell(day, expiry, quantum) {
+            return Named::OutOfRange;
+        }
+        let place = place_of(day, expiry, quantum);
+        let cell = self.cell_at(place);
+        if cell.filled {
+            return Named::Filled(place, cell);
+        }
+        Named::Blank
+    }
+
+    // New charges in place of a filled cell's old ones.
+    pub fn charge(
+        self,
+        day: u32,
+        expiry: u32,
+        quantum: u32,
+        active: Kopecks,
+        passive: Kopecks,
+    ) -> Turned
+        requires { ⌜ Reached self ⌝ }
+        ensures { λ r. ⌜ Answered self (B.Charge day expiry quantum active passive) (r .month) (shownAnswer (r .answer)) ⌝ }
+    {
+        if !both_charges(active, passive) {
+            return refused(self, Refusal::ArgumentOutOfRange);
+        }
+        let found = self.named(day, expiry, quantum);
+        match found {
+            Named::OutOfRange => refused(self, Refusal::ArgumentOutOfRange),
+            Named::Blank => refused(self, Refusal::CellBlank),
+            Named::Filled(place, cell) => {
+                let mut next = cell;
+                next.active = active;
+                next.passive = passive;
+                accepted(self.with_cell(place, next))
+            }
+        }
+    }
+
+    // The cell is blank again.
+    pub fn withdraw(self, day: u32, expiry: u32, quantum: u32) -> Turned
+        requires { ⌜ Reached self ⌝ }
+        ensures { λ r. ⌜ Answered self (B.Withdraw day expiry quantum) (r .month) (shownAnswer (r .answer)) ⌝ }
+    {
+        let found = self.named(day, expiry, quantum);
+        match found {
+            Named::OutOfRange => refused(self, Refusal::ArgumentOutOfRange),
+            Named::Blank => refused(self, Refusal::CellBlank),
+            Named::Filled(place, _) => accepted(self.with_cell(place, blank_cell())),
+        }
+    }
+
+    // The cell with verdict and weight.
+    pub fn look(self, day: u32, expiry: u32, quantum: u32) -> LookedAt
+        requires { ⌜ Reached self ⌝ }
+        ensures { λ r. ⌜ (r .month ≡ self) × Answered self (B.Look day expiry quantum) (r .month) (shownLooked (r .answer)) ⌝ }
+    {
+        let found = self.named(day, expiry, quantum);
+        match found {
+            Named::OutOfRange => LookedAt {
+                month: self,
+                answer: Looked::Refused(Refusal::ArgumentOutOfRange),
+            },
+            Named::Blank => LookedAt {
+                month: self,
+                answer: Looked::Refused(Refusal::CellBlank),
+            },
+            Named::Filled(_, cell) => LookedAt {
+                month: self,
+                answer: Looked::Found(pay::view(cell)),
+            },
+        }
+    }
+
+    // Open or not, time, live orders, best quotes and kept time of the open quantum; the failure counts and the fee.
+    pub fn report(self) -> Reported
+        requires { ⌜ Reached self ⌝ }
+        ensures { λ r. ⌜ (r .month ≡ self) × Answered self B.Report (r .month) (shownReport (r .answer)) ⌝ }
+    {
+        let cells = self.cells;
+        let q = self.quantum;
+        let failures = pay::failures(cells);
+        let fee = pay::fee(cells);
+        let time = q.now();
+        let orders = q.live();
+        let bid = q.best_bid();
+        let ask = q.best_ask();
+        let kept = q.kept_so_far();
+        Reported {
+            month: self,
+            answer: Report {
+                running: self.running,
+                time,
+                orders,
+                bid,
+                ask,
+                kept,
+                failures,
+                fee,
+            },
+        }
+    }
+}
