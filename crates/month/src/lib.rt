@@ -11,7 +11,7 @@ ghost use Rattle.rules.specs.Units.{goodCharge};
 ghost use Rattle.rules.specs.Rows.{goodRow, rowOf};
 ghost use Rattle.rules.specs.Cells.{goodCell, placeOf, blankCell, cellAt};
 ghost use Rattle.rules.specs.Answers.{shownAnswer, shownLooked, shownReport};
-ghost use Rattle.rules.specs.Book.{Idle, after};
+ghost use Rattle.rules.specs.Book.{Idle, after, charged};
 ghost use Rattle.rules.specs.Book as B;
 ghost use Rattle.month.specs.Represents.{monthOf, quantumIn, Reached, Answered};
 ghost use Rattle.month.specs.Parts.{withCell, withoutQuantum, namedIn};
@@ -125,6 +125,16 @@ fn both_charges(active: Kopecks, passive: Kopecks) -> bool
     ensures { λ r. ⌜ r ≡ B.goodCharges paper active passive ⌝ }
 {
     both(ranges::charge(active), ranges::charge(passive))
+}
+
+// A cell with new charges in place of its old ones.
+fn recharged(cell: Cell, active: Kopecks, passive: Kopecks) -> Cell
+    ensures { λ r. ⌜ r ≡ charged active passive cell ⌝ }
+{
+    let mut next = cell;
+    next.active = active;
+    next.passive = passive;
+    next
 }
 
 impl Month {
@@ -357,10 +367,7 @@ impl Month {
             Named::OutOfRange => refused(self, Refusal::ArgumentOutOfRange),
             Named::Blank => refused(self, Refusal::CellBlank),
             Named::Filled(place, cell) => {
-                let mut next = cell;
-                next.active = active;
-                next.passive = passive;
-                accepted(self.with_cell(place, next))
+                accepted(self.with_cell(place, recharged(cell, active, passive)))
             }
         }
     }

@@ -473,8 +473,8 @@ impl Quantum {
         requires { ⌜ Reached self ⌝ }
         ensures { λ r. ⌜ ((row : Row) (sp : ℤ) (events : List Event) → EventBounds row events → self ≡ standing row sp events → r .0 ≡ keptBelow row sp events (row .length .0)) ⌝ }
     {
-        let end = self.length;
-        self.kept_at(end)
+        let last = self.length;
+        self.kept_at(last)
     }
 
     // What a report shows.

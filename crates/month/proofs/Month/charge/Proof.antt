@@ -1,5 +1,5 @@
 -- 3, then 5; else the new charges. Assumes nothing.
-use mathlib.Core.Path.{_≡_, refl, sym, subst, _∙_}
+use mathlib.Core.Path.{_≡_, refl, ap, sym, subst, _∙_}
 use mathlib.Core.Bool.{Bool, true, false, true≢false, _&&_}
 use native.Mathlib.Omega.{arith}
 use borrow.Author.Tests.{not-true, not-false}
@@ -72,10 +72,13 @@ refused-requires-3 c κs = search needs
 enum-known-found : tie.Need-enum-known-found
 enum-known-found c = search needs
 
+recharged-requires : tie.Need-recharged-requires
+recharged-requires c κs = search needs
+
 with-cell-requires : tie.Need-with-cell-requires
-with-cell-requires c κs = let s = c .before .before .before .before .before .before in
+with-cell-requires c κs = let s = c .before .before .before .before .before .before .before in
     let a = s .args in
-    let f = found (c .before) in
+    let f = found (c .before .before) in
     omega (arith, f .at, cell-small (a .day) (a .expiry) (a .quantum) (f .good))
 
 accepted-requires : tie.Need-accepted-requires
@@ -99,14 +102,14 @@ returns-3 c =
 
 returns-4 : tie.Need-returns-4
 returns-4 c =
-    let s = c .before .before .before .before .before .before .before .before in
+    let s = c .before .before .before .before .before .before .before .before .before in
     let a = s .args in
     let m = a .self in
-    let f = found (c .before .before .before) in
+    let f = found (c .before .before .before .before) in
     handed m (call s) (c .accepted .result) _ Accepted (c .accepted .ensures)
     (subst (λ (n : Month). Answered m (call s) n (accepted done))
-    (sym (c .before .with-cell .ensures ∙ λ i. withCell m (f .at i) (charged (a .active) (a .passive) (f .is i))))
-    (charge-done m (a .day) (a .expiry) (a .quantum) (a .active) (a .passive) (and (f .good) (good (c .before .before .before .before .before .before))) (f .filled)))
+    (sym (c .before .with-cell .ensures ∙ λ i. withCell m (f .at i) ((c .before .before .recharged .ensures ∙ ap (charged (a .active) (a .passive)) (f .is)) i)))
+    (charge-done m (a .day) (a .expiry) (a .quantum) (a .active) (a .passive) (and (f .good) (good (c .before .before .before .before .before .before .before))) (f .filled)))
 
 pub charge-spec : {M : Type 1} → statement M
 charge-spec =
@@ -121,6 +124,7 @@ charge-spec =
     enum-told-2
     refused-requires-3
     enum-known-found
+    recharged-requires
     with-cell-requires
     accepted-requires
     returns-2
