@@ -1,20 +1,28 @@
 -- Document 01 as definitions, in its order: read from the top. Lists and Terms are the words that they use.
 pub mod Lists
 pub mod Terms
+-- "Units"
 pub mod Units
+-- "A row and a month"
 pub mod Rows
 pub mod Cells
 pub mod Orders
+-- "Best quote and kept time"
 pub mod Quotes
 pub mod Kept
 pub mod Stretches
 pub mod Runs
+-- "Verdict, weight, fee"
 pub mod Pay
+-- "Refused calls" and "Afresh"
 pub mod Answers
 pub mod Book
-pub mod Choosing
-pub mod Records
-pub mod Session
 pub mod Bounds
-pub mod Checks
+-- "Choosing the row"
+pub mod Choosing
+-- "Event records and the session run"
+pub mod Records
 pub mod Widths
+pub mod Session
+-- "Checks on paper"
+pub mod Checks
