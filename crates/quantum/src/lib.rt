@@ -12,7 +12,7 @@ ghost use Rattle.rules.specs.declared.Event.{Event};
 ghost use Rattle.rules.specs.Terms.{paper};
 ghost use Rattle.rules.specs.Rows.{goodRow};
 ghost use Rattle.rules.specs.Orders.{live, left, present, timeOf, apply};
-ghost use Rattle.rules.specs.Kept.{keptBelow};
+ghost use Rattle.rules.specs.Kept.{ordersKeep, keptBelow};
 ghost use Rattle.rules.specs.Answers.{outcomeBy, done, shownAnswer};
 ghost use Rattle.rules.specs.Book.{cause, lowest, traderCauses, eventRefusal};
 ghost use Rattle.rules.specs.Bounds.{EventBounds};
@@ -488,6 +488,16 @@ impl Quantum {
         ensures { λ r. ⌜ r ≡ self .kept ⌝ }
     {
         self.kept
+    }
+
+    // Whether the live orders keep the quote from now on.
+    pub fn keeps(self) -> bool
+        ensures { λ r. ⌜ ((row : Row) (sp : ℤ) (events : List Event) → self ≡ standing row sp events → r ≡ ordersKeep row sp (live events)) ⌝ }
+    {
+        let limit = self.limit;
+        let bid = self.bid;
+        let ask = self.ask;
+        quote::quotes_keep(limit, bid, ask)
     }
 
     pub fn whole(self) -> Millis
