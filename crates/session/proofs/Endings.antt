@@ -1,0 +1,175 @@
+-- What the session's calls make of a pass. Assumes nothing.
+use Prim.Native.Nat.{ℕ, zero, suc, _+_, _*_, _≤_, _<_}
+use native.Mathlib.Omega.{arith}
+use mathlib.Core.Path.{_≡_, refl, sym, ap, _∙_, subst}
+use mathlib.Core.List.{List, [], _∷_, _++_, map}
+use mathlib.Core.Bool.{Bool, true, false}
+use lib.Dec.{ltb, eqb}
+use lib.ListN.{length, take, drop, length-append}
+use lib.Seq.{take-append-seam}
+use borrow.Author.Tests.{lt-ltb, le-ltb, eq-eqb, ne-eqb, ltb-true, ltb-false}
+use Rattle.rules.specs.declared.Millis.{Millis}
+use Rattle.rules.specs.declared.Steps.{Steps}
+use Rattle.rules.specs.declared.Row.{Row}
+use Rattle.rules.specs.declared.Refusal.{Refusal}
+use Rattle.rules.specs.declared.Refusal.the-variants.{ArgumentOutOfRange, BufferShort}
+use Rattle.rules.specs.declared.SessionAnswer.{SessionAnswer}
+use Rattle.rules.specs.declared.SessionAnswer.the-variants as S
+use Rattle.rules.specs.Lists.{if_then_else_, below}
+use Rattle.rules.specs.Terms.{paper}
+use Rattle.rules.specs.Units.{steps, goodPrice}
+use Rattle.rules.specs.Rows.{rowOf, goodRow}
+use Rattle.rules.specs.Cells.{placeOf}
+use Rattle.rules.specs.Book.{readRow}
+use Rattle.rules.specs.Stretches.{Stretch, pairWords}
+use Rattle.rules.specs.Answers.{accepted, refused, Ran, finished, stopped, numberOf, shownSession}
+use Rattle.rules.specs.Records.{wordAt, signedOf}
+use Rattle.rules.specs.Session.{Session, whole, halted, leadingWords, leadingPrice, recordsOf, runRecords, session, sessionBytes, isShort, ran, front, bufferAfter, oneNumber}
+use Rattle.rules.proofs.Stretches.{pairWords-length}
+use Rattle.session.specs.Walks.{bookWith, counted, Passed, filledBy, numberBy}
+use Rattle.session.proofs.Runs.{session-row, session-price, session-opens, cell-inside}
+use Rattle.session.proofs.Loop.{passed-halted}
+
+-- the pass says how the session ends
+counted-stopped : (s : Session) (n place : ℕ) → stopped n place ≡ counted s → s ≡ halted n place
+unfolding counted
+counted-stopped (whole k w ss) n place e = let z : _≡_ {A = ℕ} 0 1 = cc in absurd (omega arith)
+counted-stopped (halted m at) n place e = cc
+
+counted-finished : (s : Session) (k w n : ℕ) → finished k w n ≡ counted s → (ss : List Stretch) × (s ≡ whole k w ss) × (length ss ≡ n)
+unfolding counted
+counted-finished (whole k′ w′ ss) k w n e = (ss, cc, cc)
+counted-finished (halted m at) k w n e = let z : _≡_ {A = ℕ} 0 1 = cc in absurd (omega arith)
+
+abbrev pub Ended : Session → List ℕ → List ℕ → SessionAnswer → Type 0
+Ended s entry exit r = (shownSession r ≡ ran (length entry) s) × (exit ≡ bufferAfter entry s)
+
+-- how a session that ends so ends with a buffer
+halted-ends : (n place : ℕ) (entry : List ℕ) (r : SessionAnswer) → shownSession r ≡ stopped n place → Ended (halted n place) entry entry r
+unfolding ran front bufferAfter
+halted-ends n place entry r e = (e, refl)
+
+short-ends : (k w : ℕ) (ss : List Stretch) (entry : List ℕ) → length entry < 2 * length ss → Ended (whole k w ss) entry entry (S.Refused BufferShort 0)
+unfolding ran front bufferAfter
+short-ends k w ss entry l = rw (lt-ltb (length entry) (2 * length ss) l) (refl, refl)
+
+written-ends : (k w : ℕ) (ss : List Stretch) (entry exit : List ℕ) (r : SessionAnswer) → 2 * length ss ≤ length entry
+    → shownSession r ≡ finished k w (length ss) → exit ≡ pairWords ss ++ drop (2 * length ss) entry → Ended (whole k w ss) entry exit r
+unfolding ran front bufferAfter
+written-ends k w ss entry exit r l e f = rw (le-ltb (length entry) (2 * length ss) l, pairWords-length ss) (e, f)
+
+module _ (s : Session) (none none′ : List ℕ) (first : SessionAnswer) (p : Passed s none none′ first) (entry : List ℕ) where
+  pub ends-refused : (f : Refusal) (place : ℕ) → first ≡ S.Refused f place → Ended s entry entry first
+  ends-refused f place e =
+      let h = counted-stopped s (numberOf f) place (sym (ap shownSession e) ∙ p .answer) in
+      subst (λ (t : Session). Ended t entry entry first) (sym h) (halted-ends (numberOf f) place entry first (ap shownSession e))
+
+  module _ (k : Millis) (w n : ℕ) (e : first ≡ S.Finished k w n) where
+    finds : (ss : List Stretch) × (s ≡ whole (k .0) w ss) × (length ss ≡ n)
+    finds = counted-finished s (k .0) w n (sym (ap shownSession e) ∙ p .answer)
+
+    pub ends-short : length entry < filledBy first → Ended s entry entry (S.Refused BufferShort 0)
+    ends-short l =
+        let (ss, is, long) = finds in
+        let few : filledBy first ≡ 2 * n = ap filledBy e in
+        subst (λ (t : Session). Ended t entry entry (S.Refused BufferShort 0)) (sym is) (short-ends (k .0) w ss entry (omega arith))
+
+    pub ends-written : (exit : List ℕ) (second : SessionAnswer) → filledBy first ≤ length entry → Passed s entry exit second → Ended s entry exit first
+    ends-written exit second l q =
+        let (ss, is, long) = finds in
+        let few : filledBy first ≡ 2 * n = ap filledBy e in
+        let shown : shownSession first ≡ finished (k .0) w (length ss) = ap shownSession e ∙ ap (finished (k .0) w) (sym long) in
+        subst (λ (t : Session). Ended t entry exit first) (sym is)
+        (written-ends (k .0) w ss entry exit first (omega arith) shown (q .words (k .0) w ss is (omega arith)))
+
+-- ---- the front
+
+front-length : (s : Session) (n : ℕ) (r : SessionAnswer) → shownSession r ≡ ran n s → (length (front n s) ≡ filledBy r) × (filledBy r ≤ n)
+unfolding ran front
+front-length (whole k w ss) n r e = go (ltb n (2 * length ss)) refl r e
+  where
+    go : (b : Bool) → ltb n (2 * length ss) ≡ b → (r : SessionAnswer) → shownSession r ≡ (if b then stopped 16 0 else finished k w (length ss))
+        → (length (if b then [] else pairWords ss) ≡ filledBy r) × (filledBy r ≤ n)
+    go true f (S.Finished a b c) e = let z : _≡_ {A = ℕ} 0 1 = cc in absurd (omega arith)
+    go true f (S.Refused a b) e = (refl, omega arith)
+    go false f (S.Finished a b c) e =
+        let m : c ≡ length ss = cc in
+        let l = ltb-false n (2 * length ss) f in
+        (pairWords-length ss ∙ omega arith, omega arith)
+    go false f (S.Refused a b) e = let z : _≡_ {A = ℕ} 0 1 = cc in absurd (omega arith)
+front-length (halted m at) n (S.Finished a b c) e = let z : _≡_ {A = ℕ} 0 1 = cc in absurd (omega arith)
+front-length (halted m at) n (S.Refused a b) e = (refl, omega arith)
+
+pub front-is : (s : Session) (entry exit : List ℕ) (r : SessionAnswer) (n : ℕ) → Ended s entry exit r → n ≡ filledBy r
+    → (take n exit ≡ front (length entry) s) × (n ≤ length exit)
+unfolding bufferAfter
+front-is s entry exit r n e is =
+    let (long, fits) = front-length s (length entry) r (e .0) in
+    let f = front (length entry) s in
+    let same : n ≡ length f = is ∙ sym long in
+    let whole-length : length exit ≡ length f + length (drop (length f) entry) = ap length (e .1) ∙ length-append f (drop (length f) entry) in
+    (ap (take n) (e .1) ∙ ap (λ (m : ℕ). take m (f ++ drop (length f) entry)) same ∙ take-append-seam f (drop (length f) entry), omega arith)
+
+-- ---- the C call
+
+number-counted : (s : Session) → numberBy (counted s) ≡ oneNumber s
+unfolding counted oneNumber
+number-counted (whole k w ss) = refl
+number-counted (halted n place) = refl
+
+pub number-is : (s : Session) (entry exit : List ℕ) (r : SessionAnswer) → Passed s entry exit r → numberBy (shownSession r) ≡ oneNumber s
+number-is s entry exit r p = ap numberBy (p .answer) ∙ number-counted s
+
+pub bytes-short : (limit : ℕ) (head bytes : List ℕ) → (length head ≡ 32 → ⊥) → 4294967296 ≡ oneNumber (sessionBytes paper limit head bytes)
+unfolding sessionBytes oneNumber
+bytes-short limit head bytes h = rw (ne-eqb (length head) 32 h) refl
+
+pub bytes-whole : (limit : ℕ) (head bytes : List ℕ) → length head ≡ 32
+    → sessionBytes paper limit head bytes
+    ≡ session paper limit (wordAt head 0 ∷ wordAt head 4 ∷ wordAt head 8 ∷ wordAt head 12 ∷ wordAt head 16 ∷ wordAt head 20 ∷ wordAt head 24 ∷ []) (steps (signedOf (wordAt head 28))) bytes
+unfolding sessionBytes below
+bytes-whole limit head bytes h = rw (eq-eqb (length head) 32 h) refl
+
+-- ---- the row and the quantum's opening
+
+module _ (limit : ℕ) (words : List ℕ) (sp : Steps) (bytes : List ℕ) (row : Row) (is : accepted row ≡ readRow paper words) where
+  pub opens-good : goodPrice (sp .0) ≡ true → goodRow paper row ≡ true
+  opens-good f =
+      let (same, good, runs) = session-opens limit words sp bytes row is f in
+      ap (goodRow paper) same ∙ good
+
+  pub passed-opened : goodPrice (sp .0) ≡ true → (entry exit : List ℕ) (r : SessionAnswer)
+      → ((cell : ℕ) → cell < 186 → Passed (runRecords paper limit cell 1 (bookWith cell row sp []) (recordsOf bytes)) entry exit r)
+      → Passed (session paper limit words sp bytes) entry exit r
+  passed-opened f entry exit r h =
+      let (same, good, runs) = session-opens limit words sp bytes row is f in
+      let cell = placeOf 1 (rowOf words .expiry) (rowOf words .quantum) in
+      let at = ap (λ (x : Row). runRecords paper limit cell 1 (bookWith cell x sp []) (recordsOf bytes)) same in
+      subst (λ (s : Session). Passed s entry exit r) (at ∙ sym runs) (h cell (cell-inside limit words sp bytes good))
+
+  pub passed-price : goodPrice (sp .0) ≡ false → (entry exit : List ℕ) → Passed (session paper limit words sp bytes) entry exit (S.Refused ArgumentOutOfRange 0)
+  passed-price f entry exit =
+      passed-halted (session paper limit words sp bytes) ArgumentOutOfRange 0 entry exit (session-price limit words sp bytes row is f)
+
+pub passed-row : (limit : ℕ) (words : List ℕ) (sp : Steps) (bytes : List ℕ) (f : Refusal) → refused (numberOf f) ≡ readRow paper words → (entry exit : List ℕ)
+    → Passed (session paper limit words sp bytes) entry exit (S.Refused f 0)
+passed-row limit words sp bytes f e entry exit =
+    passed-halted (session paper limit words sp bytes) f 0 entry exit (session-row limit words sp bytes (numberOf f) e)
+
+-- ---- the answers' numbers, case by case
+
+pub filled-is : (r : SessionAnswer) (k : Millis) (w n : ℕ) → r ≡ S.Finished k w n → 2 * n ≡ filledBy r
+filled-is r k w n e = sym (ap filledBy e)
+
+pub refused-is : (r : SessionAnswer) (f : Refusal) (place n : ℕ) → r ≡ S.Refused f place → n ≡ numberOf f → 4294967296 * n + place ≡ numberBy (shownSession r)
+refused-is r f place n e is = ap (λ (m : ℕ). 4294967296 * m + place) is ∙ sym (ap (λ (x : SessionAnswer). numberBy (shownSession x)) e)
+
+pub bytes-number : (limit : ℕ) (head bytes : List ℕ) → length head ≡ 32 → {a b c d e f g w : ℕ} {sp : Steps} → a ≡ wordAt head 0 → b ≡ wordAt head 4
+    → c ≡ wordAt head 8 → d ≡ wordAt head 12 → e ≡ wordAt head 16 → f ≡ wordAt head 20 → g ≡ wordAt head 24 → w ≡ wordAt head 28 → sp ≡ steps (signedOf w)
+    → (n : ℕ) (r : SessionAnswer) (none none′ : List ℕ) → n ≡ numberBy (shownSession r)
+    → Passed (session paper limit (a ∷ b ∷ c ∷ d ∷ e ∷ f ∷ g ∷ []) sp bytes) none none′ r → n ≡ oneNumber (sessionBytes paper limit head bytes)
+bytes-number limit head bytes l {a} {b} {c} {d} {e} {f} {g} {w} {sp} a′ b′ c′ d′ e′ f′ g′ w′ sp′ n r none none′ is p =
+    is ∙ number-is (session paper limit (a ∷ b ∷ c ∷ d ∷ e ∷ f ∷ g ∷ []) sp bytes) none none′ r p
+    ∙ ap oneNumber
+    ((λ i. session paper limit (a′ i ∷ b′ i ∷ c′ i ∷ d′ i ∷ e′ i ∷ f′ i ∷ g′ i ∷ []) ((sp′ ∙ ap (λ (x : ℕ). steps (signedOf x)) w′) i) bytes)
+    ∙ sym (bytes-whole limit head bytes l))

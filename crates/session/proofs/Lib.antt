@@ -1,0 +1,5 @@
+pub mod Runs
+pub mod Pairs
+pub mod Steps
+pub mod Loop
+pub mod Endings

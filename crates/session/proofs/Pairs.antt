@@ -1,0 +1,263 @@
+-- The pairs so far, as time runs on: their number, where the last one starts, and their words in a buffer. Assumes nothing.
+use Prim.Native.Nat.{ℕ, zero, suc, _+_, _*_, _-_, _≤_, _<_}
+use native.Mathlib.Omega.{arith}
+use mathlib.Core.Path.{_≡_, refl, sym, ap, _∙_, subst}
+use mathlib.Core.List.{List, [], _∷_, _++_, append-assoc}
+use mathlib.Core.Bool.{Bool, true, false, false≢true}
+use lib.Dec.{leb}
+use lib.ListN.{length, take, drop, set, length-append, length-set}
+use lib.Seq.{sets-eq, take-at, drop-at, drop-drop, drop-append-add}
+use borrow.Author.Tests.{leb-false, le-leb, lt-leb, leb-true}
+use Rattle.rules.specs.Lists.{if_then_else_}
+use Rattle.rules.specs.Stretches.{Stretch, stretch, stretches, pairWords}
+use Rattle.rules.specs.Runs.{before, endsAt, Inside}
+use Rattle.rules.proofs.Stretches.{stretches-ext, stretches-false, stretches-new, stretches-longer, stretches-few, stretches-run, stretches-ends, pairWords-append, pairWords-length}
+use Rattle.session.specs.declared.Marks.{Marks}
+use Rattle.session.specs.Walks.{lastOffset, marksAt, Holds, putPair, begunAt}
+
+-- ---- the last one
+
+last-snoc : (ss : List Stretch) (s : Stretch) → lastOffset (ss ++ (s ∷ [])) ≡ s .offset
+unfolding lastOffset
+last-snoc [] s = refl
+last-snoc (x ∷ []) s = refl
+last-snoc (x ∷ y ∷ ss) s = last-snoc (y ∷ ss) s
+
+last-inside : (n : ℕ) (ss : List Stretch) → Inside n ss → lastOffset ss ≤ n
+unfolding lastOffset
+last-inside n [] i = omega arith
+last-inside n (s ∷ []) i = omega arith
+last-inside n (s ∷ t ∷ ss) i = last-inside n (t ∷ ss) (i .1)
+
+length-snoc : (ss : List Stretch) (s : Stretch) → length (ss ++ (s ∷ [])) ≡ length ss + 1
+length-snoc ss s = length-append ss (s ∷ [])
+
+-- ---- the marks
+
+before-in : (p : ℕ → Bool) (a b : ℕ) (c : Bool) → a < b → ((k : ℕ) → a ≤ k → k < b → p k ≡ c) → before p b ≡ c
+before-in p a zero c l h = absurd (omega arith)
+before-in p a (suc n) c l h = h n (omega arith) (omega arith)
+
+before-ext : (p q : ℕ → Bool) (n : ℕ) → ((m : ℕ) → m < n → p m ≡ q m) → before p n ≡ before q n
+before-ext p q zero h = refl
+before-ext p q (suc n) h = h n (omega arith)
+
+marks-path : {a b c d : ℕ} {e f : Bool} → a ≡ b → c ≡ d → e ≡ f
+    → _≡_ {A = Marks} (record { pairs = a; start = c; last = e }) (record { pairs = b; start = d; last = f })
+marks-path x y z = λ i. record { pairs = x i; start = y i; last = z i }
+
+pub marks-ext : (p q : ℕ → Bool) (n : ℕ) → ((m : ℕ) → m < n → p m ≡ q m) → marksAt p n ≡ marksAt q n
+unfolding marksAt
+marks-ext p q n h =
+    let same = stretches-ext p q n h in
+    marks-path (ap length same) (ap lastOffset same) (before-ext p q n h)
+
+module _ (p : ℕ → Bool) (n : ℕ) (m : Marks) (is : m ≡ marksAt p n) where
+  pub pairs-are : m .pairs ≡ length (stretches p n)
+  unfolding marksAt
+  pairs-are = ap (λ (x : Marks). x .pairs) is
+
+  pub start-is : m .start ≡ lastOffset (stretches p n)
+  unfolding marksAt
+  start-is = ap (λ (x : Marks). x .start) is
+
+  pub last-is : m .last ≡ before p n
+  unfolding marksAt
+  last-is = ap (λ (x : Marks). x .last) is
+
+  pub pairs-few : m .pairs ≤ n + 1
+  pairs-few = omega (arith, pairs-are, stretches-few p n)
+
+  pub start-early : m .start ≤ n
+  start-early = omega (arith, start-is, last-inside n (stretches p n) (stretches-run p n .inside))
+
+  -- a pair that reaches n is one
+  pub last-some : m .last ≡ true → 1 ≤ m .pairs
+  unfolding endsAt
+  last-some e = go (stretches p n) (pairs-are) (stretches-ends p n ∙ sym last-is ∙ e)
+    where
+      go : (ss : List Stretch) → m .pairs ≡ length ss → endsAt n ss ≡ true → 1 ≤ m .pairs
+      go [] k x = absurd (false≢true x)
+      go (s ∷ ss) k x = omega arith
+
+-- ---- the words
+
+put-at : (buffer : List ℕ) (k x y : ℕ) → k + 2 ≤ length buffer → set (set buffer k x) (k + 1) y ≡ take k buffer ++ (x ∷ y ∷ drop (k + 2) buffer)
+put-at buffer k x y h =
+    let to : k + 1 ≡ suc k = omega arith in
+    ap (λ (n : ℕ). set (set buffer k x) n y) to
+    ∙ sets-eq (x ∷ y ∷ []) buffer k h
+    ∙ append-assoc (take k buffer) (x ∷ y ∷ []) (drop (k + 2) buffer)
+
+module _ (base : List ℕ) (init : List Stretch) (x y : ℕ) (buffer : List ℕ) (size : length buffer ≡ length base)
+    (around : 2 * length init + 2 ≤ length base
+    → (take (2 * length init) buffer ≡ pairWords init) × (drop (2 * length init + 2) buffer ≡ drop (2 * length init + 2) base)) where
+  put-words : 2 * length init + 2 ≤ length base
+      → set (set buffer (2 * length init) x) (2 * length init + 1) y
+      ≡ pairWords (init ++ (stretch x y ∷ [])) ++ drop (2 * length (init ++ (stretch x y ∷ []))) base
+  unfolding pairWords
+  put-words h =
+      let k = 2 * length init in
+      let a = around h in
+      let more : 2 * length (init ++ (stretch x y ∷ [])) ≡ 2 * length init + 2 = omega (arith, length-snoc init (stretch x y)) in
+      put-at buffer k x y (omega arith)
+      ∙ ap (λ (l : List ℕ). l ++ (x ∷ y ∷ drop (k + 2) buffer)) (a .0)
+      ∙ ap (λ (l : List ℕ). pairWords init ++ (x ∷ y ∷ l)) (a .1)
+      ∙ sym (append-assoc (pairWords init) (x ∷ y ∷ []) (drop (k + 2) base))
+      ∙ ap (λ (l : List ℕ). l ++ drop (k + 2) base) (sym (pairWords-append init (stretch x y ∷ [])))
+      ∙ ap (λ (n : ℕ). pairWords (init ++ (stretch x y ∷ [])) ++ drop n base) (sym more)
+
+  pub put-holds : Holds base (init ++ (stretch x y ∷ [])) (putPair buffer (length init) x y)
+  unfolding putPair
+  put-holds = go (leb (2 * length init + 2) (length buffer)) refl
+    where
+      go : (b : Bool) → leb (2 * length init + 2) (length buffer) ≡ b
+          → Holds base (init ++ (stretch x y ∷ [])) (if b then set (set buffer (2 * length init) x) (2 * length init + 1) y else buffer)
+      go true e =
+          let h = leb-true (2 * length init + 2) (length buffer) e in
+          record {
+            size = length-set (set buffer (2 * length init) x) (2 * length init + 1) y ∙ length-set buffer (2 * length init) x ∙ size;
+            words = λ l. put-words (omega arith);
+          }
+      go false e =
+          let h = leb-false (2 * length init + 2) (length buffer) e in
+          record { size = size; words = λ l. absurd (omega (arith, length-snoc init (stretch x y))) }
+
+pub put-fits : (buffer : List ℕ) (n x y : ℕ) → 2 * n + 2 ≤ length buffer → set (set buffer (2 * n) x) (2 * n + 1) y ≡ putPair buffer n x y
+unfolding putPair
+put-fits buffer n x y h = rw (le-leb (2 * n + 2) (length buffer) h) refl
+
+pub put-not : (buffer : List ℕ) (n x y : ℕ) → length buffer < 2 * n + 2 → buffer ≡ putPair buffer n x y
+unfolding putPair
+put-not buffer n x y h = rw (lt-leb (2 * n + 2) (length buffer) h) refl
+
+-- one more pair
+pub holds-new : (base : List ℕ) (ss : List Stretch) (x y : ℕ) (buffer : List ℕ) → Holds base ss buffer
+    → Holds base (ss ++ (stretch x y ∷ [])) (putPair buffer (length ss) x y)
+holds-new base ss x y buffer h =
+    put-holds base ss x y buffer (h .size)
+    (λ l.
+    let is = h .words (omega arith) in
+    let fits = pairWords-length ss in (
+      ap (take (2 * length ss)) is ∙ take-at (pairWords ss) (drop (2 * length ss) base) (2 * length ss) fits,
+      ap (drop (2 * length ss + 2)) is
+          ∙ ap (λ (n : ℕ). drop (n + 2) (pairWords ss ++ drop (2 * length ss) base)) (sym fits)
+          ∙ drop-append-add (pairWords ss) (drop (2 * length ss) base) 2
+          ∙ drop-drop 2 (2 * length ss) base,
+    ))
+
+-- the last pair written over
+pub holds-longer : (base : List ℕ) (ss : List Stretch) (s : Stretch) (x y : ℕ) (buffer : List ℕ) → Holds base (ss ++ (s ∷ [])) buffer
+    → Holds base (ss ++ (stretch x y ∷ [])) (putPair buffer (length ss) x y)
+holds-longer base ss s x y buffer h =
+    put-holds base ss x y buffer (h .size)
+    (λ l.
+    let more : 2 * length (ss ++ (s ∷ [])) ≡ 2 * length ss + 2 = omega (arith, length-snoc ss s) in
+    let is = h .words (omega arith) in
+    let fits = pairWords-length (ss ++ (s ∷ [])) ∙ more in
+    let front = pairWords-append ss (s ∷ []) in
+    let split = ap (λ (l : List ℕ). l ++ drop (2 * length (ss ++ (s ∷ []))) base) front ∙ append-assoc (pairWords ss) (pairWords (s ∷ [])) (drop (2 * length (ss ++ (s ∷ []))) base) in (
+      ap (take (2 * length ss)) (is ∙ split) ∙ take-at (pairWords ss) (pairWords (s ∷ []) ++ drop (2 * length (ss ++ (s ∷ []))) base) (2 * length ss) (pairWords-length ss),
+      ap (drop (2 * length ss + 2)) is
+          ∙ drop-at (pairWords (ss ++ (s ∷ []))) (drop (2 * length (ss ++ (s ∷ []))) base) (2 * length ss + 2) fits
+          ∙ ap (λ (n : ℕ). drop n base) more,
+    ))
+
+-- ---- time runs on from a to b
+
+module _ (p : ℕ → Bool) (a b : ℕ) (m : Marks) (is : m ≡ marksAt p a) (base entry : List ℕ) (h : Holds base (stretches p a) entry) where
+  pub grows-still : a ≡ b → (m ≡ marksAt p b) × Holds base (stretches p b) entry
+  grows-still e = (is ∙ ap (marksAt p) e, subst (λ (n : ℕ). Holds base (stretches p n) entry) e h)
+
+  pub grows-none : a < b → ((k : ℕ) → a ≤ k → k < b → p k ≡ false)
+      → _≡_ {A = Marks} (record { pairs = m .pairs; start = m .start; last = false }) (marksAt p b) × Holds base (stretches p b) entry
+  unfolding marksAt
+  grows-none l f =
+      let to : a + (b - a) ≡ b = omega arith in
+      let same : stretches p b ≡ stretches p a =
+      ap (stretches p) (sym to) ∙ stretches-false p a (b - a) (λ k x y. f k x (omega arith)) in (
+        marks-path (pairs-are p a m is ∙ ap length (sym same)) (start-is p a m is ∙ ap lastOffset (sym same)) (sym (before-in p a b false l f)),
+        subst (λ (ss : List Stretch). Holds base ss entry) (sym same) h,
+      )
+
+  -- what the marks and the words become, when all of it passes
+  abbrev Goal : Type 0
+  Goal =
+      (begunAt m a ≡ marksAt p b) × Holds base (stretches p b) (putPair entry (begunAt m a .pairs - 1) (begunAt m a .start) (b - begunAt m a .start))
+
+  begins : a < b → ((k : ℕ) → a ≤ k → k < b → p k ≡ true) → before p a ≡ false → Goal
+  unfolding marksAt begunAt
+  begins l f e =
+      let to : a + (b - a) ≡ b = omega arith in
+      let d : 1 ≤ b - a = omega arith in
+      let more : stretches p b ≡ stretches p a ++ (stretch a (b - a) ∷ []) =
+      ap (stretches p) (sym to) ∙ stretches-new p a (b - a) d (λ k x y. f k x (omega arith)) e in
+      let n : m .pairs + 1 ≡ length (stretches p b) = ap (λ (k : ℕ). k + 1) (pairs-are p a m is) ∙ sym (length-snoc (stretches p a) (stretch a (b - a))) ∙ ap length (sym more) in
+      let s : a ≡ lastOffset (stretches p b) = sym (ap lastOffset more ∙ last-snoc (stretches p a) (stretch a (b - a))) in
+      let t : true ≡ before p b = sym (before-in p a b true l f) in
+      let at : m .pairs + 1 - 1 ≡ length (stretches p a) = omega (arith, pairs-are p a m is) in
+      let held = holds-new base (stretches p a) a (b - a) entry h in
+      rw (last-is p a m is, e) (marks-path n s t, rw (more, at) held)
+
+  goes-on : a < b → ((k : ℕ) → a ≤ k → k < b → p k ≡ true) → before p a ≡ true → Goal
+  unfolding marksAt begunAt
+  goes-on l f e =
+      let to : a + (b - a) ≡ b = omega arith in
+      let d : 1 ≤ b - a = omega arith in
+      let (ss, s, ends, old, new) = stretches-longer p a (b - a) d (λ k x y. f k x (omega arith)) e in
+      let more : stretches p b ≡ ss ++ (stretch (s .offset) (s .length + (b - a)) ∷ []) = ap (stretches p) (sym to) ∙ new in
+      let n : length (stretches p a) ≡ length (stretches p b) =
+      ap length old ∙ length-snoc ss s ∙ sym (ap length more ∙ length-snoc ss (stretch (s .offset) (s .length + (b - a)))) in
+      let o : lastOffset (stretches p a) ≡ lastOffset (stretches p b) =
+      ap lastOffset old ∙ last-snoc ss s ∙ sym (ap lastOffset more ∙ last-snoc ss (stretch (s .offset) (s .length + (b - a)))) in
+      let t : true ≡ before p b = sym (before-in p a b true l f) in
+      let at : m .pairs - 1 ≡ length ss = omega (arith, pairs-are p a m is, ap length old, length-snoc ss s) in
+      let from : m .start ≡ s .offset = start-is p a m is ∙ ap lastOffset old ∙ last-snoc ss s in
+      let long : b - s .offset ≡ s .length + (b - a) = omega arith in
+      let held = holds-longer base ss s (s .offset) (s .length + (b - a)) entry (subst (λ (l : List Stretch). Holds base l entry) old h) in
+      rw (last-is p a m is, e) (marks-path (pairs-are p a m is ∙ n) (start-is p a m is ∙ o) t, rw (more, at, from, long) held)
+
+  pub grows-some : a < b → ((k : ℕ) → a ≤ k → k < b → p k ≡ true) → Goal
+  grows-some l f = go (before p a) refl
+    where
+      go : (c : Bool) → before p a ≡ c → Goal
+      go true e = goes-on l f e
+      go false e = begins l f e
+
+  pub grows-by : a < b → ((k : ℕ) → a ≤ k → k < b → p k ≡ true) → (next : Marks) → next ≡ begunAt m a → (exit : List ℕ)
+      → exit ≡ putPair entry (next .pairs - 1) (next .start) (b - next .start) → (next ≡ marksAt p b) × Holds base (stretches p b) exit
+  grows-by l f next e exit x =
+      let g = grows-some l f in
+      let same = x ∙ ap (λ (n : Marks). putPair entry (n .pairs - 1) (n .start) (b - n .start)) e in
+      (e ∙ g .0, subst (Holds base (stretches p b)) (sym same) (g .1))
+
+-- ---- the marks when what passes goes on
+
+module _ (m : Marks) (a : ℕ) where
+  pub begun-last : m .last ≡ true → m ≡ begunAt m a
+  unfolding begunAt
+  begun-last e = sym (ap (λ (b : Bool). if b then m else record { pairs = m .pairs + 1; start = a; last = true }) e)
+
+  pub begun-new : m .last ≡ false → _≡_ {A = Marks} (record { pairs = m .pairs + 1; start = a; last = true }) (begunAt m a)
+  unfolding begunAt
+  begun-new e = rw e refl
+
+  bounds : m .start ≤ a → m .pairs ≤ a + 1 → (m .last ≡ true → 1 ≤ m .pairs)
+      → (1 ≤ begunAt m a .pairs) × (begunAt m a .pairs ≤ a + 2) × (begunAt m a .start ≤ a)
+  unfolding begunAt
+  bounds s f o = go (m .last) refl
+    where
+      go : (b : Bool) → m .last ≡ b
+          → (1 ≤ (if b then m else record { pairs = m .pairs + 1; start = a; last = true }) .pairs)
+          × ((if b then m else record { pairs = m .pairs + 1; start = a; last = true }) .pairs ≤ a + 2)
+          × ((if b then m else record { pairs = m .pairs + 1; start = a; last = true }) .start ≤ a)
+      go true e = (o e, omega arith, s)
+      go false e = (omega arith, omega arith, omega arith)
+
+  pub begun-bounds : (next : Marks) → next ≡ begunAt m a → m .start ≤ a → m .pairs ≤ a + 1 → (m .last ≡ true → 1 ≤ m .pairs)
+      → (1 ≤ next .pairs) × (next .pairs ≤ a + 2) × (next .start ≤ a)
+  begun-bounds next e s f o =
+      let b = bounds s f o in
+      let n = ap (λ (x : Marks). x .pairs) e in
+      let t = ap (λ (x : Marks). x .start) e in
+      (omega (arith, b .0), omega (arith, b .1), omega (arith, b .2))

@@ -1,0 +1,31 @@
+-- The front that the run has filled. Assumes nothing.
+use mathlib.Core.Path.{sym}
+use lib.Seq.{length-take-le}
+use Rattle.rules.specs.Terms.{paper}
+use Rattle.rules.specs.Session.{runLimit, session}
+use Rattle.session.proofs.Endings.{front-is}
+use borrow.Author.Needs.{needs}
+use Rattle.session.proofs.front.Statement.{statement}
+use Rattle.session.proofs.front.Tie as tie
+
+run-requires : tie.Need-run-requires
+run-requires c κs = search needs
+
+filled-requires : tie.Need-filled-requires
+filled-requires c κs = search needs
+
+slice-aggregate-result : tie.Need-slice-aggregate-result
+slice-aggregate-result c =
+    let r = c .before .before .before .before in
+    let s = r .before .before .before .before .before in
+    let f = front-is (session paper runLimit (s .args .row .now) (s .args .sp) (s .args .records .now)) (s .args .buffer .now) _ (r .run .result) (c .before .filled .result) (r .run .ensures) (c .before .filled .ensures) in
+    sym (length-take-le (c .before .filled .result) _ (f .1))
+
+returns : tie.Need-returns
+returns c =
+    let r = c .before .before .before .before in
+    let s = r .before .before .before .before .before in
+    front-is (session paper runLimit (s .args .row .now) (s .args .sp) (s .args .records .now)) (s .args .buffer .now) _ (r .run .result) (c .before .filled .result) (r .run .ensures) (c .before .filled .ensures) .0
+
+pub front-spec : {M : Type 1} → statement M
+front-spec = tie.close (tie.spec run-requires filled-requires slice-aggregate-result returns)

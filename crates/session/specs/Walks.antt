@@ -1,0 +1,158 @@
+-- What the session's private functions promise to each other: the one value of a run so far for the accepted events, and what a pass
+-- over the records has found and written.
+use Prim.Native.Nat.{ℕ, suc, _+_, _*_, _-_, _≤_, _<_}
+use mathlib.Core.Path.{_≡_}
+use mathlib.Core.List.{List, [], _∷_, _++_}
+use mathlib.Core.Bool.{Bool, true, false}
+use lib.Dec.{leb}
+use lib.IntN.{ℤ}
+use lib.ListN.{length, drop, set}
+use Rattle.rules.specs.declared.Millis.{Millis}
+use Rattle.rules.specs.declared.Steps.{Steps}
+use Rattle.rules.specs.declared.Row.{Row}
+use Rattle.rules.specs.declared.Event.{Event}
+use Rattle.rules.specs.declared.Answer.{Answer}
+use Rattle.rules.specs.declared.SessionAnswer.{SessionAnswer}
+use Rattle.rules.specs.declared.SessionAnswer.the-variants as S
+use Rattle.rules.specs.Lists.{if_then_else_}
+use Rattle.rules.specs.Terms.{paper}
+use Rattle.rules.specs.Rows.{goodRow}
+use Rattle.rules.specs.Cells.{blankCells}
+use Rattle.rules.specs.Orders.{present}
+use Rattle.rules.specs.Kept.{keptAt, keptBelow}
+use Rattle.rules.specs.Stretches.{Stretch, stretches, keptStretches, pairWords}
+use Rattle.rules.specs.Runs.{before}
+use Rattle.rules.specs.Pay.{weight}
+use Rattle.rules.specs.Answers.{Outcome, accepted, refused, outcomeBy, done, shownAnswer, Ran, finished, stopped, shownSession}
+use Rattle.rules.specs.Book.{Quoting, Book, eventRefusal}
+use Rattle.rules.specs.Bounds.{EventBounds}
+use Rattle.rules.specs.Session.{Session, whole, halted, recordsOf, runRecords}
+use Rattle.quantum.specs.Standing.{standing}
+use Rattle.session.specs.declared.Marks.{Marks}
+use Rattle.session.specs.declared.Walk.{Walk}
+use Rattle.session.specs.declared.Stepped.{Stepped}
+
+-- ---- the pairs
+
+-- where the last one starts
+unfoldable pub lastOffset : List Stretch → ℕ
+lastOffset [] = 0
+lastOffset (s ∷ []) = s .offset
+lastOffset (s ∷ t ∷ ss) = lastOffset (t ∷ ss)
+
+-- the pairs of what passes below n
+unfoldable pub marksAt : (ℕ → Bool) → ℕ → Marks
+marksAt p n = record { pairs = length (stretches p n); start = lastOffset (stretches p n); last = before p n }
+
+-- a buffer that was base at first and has the pairs at its front, where they fit
+pub record Holds (base : List ℕ) (ss : List Stretch) (buffer : List ℕ) : Type 0 where
+  pub size : length buffer ≡ length base
+  pub words : 2 * length ss ≤ length base → buffer ≡ pairWords ss ++ drop (2 * length ss) base
+
+-- the pair counted n from 0, where it fits
+unfoldable pub putPair : List ℕ → ℕ → ℕ → ℕ → List ℕ
+putPair buffer n x y = if leb (2 * n + 2) (length buffer) then set (set buffer (2 * n) x) (2 * n + 1) y else buffer
+
+-- the marks when what passes goes on from a
+unfoldable pub begunAt : Marks → ℕ → Marks
+begunAt m a = if m .last then m else record { pairs = m .pairs + 1; start = a; last = true }
+
+-- what lets the marks grow to a time
+pub record Growing (m : Marks) (from to : Millis) : Type 0 where
+  pub onward : from .0 ≤ to .0
+  pub small : to .0 ≤ 86400000
+  pub started : m .start ≤ from .0
+  pub few : m .pairs ≤ from .0 + 1
+  pub some : m .last ≡ true → 1 ≤ m .pairs
+
+-- the marks and the buffer when time has run on, and all of it passed or none
+abbrev pub Grows : Marks → Millis → Millis → Bool → Marks → List ℕ → List ℕ → Type 0
+Grows m from to keeps r entry exit =
+    (p : ℕ → Bool) (base : List ℕ) → m ≡ marksAt p (from .0) → ((k : ℕ) → from .0 ≤ k → k < to .0 → p k ≡ keeps)
+    → Holds base (stretches p (from .0)) entry → (r ≡ marksAt p (to .0)) × Holds base (stretches p (to .0)) exit
+
+-- ---- a run so far
+
+unfoldable pub walkAt : Row → ℤ → List Event → Walk
+walkAt row sp es = record { quantum = standing row sp es; marks = marksAt (keptAt row sp es) (present es) }
+
+abbrev pub pairsOf : Row → ℤ → List Event → List Stretch
+pairsOf row sp es = stretches (keptAt row sp es) (present es)
+
+-- what a record says: the number that refuses it, and the events with it
+abbrev pub refusalBy : Row → List Event → Outcome Event → ℕ
+refusalBy row es (refused n) = n
+refusalBy row es (accepted e) = eventRefusal row es e
+
+abbrev pub followed : List Event → Outcome Event → List Event
+followed es (refused n) = es
+followed es (accepted e) = es ++ (e ∷ [])
+
+-- a run that some accepted events led to
+pub record Walking (w : Walk) : Type 0 where
+  pub row : Row
+  pub sp : ℤ
+  pub events : List Event
+  pub good : goodRow paper row ≡ true
+  pub bounds : EventBounds row events
+  pub is : w ≡ walkAt row sp events
+
+-- what a record promises
+pub record Advanced (w : Walk) (o : Outcome Event) (r : Stepped) (entry exit : List ℕ) : Type 0 where
+  pub answer : (row : Row) (sp : ℤ) (es : List Event) → EventBounds row es → w ≡ walkAt row sp es
+      → shownAnswer (r .answer) ≡ outcomeBy (refusalBy row es o) done
+  pub walk : (row : Row) (sp : ℤ) (es : List Event) (base : List ℕ) → EventBounds row es → w ≡ walkAt row sp es
+      → Holds base (pairsOf row sp es) entry → refusalBy row es o ≡ 0
+      → (r .walk ≡ walkAt row sp (followed es o)) × Holds base (pairsOf row sp (followed es o)) exit
+
+-- a run at its last record, of that row
+pub record Ending (w : Walk) (row : Row) : Type 0 where
+  pub sp : ℤ
+  pub events : List Event
+  pub good : goodRow paper row ≡ true
+  pub bounds : EventBounds row events
+  pub is : w ≡ walkAt row sp events
+
+-- what the end promises
+abbrev pub Ends : Walk → Row → SessionAnswer → List ℕ → List ℕ → Type 0
+Ends w row r entry exit =
+    (sp : ℤ) (es : List Event) (base : List ℕ) → EventBounds row es → w ≡ walkAt row sp es → Holds base (pairsOf row sp es) entry
+    → (shownSession r ≡ finished (keptBelow row sp es (row .length .0)) (weight paper (keptBelow row sp es (row .length .0)) (row .length .0) (row .share)) (length (keptStretches row sp es)))
+    × Holds base (keptStretches row sp es) exit
+
+-- ---- a whole pass
+
+-- the book with an open quantum of a fresh month
+abbrev pub bookWith : ℕ → Row → Steps → List Event → Book
+bookWith cell row sp es = record { running = Quoting cell row sp es; cells = blankCells }
+
+-- K, w and the number of pairs, or the refusal and its place, whatever the buffer
+unfoldable pub counted : Session → Ran
+counted (whole kept weight pairs) = finished kept weight (length pairs)
+counted (halted number place) = stopped number place
+
+-- in the loop over the records: at the byte that the record of this place starts with
+pub record Going (limit : ℕ) (row : Row) (sp : Steps) (bytes base : List ℕ) (w : Walk) (at place : ℕ) (buffer : List ℕ) : Type 0 where
+  pub events : List Event
+  pub bounds : EventBounds row events
+  pub is : w ≡ walkAt row (sp .0) events
+  pub holds : Holds base (pairsOf row (sp .0) events) buffer
+  pub inside : at ≤ length bytes
+  pub small : place ≤ limit + 1
+  pub runs : (cell : ℕ)
+      → runRecords paper limit cell 1 (bookWith cell row sp []) (recordsOf bytes) ≡ runRecords paper limit cell place (bookWith cell row sp events) (recordsOf (drop at bytes))
+
+pub record Passed (s : Session) (entry exit : List ℕ) (r : SessionAnswer) : Type 0 where
+  pub answer : shownSession r ≡ counted s
+  pub words : (kept weight : ℕ) (pairs : List Stretch) → s ≡ whole kept weight pairs → 2 * length pairs ≤ length entry
+      → exit ≡ pairWords pairs ++ drop (2 * length pairs) entry
+
+-- the words that a run has filled
+abbrev pub filledBy : SessionAnswer → ℕ
+filledBy (S.Finished kept weight pairs) = 2 * pairs
+filledBy (S.Refused refusal place) = 0
+
+-- the C call's number of an answer
+abbrev pub numberBy : Ran → ℕ
+numberBy (finished kept weight pairs) = kept
+numberBy (stopped number place) = 4294967296 * number + place

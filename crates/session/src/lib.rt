@@ -1,0 +1,352 @@
+// The session run: records from a lent byte slice through one open quantum, twice where pairs are written.
+ghost use mathlib.Core.Path.{_≡_};
+ghost use Prim.Native.Nat.{ℕ, _+_, _*_, _-_, _≤_, _<_};
+ghost use mathlib.Core.Bool.{true};
+ghost use mathlib.Core.List.{List, []};
+ghost use lib.Dec.{leb};
+ghost use lib.ListN.{length};
+ghost use Rattle.rules.specs.declared.Event.{Event};
+ghost use Rattle.rules.specs.Lists.{if_then_else_};
+ghost use Rattle.rules.specs.Terms.{paper};
+ghost use Rattle.rules.specs.Rows.{goodRow};
+ghost use Rattle.rules.specs.Answers.{accepted, shownSession};
+ghost use Rattle.rules.specs.Records.{readRecord};
+ghost use Rattle.rules.specs.Session.{runLimit, recordsOf, runRecords, session, sessionBytes, ran, front as frontOf, bufferAfter, oneNumber};
+ghost use Rattle.session.specs.Walks.{putPair, begunAt, Growing, Grows, Walking, Advanced, Ending, Ends, walkAt, bookWith, Passed, filledBy, numberBy};
+use quantum::Quantum;
+use rules::Answer;
+use rules::Event;
+use rules::Millis;
+use rules::RecordRead;
+use rules::Refusal;
+use rules::Row;
+use rules::RowRead;
+use rules::SessionAnswer;
+use rules::Steps;
+
+// The pairs so far: how many, where the last one starts, and whether it reaches the present.
+struct Marks {
+    pairs: u32,
+    start: u32,
+    last: bool,
+}
+
+// A run so far.
+struct Walk {
+    quantum: Quantum,
+    marks: Marks,
+}
+
+// What a record hands back.
+struct Stepped {
+    walk: Walk,
+    answer: Answer,
+}
+
+// Writes the pair counted n from 0, where it fits.
+fn put(buffer: &mut [u32], n: usize, start: u32, length: u32)
+    requires { ⌜ n ≤ 100000000 ⌝ }
+    ensures { λ r. ⌜ now (buffer .exit) ≡ putPair (now (buffer .entry)) n start length ⌝ }
+{
+    let at = 2 * n;
+    if at + 2 <= buffer.len() {
+        buffer[at] = start;
+        buffer[at + 1] = length;
+    }
+}
+
+// The marks when what is kept goes on from a time: in the last pair where it reaches it, else in a new one.
+fn begun(marks: Marks, from: Millis) -> Marks
+    requires { ⌜ marks .pairs ≤ 100000000 ⌝ }
+    ensures { λ r. ⌜ r ≡ begunAt marks (from .0) ⌝ }
+{
+    if marks.last {
+        return marks;
+    }
+    Marks {
+        pairs: marks.pairs + 1,
+        start: from.0,
+        last: true,
+    }
+}
+
+// Time runs on, and all of it is kept or none.
+fn grow(marks: Marks, from: Millis, to: Millis, keeps: bool, buffer: &mut [u32]) -> Marks
+    requires { ⌜ Growing marks from to ⌝ }
+    ensures { λ r. ⌜ Grows marks from to keeps r (now (buffer .entry)) (now (buffer .exit)) ⌝ }
+{
+    if to.0 <= from.0 {
+        return marks;
+    }
+    if keeps {
+        let next = begun(marks, from);
+        let n = next.pairs - 1;
+        let start = next.start;
+        put(buffer, n as usize, start, to.0 - start);
+        return next;
+    }
+    Marks {
+        pairs: marks.pairs,
+        start: marks.start,
+        last: false,
+    }
+}
+
+// An event taken, with the pairs that the time up to it adds; or refused.
+fn taken(walk: Walk, e: Event, buffer: &mut [u32]) -> Stepped
+    requires { ⌜ Walking walk ⌝ }
+    ensures { λ r. ⌜ Advanced walk (accepted e) r (now (buffer .entry)) (now (buffer .exit)) ⌝ }
+{
+    let q = walk.quantum;
+    let marks = walk.marks;
+    let sent = q.send(e);
+    let answer = sent.answer;
+    let next = sent.quantum;
+    match answer {
+        Answer::Accepted => {
+            let grown = grow(marks, q.now(), next.now(), q.keeps(), buffer);
+            Stepped {
+                walk: Walk {
+                    quantum: next,
+                    marks: grown,
+                },
+                answer: Answer::Accepted,
+            }
+        }
+        Answer::Refused(r) => Stepped {
+            walk,
+            answer: Answer::Refused(r),
+        },
+    }
+}
+
+// A record read, and its event taken; or refused.
+fn step(walk: Walk, bytes: &[u8], buffer: &mut [u32]) -> Stepped
+    requires { ⌜ Walking walk ⌝ }
+    ensures { λ r. ⌜ Advanced walk (readRecord (now (bytes .entry))) r (now (buffer .entry)) (now (buffer .exit)) ⌝ }
+{
+    let read = record::read(bytes);
+    match read {
+        RecordRead::Read(e) => taken(walk, e, buffer),
+        RecordRead::Refused(r) => Stepped {
+            walk,
+            answer: Answer::Refused(r),
+        },
+    }
+}
+
+// Time runs on to L.
+fn finish(walk: Walk, row: Row, buffer: &mut [u32]) -> SessionAnswer
+    requires { ⌜ Ending walk row ⌝ }
+    ensures { λ r. ⌜ Ends walk row r (now (buffer .entry)) (now (buffer .exit)) ⌝ }
+{
+    let q = walk.quantum;
+    let marks = walk.marks;
+    let length = row.length;
+    let share = row.share;
+    let kept = q.ended();
+    let grown = grow(marks, q.now(), length, q.keeps(), buffer);
+    SessionAnswer::Finished {
+        kept,
+        weight: pay::weight_of(kept, length, share),
+        pairs: grown.pairs,
+    }
+}
+
+// A quantum opens, and no pair is there.
+fn begin(row: Row, sp: Steps) -> Walk
+    requires { ⌜ goodRow paper row ≡ true ⌝ }
+    ensures { λ r. ⌜ r ≡ walkAt row (sp .0) [] ⌝ }
+{
+    Walk {
+        quantum: Quantum::opened(row, sp),
+        marks: Marks {
+            pairs: 0,
+            start: 0,
+            last: false,
+        },
+    }
+}
+
+// Where the record that starts at a byte ends: 20 bytes on, or at the end of all.
+fn end_of(length: usize, at: usize) -> usize
+    requires { ⌜ at ≤ length ⌝ }
+    ensures { λ r. ⌜ r ≡ (if leb (length - at) 20 then length else at + 20) ⌝ }
+{
+    if length - at <= 20 {
+        return length;
+    }
+    at + 20
+}
+
+// One pass over the records: the first refusal, or K, w and the number of pairs, whose words are written as far as they fit.
+fn walked(limit: u32, row: Row, sp: Steps, records: &[u8], buffer: &mut [u32]) -> SessionAnswer
+    requires { ⌜ (limit ≤ 4000000) × (goodRow paper row ≡ true) ⌝ }
+    ensures { λ r. ⌜ ((cell : ℕ) → cell < 186 → Passed (runRecords paper limit cell 1 (bookWith cell row sp []) (recordsOf (now (records .entry)))) (now (buffer .entry)) (now (buffer .exit)) r) ⌝ }
+{
+    let mut walk = begin(row, sp);
+    let mut at: usize = 0;
+    let mut place: u32 = 1;
+    while at < records.len() {
+        if limit < place {
+            return SessionAnswer::Refused {
+                refusal: Refusal::BadRecord,
+                place,
+            };
+        }
+        let end = end_of(records.len(), at);
+        let stepped = step(walk, &records[at..end], buffer);
+        let answer = stepped.answer;
+        let next = stepped.walk;
+        match answer {
+            Answer::Accepted => {
+                walk = next;
+                at = end;
+                place += 1;
+            }
+            Answer::Refused(refusal) => {
+                return SessionAnswer::Refused { refusal, place };
+            }
+        }
+    }
+    finish(walk, row, buffer)
+}
+
+// The row read and a quantum opened, then one pass over the records.
+fn pass(limit: u32, row: &[u32], sp: Steps, records: &[u8], buffer: &mut [u32]) -> SessionAnswer
+    requires { ⌜ limit ≤ 4000000 ⌝ }
+    ensures { λ r. ⌜ Passed (session paper limit (now (row .entry)) sp (now (records .entry))) (now (buffer .entry)) (now (buffer .exit)) r ⌝ }
+{
+    let read = row::read(row);
+    match read {
+        RowRead::Refused(refusal) => SessionAnswer::Refused { refusal, place: 0 },
+        RowRead::Read(good) => {
+            if ranges::price(sp) {
+                return walked(limit, good, sp, records, buffer);
+            }
+            SessionAnswer::Refused {
+                refusal: Refusal::ArgumentOutOfRange,
+                place: 0,
+            }
+        }
+    }
+}
+
+// The words that a run has filled.
+fn filled(answer: SessionAnswer) -> usize
+    ensures { λ r. ⌜ r ≡ filledBy answer ⌝ }
+{
+    match answer {
+        SessionAnswer::Finished {
+            kept: _,
+            weight: _,
+            pairs,
+        } => 2 * (pairs as usize),
+        SessionAnswer::Refused {
+            refusal: _,
+            place: _,
+        } => 0,
+    }
+}
+
+// Two passes: the first writes nothing of the caller's, the second only where nothing is refused and the pairs fit.
+fn within(limit: u32, row: &[u32], sp: Steps, records: &[u8], buffer: &mut [u32]) -> SessionAnswer
+    requires { ⌜ limit ≤ 4000000 ⌝ }
+    ensures answer { λ r. ⌜ shownSession r ≡ ran (length (now (buffer .entry))) (session paper limit (now (row .entry)) sp (now (records .entry))) ⌝ }
+    ensures words { λ r. ⌜ now (buffer .exit) ≡ bufferAfter (now (buffer .entry)) (session paper limit (now (row .entry)) sp (now (records .entry))) ⌝ }
+{
+    let mut none = [0u32; 1];
+    let first = pass(limit, row, sp, records, &mut none);
+    match first {
+        SessionAnswer::Refused {
+            refusal: _,
+            place: _,
+        } => first,
+        SessionAnswer::Finished {
+            kept: _,
+            weight: _,
+            pairs: _,
+        } => {
+            if buffer.len() < filled(first) {
+                return SessionAnswer::Refused {
+                    refusal: Refusal::BufferShort,
+                    place: 0,
+                };
+            }
+            pass(limit, row, sp, records, buffer);
+            first
+        }
+    }
+}
+
+// The first session call. On success the front of the buffer has the pairs; on a refusal the buffer keeps its contents.
+pub fn run(row: &[u32], sp: Steps, records: &[u8], buffer: &mut [u32]) -> SessionAnswer
+    ensures answer { λ r. ⌜ shownSession r ≡ ran (length (now (buffer .entry))) (session paper runLimit (now (row .entry)) sp (now (records .entry))) ⌝ }
+    ensures words { λ r. ⌜ now (buffer .exit) ≡ bufferAfter (now (buffer .entry)) (session paper runLimit (now (row .entry)) sp (now (records .entry))) ⌝ }
+{
+    within(4000000, row, sp, records, buffer)
+}
+
+// The same with fewer records at most.
+pub fn run_within(
+    limit: u16,
+    row: &[u32],
+    sp: Steps,
+    records: &[u8],
+    buffer: &mut [u32],
+) -> SessionAnswer
+    ensures answer { λ r. ⌜ shownSession r ≡ ran (length (now (buffer .entry))) (session paper limit (now (row .entry)) sp (now (records .entry))) ⌝ }
+    ensures words { λ r. ⌜ now (buffer .exit) ≡ bufferAfter (now (buffer .entry)) (session paper limit (now (row .entry)) sp (now (records .entry))) ⌝ }
+{
+    within(limit as u32, row, sp, records, buffer)
+}
+
+// The second session call: the filled front part of the buffer, empty on a refusal.
+pub fn front<'a, 'b, 'c>(
+    row: &'a [u32],
+    sp: Steps,
+    records: &'b [u8],
+    buffer: &'c mut [u32],
+) -> &'c mut [u32]
+    ensures { λ r. ⌜ now r ≡ frontOf (length (now (buffer .entry))) (session paper runLimit (now (row .entry)) sp (now (records .entry))) ⌝ }
+{
+    let n = filled(run(row, sp, records, buffer));
+    &mut buffer[..n]
+}
+
+fn one_number(answer: SessionAnswer) -> u64
+    ensures { λ r. ⌜ r ≡ numberBy (shownSession answer) ⌝ }
+{
+    match answer {
+        SessionAnswer::Finished {
+            kept,
+            weight: _,
+            pairs: _,
+        } => kept.0 as u64,
+        SessionAnswer::Refused { refusal, place } => {
+            4294967296 * (rules::number(refusal) as u64) + (place as u64)
+        }
+    }
+}
+
+// The C call: K, or 4,294,967,296 × refusal + place.
+#[no_mangle]
+pub extern "C" fn quoting_session(head: &[u8], records: &[u8]) -> u64
+    ensures { λ r. ⌜ r ≡ oneNumber (sessionBytes paper runLimit (now (head .entry)) (now (records .entry))) ⌝ }
+{
+    if head.len() != 32 {
+        return 4294967296;
+    }
+    let row = [
+        words::word_at(head, 0),
+        words::word_at(head, 4),
+        words::word_at(head, 8),
+        words::word_at(head, 12),
+        words::word_at(head, 16),
+        words::word_at(head, 20),
+        words::word_at(head, 24),
+    ];
+    let sp = words::to_steps(words::word_at(head, 28));
+    let mut none = [0u32; 1];
+    one_number(pass(4000000, &row, sp, records, &mut none))
+}
