@@ -1,0 +1,211 @@
+-- Every list of calls can be written: the calls read from the words of a list are that list, and all its words are read. Assumes nothing.
+use Prim.Native.Nat.{ℕ, zero, suc, _+_, _-_, _*_, _/_, _%_, _≤_, _<_}
+use native.Mathlib.Omega.{arith}
+use mathlib.Core.Path.{_≡_, refl, sym, ap, _∙_}
+use mathlib.Core.List.{List, [], _∷_, _++_, append-assoc}
+use lib.IntN.{ℤ, pos, negsuc}
+use lib.ListN.{length, getD, take, drop, length-append}
+use lib.Seq.{take-at, getD-append-add, drop-append-seam}
+use Rattle.rules.specs.declared.Side.{Side}
+use Rattle.rules.specs.declared.Side.the-variants.{Buy, Sell}
+use Rattle.rules.specs.declared.Kopecks.{Kopecks}
+use Rattle.rules.specs.declared.Event.{Event}
+use Rattle.rules.specs.declared.Event.the-variants.{Add, Amend, Cancel, Deal, Tick}
+use Rattle.rules.specs.Units.{steps, kopecks}
+use Rattle.rules.specs.Records.{signedOf, unsignedOf}
+use Rattle.rules.specs.Widths.{Word, SignedWord, Fits}
+use Rattle.rules.specs.Book.{Call, Open, Send, Close, Drop, Charge, Withdraw, Look, Report}
+use Rattle.rules.proofs.Records.{signed-unsigned}
+use Rattle.script.specs.Words.{word, fixedDue, addDue, due, dueAt, blockSize, callOf, callsOf, wordsRead, sideWord, eventWords, low, high, wordsOf, scriptOf, Words, Wide, CallFits, AllFit}
+use Rattle.script.proofs.Reading.{whole, short, calls-none, calls-more, words-none, words-more}
+
+-- ---- the size
+
+event-due : (e : Event) (rest : List ℕ) → dueAt (eventWords e ++ rest) ≡ length (eventWords e)
+unfolding eventWords due fixedDue addDue
+event-due (Add t id Buy price volume) rest = refl
+event-due (Add t id Sell price volume) rest = refl
+event-due (Amend t id price volume) rest = refl
+event-due (Cancel t id) rest = refl
+event-due (Deal t id volume) rest = refl
+event-due (Tick t) rest = refl
+
+call-due : (c : Call) (rest : List ℕ) → dueAt (wordsOf c ++ rest) ≡ length (wordsOf c)
+unfolding wordsOf due fixedDue
+call-due (Open words day sp) rest = rw (length-append words (day ∷ unsignedOf (sp .0) ∷ [])) (omega arith)
+call-due (Send e) rest = event-due e rest
+call-due (Close active passive) rest = refl
+call-due Drop rest = refl
+call-due (Charge day expiry quantum active passive) rest = refl
+call-due (Withdraw day expiry quantum) rest = refl
+call-due (Look day expiry quantum) rest = refl
+call-due Report rest = refl
+
+pub size-of : (c : Call) (rest : List ℕ) → blockSize (wordsOf c ++ rest) ≡ length (wordsOf c)
+size-of c rest =
+    whole (wordsOf c ++ rest) (length (wordsOf c)) (call-due c rest)
+    (rw (length-append (wordsOf c) rest) (omega arith))
+
+event-some : (e : Event) → 0 < length (eventWords e)
+unfolding eventWords
+event-some (Add t id side price volume) = omega arith
+event-some (Amend t id price volume) = omega arith
+event-some (Cancel t id) = omega arith
+event-some (Deal t id volume) = omega arith
+event-some (Tick t) = omega arith
+
+call-some : (c : Call) → 0 < length (wordsOf c)
+unfolding wordsOf
+call-some (Open words day sp) = omega arith
+call-some (Send e) = event-some e
+call-some (Close active passive) = omega arith
+call-some Drop = omega arith
+call-some (Charge day expiry quantum active passive) = omega arith
+call-some (Withdraw day expiry quantum) = omega arith
+call-some (Look day expiry quantum) = omega arith
+call-some Report = omega arith
+
+-- ---- the call
+
+charge-back : (k : Kopecks) → kopecks (low k + 4294967296 * high k) ≡ k
+charge-back k = let e : low k + 4294967296 * high k ≡ k .0 = omega arith in ap kopecks e
+
+event-back : (e : Event) → Fits e → (rest : List ℕ) → callOf (eventWords e ++ rest) ≡ Send e
+unfolding eventWords callOf
+event-back (Add t id Buy price volume) h rest = ap (λ z. Send (Add t id Buy (steps z) volume)) (signed-unsigned (price .0) (h .2))
+event-back (Add t id Sell price volume) h rest = ap (λ z. Send (Add t id Sell (steps z) volume)) (signed-unsigned (price .0) (h .2))
+event-back (Amend t id price volume) h rest = ap (λ z. Send (Amend t id (steps z) volume)) (signed-unsigned (price .0) (h .2))
+event-back (Cancel t id) h rest = refl
+event-back (Deal t id volume) h rest = refl
+event-back (Tick t) h rest = refl
+
+-- the words of an open: the row's, the day, SP
+module _ (words : List ℕ) (day sp : ℕ) (rest : List ℕ) where
+  abbrev behind : List ℕ
+  behind = (words ++ (day ∷ sp ∷ [])) ++ rest
+
+  behind-is : behind ≡ words ++ (day ∷ sp ∷ rest)
+  behind-is = append-assoc words (day ∷ sp ∷ []) rest
+
+  row-words : take (length words) behind ≡ words
+  row-words = rw behind-is (take-at words (day ∷ sp ∷ rest) (length words) refl)
+
+  day-word : (n : ℕ) → getD (1 ∷ n ∷ behind) (2 + length words) 0 ≡ day
+  day-word n =
+      let e : 2 + length words ≡ suc (suc (length words + 0)) = omega arith in
+      rw (e, behind-is) (getD-append-add words (day ∷ sp ∷ rest) 0 0)
+
+  sp-word : (n : ℕ) → getD (1 ∷ n ∷ behind) (3 + length words) 0 ≡ sp
+  sp-word n =
+      let e : 3 + length words ≡ suc (suc (length words + 1)) = omega arith in
+      rw (e, behind-is) (getD-append-add words (day ∷ sp ∷ rest) 1 0)
+
+pub call-back : (c : Call) → CallFits c → (rest : List ℕ) → callOf (wordsOf c ++ rest) ≡ c
+unfolding wordsOf callOf
+call-back (Open words day sp) h rest =
+    let n = length words in
+    rw
+    (row-words words day (unsignedOf (sp .0)) rest, day-word words day (unsignedOf (sp .0)) rest n, sp-word words day (unsignedOf (sp .0)) rest n, signed-unsigned (sp .0) (h .3))
+    refl
+call-back (Send e) h rest = event-back e h rest
+call-back (Close active passive) h rest = rw (charge-back active, charge-back passive) refl
+call-back Drop h rest = refl
+call-back (Charge day expiry quantum active passive) h rest = rw (charge-back active, charge-back passive) refl
+call-back (Withdraw day expiry quantum) h rest = refl
+call-back (Look day expiry quantum) h rest = refl
+call-back Report h rest = refl
+
+-- ---- the list
+
+module _ (c : Call) (cs : List Call) (h : CallFits c) where
+  some : blockSize (wordsOf c ++ scriptOf cs) ≡ 0 → ⊥
+  some e = omega (arith, size-of c (scriptOf cs), call-some c)
+
+  behind-block : drop (blockSize (wordsOf c ++ scriptOf cs)) (wordsOf c ++ scriptOf cs) ≡ scriptOf cs
+  behind-block = rw (size-of c (scriptOf cs)) (drop-append-seam (wordsOf c) (scriptOf cs))
+
+  calls-cons : callsOf (wordsOf c ++ scriptOf cs) ≡ c ∷ callsOf (scriptOf cs)
+  calls-cons =
+      calls-more (wordsOf c ++ scriptOf cs) some
+      ∙ rw (behind-block, call-back c h (scriptOf cs)) refl
+
+  words-cons : wordsRead (wordsOf c ++ scriptOf cs) ≡ length (wordsOf c) + wordsRead (scriptOf cs)
+  words-cons =
+      words-more (wordsOf c ++ scriptOf cs) some
+      ∙ rw (behind-block, size-of c (scriptOf cs)) refl
+
+-- The calls read from the words of a list are that list, for every list of calls whose numbers fit their types ..
+pub read-back : (calls : List Call) → AllFit calls → callsOf (scriptOf calls) ≡ calls
+unfolding scriptOf
+read-back [] h = calls-none [] (short [] (omega arith))
+read-back (c ∷ cs) h = calls-cons c cs (h .0) ∙ ap (λ l. c ∷ l) (read-back cs (h .1))
+
+-- .. and all the words are read.
+pub all-read : (calls : List Call) → AllFit calls → wordsRead (scriptOf calls) ≡ length (scriptOf calls)
+unfolding scriptOf
+all-read [] h = words-none [] (short [] (omega arith))
+all-read (c ∷ cs) h =
+    words-cons c cs (h .0) ∙ ap (λ k. length (wordsOf c) + k) (all-read cs (h .1)) ∙ sym (length-append (wordsOf c) (scriptOf cs))
+
+-- ---- the words
+
+record Fine (ws : List ℕ) : Type 0 where
+  all : Words ws
+
+none : Fine []
+none = record { all = λ i. omega arith }
+
+at-each : (w : ℕ) (ws : List ℕ) → Word w → Words ws → Words (w ∷ ws)
+at-each w ws h k zero = h
+at-each w ws h k (suc i) = k i
+
+put : {w : ℕ} {ws : List ℕ} → Word w → Fine ws → Fine (w ∷ ws)
+put {w} {ws} h k = record { all = at-each w ws h (k .all) }
+
+joined : (xs ys : List ℕ) → Words xs → Fine ys → Fine (xs ++ ys)
+joined [] ys h k = k
+joined (x ∷ xs) ys h k = put (h 0) (joined xs ys (λ i. h (suc i)) k)
+
+word-unsigned : (z : ℤ) → SignedWord z → Word (unsignedOf z)
+unfolding unsignedOf
+word-unsigned (pos n) h = omega arith
+word-unsigned (negsuc n) h = omega arith
+
+side-fits : (side : Side) → Word (sideWord side)
+side-fits Buy = omega arith
+side-fits Sell = omega arith
+
+charge-words : {k : Kopecks} {ws : List ℕ} → Wide k → Fine ws → Fine (low k ∷ high k ∷ ws)
+charge-words h w = put (omega arith) (put (omega arith) w)
+
+event-fits : (e : Event) → Fits e → Fine (eventWords e)
+unfolding eventWords
+event-fits (Add t id side price volume) h =
+    put (omega arith) (put (h .0) (put (h .1) (put (side-fits side) (put (word-unsigned (price .0) (h .2)) (put (h .3) none)))))
+event-fits (Amend t id price volume) h =
+    put (omega arith) (put (h .0) (put (h .1) (put (word-unsigned (price .0) (h .2)) (put (h .3) none))))
+event-fits (Cancel t id) h = put (omega arith) (put (h .0) (put (h .1) none))
+event-fits (Deal t id volume) h = put (omega arith) (put (h .0) (put (h .1) (put (h .2) none)))
+event-fits (Tick t) h = put (omega arith) (put h none)
+
+call-fits : (c : Call) → CallFits c → Fine (wordsOf c)
+unfolding wordsOf
+call-fits (Open words day sp) h =
+    put (omega arith) (put (h .0) (joined words (day ∷ unsignedOf (sp .0) ∷ []) (h .1) (put (h .2) (put (word-unsigned (sp .0) (h .3)) none))))
+call-fits (Send e) h = event-fits e h
+call-fits (Close active passive) h = put (omega arith) (charge-words (h .0) (charge-words (h .1) none))
+call-fits Drop h = put (omega arith) none
+call-fits (Charge day expiry quantum active passive) h =
+    put (omega arith) (put (h .0) (put (h .1) (put (h .2) (charge-words (h .3) (charge-words (h .4) none)))))
+call-fits (Withdraw day expiry quantum) h = put (omega arith) (put (h .0) (put (h .1) (put (h .2) none)))
+call-fits (Look day expiry quantum) h = put (omega arith) (put (h .0) (put (h .1) (put (h .2) none)))
+call-fits Report h = put (omega arith) none
+
+script-fits : (calls : List Call) → AllFit calls → Fine (scriptOf calls)
+unfolding scriptOf
+script-fits [] h = none
+script-fits (c ∷ cs) h = joined (wordsOf c) (scriptOf cs) (call-fits c (h .0) .all) (script-fits cs (h .1))
+
+-- What is written are 32-bit words.
+pub words-fit : (calls : List Call) → AllFit calls → Words (scriptOf calls)
+words-fit calls h = script-fits calls h .all

@@ -1,0 +1,29 @@
+-- Laws of a list's outcomes. Assumes nothing.
+use Prim.Native.Nat.{ℕ, suc}
+use mathlib.Core.Path.{_≡_, refl, ap}
+use mathlib.Core.List.{List, [], _∷_, _++_}
+use lib.ListN.{length}
+use Rattle.rules.specs.Terms.{paper}
+use Rattle.rules.specs.Book.{Call, Book, freshBook, refusalOf, step, run, after}
+use Rattle.script.specs.Words.{outcomesFrom, outcomesOf}
+
+pub outcomes-snoc : (b : Book) (cs : List Call) (c : Call)
+    → outcomesFrom b (cs ++ (c ∷ [])) ≡ outcomesFrom b cs ++ (refusalOf paper (run paper b cs) c ∷ [])
+unfolding outcomesFrom run
+outcomes-snoc b [] c = refl
+outcomes-snoc b (d ∷ cs) c = ap {B = List ℕ} (λ l. refusalOf paper b d ∷ l) (outcomes-snoc (step paper b d) cs c)
+
+pub outcomes-more : (cs : List Call) (c : Call)
+    → outcomesOf (cs ++ (c ∷ [])) ≡ outcomesOf cs ++ (refusalOf paper (after paper cs) c ∷ [])
+unfolding outcomesOf after
+outcomes-more cs c = outcomes-snoc freshBook cs c
+
+-- an outcome for each call
+from-length : (b : Book) (cs : List Call) → length (outcomesFrom b cs) ≡ length cs
+unfolding outcomesFrom
+from-length b [] = refl
+from-length b (c ∷ cs) = ap suc (from-length (step paper b c) cs)
+
+pub outcomes-length : (cs : List Call) → length (outcomesOf cs) ≡ length cs
+unfolding outcomesOf
+outcomes-length cs = from-length freshBook cs

@@ -1,0 +1,110 @@
+-- `script::run` meets its contract. The invariant is `Ongoing`: after k calls the month is that of those calls, and the buffer's front
+-- holds their outcomes. The measure is the number of calls left. Assumes nothing.
+use Prim.Native.Nat.{_-_, _≤_}
+use native.Mathlib.Omega.{arith}
+use mathlib.Core.Path.{_≡_}
+use borrow.Author.Needs.{needs}
+use lib.ListN.{length}
+use Rattle.script.specs.Words.{callsOf}
+use Rattle.script.proofs.Running.{Ongoing, starts, is-reached, out-length, goes-on, too-short, finished}
+use Rattle.script.proofs.run.Statement.{statement}
+use Rattle.script.proofs.run.Tie as tie
+
+abbrev Inv-loop : tie.InvT-loop
+Inv-loop words outcomes₀ calls read month₀ at₀ k₀ outcomes month at k =
+    Ongoing words outcomes₀ outcomes month at k × (calls ≡ length (callsOf words))
+
+abbrev μ-loop : tie.MeasureT-loop
+μ-loop words outcomes₀ calls read month₀ at₀ k₀ outcomes month at k = calls - k
+
+measure-requires : tie.Need-measure-requires Inv-loop μ-loop
+measure-requires c κs = search needs
+
+fresh-requires : tie.Need-fresh-requires Inv-loop μ-loop
+fresh-requires c κs = search needs
+
+returns : tie.Need-returns Inv-loop μ-loop
+returns c =
+    let s = c .before .before .before .before .before in
+    too-short (s .args .words .now) (s .args .outcomes .now) (c .before .fresh .result) (c .before .before .measure .result) (c .before .before .measure .ensures)
+    (omega arith) (c .before .fresh .ensures)
+
+loop-holds : tie.Need-loop-holds Inv-loop μ-loop
+loop-holds c =
+    let s = c .before .before .before .before .before in
+    let m = c .before .before .measure in
+    let r : length (callsOf (s .args .words .now)) ≤ length (s .args .outcomes .now) = omega (arith, m .ensures .calls) in
+    (starts (s .args .words .now) (s .args .outcomes .now) (c .before .fresh .result) r (c .before .fresh .ensures), m .ensures .calls)
+
+block-requires : tie.Need-block-requires Inv-loop μ-loop
+block-requires c κs =
+    let s = c .before .before .before .before .before .before .before in
+    let l = c .before .loop in (
+      is-reached (s .args .words .now) (s .args .outcomes .now) (l .outcomes) (l .month) (l .at) (l .k) (l .inv .0),
+      omega (arith, l .inv .0 .passed .fits),
+    )
+
+number-requires : tie.Need-number-requires Inv-loop μ-loop
+number-requires c κs = search needs
+
+mul-outcomes : tie.Need-mul-outcomes Inv-loop μ-loop
+mul-outcomes c =
+    let s = c .before .before .before .before .before .before .before .before .before .before in
+    let l = c .before .before .before .before .loop in
+    omega (arith, s .good, l .inv .0 .room, l .inv .1)
+
+slice-write-outcomes : tie.Need-slice-write-outcomes Inv-loop μ-loop
+slice-write-outcomes c =
+    let s = c .before .before .before .before .before .before .before .before .before .before in
+    let l = c .before .before .before .before .loop in
+    omega
+    (arith, l .inv .0 .room, l .inv .1, out-length (s .args .words .now) (s .args .outcomes .now) (l .outcomes) (l .month) (l .at) (l .k) (l .inv .0))
+
+add-k : tie.Need-add-k Inv-loop μ-loop
+add-k c = omega arith
+
+loop-less : tie.Need-loop-less Inv-loop μ-loop
+loop-less c = omega arith
+
+loop-again : tie.Need-loop-again Inv-loop μ-loop
+loop-again c =
+    let s = c .before .before .before .before .before .before .before .before .before .before .before in
+    let l = c .before .before .before .before .before .loop in (
+      goes-on (s .args .words .now) (s .args .outcomes .now) (l .outcomes) (l .month) (l .at) (l .k) (l .inv .0) (omega (arith, l .inv .1))
+          (c .before .before .before .block .result) (c .before .before .before .block .ensures) (c .before .number .result) (c .before .number .ensures),
+      l .inv .1,
+    )
+
+same-length : tie.Need-same-length Inv-loop μ-loop
+same-length c =
+    let s = c .before .before .before .before .before .before .before in
+    let l = c .before .loop in
+    out-length (s .args .words .now) (s .args .outcomes .now) (l .outcomes) (l .month) (l .at) (l .k) (l .inv .0)
+
+returns-2 : tie.Need-returns-2 Inv-loop μ-loop
+returns-2 c =
+    let s = c .before .before .before .before .before .before .before in
+    let l = c .before .loop in
+    let m = c .before .before .before .before .measure in
+    finished (s .args .words .now) (s .args .outcomes .now) (l .outcomes) (l .month) (l .at) (l .k) (l .inv .0) (m .result) (m .ensures)
+    (omega arith)
+
+pub run-spec : {M : Type 1} → statement M
+run-spec =
+    tie.close
+    (tie.spec
+    Inv-loop
+    μ-loop
+    measure-requires
+    fresh-requires
+    returns
+    loop-holds
+    block-requires
+    number-requires
+    mul-outcomes
+    slice-write-outcomes
+    add-k
+    loop-less
+    loop-again
+    same-length
+    returns-2)

@@ -1,0 +1,4 @@
+pub mod Words
+pub mod Measures
+pub mod Blocks
+pub mod Runs

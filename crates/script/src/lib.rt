@@ -1,0 +1,447 @@
+// A list of calls as 32-bit words: how many calls and words it has, and its calls run from a fresh month.
+ghost use mathlib.Core.Path.{_≡_};
+ghost use Prim.Native.Nat.{_+_, _≤_, _<_};
+ghost use lib.ListN.{length, getD, drop};
+ghost use Rattle.rules.specs.Answers.{shownAnswer, shownLooked, shownReport};
+ghost use Rattle.month.specs.Represents.{Reached, Answered};
+ghost use Rattle.script.specs.Words.{fixedDue, addDue, due, blockSize, stepsAt, chargeAt, sideOf, callOf};
+ghost use Rattle.script.specs.Measures.{Measures};
+ghost use Rattle.script.specs.Blocks.{blankReport, showing, shownOf, outcomeNumber, Performed, Stepped};
+ghost use Rattle.script.specs.Runs.{Runs};
+use month::Month;
+use month::Turned;
+use rules::Answer;
+use rules::CellView;
+use rules::Contracts;
+use rules::Kopecks;
+use rules::Looked;
+use rules::Millis;
+use rules::Quote;
+use rules::Report;
+use rules::Side;
+use rules::Steps;
+
+// A list's number of calls, and of words that they take.
+pub struct Measured {
+    pub calls: usize,
+    pub words: usize,
+}
+
+// What a call is answered; Refused holds the refusal's number.
+pub enum Outcome {
+    Accepted,
+    Refused(u32),
+    Found(CellView),
+    Reported,
+}
+
+// An outcome, with the report where it is Reported and a blank one where it is not.
+pub struct Shown {
+    pub outcome: Outcome,
+    pub report: Report,
+}
+
+// What a block hands back: the month, the place behind it, what the call shows.
+pub struct Done {
+    pub month: Month,
+    pub next: usize,
+    pub shown: Shown,
+}
+
+// What a list of calls hands back: the month, how many calls and words were read, and whether the outcomes fit the lent buffer.
+pub struct Ran {
+    pub month: Month,
+    pub calls: usize,
+    pub words: usize,
+    pub fits: bool,
+}
+
+// The month after a call, and what the call shows.
+struct Told {
+    month: Month,
+    shown: Shown,
+}
+
+// The word at a place, 0 past the end.
+fn word(words: &[u32], i: usize) -> u32
+    ensures { λ r. ⌜ r ≡ getD (now (words .entry)) i 0 ⌝ }
+{
+    if i < words.len() {
+        return words[i];
+    }
+    0
+}
+
+fn wide(n: u32) -> usize
+    ensures { λ r. ⌜ r ≡ n ⌝ }
+{
+    n as usize
+}
+
+// An add has six words, with another side than 1 and 2 none.
+fn add_due(side: u32) -> usize
+    ensures { λ r. ⌜ r ≡ addDue side ⌝ }
+{
+    if side == 1 {
+        return 6;
+    }
+    if side == 2 {
+        return 6;
+    }
+    0
+}
+
+// How many words a block of a kind other than 1 and 2 has.
+fn fixed_due(kind: u32) -> usize
+    ensures { λ r. ⌜ r ≡ fixedDue kind ⌝ }
+{
+    if kind == 3 {
+        return 5;
+    }
+    if kind == 4 {
+        return 3;
+    }
+    if kind == 5 {
+        return 4;
+    }
+    if kind == 6 {
+        return 2;
+    }
+    if kind == 7 {
+        return 5;
+    }
+    if kind == 8 {
+        return 1;
+    }
+    if kind == 9 {
+        return 8;
+    }
+    if kind == 10 {
+        return 4;
+    }
+    if kind == 11 {
+        return 4;
+    }
+    if kind == 12 {
+        return 1;
+    }
+    0
+}
+
+// How many words a block has, by its kind, the word behind that and an add's side.
+fn due_words(kind: u32, n: u32, side: u32) -> usize
+    ensures { λ r. ⌜ r ≡ due kind n side ⌝ }
+{
+    if kind == 1 {
+        return 4 + wide(n);
+    }
+    if kind == 2 {
+        return add_due(side);
+    }
+    fixed_due(kind)
+}
+
+// The number of words of the call at the front, 0 where there is none.
+fn front_size(words: &[u32]) -> usize
+    ensures { λ r. ⌜ r ≡ blockSize (now (words .entry)) ⌝ }
+{
+    let n = due_words(word(words, 0), word(words, 1), word(words, 3));
+    if n <= words.len() {
+        return n;
+    }
+    0
+}
+
+// The same, of the words from a place on.
+fn block_size(words: &[u32], at: usize) -> usize
+    requires { ⌜ at ≤ length (now words) ⌝ }
+    ensures { λ r. ⌜ r ≡ blockSize (drop at (now (words .entry))) ⌝ }
+{
+    let rest = &words[at..];
+    front_size(rest)
+}
+
+// How many calls and words are read from a list of words.
+pub fn measure(words: &[u32]) -> Measured
+    ensures { λ r. ⌜ Measures (now (words .entry)) r ⌝ }
+{
+    let mut calls: usize = 0;
+    let mut at: usize = 0;
+    let mut size = block_size(words, 0);
+    while 0 < size {
+        calls += 1;
+        at += size;
+        size = block_size(words, at);
+    }
+    Measured { calls, words: at }
+}
+
+// ---- what a call shows
+
+fn blank_report() -> Report
+    ensures { λ r. ⌜ r ≡ blankReport ⌝ }
+{
+    let failures = [0u32; 6];
+    Report {
+        running: false,
+        time: Millis(0),
+        orders: 0,
+        bid: Quote::Absent,
+        ask: Quote::Absent,
+        kept: Millis(0),
+        failures,
+        fee: Kopecks(0),
+    }
+}
+
+fn showing_only(outcome: Outcome) -> Shown
+    ensures { λ r. ⌜ r ≡ showing outcome ⌝ }
+{
+    let report = blank_report();
+    Shown { outcome, report }
+}
+
+fn show_answer(answer: Answer) -> Shown
+    ensures { λ r. ⌜ r ≡ shownOf (shownAnswer answer) ⌝ }
+{
+    match answer {
+        Answer::Accepted => showing_only(Outcome::Accepted),
+        Answer::Refused(r) => showing_only(Outcome::Refused(rules::number(r))),
+    }
+}
+
+fn show_looked(looked: Looked) -> Shown
+    ensures { λ r. ⌜ r ≡ shownOf (shownLooked looked) ⌝ }
+{
+    match looked {
+        Looked::Found(view) => showing_only(Outcome::Found(view)),
+        Looked::Refused(r) => showing_only(Outcome::Refused(rules::number(r))),
+    }
+}
+
+// 0 accepted, else the refusal's number.
+fn number(outcome: Outcome) -> u32
+    ensures { λ r. ⌜ r ≡ outcomeNumber outcome ⌝ }
+{
+    match outcome {
+        Outcome::Accepted => 0,
+        Outcome::Refused(n) => n,
+        Outcome::Found(_) => 0,
+        Outcome::Reported => 0,
+    }
+}
+
+// ---- a block's arguments
+
+fn steps_at(words: &[u32], i: usize) -> Steps
+    ensures { λ r. ⌜ r ≡ stepsAt (now (words .entry)) i ⌝ }
+{
+    words::to_steps(word(words, i))
+}
+
+fn wide_word(w: u32) -> u64
+    ensures { λ r. ⌜ (r ≡ w) × (r < 4294967296) ⌝ }
+{
+    w as u64
+}
+
+// A charge from its two words, the low one first.
+fn charge_at(words: &[u32], i: usize) -> Kopecks
+    requires { ⌜ i < 8 ⌝ }
+    ensures { λ r. ⌜ r ≡ chargeAt (now (words .entry)) i ⌝ }
+{
+    let low = wide_word(word(words, i));
+    let high = wide_word(word(words, i + 1));
+    Kopecks(low + 4294967296 * high)
+}
+
+fn side_of(w: u32) -> Side
+    ensures { λ r. ⌜ r ≡ sideOf w ⌝ }
+{
+    if w == 1 {
+        return Side::Buy;
+    }
+    Side::Sell
+}
+
+// ---- a block by its kind
+
+// Kind 1.
+fn open_block(month: Month, words: &[u32]) -> Turned
+    requires { ⌜ Reached month × (getD (now words) 0 0 ≡ 1) × (4 + getD (now words) 1 0 ≤ length (now words)) ⌝ }
+    ensures { λ r. ⌜ Answered month (callOf (now (words .entry))) (r .month) (shownAnswer (r .answer)) ⌝ }
+{
+    let end = 2 + wide(word(words, 1));
+    let row = &words[2..end];
+    month.open(row, word(words, end), steps_at(words, end + 1))
+}
+
+// Kinds 2 to 6.
+fn event_block(month: Month, words: &[u32]) -> Turned
+    requires { ⌜ Reached month × (2 ≤ getD (now words) 0 0) × (getD (now words) 0 0 ≤ 6) ⌝ }
+    ensures { λ r. ⌜ Answered month (callOf (now (words .entry))) (r .month) (shownAnswer (r .answer)) ⌝ }
+{
+    let kind = word(words, 0);
+    let t = Millis(word(words, 1));
+    let id = word(words, 2);
+    if kind == 2 {
+        let side = side_of(word(words, 3));
+        let volume = Contracts(word(words, 5));
+        return month.add(t, id, side, steps_at(words, 4), volume);
+    }
+    if kind == 3 {
+        let volume = Contracts(word(words, 4));
+        return month.amend(t, id, steps_at(words, 3), volume);
+    }
+    if kind == 4 {
+        return month.cancel(t, id);
+    }
+    if kind == 5 {
+        return month.deal(t, id, Contracts(word(words, 3)));
+    }
+    month.tick(t)
+}
+
+// Kinds 7 to 10.
+fn office_block(month: Month, words: &[u32]) -> Turned
+    requires { ⌜ Reached month × (7 ≤ getD (now words) 0 0) × (getD (now words) 0 0 ≤ 10) ⌝ }
+    ensures { λ r. ⌜ Answered month (callOf (now (words .entry))) (r .month) (shownAnswer (r .answer)) ⌝ }
+{
+    let kind = word(words, 0);
+    if kind == 7 {
+        return month.close(charge_at(words, 1), charge_at(words, 3));
+    }
+    if kind == 8 {
+        return month.drop();
+    }
+    let day = word(words, 1);
+    let expiry = word(words, 2);
+    let quantum = word(words, 3);
+    if kind == 9 {
+        return month.charge(
+            day,
+            expiry,
+            quantum,
+            charge_at(words, 4),
+            charge_at(words, 6),
+        );
+    }
+    month.withdraw(day, expiry, quantum)
+}
+
+// Kind 11.
+fn look_block(month: Month, words: &[u32]) -> Told
+    requires { ⌜ Reached month × (getD (now words) 0 0 ≡ 11) ⌝ }
+    ensures { λ r. ⌜ Performed month (callOf (now (words .entry))) (r .month) (r .shown) ⌝ }
+{
+    let found = month.look(word(words, 1), word(words, 2), word(words, 3));
+    let month = found.month;
+    let answer = found.answer;
+    let shown = show_looked(answer);
+    Told { month, shown }
+}
+
+// Kind 12.
+fn report_block(month: Month, words: &[u32]) -> Told
+    requires { ⌜ Reached month × (getD (now words) 0 0 ≡ 12) ⌝ }
+    ensures { λ r. ⌜ Performed month (callOf (now (words .entry))) (r .month) (r .shown) ⌝ }
+{
+    let reported = month.report();
+    let month = reported.month;
+    let report = reported.answer;
+    let shown = Shown {
+        outcome: Outcome::Reported,
+        report,
+    };
+    Told { month, shown }
+}
+
+// The call that the block at the front says.
+fn perform(month: Month, words: &[u32]) -> Told
+    requires { ⌜ Reached month × (blockSize (now words) ≡ 0 → ⊥) ⌝ }
+    ensures { λ r. ⌜ Performed month (callOf (now (words .entry))) (r .month) (r .shown) ⌝ }
+{
+    let kind = word(words, 0);
+    if kind == 11 {
+        return look_block(month, words);
+    }
+    if kind == 12 {
+        return report_block(month, words);
+    }
+    if kind == 1 {
+        return tell(open_block(month, words));
+    }
+    if kind <= 6 {
+        return tell(event_block(month, words));
+    }
+    tell(office_block(month, words))
+}
+
+fn tell(turned: Turned) -> Told
+    ensures { λ r. ⌜ (r .month ≡ turned .month) × (r .shown ≡ shownOf (shownAnswer (turned .answer))) ⌝ }
+{
+    let month = turned.month;
+    let answer = turned.answer;
+    let shown = show_answer(answer);
+    Told { month, shown }
+}
+
+// One block of a list: the call that it says, run on the month. Where there is no call, the month and the place are as they were.
+pub fn block(month: Month, words: &[u32], at: usize) -> Done
+    requires { ⌜ Reached month × (at ≤ length (now words)) ⌝ }
+    ensures { λ r. ⌜ Stepped month (now (words .entry)) at r ⌝ }
+{
+    let rest = &words[at..];
+    let size = front_size(rest);
+    if size == 0 {
+        let shown = showing_only(Outcome::Accepted);
+        return Done {
+            month,
+            next: at,
+            shown,
+        };
+    }
+    let told = perform(month, rest);
+    let month = told.month;
+    let shown = told.shown;
+    Done {
+        month,
+        next: at + size,
+        shown,
+    }
+}
+
+// A list of calls, each on the month that the one before handed back, from a fresh one; each call's outcome goes to the lent buffer.
+pub fn run(words: &[u32], outcomes: &mut [u32]) -> Ran
+    ensures { λ r. ⌜ Runs (now (words .entry)) (now (outcomes .entry)) (now (outcomes .exit)) r ⌝ }
+{
+    let list = measure(words);
+    let calls = list.calls;
+    let read = list.words;
+    let mut month = Month::fresh();
+    if outcomes.len() < calls {
+        return Ran {
+            month,
+            calls,
+            words: read,
+            fits: false,
+        };
+    }
+    let mut at: usize = 0;
+    let mut k: usize = 0;
+    while k < calls {
+        let done = block(month, words, at);
+        let shown = done.shown;
+        let outcome = shown.outcome;
+        outcomes[k] = number(outcome);
+        month = done.month;
+        at = done.next;
+        k += 1;
+    }
+    Ran {
+        month,
+        calls,
+        words: read,
+        fits: true,
+    }
+}
