@@ -266,7 +266,8 @@ fn dealt(orders: Orders, place: usize, volume: Contracts) -> Orders
         return orders.without(place);
     }
     let price = o.price;
-    amended(orders, place, price, Contracts(v.0 - volume.0))
+    let rest = v.0 - volume.0;
+    amended(orders, place, price, Contracts(rest))
 }
 
 // The orders after the event.

@@ -1,5 +1,6 @@
 -- `quantum::dealt` meets its contract: each branch is a case of `lessenedAt`. Assumes nothing.
 use mathlib.Core.Path.{ap, sym, _∙_}
+use native.Mathlib.Omega.{arith}
 use borrow.Author.Needs.{needs}
 use Rattle.orders.specs.Packed.{packed}
 use Rattle.quantum.proofs.Changes.{lessened-all, lessened-some}
@@ -17,10 +18,10 @@ returns c = λ live is h.
     let at = c .before .before .before .before .before in
     let a = at .before .args in
     c .without .ensures live is
-    ∙ ap packed (sym (lessened-all (a .place) (a .volume .0) live (at .at .result) (at .at .ensures live is) (c .before .if1 .taken)))
+    ∙ ap packed (sym (lessened-all (a .place) (a .volume .0) live (at .at .result) (at .at .ensures live is) (omega arith)))
 
-sub-t8 : tie.Need-sub-t8
-sub-t8 c = search needs
+sub-rest : tie.Need-sub-rest
+sub-rest c = search needs
 
 amended-requires : tie.Need-amended-requires
 amended-requires c κs = search needs
@@ -31,7 +32,7 @@ returns-2 c = λ live is h.
     let at = else .before .before .before .before in
     let a = at .before .args in
     c .amended .ensures live is
-    ∙ ap packed (sym (lessened-some (a .place) (a .volume .0) live (at .at .result) (at .at .ensures live is) (else .if1 .left)))
+    ∙ ap packed (sym (lessened-some (a .place) (a .volume .0) live (at .at .result) (at .at .ensures live is) (omega arith)))
 
 pub dealt-spec : {M : Type 1} → statement M
-dealt-spec = tie.close (tie.spec at-requires without-requires returns sub-t8 amended-requires returns-2)
+dealt-spec = tie.close (tie.spec at-requires without-requires returns sub-rest amended-requires returns-2)
