@@ -255,6 +255,13 @@ fn amended(orders: Orders, place: usize, price: Steps, volume: Contracts) -> Ord
     orders.replaced(place, n)
 }
 
+// Whether a volume leaves nothing of an order's.
+fn takes_all(volume: Contracts, held: Contracts) -> bool
+    ensures { λ r. ⌜ r ≡ leb (held .0) (volume .0) ⌝ }
+{
+    held.0 <= volume.0
+}
+
 // The order at a place lessened by a volume, and removed at nothing left.
 fn dealt(orders: Orders, place: usize, volume: Contracts) -> Orders
     requires { ⌜ Packed orders × (place < orders .count) ⌝ }
@@ -262,7 +269,7 @@ fn dealt(orders: Orders, place: usize, volume: Contracts) -> Orders
 {
     let o = orders.at(place);
     let v = o.volume;
-    if v.0 <= volume.0 {
+    if takes_all(volume, v) {
         return orders.without(place);
     }
     let price = o.price;

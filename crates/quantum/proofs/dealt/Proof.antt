@@ -1,27 +1,38 @@
--- `quantum::dealt` meets its contract: each branch is a case of `lessenedAt`. Assumes nothing.
+-- Each branch is a case of `lessenedAt`. Assumes nothing.
+use Prim.Native.Nat.{_≤_, _<_}
 use mathlib.Core.Path.{ap, sym, _∙_}
 use native.Mathlib.Omega.{arith}
 use borrow.Author.Needs.{needs}
+use borrow.Author.Tests.{leb-true, leb-false}
 use Rattle.orders.specs.Packed.{packed}
 use Rattle.quantum.proofs.Changes.{lessened-all, lessened-some}
 use Rattle.quantum.proofs.dealt.Statement.{statement}
 use Rattle.quantum.proofs.dealt.Tie as tie
 
+all : (k : tie.Then1) → k .before .before .before .at .result .volume .0 ≤ k .before .before .before .before .args .volume .0
+all k = leb-true _ _ (sym (k .before .takes-all .ensures) ∙ k .if1 .taken)
+
+some : (k : tie.Else1) → k .before .before .before .before .args .volume .0 < k .before .before .before .at .result .volume .0
+some k = leb-false _ _ (sym (k .before .takes-all .ensures) ∙ k .if1 .left)
+
 at-requires : tie.Need-at-requires
 at-requires c κs = search needs
+
+takes-all-requires : tie.Need-takes-all-requires
+takes-all-requires c κs = search needs
 
 without-requires : tie.Need-without-requires
 without-requires c κs = search needs
 
 returns : tie.Need-returns
 returns c = λ live is h.
-    let at = c .before .before .before .before .before in
+    let at = c .before .before .before .before in
     let a = at .before .args in
     c .without .ensures live is
-    ∙ ap packed (sym (lessened-all (a .place) (a .volume .0) live (at .at .result) (at .at .ensures live is) (omega arith)))
+    ∙ ap packed (sym (lessened-all (a .place) (a .volume .0) live (at .at .result) (at .at .ensures live is) (all (c .before))))
 
 sub-rest : tie.Need-sub-rest
-sub-rest c = search needs
+sub-rest c = omega (arith, some (c .before .before .before))
 
 amended-requires : tie.Need-amended-requires
 amended-requires c κs = search needs
@@ -29,10 +40,10 @@ amended-requires c κs = search needs
 returns-2 : tie.Need-returns-2
 returns-2 c = λ live is h.
     let else = c .before .before .before .before in
-    let at = else .before .before .before .before in
+    let at = else .before .before .before in
     let a = at .before .args in
     c .amended .ensures live is
-    ∙ ap packed (sym (lessened-some (a .place) (a .volume .0) live (at .at .result) (at .at .ensures live is) (omega arith)))
+    ∙ ap packed (sym (lessened-some (a .place) (a .volume .0) live (at .at .result) (at .at .ensures live is) (some else)))
 
 pub dealt-spec : {M : Type 1} → statement M
-dealt-spec = tie.close (tie.spec at-requires without-requires returns sub-rest amended-requires returns-2)
+dealt-spec = tie.close (tie.spec at-requires takes-all-requires without-requires returns sub-rest amended-requires returns-2)
