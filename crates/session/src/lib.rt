@@ -233,7 +233,7 @@ fn pass(limit: u32, row: &[u32], sp: Steps, records: &[u8], buffer: &mut [u32]) 
 }
 
 // The words that a run has filled.
-fn filled(answer: SessionAnswer) -> usize
+pub fn filled(answer: SessionAnswer) -> usize
     ensures { λ r. ⌜ r ≡ filledBy answer ⌝ }
 {
     match answer {

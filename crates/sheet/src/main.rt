@@ -1,0 +1,112 @@
+// Prints the sheet of one session: 32 leading bytes and the records from standard input, 1,600 records at most.
+use libc::STDIN_FILENO;
+use libc::STDOUT_FILENO;
+use rules::Cell;
+use rules::Kopecks;
+use rules::Millis;
+use rules::SessionAnswer;
+
+fn text(bytes: &[u8]) {
+    io::write_all(STDOUT_FILENO, bytes);
+}
+
+fn number(n: u32) {
+    io::print_decimal(STDOUT_FILENO, n as u64);
+}
+
+fn refused(cause: u32, place: u32) {
+    text(b"refused ");
+    number(cause);
+    text(b" at ");
+    number(place);
+    text(b"\n");
+}
+
+fn pair(offset: u32, length: u32) {
+    text(b"pair ");
+    number(offset);
+    text(b" ");
+    number(length);
+    text(b"\n");
+}
+
+// The pairs of some words, each on a line.
+fn pairs(words: &[u32]) {
+    let mut i: usize = 1;
+    while i < words.len() {
+        pair(words[i - 1], words[i]);
+        if words.len() - i < 2 {
+            return;
+        }
+        i += 2;
+    }
+}
+
+fn kept_line(kept: Millis, length: Millis) {
+    text(b"kept ");
+    number(kept.0);
+    text(b" of ");
+    number(length.0);
+    text(b"\n");
+}
+
+fn verdict(kept: Millis, length: Millis, share: u32) {
+    let cell = Cell {
+        filled: true,
+        kept,
+        length,
+        share,
+        active: Kopecks(0),
+        passive: Kopecks(0),
+    };
+    if pay::met(cell) {
+        text(b"verdict met\n");
+    } else {
+        text(b"verdict failed\n");
+    }
+}
+
+// The sheet of 32 leading bytes and the records behind them.
+fn sheet(input: &[u8]) {
+    if input.len() < 32 {
+        refused(1, 0);
+        return;
+    }
+    let row = [
+        words::word_at(input, 0),
+        words::word_at(input, 4),
+        words::word_at(input, 8),
+        words::word_at(input, 12),
+        words::word_at(input, 16),
+        words::word_at(input, 20),
+        words::word_at(input, 24),
+    ];
+    let length = Millis(row[2]);
+    let share = row[6];
+    let sp = words::to_steps(words::word_at(input, 28));
+    let mut buffer = [0u32; 1600];
+    let answer = session::run_within(1600, &row, sp, &input[32..], &mut buffer);
+    match answer {
+        SessionAnswer::Refused { refusal, place } => refused(rules::number(refusal), place),
+        SessionAnswer::Finished {
+            kept,
+            weight,
+            pairs: _,
+        } => {
+            kept_line(kept, length);
+            let n = session::filled(answer);
+            pairs(&buffer[..n]);
+            verdict(kept, length, share);
+            text(b"weight ");
+            number(weight);
+            text(b"\n");
+        }
+    }
+}
+
+// One byte more than the records that a sheet takes shows that there are more.
+fn main() {
+    let mut input = [0u8; 32033];
+    let n = io::read_full(STDIN_FILENO, &mut input);
+    sheet(&input[..n]);
+}
