@@ -1,4 +1,13 @@
-.PHONY: test
+# Every target needs the Rattle kit (`rt` on the path) and Python 3; `client` and `bench` also a C and a Rust compiler.
+.PHONY: test demo
 
 test:
 	bash .ci/run
+
+# The sheet of a shipped session, and a month of calls.
+demo: target/bin/sheet target/bin/replay
+	python3 tools/session.py to-bytes examples/brent.session | target/bin/sheet
+	python3 tools/calls.py to-bytes examples/month.calls | target/bin/replay
+
+target/bin/%:
+	rt check $*

@@ -7,4 +7,5 @@ pub mod Said
 pub mod Performing
 pub mod Running
 pub mod Demand
+pub mod Playing
 pub mod Format
