@@ -1,0 +1,34 @@
+"""The recount on the command line.
+
+    python3 recount/main.py replay < words       as the program replay
+    python3 recount/main.py sheet < bytes        as the program sheet
+    python3 recount/main.py probe < bytes        as the program probe
+    python3 recount/main.py ccall HEAD RECORDS   the C call's number for two files
+    python3 recount/main.py selftest             the recount held against itself and the paper
+"""
+
+import sys
+from pathlib import Path
+
+sys.path.insert(0, str(Path(__file__).resolve().parent.parent))
+
+from recount import programs, selftest, session
+
+
+def main(words):
+    inputs = {"replay": programs.replay, "sheet": programs.sheet, "probe": programs.probe}
+    if len(words) == 1 and words[0] in inputs:
+        sys.stdout.write(inputs[words[0]](sys.stdin.buffer.read()))
+    elif len(words) == 3 and words[0] == "ccall":
+        with open(words[1], "rb") as head, open(words[2], "rb") as data:
+            print(session.ccall(head.read(), data.read()))
+    elif words == ["selftest"]:
+        return selftest.main()
+    else:
+        sys.stderr.write(__doc__)
+        return 2
+    return 0
+
+
+if __name__ == "__main__":
+    sys.exit(main(sys.argv[1:]))

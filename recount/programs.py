@@ -1,0 +1,205 @@
+"""What the programs `replay`, `sheet` and `probe` print for the bytes that they are given."""
+
+import struct
+
+from recount import records, session
+from recount.book import (
+    BUY, SELL, Accepted, Add, Amend, Cancel, CellView, Charge, Close, Deal, Drop, Look, Open,
+    Refused, Report, Tick, Withdraw, Book, choose,
+)
+
+REPLAY_BYTES = 262_144
+SHEET_RECORDS = 1_600
+PROBE_BUFFER = 4_096
+PROBE_ROW = 16
+PROBE_TABLES = 4_096
+
+
+def to_words(data):
+    """The full words of four bytes, low byte first."""
+    return list(struct.unpack(f"<{len(data) // 4}I", data[: len(data) // 4 * 4]))
+
+
+def signed(word):
+    return word - (1 << 32) if word >> 31 else word
+
+
+def lines(items):
+    return "".join(item + "\n" for item in items)
+
+
+# ---------------------------------------------------------------- replay
+
+
+def read_call(words, at):
+    """The call of the block at `at` and the place behind it, or None where no call stands."""
+
+    def take(count):
+        """That many words behind the block's kind, or None where the block is cut short."""
+        block = words[at + 1 : at + 1 + count]
+        return block if len(block) == count else None
+
+    kind = words[at]
+    if kind == 1:
+        if at + 1 == len(words) or at + 2 + words[at + 1] + 2 > len(words):
+            return None
+        count = words[at + 1]
+        block = take(count + 3)
+        return Open(block[1 : 1 + count], block[-2], signed(block[-1])), at + count + 4
+    sizes = {2: 5, 3: 4, 4: 2, 5: 3, 6: 1, 7: 4, 8: 0, 9: 7, 10: 3, 11: 3, 12: 0}
+    block = take(sizes[kind]) if kind in sizes else None
+    if block is None:
+        return None
+    behind = at + 1 + len(block)
+    if kind == 2:
+        t, id, side, price, volume = block
+        return (Add(t, id, side, signed(price), volume), behind) if side in (BUY, SELL) else None
+    if kind == 3:
+        t, id, price, volume = block
+        return Amend(t, id, signed(price), volume), behind
+    if kind == 4:
+        return Cancel(*block), behind
+    if kind == 5:
+        return Deal(*block), behind
+    if kind == 6:
+        return Tick(*block), behind
+    if kind == 7:
+        return Close(*charges(block)), behind
+    if kind == 8:
+        return Drop(), behind
+    if kind == 9:
+        return Charge(*block[:3], *charges(block[3:])), behind
+    if kind == 10:
+        return Withdraw(*block), behind
+    if kind == 11:
+        return Look(*block), behind
+    return Report(), behind
+
+
+def charges(block):
+    """Two charges, each two words, the low one first."""
+    a_low, a_high, p_low, p_high = block
+    return a_low + (a_high << 32), p_low + (p_high << 32)
+
+
+def read_calls(data):
+    """The calls of the bytes, and the word (from 0) at which they stop being calls, or None."""
+    words, at, calls = to_words(data), 0, []
+    while at < len(words):
+        found = read_call(words, at)
+        if found is None:
+            return calls, at
+        call, at = found
+        calls.append(call)
+    return calls, at if len(data) % 4 else None
+
+
+def quote_text(quote):
+    return "absent" if quote is None else str(quote)
+
+
+def answer_line(answer):
+    if isinstance(answer, Accepted):
+        return "accepted"
+    if isinstance(answer, Refused):
+        return f"refused {answer.number}"
+    if isinstance(answer, CellView):
+        return (
+            f"cell kept {answer.kept} of {answer.length} share {answer.share}"
+            f" active {answer.active} passive {answer.passive}"
+            f" verdict {verdict_text(answer.met)} weight {answer.weight}"
+        )
+    return (
+        f"report open {'yes' if answer.is_open else 'no'} time {answer.time}"
+        f" orders {answer.orders} bid {quote_text(answer.bid)} ask {quote_text(answer.ask)}"
+        f" kept {answer.kept} failed {' '.join(map(str, answer.failed))} fee {answer.fee}"
+    )
+
+
+def verdict_text(is_met):
+    return "met" if is_met else "failed"
+
+
+def replay(data):
+    if len(data) > REPLAY_BYTES:
+        return lines(["too long"])
+    calls, stop = read_calls(data)
+    book = Book()
+    out = [answer_line(book.call(call)) for call in calls]
+    if stop is not None:
+        out.append(f"stopped at word {stop + 1}")
+    return lines(out)
+
+
+# ---------------------------------------------------------------- sheet
+
+
+def sheet(data):
+    head, rest = data[: session.HEAD.size], data[session.HEAD.size :]
+    answer = session.run_bytes(head, rest, SHEET_RECORDS)
+    if isinstance(answer, session.Stopped):
+        return lines([refused_at(answer)])
+    out = [f"kept {answer.kept} of {answer.length}"]
+    out += [f"pair {offset} {length}" for offset, length in answer.pairs]
+    out += [f"verdict {verdict_text(answer.met)}", f"weight {answer.weight}"]
+    return lines(out)
+
+
+def refused_at(answer):
+    return f"refused {answer.number} at {answer.place}"
+
+
+# ---------------------------------------------------------------- probe
+
+
+def probe(data):
+    words = to_words(data)
+    if words[:1] == [1]:
+        out = probe_session(words, data)
+    elif words[:1] == [2]:
+        out = probe_row(words, data)
+    elif words[:1] == [3]:
+        out = probe_record(data[4:])
+    else:
+        out = None
+    return lines(["bad case"] if out is None else out)
+
+
+def probe_session(words, data):
+    """`1 n fill m w1..wm SP`, then record bytes."""
+    if len(words) < 4:
+        return None
+    n, fill, m = words[1:4]
+    if n > PROBE_BUFFER or m > PROBE_ROW or len(words) < 4 + m + 1:
+        return None
+    given = words[4 : 4 + m], signed(words[4 + m]), data[4 * (5 + m) :]
+    answer, buffer = session.first_call(*given, [fill] * n)
+    front = session.second_call(*given, [fill] * n)
+    if isinstance(answer, session.Stopped):
+        first = refused_at(answer)
+    else:
+        first = f"kept {answer.kept} weight {answer.weight} pairs {len(answer.pairs)}"
+    return [first, numbers("buffer", buffer), numbers("front", front)]
+
+
+def probe_row(words, data):
+    """`2 holiday expiry quantum u h`, then the usual and the holiday table."""
+    if len(words) < 6:
+        return None
+    is_holiday, expiry, quantum, u, h = words[1:6]
+    if is_holiday > 1 or u + h > PROBE_TABLES or len(data) != 4 * (6 + u + h):
+        return None
+    usual, holiday = words[6 : 6 + u], words[6 + u :]
+    return [numbers("row", choose(usual, holiday, is_holiday == 1, expiry, quantum))]
+
+
+def probe_record(data):
+    """`3`, then bytes that begin with a record."""
+    event = records.read(data)
+    if event is None:
+        return ["refused 15"]
+    return [numbers("event", records.fields(event)), "bytes " + records.write(event).hex(" ")]
+
+
+def numbers(name, items):
+    return " ".join([name, *map(str, items)])

@@ -1,0 +1,248 @@
+"""The recount held against the paper's own checks and against itself.
+
+Kept time is counted in three ways: as the paper's sentence says it, for every millisecond from the
+whole list of events; millisecond by millisecond in one walk; and from event to event.
+"""
+
+import random
+
+from recount import programs, records, session
+from recount.book import (
+    BUY, SELL, Accepted, Add, Amend, Book, Cancel, Cell, Charge, Close, Deal, Look, Open, Order,
+    Refused, Report, Row, Tick, Withdraw, best_ask, best_bid, choose, fee, keeps, kept_time,
+    live_after, stretches_by_events, stretches_by_milliseconds, weight, widest,
+    within,
+)
+
+EXAMPLE_ROW = [1, 1, 10_000, 500, 100, 1, 60]
+EXAMPLE_EVENTS = [
+    Add(0, 1, BUY, 99, 500),
+    Add(0, 2, SELL, 101, 500),
+    Cancel(4_000, 2),
+    Add(4_000, 3, SELL, 101, 500),
+    Cancel(6_000, 1),
+]
+EXAMPLE_SHEET = "kept 6000 of 10000\npair 0 6000\nverdict met\nweight 10000\n"
+
+
+def example_bytes():
+    return session.HEAD.pack(*EXAMPLE_ROW, 2_000) + b"".join(map(records.write, EXAMPLE_EVENTS))
+
+
+# ---------------------------------------------------------------- the paper's checks
+
+
+def orders(*buys):
+    return {i: Order(i, BUY, price, volume) for i, (volume, price) in enumerate(buys)}
+
+
+def check_paper():
+    # C1 to C3: best bid with M 500.
+    assert best_bid(orders((300, 100), (200, 99)), 500) == 99
+    assert best_bid(orders((300, 100), (200, 99), (400, 98)), 500) == 99
+    assert best_bid(orders((200, 99), (400, 98)), 500) == 98
+    # C4 and C5: the spread; SP -5 leaves the limit b.
+    row = Row(1, 1, 10_000, 500, 100, 1, 60)
+    assert within(row, 2_000, 99, 101) and not within(row, 2_000, 99, 102)
+    assert not within(row, 1_999, 99, 101) and within(row, 1_999, 100, 101)
+    assert within(row, -5, 100, 101) and not within(row, -5, 99, 101)
+    for sp in (-5, 0, 1_999, 2_000, 2_999, 10**9):
+        for wide_row in (row, row._replace(a=0), row._replace(b=0), row._replace(a=100_000)):
+            wide = widest(wide_row, sp)
+            assert within(wide_row, sp, 0, wide) and not within(wide_row, sp, 0, wide + 1)
+    # C6 to C10: weights with p 60 and L 31,500,000.
+    for kept, due in [
+        (18_899_999, 0), (18_900_000, 10_000), (22_050_000, 10_312),
+        (25_199_999, 19_752), (25_200_000, 20_000),
+    ]:
+        assert weight(kept, 31_500_000, 60) == due, (kept, due)
+    # C11 and C12: the fee.
+    assert fee({(1, 1, 1): Cell(22_050_000, 31_500_000, 60, 10_000, 20_000)}) == 10_312
+    top = Cell(31_500_000, 31_500_000, 60, 10**9, 10**9)
+    assert fee({(1, 1, 1): top}) == 120_000_000
+    # 15 failed cells in a series leave the fee, 16 make it 0.
+    paid = {(31, 1, 1): Cell(22_050_000, 31_500_000, 60, 10_000, 20_000)}
+    failed = Cell(0, 1_000, 60, 5, 5)
+    fifteen = {(day, 1, 1): failed for day in range(1, 16)}
+    assert fee({**paid, **fifteen}) == 10_312
+    assert fee({**paid, **fifteen, (16, 1, 1): failed}) == 0
+    assert fee({**paid, **fifteen, (16, 2, 1): failed}) == 10_312
+    # An event at t = L adds nothing to K.
+    events = [Add(0, 1, BUY, 99, 500), Add(10_000, 2, SELL, 101, 500)]
+    assert stretches_by_milliseconds(row, 2_000, events, 10_000) == []
+    # The printed session, as sheet and as the C call answer it.
+    assert programs.sheet(example_bytes()) == EXAMPLE_SHEET
+    assert session.ccall(example_bytes()[:32], example_bytes()[32:]) == 6_000
+
+
+def refusal(book, call):
+    answer = book.call(call)
+    return answer.number if isinstance(answer, Refused) else 0
+
+
+def check_refusals():
+    """Each number from 1 to 16, and the lowest where several apply."""
+    good = EXAMPLE_ROW
+    book = Book()
+    assert refusal(book, Open(good[:6], 32, 0)) == 1
+    assert refusal(book, Open([3] + good[1:], 32, 0)) == 2
+    assert refusal(book, Open(good, 32, 0)) == 3
+    assert refusal(book, Open(good, 1, 1_000_000_001)) == 3
+    assert refusal(book, Close(1_000_000_001, 0)) == 3
+    assert refusal(book, Close(0, 0)) == 7
+    assert refusal(book, Tick(0)) == 7
+    assert refusal(book, Look(1, 1, 1)) == 5
+    assert refusal(book, Look(1, 3, 1)) == 3
+    assert refusal(book, Open(good, 1, 2_000)) == 0
+    assert refusal(book, Open(good, 2, 2_000)) == 6
+    for id in range(64):
+        assert refusal(book, Add(5, id, BUY, 99, 500)) == 0
+    assert refusal(book, Add(4, 0, BUY, 99, 500)) == 8
+    assert refusal(book, Add(10_001, 0, BUY, 99, 500)) == 9
+    assert refusal(book, Add(5, 0, BUY, 99, 0)) == 10
+    assert refusal(book, Amend(5, 64, 99, 0)) == 11
+    assert refusal(book, Add(5, 64, BUY, 99, 0)) == 12
+    assert refusal(book, Add(5, 64, BUY, -1_000_000_001, 1)) == 12
+    assert refusal(book, Add(5, 64, BUY, 99, 500)) == 13
+    assert refusal(book, Deal(5, 0, 501)) == 14
+    assert refusal(book, Deal(5, 0, 1_000_001)) == 12
+    assert refusal(book, Deal(5, 0, 500)) == 0
+    assert refusal(book, Deal(5, 0, 500)) == 11
+    assert refusal(book, Close(0, 0)) == 0
+    assert refusal(book, Open(good, 1, 2_000)) == 4
+    assert refusal(book, Charge(1, 1, 1, 0, 1_000_000_001)) == 3
+    assert refusal(book, Charge(1, 1, 2, 0, 1_000_000_001)) == 3
+    assert refusal(book, Withdraw(1, 1, 1)) == 0
+    assert refusal(book, Withdraw(1, 1, 1)) == 5
+    records_of_example = example_bytes()[32:]
+    ran = lambda **more: session.run(good, 2_000, records_of_example, **more)
+    assert ran(buffer_words=2).pairs == [(0, 6_000)]
+    assert ran(buffer_words=1) == session.Stopped(16, 0)
+    assert ran(limit=4, buffer_words=1) == session.Stopped(15, 5)
+    given = good, 2_000, records_of_example
+    assert session.first_call(*given, [7] * 3)[1] == [0, 6_000, 7]
+    assert session.second_call(*given, [7] * 3) == [0, 6_000]
+    assert session.first_call(*given, [7]) == (session.Stopped(16, 0), [7])
+    assert session.second_call(*given, [7]) == []
+    cut = session.run(good, 2_000, records_of_example + b"\0", buffer_words=0)
+    assert cut == session.Stopped(15, 6)
+
+
+def check_rows():
+    """Choosing goes by the first row with expiry and quantum, whatever its other words."""
+    usual = [1, 0, 9, 9, 9, 9, 9, 1, 1, 7, 7, 7, 7, 7, 1, 1, 8, 8, 8, 8, 8, 2, 2]
+    holiday = [1, 1, 5, 5, 5, 5, 5]
+    assert choose(usual, holiday, False, 1, 1) == usual[7:14]
+    assert choose(usual, holiday, True, 1, 1) == holiday
+    assert choose(usual, holiday, True, 1, 0) == usual[:7]
+    assert choose(usual, holiday, True, 2, 2) == []
+
+
+# ---------------------------------------------------------------- the ways of counting
+
+
+def random_events(rng, book):
+    """Events that the open quantum accepts, some at one time, up to t = L."""
+    row = book.quoting.row
+    t = 0
+    for _ in range(rng.randrange(40)):
+        t = min(row.length, t + rng.choice([0, 0, 1, 1, 2, rng.randrange(200)]))
+        id, price = rng.randrange(8), rng.randrange(90, 111)
+        volume = rng.choice([1, 2, 3, 5, 8])
+        call = rng.choice([
+            Add(t, id, BUY, price - 3, volume), Add(t, id, SELL, price + 3, volume),
+            Add(t, id, BUY, price, volume), Add(t, id, SELL, price, volume),
+            Amend(t, id, price, volume), Cancel(t, id), Deal(t, id, volume), Tick(t),
+        ])
+        book.call(call)
+        yield call
+
+
+def stretches_as_said(row, sp, events, end):
+    """A millisecond m is kept if the events with t at most m leave orders that keep."""
+    flags = [keeps(row, sp, live_after([e for e in events if e.t <= m])) for m in range(end)]
+    starts = [m for m in range(end) if flags[m] and (m == 0 or not flags[m - 1])]
+    stops = [m + 1 for m in range(end) if flags[m] and (m + 1 == end or not flags[m + 1])]
+    return [(start, stop - start) for start, stop in zip(starts, stops)]
+
+
+def check_counting(rng, cases, said):
+    with_time = 0
+    for case in range(cases):
+        row = [1, 0, 1_000 * rng.randrange(1, 4), rng.randrange(1, 6),
+               rng.choice([0, 5_000, 10_000]), rng.randrange(6), 60]
+        sp = rng.choice([-5, 0, 100, 100])
+        book = Book()
+        assert book.call(Open(row, 1, sp)) == Accepted()
+        for _ in random_events(rng, book):
+            q = book.quoting
+            assert q.live == live_after(q.events)
+        quoting, row, events = book.quoting, book.quoting.row, book.quoting.events
+        for end in (quoting.time, row.length):
+            walked = stretches_by_milliseconds(row, sp, events, end)
+            assert walked == stretches_by_events(row, sp, events, end), (row, sp, events, end)
+            if case < said:
+                assert walked == stretches_as_said(row, sp, events, end), (row, sp, events, end)
+            if end == quoting.time:
+                assert book.report().kept == kept_time(walked)
+        assert book.call(Close(1, 2)) == Accepted()
+        assert book.call(Look(1, 1, 0)).kept == kept_time(walked)
+        with_time += bool(walked)
+    assert 3 * with_time >= cases, "too few of the cases have kept time"
+
+
+def check_quotes(rng, cases):
+    """The best quotes are the paper's: of the prices that qualify, the greatest and the least."""
+    for _ in range(cases):
+        live = {id: Order(id, rng.choice((BUY, SELL)), rng.randrange(5), rng.randrange(1, 5))
+                for id in range(rng.randrange(10))}
+        least = rng.randrange(1, 12)
+        buys = [o for o in live.values() if o.side == BUY]
+        sells = [o for o in live.values() if o.side == SELL]
+        bids = [o.price for o in buys
+                if sum(x.volume for x in buys if x.price >= o.price) >= least]
+        asks = [o.price for o in sells
+                if sum(x.volume for x in sells if x.price <= o.price) >= least]
+        assert best_bid(live, least) == max(bids, default=None)
+        assert best_ask(live, least) == min(asks, default=None)
+
+
+def check_records(rng, cases):
+    """Reading what was written gives the event, writing what was read gives the bytes."""
+    for _ in range(cases):
+        word = lambda: rng.choice([0, 1, 2**32 - 1, rng.getrandbits(32)])
+        price = rng.choice([0, -1, -(2**31), 2**31 - 1])
+        event = rng.choice([
+            Add(word(), word(), BUY, price, word()), Add(word(), word(), SELL, price, word()),
+            Amend(word(), word(), price, word()), Cancel(word(), word()),
+            Deal(word(), word(), word()), Tick(word()),
+        ])
+        data = records.write(event)
+        assert len(data) == records.SIZE and records.read(data) == event
+        damaged = bytearray(data)
+        damaged[rng.randrange(20)] ^= 1 << rng.randrange(8)
+        found = records.read(bytes(damaged))
+        assert found is None or records.write(found) == bytes(damaged)
+        assert records.read(data[: rng.randrange(20)]) is None
+
+
+def check_reports():
+    """A report with none open, and a replay that stops."""
+    none = "report open no time 0 orders 0 bid absent ask absent kept 0 failed 0 0 0 0 0 0 fee 0\n"
+    twelve, eight = (12).to_bytes(4, "little"), (8).to_bytes(4, "little")
+    assert programs.replay(twelve) == none
+    assert programs.replay(twelve + eight + b"\1") == none + "refused 7\nstopped at word 3\n"
+    assert Book().call(Report()).fee == 0
+
+
+def main():
+    rng = random.Random(1)
+    check_paper()
+    check_refusals()
+    check_rows()
+    check_quotes(rng, 2_000)
+    check_records(rng, 2_000)
+    check_reports()
+    check_counting(rng, 400, 40)
+    print("recount: agrees with the paper's checks and with itself")
+    return 0

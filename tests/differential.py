@@ -1,0 +1,571 @@
+"""The programs and the C call held against the recount, on seeded random cases.
+
+    python3 tests/differential.py                 thousands of cases, a few minutes at most
+    python3 tests/differential.py --quick         a tenth of them
+    python3 tests/differential.py --case FILE     one case again, with both answers
+
+    --seed N           other cases (1 by default)
+    --seconds S        stop making new cases after so long
+    --only NAME        replay, sheet, probe or ccall
+    --allow-missing    where a program is not built, hold the recount's two ways of counting
+                       against each other instead of failing
+
+It fails where an answer differs, where a refusal number was never met or something else that the
+cases are to show never showed, and where fewer than a third of the accepted sessions have kept
+time. A case that differs is made smaller and written to
+target/differential/.
+"""
+
+import argparse
+import random
+import re
+import struct
+import subprocess
+import sys
+import time
+from collections import Counter
+from pathlib import Path
+
+ROOT = Path(__file__).resolve().parent.parent
+sys.path.insert(0, str(ROOT))
+
+from recount import book, programs, records
+from recount import session as run
+from recount.book import BUY, SELL, Add, Cancel, Tick
+from tests import generate, known, months
+from tools import calls as calls_text
+from tools import session as session_text
+
+TARGET = ROOT / "target"
+FAILED = TARGET / "differential"
+
+
+def words(*numbers):
+    return struct.pack(f"<{len(numbers)}I", *numbers)
+
+
+def case_rng(seed, name, at):
+    return random.Random(f"{seed} {name} {at}")
+
+
+# ---------------------------------------------------------------- the four that are tested
+
+
+class Program:
+    """A program that reads one case from standard input. Its cases are bytes."""
+
+    refusals = range(0)  # the numbers that its cases must have met
+    sights = {}  # what its answers must have shown, as patterns
+
+    def __init__(self):
+        self.path = TARGET / "bin" / self.name
+
+    def missing(self):
+        return None if self.path.exists() else f"target/bin/{self.name} is not built"
+
+    def actual(self, data):
+        done = subprocess.run([self.path], input=data, capture_output=True, timeout=60)
+        text = done.stdout.decode(errors="replace")
+        return text if done.returncode == 0 else f"{text}(exit status {done.returncode})\n"
+
+    def actual_many(self, cases):
+        return (self.actual(data) for data in cases)
+
+    def expected(self, data):
+        return getattr(programs, self.name)(data)
+
+    def refusals_in(self, answer):
+        """The refusal numbers of an answer."""
+        return [int(number) for number in re.findall(r"^refused (\d+)", answer, re.M)]
+
+    def kept_in(self, answer):
+        """Kept time of each accepted session of an answer."""
+        return [int(kept) for kept in re.findall(r"^kept (\d+)", answer, re.M)]
+
+    def parts(self, data):
+        """A case as a front that stays and parts that can be left out one by one."""
+        raise NotImplementedError
+
+    def as_text(self, data):
+        """The case for a reader."""
+        raise NotImplementedError
+
+
+class Replay(Program):
+    name = "replay"
+    cases = 2_500
+    refusals = range(1, 15)
+    sights = {
+        "15 failed cells and a fee": r"failed (\d+ )*15 .*fee [1-9]",
+        "16 failed cells and no fee": r"failed (\d+ )*16 .*fee 0$",
+        "a fee at its limit": r"fee 120000000$",
+        "64 live orders": r"orders 64 ",
+        "a price at each limit": r"bid 1000000000 ask -1000000000 ",
+        "charges at their limit": r"active 1000000000 passive 1000000000 ",
+    }
+
+    def special(self):
+        for calls in (known.paper_calls, known.every_refusal, known.edge_calls):
+            yield calls_text.calls_bytes(calls())
+        for path in sorted((ROOT / "examples").glob("*.calls")):
+            yield calls_text.to_bytes(path.read_text())
+        report, wrong_open = words(12), words(1, 6, 1, 1, 10_000, 500, 100, 1, 1, 2_000)
+        good_open = words(1, 7, 1, 1, 10_000, 500, 100, 1, 60, 1, 2_000)
+        yield from [b"", b"\1", report + b"\0\0\0", report * 3]
+        yield from [words(0), words(13), words(2**32 - 1)]
+        yield from [wrong_open, words(1), words(1, 0), words(1, 0, 1), words(1, 0, 1, 0) + report]
+        yield words(1, 2**32 - 1, 1, 2)
+        yield words(1, 16, *range(16), 1, 0)
+        for side in (0, 1, 2, 3, 2**32 - 1):
+            yield good_open + words(2, 0, 1, side, 100, 500) + report
+        sizes = {2: 5, 3: 4, 4: 2, 5: 3, 6: 1, 7: 4, 9: 7, 10: 3, 11: 3}
+        for kind, size in sizes.items():
+            for short in range(size):
+                yield good_open + words(kind, *[1] * short)
+            yield good_open + words(kind, *[1] * size) + report
+        most = programs.REPLAY_BYTES
+        yield words(8) * (most // 4)
+        yield words(8) * (most // 4) + b"\0"
+        yield words(8) * (most // 4 - 1) + b"\0\0\0"
+        yield words(8) * (most // 4 - 1) + words(6)
+        yield words(8) * (most // 4 + 1)
+
+    def make(self, rng):
+        name, calls = months.any_calls(rng)
+        data = calls_text.calls_bytes(calls)
+        if rng.random() < 0.15:
+            name, at = "damaged_words", rng.randrange(len(data) + 1)
+            noise, kind = rng.randbytes(rng.randrange(9)), words(rng.choice([0, 13, 99]))
+            rest = data[at:] if rng.random() < 0.5 else b""
+            data = data[:at] + rng.choice([b"", noise, kind]) + rest
+        return name, data
+
+    def kept_in(self, answer):
+        return [int(kept) for kept in re.findall(r"^cell kept (\d+)", answer, re.M)]
+
+    def parts(self, data):
+        calls, stop = programs.read_calls(data)
+        blocks = [calls_text.calls_bytes([call]) for call in calls]
+        return b"", blocks + ([] if stop is None else [data[4 * stop :]])
+
+    def as_text(self, data):
+        return calls_text.to_text(data)
+
+
+class Sheet(Program):
+    name = "sheet"
+    cases = 2_500
+    refusals = [1, 2, 3, *range(8, 16)]
+    sights = {
+        "the longest quantum": r"^kept [1-9]\d* of 86400000$",
+        "800 pairs": r"(^pair \d+ \d+\n){800}",
+        "a weight between": r"^weight 1[0-9]*[1-9][0-9]*$",
+    }
+
+    def special(self):
+        head, data = known.many_records(1_600)
+        yield from [b"", b"\0" * 31, head, head + data, head + data + b"\6"]
+        yield head + data + records.write(Tick(1_600))
+        yield head + data + b"\0" * 20
+        yield head + data + data
+        yield head + data[:-20] + b"\7" + b"\0" * 40
+        yield head + data[:-20] + records.write(Tick(0)) + b"\0" * 20
+        for path in sorted((ROOT / "examples").glob("*.session")):
+            yield session_text.to_bytes(path.read_text())
+        for row in generate.PROGRAMMES:
+            rng = case_rng(0, "row", str(row))
+            head, data = generate.quoting(rng, row=book.Row(*row), count=10)
+            yield head + data
+        for head, data in known.sessions():
+            yield head + data
+
+    def make(self, rng):
+        name, head, data = generate.any_session(rng)
+        return name, head + data
+
+    def parts(self, data):
+        return data[:32], list(records.split(data[32:]))
+
+    def as_text(self, data):
+        return session_text.to_text(data)
+
+
+class Probe(Program):
+    name = "probe"
+    cases = 2_500
+    refusals = [1, 2, 3, *range(8, 17)]
+
+    def special(self):
+        yield from [b"", b"\1", words(0), words(4), words(1), words(1, 0, 0), words(1, 0, 0, 0)]
+        row = generate.PROGRAMMES[0]
+        yield words(1, 0, 9, 7, *row, 8_452)
+        yield words(1, 4_096, 9, 7, *row, 8_452)
+        yield words(1, 4_097, 9, 7, *row, 8_452)
+        yield words(1, 3, 9, 7, *row)
+        for count in (0, 6, 8, 16, 17):
+            yield words(1, 3, 9, count, *range(count), 8_452)
+        table = [1, 1, 5, 5, 5, 5, 5] * 585
+        for holiday in (0, 1, 2):
+            yield words(2, holiday, 1, 1, 7, 7, *row, *table[:7])
+        yield from [words(2), words(2, 0, 1, 1, 0)]
+        yield from [words(2, 0, 1, 1, 0, 0), words(2, 0, 1, 1, 1, 0)]
+        yield words(2, 1, 2, 2, 4_096, 0, *[2] * 4_096)
+        yield words(2, 1, 1, 1, 1, 4_095, 0, *table)
+        yield words(2, 1, 1, 1, 1, 4_096, 0, *table, 0)
+        yield from [words(2, 0, 1, 1, 2**32 - 1, 1, 5), words(2, 0, 1, 1, 1, 2**32 - 1, 5)]
+        for head, data in known.sessions():
+            if len(head) == 32:
+                yield words(1, 4, 9, 7) + head + data
+        head, data = known.many_records(4)
+        yield from [words(1, size, 9, 7) + head + data for size in (0, 3, 4, 5)]
+        for size in (0, 1, 19, 20):
+            yield words(3) + records.write(Tick(5))[:size]
+
+    def make(self, rng):
+        how = rng.random()
+        if how < 0.1:
+            return "tables", words(*generate.any_tables(rng))
+        if how < 0.2:
+            return "record", words(3) + generate.any_record(rng)
+        name, head, data = generate.any_session(rng)
+        if len(head) < 32 or rng.random() < 0.03:
+            name, row, sp = "bad_row", generate.wrong_row_words(rng), 2_000
+        else:
+            *row, sp = run.HEAD.unpack(head)
+        return name, self.session_case(rng, row, sp, data)
+
+    def session_case(self, rng, row, sp, data):
+        """A case with a buffer that is too short, just right, or longer."""
+        answer = run.run(row, sp, data)
+        needed = 0 if isinstance(answer, run.Stopped) else 2 * len(answer.pairs)
+        most = programs.PROBE_BUFFER
+        near = [needed, needed, needed + 1, needed - 1, needed // 2, needed + 5]
+        size = rng.choice([*near, 0, most])
+        size = generate.clamp(size, 0, most)
+        fill = rng.choice([0, 7, 2**32 - 1, rng.randrange(2**32)])
+        return words(1, size, fill, len(row), *row, sp & 0xFFFFFFFF) + data
+
+    def parts(self, data):
+        front = len(data)
+        if data[:4] == words(1) and len(data) >= 16:
+            front = 4 * (5 + programs.to_words(data)[3])
+        return data[:front], list(records.split(data[front:]))
+
+    def as_text(self, data):
+        front, rest = self.parts(data)
+        shown = [session_text.to_text(b"\0" * 32 + record).splitlines()[-1] for record in rest]
+        return "\n".join(["words " + " ".join(map(str, programs.to_words(front))), *shown]) + "\n"
+
+
+class CCall(Program):
+    """The C call, many cases to a process. A case has two lengths, then both byte strings."""
+
+    name = "ccall"
+    cases = 5_000
+    refusals = [1, 2, 3, *range(8, 16)]
+
+    def __init__(self):
+        self.library = TARGET / "staticlib" / "libsession.a"
+        self.runner = TARGET / "ccall"
+
+    def missing(self):
+        if not self.library.exists():
+            return "target/staticlib/libsession.a is not built"
+        headers = [
+            path.name
+            for path in sorted((ROOT / "include").glob("*.h"))
+            if "quoting_session(" in path.read_text()
+        ]
+        if not headers:
+            return "include/ has no header that declares quoting_session"
+        subprocess.run(
+            ["cc", "-std=c11", "-O2", "-Wall", "-Wextra", "-Werror", f"-I{ROOT / 'include'}",
+             f'-DMETER_HEADER="{headers[0]}"', ROOT / "tests" / "ccall.c", self.library,
+             "-o", self.runner],
+            check=True,
+        )
+        return None
+
+    @staticmethod
+    def case(head, data):
+        return words(len(head), len(data)) + head + data
+
+    @staticmethod
+    def split(data):
+        head_size, size = struct.unpack_from("<II", data)
+        return data[8 : 8 + head_size], data[8 + head_size : 8 + head_size + size]
+
+    def special(self):
+        head, data = known.many_records(1_601)
+        yield from [self.case(head[:size], data) for size in (0, 1, 31, 32)]
+        yield self.case(head + b"\0", data)
+        yield self.case(head, b"")
+        yield from [self.case(head, data) for head, data in known.sessions()]
+
+    def make(self, rng):
+        name, head, data = generate.any_session(rng)
+        return name, self.case(head, data)
+
+    def expected(self, data):
+        return f"{run.ccall(*self.split(data))}\n"
+
+    def actual(self, data):
+        return next(self.actual_many([data]))
+
+    def actual_many(self, cases):
+        data = b"".join(cases)
+        done = subprocess.run([self.runner], input=data, capture_output=True, timeout=120)
+        answers = done.stdout.decode().splitlines(keepends=True)
+        for at in range(len(cases)):
+            yield answers[at] if at < len(answers) else f"(none, exit status {done.returncode})\n"
+
+    def refusals_in(self, answer):
+        return [int(answer) >> 32] if int(answer) >> 32 else []
+
+    def kept_in(self, answer):
+        return [] if int(answer) >> 32 else [int(answer)]
+
+    def parts(self, data):
+        head, rest = self.split(data)
+        return head, list(records.split(rest))
+
+    def as_text(self, data):
+        return session_text.to_text(b"".join(self.split(data)))
+
+
+def joined(program, front, parts):
+    """The case that a front and the parts left of it make."""
+    rest = b"".join(parts)
+    return program.case(front, rest) if isinstance(program, CCall) else front + rest
+
+
+PROGRAMS = [Replay, Sheet, Probe, CCall]
+
+# ---------------------------------------------------------------- one case, and a smaller one
+
+
+class OtherWay:
+    """Stands in for a program that is not built: the recount, counting from event to event."""
+
+    def __init__(self, program):
+        self.program = program
+
+    def actual(self, data):
+        short, book.SHORT = book.SHORT, 0
+        try:
+            return self.program.expected(data)
+        finally:
+            book.SHORT = short
+
+    def actual_many(self, cases):
+        return (self.actual(data) for data in cases)
+
+
+def smaller(program, tested, data):
+    """Leaves out parts as long as the answers still differ, for some seconds at most."""
+    until = time.monotonic() + 15
+    try:
+        front, parts = program.parts(data)
+    except (struct.error, IndexError):
+        return data
+    size = max(1, len(parts) // 2)
+    while time.monotonic() < until:
+        for at in range(0, len(parts), size):
+            fewer = parts[:at] + parts[at + size :]
+            case = joined(program, front, fewer)
+            if time.monotonic() > until:
+                break
+            if tested.actual(case) != program.expected(case):
+                parts = fewer
+                break
+        else:
+            if size == 1:
+                break
+            size //= 2
+    case = joined(program, front, parts)
+    return case if tested.actual(case) != program.expected(case) else data
+
+
+def show_difference(program, tested, data):
+    sys.stdout.write(f"--- the case\n{program.as_text(data)}")
+    expected, actual = program.expected(data), tested.actual(data)
+    sys.stdout.write(f"--- the recount answers\n{expected}--- {program.name} answers\n{actual}")
+    return expected == actual
+
+
+def write_failure(program, tested, data, label):
+    data = smaller(program, tested, data)
+    FAILED.mkdir(parents=True, exist_ok=True)
+    path = FAILED / f"{label}.{program.name}"
+    path.write_bytes(data)
+    show_difference(program, tested, data)
+    print(f"--- this case again: python3 tests/differential.py --case {path.relative_to(ROOT)}")
+
+
+# ---------------------------------------------------------------- many cases
+
+
+class Tally:
+    def __init__(self):
+        self.cases = 0
+        self.refused, self.generators, self.seen = Counter(), Counter(), Counter()
+        self.accepted = self.with_time = 0
+
+    def count(self, program, name, answer):
+        self.cases += 1
+        self.generators[name] += 1
+        self.refused.update(set(program.refusals_in(answer)))  # cases that met it
+        self.seen.update(
+            sight for sight, pattern in program.sights.items() if re.search(pattern, answer, re.M)
+        )
+        kept = program.kept_in(answer)
+        self.accepted += len(kept)
+        self.with_time += sum(1 for k in kept if k > 0)
+
+
+def named_cases(program, seed, count):
+    """The special cases, then random ones; each with its label and its generator's name."""
+    for at, data in enumerate(program.special()):
+        yield f"special-{at}", "special", data
+    for at in range(count):
+        name, data = program.make(case_rng(seed, program.name, at))
+        yield f"seed-{seed}-{at}", name, data
+
+
+def batches(cases, size):
+    batch = []
+    for case in cases:
+        batch.append(case)
+        if len(batch) == size:
+            yield batch
+            batch = []
+    if batch:
+        yield batch
+
+
+def test(program, tested, seed, count, until):
+    """Runs the cases; answers the tally, or None where an answer differs."""
+    tally = Tally()
+    for batch in batches(named_cases(program, seed, count), 200 if program.name == "ccall" else 1):
+        answers = tested.actual_many([data for _, _, data in batch])
+        for (label, name, data), actual in zip(batch, answers):
+            expected = program.expected(data)
+            if actual != expected:
+                write_failure(program, tested, data, label)
+                return None
+            tally.count(program, name, expected)
+        if time.monotonic() > until and name != "special":
+            print(f"{program.name}: time is up after {tally.cases} cases")
+            break
+    return tally
+
+
+def complaints(program, tally):
+    """What the cases should have reached and did not."""
+    never = [number for number in program.refusals if not tally.refused[number]]
+    if never:
+        yield f"{program.name}: never refused by {', '.join(map(str, never))}"
+    for sight in program.sights:
+        if not tally.seen[sight]:
+            yield f"{program.name}: no case with {sight}"
+    if 3 * tally.with_time < tally.accepted:
+        yield f"{program.name}: {tally.with_time} of {tally.accepted} accepted have kept time"
+
+
+def print_tally(program, tally, seconds, instead):
+    against = "the recount's other way" if instead else "the recount"
+    print(f"{program.name}: {tally.cases} cases agree with {against}, {seconds:.0f} s")
+    print(f"    {tally.with_time} of {tally.accepted} accepted sessions have kept time")
+    for title, counter in [
+        ("cases that met refusal", tally.refused), ("cases with", tally.seen),
+        ("cases from", tally.generators),
+    ]:
+        if counter:
+            shown = ", ".join(f"{what}: {count}" for what, count in sorted(counter.items()))
+            print(f"    {title} {shown}")
+
+
+# ---------------------------------------------------------------- the run's limit of records
+
+
+def check_record_limit(program):
+    """4,000,000 records run, the next is refused by 15; worked out by hand, not by the recount."""
+    head, _ = known.many_records(1)
+    first = records.write(Add(0, 1, BUY, 100, 10)) + records.write(Add(0, 2, SELL, 101, 10))
+    tick, gone = records.write(Tick(5_000)), records.write(Cancel(5_000, 1))
+    most = first + tick * (run.RUN_LIMIT - 3) + gone
+    refused = (15 << 32) + run.RUN_LIMIT + 1
+    for data, due in [
+        (most, 5_000),
+        (most + tick, refused),
+        (most + b"\0", refused),
+        (most[:-20] + b"\7" * 20 + tick, refused - 1),
+    ]:
+        answer = program.actual(program.case(head, data))
+        if answer != f"{due}\n":
+            print(f"ccall: with {len(data)} record bytes {answer.strip()}, due is {due}")
+            return False
+    return True
+
+
+# ---------------------------------------------------------------- the command line
+
+
+def run_case(path):
+    path = Path(path)
+    found = [kind for kind in PROGRAMS if path.suffix == f".{kind.name}"]
+    if not found:
+        sys.exit(f"{path}: the name does not end in .replay, .sheet, .probe or .ccall")
+    program = found[0]()
+    why = program.missing()
+    if why:
+        print(f"{program.name}: {why}, so the recount's other way of counting answers")
+    same = show_difference(program, OtherWay(program) if why else program, path.read_bytes())
+    print("--- the same" if same else "--- they differ")
+    return 0 if same else 1
+
+
+def main():
+    parser = argparse.ArgumentParser(usage=__doc__)
+    parser.add_argument("--quick", action="store_true")
+    parser.add_argument("--seed", type=int, default=1)
+    parser.add_argument("--seconds", type=float)
+    parser.add_argument("--only", choices=[kind.name for kind in PROGRAMS])
+    parser.add_argument("--allow-missing", action="store_true")
+    parser.add_argument("--case")
+    args = parser.parse_args()
+    if args.case:
+        return run_case(args.case)
+
+    seconds = args.seconds or (80 if args.quick else 400)
+    kinds = [kind for kind in PROGRAMS if args.only in (None, kind.name)]
+    wrong, cases = [], 0
+    for kind in kinds:
+        program = kind()
+        why = program.missing()
+        if why and not args.allow_missing:
+            wrong.append(f"{program.name}: {why}")
+            continue
+        tested = OtherWay(program) if why else program
+        start = time.monotonic()
+        count = program.cases // 10 if args.quick else program.cases
+        tally = test(program, tested, args.seed, count, start + seconds / len(kinds))
+        if tally is None:
+            wrong.append(f"{program.name}: an answer differs, see above")
+            continue
+        cases += tally.cases
+        print_tally(program, tally, time.monotonic() - start, why)
+        wrong += complaints(program, tally)
+        if program.name == "ccall" and not (why or args.quick or check_record_limit(program)):
+            wrong.append("ccall: wrong at the limit of records")
+    for line in wrong:
+        print(f"differential: {line}")
+    if wrong:
+        print("differential: not in order")
+        return 1
+    print(f"differential: {cases} cases agree, seed {args.seed}")
+    return 0
+
+
+if __name__ == "__main__":
+    sys.exit(main())

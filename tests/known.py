@@ -1,0 +1,183 @@
+"""Sessions and lists of calls that are made on purpose and not at random."""
+
+from recount import records
+from recount.book import (
+    BUY, CHARGE_LIMIT, PRICE_LIMIT, SELL, VOLUME_LIMIT, Add, Amend, Cancel, Charge, Close, Deal,
+    Drop, Look, Open, Report, Row, Tick, Withdraw,
+)
+from tests.generate import LONGEST, WORD_END, session
+
+# ---------------------------------------------------------------- sessions
+
+
+def many_records(count):
+    """A session of exactly `count` records, its pairs as many as they can give."""
+    row = Row(1, 1, 20_000, 10, 100, 5, 60)
+    events = [Add(0, 1, BUY, 100, 10)]
+    for at in range(count - 1):
+        events.append(Add(at, 2, SELL, 101, 10) if at % 2 == 0 else Cancel(at, 2))
+    return session(row, 2_000, events)
+
+
+def refusals():
+    """A session for each refusal number that one can have: 1, 2, 3 and 8 to 15."""
+    row, first = Row(1, 1, 10_000, 500, 100, 1, 60), Add(5, 1, BUY, 100, 500)
+    full = [first] + [Add(5, id, BUY, 100, 500) for id in range(2, 65)]
+    yield session(row, 2_000, [])[0][:31], b""
+    yield session(row._replace(share=80), 2_000, [first])
+    yield session(row, PRICE_LIMIT + 1, [first])
+    for events in [
+        [first, Tick(4)],
+        [first, Tick(10_001)],
+        [first, first],
+        [first, Cancel(5, 2)],
+        [first, Amend(5, 1, 100, 0)],
+        full + [Add(5, 65, BUY, 100, 500)],
+        [first, Deal(5, 1, 501)],
+    ]:
+        yield session(row, 2_000, events + [Tick(6)])
+    head, data = session(row, 2_000, [first, Tick(6)])
+    yield head, data[:-1]
+
+
+MAIN_ROW = Row(1, 1, 31_500_000, 500, 100, 1, 60)  # of the paper's checks
+PAPER_KEPT = [18_899_999, 18_900_000, 22_050_000, 25_199_999, 25_200_000]  # C6 to C10
+
+
+def paper_sessions():
+    """C4 to C10 as sessions, and a long quantum kept for most of its time."""
+    for sp, gap in ((2_000, 2), (2_000, 3), (1_999, 2), (1_999, 1), (-5, 1), (-5, 2)):
+        yield session(MAIN_ROW, sp, [Add(0, 1, BUY, 99, 500), Add(0, 2, SELL, 99 + gap, 500)])
+    for kept in PAPER_KEPT:
+        yield session(MAIN_ROW, 2_000, kept_events(0, kept))
+    yield session(MAIN_ROW._replace(length=LONGEST), 2_000, kept_events(5_000_000, 70_000_000))
+
+
+def kept_events(start, stop):
+    """Events that keep from one time to another."""
+    return [Add(start, 1, BUY, 99, 500), Add(start, 2, SELL, 100, 500), Cancel(stop, 1)]
+
+
+# The last value inside and the first outside at each end of a row's words.
+ROW_EDGES = [
+    (0, 1, 2, 3),
+    (0, 2, 3),
+    (0, 999, 1_000, 1_001, LONGEST - 1, LONGEST, LONGEST + 1, LONGEST + 1_000),
+    (0, 1, 100_000, 100_001),
+    (0, 100_000, 100_001),
+    (0, 1_000_000, 1_000_001),
+    (0, 1, 79, 80),
+]
+PRICE_EDGES = [sign * (PRICE_LIMIT + past) for sign in (1, -1) for past in (0, 1)]
+VOLUME_EDGES = [0, 1, VOLUME_LIMIT, VOLUME_LIMIT + 1]
+
+
+def edge_rows():
+    good = Row(1, 1, 10_000, 500, 100, 1, 60)
+    for at, values in enumerate(ROW_EDGES):
+        for value in values:
+            yield [*good[:at], value, *good[at + 1 :]]
+
+
+def edges():
+    """A session for each end of each range, inside and outside, and each byte that must be zero."""
+    row = Row(1, 1, 10_000, 1, 100, 1, 60)
+    first = [Add(0, 1, BUY, 100, VOLUME_LIMIT), Add(0, 2, SELL, 101, 1)]
+    for words in edge_rows():
+        yield session(words, 2_000, [])
+    for price in PRICE_EDGES:
+        yield session(row, price, first)
+        yield session(row, 2_000, first + [Add(5, 3, BUY, price, 1)])
+        yield session(row, 2_000, first + [Amend(5, 2, price, 1)])
+    for volume in VOLUME_EDGES:
+        yield session(row, 2_000, first + [Add(5, 3, BUY, 100, volume)])
+        yield session(row, 2_000, first + [Amend(5, 2, 101, volume)])
+        yield session(row, 2_000, first + [Deal(5, 1, volume)])
+    for t in (9_999, 10_000, 10_001, WORD_END - 1):
+        yield session(row, 2_000, first + [Cancel(t, 2)])
+    for event in (Add(5, 3, BUY, 1, 1), Add(5, 3, SELL, 1, 1), Amend(5, 1, 1, 1), Cancel(5, 1),
+                  Deal(5, 1, 1), Tick(5)):
+        for at in range(1, records.SIZE):
+            record = bytearray(records.write(event))
+            record[at] ^= 128
+            if records.read(record) is None:
+                head, data = session(row, 2_000, first)
+                yield head, data + record
+
+
+def sessions():
+    """All of them but the long ones, as leading bytes and records."""
+    return [*paper_sessions(), *refusals(), *edges()]
+
+
+# ---------------------------------------------------------------- lists of calls
+
+
+def paper_calls():
+    """C1 to C3, C6 to C12, then 15 and 16 failed cells in a series, and 15 again."""
+    calls = [
+        Open(list(MAIN_ROW), 1, 2_000), Add(0, 1, BUY, 100, 300), Add(0, 2, BUY, 99, 200), Report(),
+        Add(0, 3, BUY, 98, 400), Report(), Cancel(0, 1), Report(), Drop(),
+    ]
+    for day, kept in enumerate(PAPER_KEPT, start=1):
+        calls += [Open(list(MAIN_ROW), day, 2_000), *kept_events(0, kept), Close(10_000, 20_000)]
+        calls += [Look(day, 1, 1), Report()]
+    calls += [Withdraw(day, 1, 1) for day in (1, 2, 4)] + [Report(), Withdraw(3, 1, 1)]
+    calls += [Charge(5, 1, 1, 10**9, 10**9), Report(), Charge(5, 1, 1, 1, 1)]
+    for day in range(6, 22):
+        calls += [Open(list(MAIN_ROW), day, 2_000), *kept_events(0, 18_899_999), Close(1, 1)]
+        calls += [Report()]
+    return calls + [Withdraw(6, 1, 1), Report(), Charge(5, 1, 1, 10_000, 20_000), Report()]
+
+
+def every_refusal():
+    """A list of calls that meets each number from 1 to 14, mostly with higher causes beside it."""
+    row, id = list(Row(1, 1, 10_000, 500, 100, 1, 60)), 65
+    calls = [
+        Open(row[:6], 32, 0), Open(row[:6] + [80], 32, 0), Open(row, 32, 0), Open(row, 0, 0),
+        Open(row, 1, PRICE_LIMIT + 1), Open(row, 1, -PRICE_LIMIT - 1),
+        Close(CHARGE_LIMIT + 1, 0), Close(0, CHARGE_LIMIT + 1), Close(0, 0), Drop(), Tick(0),
+        Look(1, 1, 1), Charge(1, 1, 1, 0, 0), Withdraw(1, 1, 1), Look(0, 1, 1), Look(1, 3, 1),
+        Withdraw(1, 1, 3), Charge(1, 1, 1, CHARGE_LIMIT + 1, 0),
+        Open(row, 1, 2_000), Open(row, 2, 2_000), Open(row[:6], 2, 2_000),
+    ]
+    calls += [Add(5, n, BUY, 100, 500) for n in range(1, 65)]
+    calls += [
+        Tick(4), Tick(10_001), Add(4, 1, BUY, 100, 0), Add(10_001, 1, BUY, 100, 0),
+        Add(5, 1, BUY, 100, 0), Amend(5, id, 100, 0), Cancel(5, id), Deal(5, id, 0),
+        Add(5, id, BUY, 100, 0), Add(5, id, BUY, PRICE_LIMIT + 1, 1), Add(5, id, BUY, 100, 1),
+        Deal(5, 1, 501), Deal(5, 1, VOLUME_LIMIT + 1), Report(), Deal(5, 1, 500), Report(),
+        Close(0, 0), Open(row, 1, 2_000), Open(row, 32, 2_000), Look(1, 1, 1), Report(),
+    ]
+    return calls
+
+
+def edge_calls():
+    """Each end of each range that a month's call has, inside and outside."""
+    row = list(Row(1, 1, 10_000, 1, 100, 1, 60))
+    calls = []
+    for words in edge_rows():
+        calls += [Open(words, 31, 0), Drop()]
+    for day in (0, 1, 31, 32):
+        calls += [Open(row, day, 0), Drop()]
+    for sp in PRICE_EDGES:
+        calls += [Open(row, 1, sp), Drop()]
+    for charge in (0, CHARGE_LIMIT, CHARGE_LIMIT + 1, WORD_END, 2**64 - 1):
+        for charges in ((charge, 0), (0, charge)):
+            calls += [Open(row, 1, 2_000), Close(*charges), Look(1, 1, 1), Withdraw(1, 1, 1)]
+            calls += [Drop()]
+            calls += [Open(row, 2, 2_000), Close(1, 1), Charge(2, 1, 1, *charges), Look(2, 1, 1)]
+    for day in (0, 1, 31, 32, WORD_END - 1):
+        calls += [kind(day, 1, 1) for kind in (Withdraw, Look)] + [Charge(day, 1, 1, 1, 1)]
+    for expiry in (0, 1, 2, 3, WORD_END - 1):
+        calls += [kind(1, expiry, 1) for kind in (Withdraw, Look)] + [Charge(1, expiry, 1, 1, 1)]
+    for quantum in (0, 2, 3, WORD_END - 1):
+        calls += [kind(1, 1, quantum) for kind in (Withdraw, Look)] + [Charge(1, 1, quantum, 1, 1)]
+    calls += [Open(row, 1, 2_000), Add(0, 1, BUY, 100, VOLUME_LIMIT), Add(0, 2, SELL, 101, 1)]
+    for at, price in enumerate(PRICE_EDGES):
+        calls += [Add(5, 10 + at, BUY, price, 1), Report(), Amend(5, 2, price, 1), Report()]
+    for at, volume in enumerate(VOLUME_EDGES):
+        calls += [Add(6, 20 + at, SELL, 100, volume), Amend(6, 2, 100, volume), Report()]
+        calls += [Deal(6, 1, volume)]
+    calls += [Tick(t) for t in (10_000, 9_999, 10_001, WORD_END - 1)]
+    return calls + [Report(), Close(CHARGE_LIMIT, CHARGE_LIMIT), Look(1, 1, 1), Report()]

@@ -1,0 +1,100 @@
+"""The tools: texts turn into bytes and back, errors name their line, pictures are drawn."""
+
+import random
+import sys
+from pathlib import Path
+from xml.etree import ElementTree
+
+ROOT = Path(__file__).resolve().parent.parent
+sys.path.insert(0, str(ROOT))
+
+from recount import programs
+from recount.book import Book, Open, Row, row_fits
+from tools import calls, picture, session, text
+
+
+def check_examples():
+    """Each example turns into bytes, and its bytes into a text of the same bytes."""
+    for pattern, tool in (("*.session", session), ("*.calls", calls)):
+        found = sorted((ROOT / "examples").glob(pattern))
+        assert found, pattern
+        for path in found:
+            data = tool.to_bytes(path.read_text())
+            assert tool.to_bytes(tool.to_text(data)) == data, path.name
+    example = (ROOT / "examples" / "document01.session").read_text()
+    printed = "kept 6000 of 10000\npair 0 6000\nverdict met\nweight 10000\n"
+    assert programs.sheet(session.to_bytes(example)) == printed
+
+
+def check_pictures():
+    """Each session gives a picture, and the one in docs/ is of the present example."""
+    for path in sorted((ROOT / "examples").glob("*.session")):
+        svg = picture.picture(path.stem, session.to_bytes(path.read_text()))
+        ElementTree.fromstring(svg)
+        if path.stem == "brent":
+            assert svg == (ROOT / "docs" / "session.svg").read_text(), "docs/session.svg is old"
+
+
+def check_rows():
+    """Every row of the programmes is one that a month opens with."""
+    rows = 0
+    for at, name, words in text.lines((ROOT / "examples" / "programmes.rows").read_text()):
+        row = session.row_words(words)
+        assert row_fits(Row(*row)), (at, name)
+        Book().call(Open(row, 1, 0))
+        rows += 1
+    assert rows == 12 + 24 + 120, rows
+
+
+def check_any_bytes(rng):
+    """Whatever the bytes, their text turns into them again."""
+    for _ in range(500):
+        data = bytes(rng.choice([0, 0, 0, 1, 2, 3, 6, 255]) for _ in range(rng.randrange(120)))
+        assert session.to_bytes(session.to_text(data)) == data, data.hex()
+        assert calls.to_bytes(calls.to_text(data)) == data, data.hex()
+
+
+ERRORS = [
+    (session, "row 1 1 10000 500 100 1\nsp 0", 1, "row takes expiry quantum L M a b p"),
+    (session, "row 1 1 10000 500 100 1 60\n\nadd 0 1 buy 1 1", 3, "row and sp stand before"),
+    (session, "# a\nrow 1 1 10000 500 100 1 60\nsp 4_294_967_296", 3, "SP: 4_294_967_296"),
+    (session, "row 1 1 0:00:10 500 100 1 60\nsp 1\nadd 0 1 bid 1 1", 3, "side: 'bid'"),
+    (session, "row 1 1 10000 500 100 1 60\nsp 1\nadd 0 1 buy 1", 3, "add takes t id side"),
+    (session, "row 1 1 10000 500 100 1 60\nsp 1\nadd -1 1 buy 1 1", 3, "t: -1 does not fit"),
+    (session, "row 1 1 10000 500 100 1 60\nsp 1\ntick 1:60:00", 3, "t: '1:60:00' is not"),
+    (session, "row 1 1 10000 500 100 1 60\nsp 1\nbytes 0g", 3, "bytes takes pairs"),
+    (session, "row 1 1 10000 500 100 1 60\nsp 1\nsell 1", 3, "'sell' is not known"),
+    (session, "row 1 1 10000 500 100 1 60", None, "there is no sp"),
+    (session, "# nothing", None, "there is no row"),
+    (calls, "report\nopen 1 1 day 1 sp 1", 2, "open is written"),
+    (calls, "report 1", 1, "report takes nothing"),
+    (calls, "close 1", 1, "close takes active passive"),
+    (calls, "close 1 18446744073709551616", 1, "passive: 18446744073709551616"),
+    (calls, "look 1 x 1", 1, "expiry: 'x' is not a number"),
+    (calls, "words 1 4294967296", 1, "a word: 4294967296"),
+]
+
+
+def check_errors():
+    for tool, source, line, said in ERRORS:
+        try:
+            tool.to_bytes(source)
+        except text.TextError as error:
+            found = (error.line, str(error)[: len(said)])
+            assert found == (line, said), (source, error.line, str(error))
+        else:
+            raise AssertionError(f"accepted: {source!r}")
+
+
+def main():
+    check_examples()
+    check_pictures()
+    check_rows()
+    check_any_bytes(random.Random(1))
+    check_errors()
+    print("texts: examples, pictures, rows, round trips and errors are right")
+    return 0
+
+
+if __name__ == "__main__":
+    sys.exit(main())

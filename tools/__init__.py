@@ -1,0 +1,1 @@
+"""Readable texts of sessions and calls, and a picture of a quantum."""

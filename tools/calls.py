@@ -1,0 +1,146 @@
+"""A list of the month's calls as readable text, and as the words that `replay` takes.
+
+    python3 tools/calls.py to-bytes FILE      text to words of four bytes, low byte first
+    python3 tools/calls.py to-text FILE       and back
+    (no FILE, or -: standard input)
+
+The text, one call a line, # for comments:
+
+    open row EXPIRY QUANTUM L M A B P day DAY sp SP     (a row may have any number of words)
+    add T ID buy|sell PRICE VOLUME
+    amend T ID PRICE VOLUME
+    cancel T ID
+    deal T ID VOLUME
+    tick T
+    close ACTIVE PASSIVE
+    drop
+    charge DAY EXPIRY QUANTUM ACTIVE PASSIVE
+    withdraw DAY EXPIRY QUANTUM
+    look DAY EXPIRY QUANTUM
+    report
+    words N..                                 words as they stand, for what is no call
+    bytes HEX..                               bytes as they stand, for what is no word
+
+T (and a row's third word) are milliseconds, or h:mm:ss or h:mm:ss.mmm. Numbers may have
+underscores.
+"""
+
+import struct
+import sys
+from pathlib import Path
+
+sys.path.insert(0, str(Path(__file__).resolve().parent.parent))
+
+from recount import programs
+from recount.book import (
+    EVENTS, Add, Amend, Cancel, Charge, Close, Deal, Drop, Look, Open, Report, Tick, Withdraw,
+)
+from tools import text
+
+OTHER_COLUMNS = {
+    "close": (Close, "active passive"),
+    "drop": (Drop, ""),
+    "charge": (Charge, "day expiry quantum active passive"),
+    "withdraw": (Withdraw, "day expiry quantum"),
+    "look": (Look, "day expiry quantum"),
+    "report": (Report, ""),
+}
+
+
+def open_call(words):
+    shape = "open is written: open row WORDS.. day DAY sp SP"
+    if len(words) < 5 or (words[0], words[-4], words[-2]) != ("row", "day", "sp"):
+        raise text.TextError(shape)
+    row = [
+        text.time(word, "L") if at == 2 else text.number(word, text.WORD, "a word of the row")
+        for at, word in enumerate(words[1:-4])
+    ]
+    day = text.number(words[-3], text.WORD, "day")
+    return Open(row, day, text.number(words[-1], text.SIGNED, "SP"))
+
+
+def read_call(name, words):
+    """The call of one line."""
+    if name == "open":
+        return open_call(words)
+    if name in text.EVENT_COLUMNS:
+        return text.event(name, words)
+    if name not in OTHER_COLUMNS:
+        known = ", ".join(["open", *text.EVENT_COLUMNS, *OTHER_COLUMNS, "words", "bytes"])
+        raise text.TextError(f"{name!r} is not known; a line begins with one of {known}")
+    kind, names = OTHER_COLUMNS[name]
+    values = {}
+    for column, word in text.columns(name, words, names).items():
+        span = text.LONG if column in ("active", "passive") else text.WORD
+        values[column] = text.number(word, span, column)
+    return kind(**values)
+
+
+def halves(charge):
+    """A charge as two words, the low one first."""
+    return [charge & 0xFFFFFFFF, charge >> 32]
+
+
+def call_words(call):
+    """The block of one call."""
+    kind = type(call)
+    if kind is Open:
+        return [1, len(call.words), *call.words, call.day, call.sp & 0xFFFFFFFF]
+    if kind is Add:
+        return [2, call.t, call.id, call.side, call.price & 0xFFFFFFFF, call.volume]
+    if kind is Amend:
+        return [3, call.t, call.id, call.price & 0xFFFFFFFF, call.volume]
+    if kind is Close:
+        return [7, *halves(call.active), *halves(call.passive)]
+    if kind is Charge:
+        return [9, *call[:3], *halves(call.active), *halves(call.passive)]
+    return [{Cancel: 4, Deal: 5, Tick: 6, Drop: 8, Withdraw: 10, Look: 11, Report: 12}[kind], *call]
+
+
+def pack(words):
+    return struct.pack(f"<{len(words)}I", *words)
+
+
+def calls_bytes(calls):
+    """The bytes of a list of calls."""
+    return pack([word for call in calls for word in call_words(call)])
+
+
+def call_line(call):
+    if isinstance(call, Open):
+        return " ".join(["open row", *map(str, call.words), f"day {call.day} sp {call.sp}"])
+    if isinstance(call, EVENTS):
+        return text.event_line(call)
+    return " ".join([type(call).__name__.lower(), *map(str, call)])
+
+
+def to_bytes(source):
+    out = []
+
+    def take(name, words):
+        if name == "words":
+            out.append(pack([text.number(word, text.WORD, "a word") for word in words]))
+        elif name == "bytes":
+            out.append(text.hex_bytes(words))
+        else:
+            out.append(calls_bytes([read_call(name, words)]))
+
+    text.read_by_lines(source, take)
+    return b"".join(out)
+
+
+def to_text(data):
+    calls, stop = programs.read_calls(data)
+    out = [call_line(call) for call in calls]
+    if stop is not None:
+        rest = data[4 * stop :]
+        words = programs.to_words(rest)
+        if words:
+            out.append("words " + " ".join(map(str, words)))
+        if len(rest) % 4:
+            out.append("bytes " + rest[4 * len(words) :].hex(" "))
+    return "".join(line + "\n" for line in out)
+
+
+if __name__ == "__main__":
+    sys.exit(text.run_tool(__doc__, to_bytes, to_text, sys.argv[1:]))

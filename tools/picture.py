@@ -1,0 +1,213 @@
+"""A picture (SVG) of a session's quantum, worked out by the recount.
+
+    python3 tools/picture.py FILE.session > picture.svg
+
+Best bid and ask over time, the kept stretches shaded, and below them the share of the quantum that
+was kept beside the share that is required. Verdict and weight are in the title.
+"""
+
+import sys
+from pathlib import Path
+from xml.sax.saxutils import escape
+
+sys.path.insert(0, str(Path(__file__).resolve().parent.parent))
+
+from recount import programs, records, session
+from recount.book import Row, best_ask, best_bid, pass_event, widest
+from tools import session as session_text
+from tools import text
+
+WIDTH, HEIGHT = 920, 470
+LEFT, RIGHT, TOP, BOTTOM = 100, 890, 96, 350  # the plot
+BAR_TOP, BAR_HEIGHT = 410, 20
+
+BID, ASK = "#1f5fa8", "#b3381f"
+KEPT, INK, PALE = "#cfe8cf", "#222222", "#888888"
+MET_BAR, FAILED_BAR = "#6fb56f", "#d99a4e"
+
+SECOND, MINUTE, HOUR = 1_000, 60_000, 3_600_000
+TIME_STEPS = [
+    1, 2, 5, 10, 20, 50, 100, 200, 500, SECOND, 2 * SECOND, 5 * SECOND, 10 * SECOND, 30 * SECOND,
+    MINUTE, 2 * MINUTE, 5 * MINUTE, 10 * MINUTE, 30 * MINUTE, HOUR, 2 * HOUR, 3 * HOUR, 6 * HOUR,
+]
+
+
+def quotes(row, events):
+    """(time, bid, ask) from each time on at which an event stands, and from 0."""
+    live, found = {}, {0: (None, None)}
+    for event in events:
+        pass_event(live, event)
+        found[event.t] = (best_bid(live, row.least), best_ask(live, row.least))
+    return [(t, bid, ask) for t, (bid, ask) in found.items()]
+
+
+def clock(ms):
+    """h:mm:ss, with thousandths where there are any."""
+    whole, rest = divmod(ms, SECOND)
+    shown = f"{whole // 3600}:{whole // 60 % 60:02}:{whole % 60:02}"
+    return f"{shown}.{rest:03}" if rest else shown
+
+
+def tick_label(ms, step):
+    if step >= MINUTE:
+        return f"{ms // HOUR}:{ms // MINUTE % 60:02}"
+    return f"{ms // SECOND} s" if step >= SECOND else f"{ms} ms"
+
+
+def price_step(low, high):
+    """1, 2 or 5 times a power of ten, so that there are at most seven lines."""
+    size = 1
+    while True:
+        for step in (size, 2 * size, 5 * size):
+            if (high - low) / step <= 6:
+                return step
+        size *= 10
+
+
+class Drawing:
+    """Gathers SVG elements; times and prices are put where they belong."""
+
+    def __init__(self, length, low, high):
+        self.length, self.low, self.high = length, low, high
+        self.items = []
+
+    def x(self, t):
+        return round(LEFT + (RIGHT - LEFT) * t / self.length, 2)
+
+    def y(self, price):
+        return round(BOTTOM - (BOTTOM - TOP) * (price - self.low) / (self.high - self.low), 2)
+
+    def rect(self, x, y, width, height, fill):
+        self.items.append(
+            f'<rect x="{x}" y="{y}" width="{round(width, 2)}" height="{height}" fill="{fill}"/>'
+        )
+
+    def line(self, x1, y1, x2, y2, colour, more=""):
+        self.items.append(
+            f'<line x1="{x1}" y1="{y1}" x2="{x2}" y2="{y2}" stroke="{colour}"{more}/>'
+        )
+
+    def text(self, x, y, words, anchor="start", size=13, colour=INK, more=""):
+        self.items.append(
+            f'<text x="{x}" y="{y}" text-anchor="{anchor}" font-size="{size}" fill="{colour}"'
+            f"{more}>{escape(words)}</text>"
+        )
+
+    def steps(self, points, colour):
+        """A line of steps through (time, price); it breaks where the price is None."""
+        path, before = [], None
+        for (t, price), (until, _) in zip(points, points[1:] + [(self.length, None)]):
+            if price is not None and until > t:
+                start = f"M{self.x(t)} {self.y(price)}" if before is None else f"V{self.y(price)}"
+                path.append(f"{start}H{self.x(until)}")
+            if until > t:
+                before = price
+        self.items.append(
+            f'<path d="{"".join(path)}" fill="none" stroke="{colour}" stroke-width="2"/>'
+        )
+
+    def svg(self):
+        return (
+            f'<svg xmlns="http://www.w3.org/2000/svg" width="{WIDTH}" height="{HEIGHT}"'
+            f' viewBox="0 0 {WIDTH} {HEIGHT}" font-family="Helvetica, Arial, sans-serif">\n'
+            + "\n".join(self.items)
+            + "\n</svg>\n"
+        )
+
+
+def draw_axes(d):
+    step = next((s for s in TIME_STEPS if d.length / s <= 10), TIME_STEPS[-1])
+    for t in range(0, d.length + 1, step):
+        d.line(d.x(t), BOTTOM, d.x(t), BOTTOM + 5, PALE)
+        d.text(d.x(t), BOTTOM + 20, tick_label(t, step), "middle", 12)
+    step = price_step(d.low, d.high)
+    for price in range(-(-d.low // step) * step, d.high + 1, step):
+        d.line(LEFT, d.y(price), RIGHT, d.y(price), PALE, ' stroke-opacity="0.35"')
+        d.text(LEFT - 8, d.y(price) + 4, str(price), "end", 12)
+    d.line(LEFT, BOTTOM, RIGHT, BOTTOM, INK)
+    d.line(LEFT, TOP, LEFT, BOTTOM, INK)
+
+
+def draw_legend(d):
+    y = TOP - 16
+    d.line(LEFT, y - 4, LEFT + 26, y - 4, ASK, ' stroke-width="2"')
+    d.text(LEFT + 32, y, "best ask")
+    d.line(LEFT + 110, y - 4, LEFT + 136, y - 4, BID, ' stroke-width="2"')
+    d.text(LEFT + 142, y, "best bid")
+    d.rect(LEFT + 222, y - 12, 26, 15, KEPT)
+    d.text(LEFT + 254, y, "kept")
+    d.text(RIGHT, y, "price steps over the quantum's time", "end", 12, PALE)
+
+
+def draw_shares(d, row, done):
+    """The share kept as a bar, the required share and the full weight's as marks."""
+    width = RIGHT - LEFT
+    d.rect(LEFT, BAR_TOP, width, BAR_HEIGHT, "#eeeeee")
+    colour = MET_BAR if done.met else FAILED_BAR
+    d.rect(LEFT, BAR_TOP, width * done.kept / row.length, BAR_HEIGHT, colour)
+    d.text(LEFT, BAR_TOP - 7, f"kept {percent(done.kept, row.length)}")
+    anchor = "start" if row.share < 20 else "end"
+    for share, label, anchor in (
+        (row.share, f"required {row.share}%", anchor), (80, "full weight from 80%", "start"),
+    ):
+        x = round(LEFT + width * share / 100, 2)
+        d.line(x, BAR_TOP - 5, x, BAR_TOP + BAR_HEIGHT + 5, INK, ' stroke-width="1.5"')
+        side = -5 if anchor == "end" else 5
+        d.text(x + side, BAR_TOP + BAR_HEIGHT + 18, label, anchor, 12)
+
+
+def percent(kept, length):
+    """Rounded down to hundredths, so that a failed quantum never shows its share as reached."""
+    hundredths = 10_000 * kept // length
+    return f"{hundredths // 100}.{hundredths % 100:02}%"
+
+
+def picture(name, data):
+    """The SVG of a session's bytes; a refused session raises a TextError."""
+    words, sp = session.read_head(data[: session.HEAD.size]) or ([], 0)
+    rest = data[session.HEAD.size :]
+    done = session.run(words, sp, rest)
+    if isinstance(done, session.Stopped):
+        raise text.TextError(f"{programs.refused_at(done)}: there is no quantum to draw")
+    row = Row(*words)
+    shown = quotes(row, [records.read(record) for record in records.split(rest)])
+    prices = [price for _, bid, ask in shown for price in (bid, ask) if price is not None] or [sp]
+    margin = max(1, (max(prices) - min(prices)) // 12)
+    d = Drawing(row.length, min(prices) - margin, max(prices) + margin)
+
+    d.rect(0, 0, WIDTH, HEIGHT, "#ffffff")
+    title = f"{name}: {programs.verdict_text(done.met)}, weight {done.weight}"
+    d.text(LEFT, 30, title, size=19, more=' font-weight="bold"')
+    d.text(
+        LEFT, 52,
+        f"kept {clock(done.kept)} of {clock(row.length)}, stretches: {len(done.pairs)};"
+        f" SP {sp}, least volume {row.least}, spread at most {widest(row, sp)}",
+    )
+    for offset, length in done.pairs:
+        d.rect(d.x(offset), TOP, d.x(offset + length) - d.x(offset), BOTTOM - TOP, KEPT)
+    draw_axes(d)
+    d.steps([(t, ask) for t, _, ask in shown], ASK)
+    d.steps([(t, bid) for t, bid, _ in shown], BID)
+    draw_legend(d)
+    draw_shares(d, row, done)
+    return d.svg()
+
+
+def main(words):
+    if len(words) != 1:
+        sys.stderr.write(__doc__)
+        return 2
+    path = Path(words[0])
+    try:
+        sys.stdout.write(picture(path.stem, session_text.to_bytes(text.decoded(path.read_bytes()))))
+    except text.TextError as error:
+        sys.stderr.write(f"{text.shown(words[0], error)}\n")
+        return 1
+    except OSError as error:
+        sys.stderr.write(f"{words[0]}: {error.strerror}\n")
+        return 1
+    return 0
+
+
+if __name__ == "__main__":
+    sys.exit(main(sys.argv[1:]))
