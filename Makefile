@@ -1,5 +1,5 @@
 # Every target needs the Rattle kit (`rt` on the path) and Python 3; `client` and `bench` also a C and a Rust compiler.
-.PHONY: test demo
+.PHONY: test demo client
 
 test:
 	bash .ci/run
@@ -11,3 +11,8 @@ demo: target/bin/sheet target/bin/replay
 
 target/bin/%:
 	rt check $*
+
+# The C client of examples/client.c, over the proved session run: target/client FILE
+client:
+	rt staticlib session
+	cc -O2 -Iinclude -o target/client examples/client.c target/staticlib/libsession.a

@@ -3,3 +3,4 @@ pub mod Pairs
 pub mod Steps
 pub mod Loop
 pub mod Endings
+pub mod Month

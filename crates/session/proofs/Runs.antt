@@ -21,12 +21,12 @@ use Rattle.rules.specs.Rows.{rowOf, goodRow}
 use Rattle.rules.specs.Cells.{blankCell, blankCells, placeOf, cellAt}
 use Rattle.rules.specs.Kept.{keptBelow}
 use Rattle.rules.specs.Pay.{weight}
-use Rattle.rules.specs.Stretches.{keptStretches}
+use Rattle.rules.specs.Stretches.{Stretch, keptStretches}
 use Rattle.rules.specs.Answers.{Outcome, accepted, refused, outcomeBy}
 use Rattle.rules.specs.Book.{Open, Send, Close, Quoting, Book, freshBook, isOpen, Cause, lowest, cause, causes, eventRefusal, eventCauses, readRow, refusalOf, closedCell, changed, stepBy, step}
 use Rattle.rules.specs.Records.{readRecord}
 use Rattle.rules.specs.Session.{Session, whole, halted, unless, recordsOf, readRefusal, recordRefusal, readStep, closing, runRecords, session}
-use Rattle.rules.proofs.Refusals.{passed, skip, stop, clear, passes-call, step-accepted, OpenPasses}
+use Rattle.rules.proofs.Refusals.{passed, skip, stop, clear, call-passes, passes-call, step-accepted, OpenPasses}
 use Rattle.rules.proofs.Bounds.{RowBounds, row-bounds, place-small}
 use Rattle.session.specs.Walks.{bookWith, refusalBy, followed}
 
@@ -85,7 +85,7 @@ module _ (limit cell : ℕ) (row : Row) (sp : Steps) where
   unfolding refusalOf causes eventRefusal
   send-refusal es e = refl
 
-  step-send : (es : List Event) (e : Event) → eventRefusal row es e ≡ 0
+  pub step-send : (es : List Event) (e : Event) → eventRefusal row es e ≡ 0
       → step paper (bookWith cell row sp es) (Send e) ≡ bookWith cell row sp (es ++ (e ∷ []))
   unfolding changed
   step-send es e h = step-accepted paper (bookWith cell row sp es) (Send e) (send-refusal es e ∙ h)
@@ -126,7 +126,7 @@ module _ (limit cell : ℕ) (row : Row) (sp : Steps) where
   unfolding refusalOf causes goodCharge lowest
   close-passes es = refl
 
-  closed-cell : (es : List Event) → cell < 186
+  pub closed-cell : (es : List Event) → cell < 186
       → cellAt (step paper (bookWith cell row sp es) (Close (kopecks 0) (kopecks 0)) .cells) cell ≡ closedCell row sp es (kopecks 0) (kopecks 0)
   unfolding changed
   closed-cell es l =
@@ -202,9 +202,14 @@ module _ (limit : ℕ) (words : List ℕ) (sp : Steps) (bytes : List ℕ) where
   unfolding session
   opened e f = rw (f, e) refl
 
-  changed-open : changed freshBook (Open words 1 sp) ≡ bookWith cellOf (rowOf words) sp []
+  pub changed-open : changed freshBook (Open words 1 sp) ≡ bookWith cellOf (rowOf words) sp []
   unfolding changed freshBook
   changed-open = refl
+
+  pub open-accepted : length words ≡ 7 → goodRow paper (rowOf words) ≡ true → goodPrice (sp .0) ≡ true
+      → step paper freshBook (Open words 1 sp) ≡ bookWith cellOf (rowOf words) sp []
+  open-accepted l g f =
+      step-accepted paper freshBook (Open words 1 sp) (passes-call paper freshBook (Open words 1 sp) (open-passes l g f)) ∙ changed-open
 
   pub session-opens : (row : Row) → accepted row ≡ readRow paper words → goodPrice (sp .0) ≡ true
       → (row ≡ rowOf words) × (goodRow paper (rowOf words) ≡ true)
@@ -219,3 +224,18 @@ module _ (limit : ℕ) (words : List ℕ) (sp : Steps) (bytes : List ℕ) where
   cell-inside g =
       let r = row-bounds paper (rowOf words) g in
       place-small 1 (rowOf words .expiry) (rowOf words .quantum) (omega arith) (r .expiry-most) (r .quantum-most)
+
+  -- a session that ends whole was opened
+  unless-whole : (n place : ℕ) (next : Session) (k w : ℕ) (ss : List Stretch) → unless n place next ≡ whole k w ss → (n ≡ 0) × (next ≡ whole k w ss)
+  unless-whole zero place next k w ss e = (refl, e)
+  unless-whole (suc n) place next k w ss e = let z : _≡_ {A = ℕ} 0 1 = cc in absurd (omega arith)
+
+  pub session-begun : (k w : ℕ) (ss : List Stretch) → session paper limit words sp bytes ≡ whole k w ss
+      → (length words ≡ 7) × (goodRow paper (rowOf words) ≡ true) × (goodPrice (sp .0) ≡ true)
+      × (runRecords paper limit cellOf 1 (bookWith cellOf (rowOf words) sp []) (recordsOf bytes) ≡ whole k w ss)
+  unfolding session
+  session-begun k w ss e =
+      let (none, next) = unless-whole (refusalOf paper freshBook (Open words 1 sp)) 0 _ k w ss e in
+      let p = call-passes paper freshBook (Open words 1 sp) none in
+      let book = open-accepted (p .seven) (p .row-good) (p .price-good) in
+      (p .seven, p .row-good, p .price-good, ap (λ (b : Book). runRecords paper limit cellOf 1 b (recordsOf bytes)) (sym book) ∙ next)

@@ -36,7 +36,7 @@ returns c =
     let b = l .before in
     let s = b .before .before .before in
     let g = l .loop .inv .3 (s .args .sp) (b .begin .ensures) in
-    going-past (s .args .limit) (s .args .row) (s .args .sp) (s .args .records .now) (s .args .buffer .now) (l .loop .walk) (l .loop .at) (l .loop .place) (l .loop .buffer) g (c .before .loop-test .taken) (l .loop .buffer) (c .if1 .taken)
+    going-past (s .args .limit) (s .args .row) (s .args .sp) (s .args .records .now) (s .args .buffer .now) (l .loop .walk) (l .loop .at) (l .loop .place) (l .loop .buffer) g (c .before .loop-test .taken) (l .loop .buffer) (omega arith)
 
 end-of-requires : tie.Need-end-of-requires Inv-loop μ-loop
 end-of-requires c κs = omega arith
@@ -99,7 +99,7 @@ loop-again c =
     let next : (sp : Steps) → b .begin .result ≡ walkAt (s .args .row) (sp .0) [] → Going (s .args .limit) (s .args .row) sp (s .args .records .now) (s .args .buffer .now) (k .step .result .walk) (e .end-of .result) (l .loop .place + 1) (k .step .last .1 .1 .0) =
     λ sp is.
     going-on (s .args .limit) (s .args .row) sp (s .args .records .now) (s .args .buffer .now) (l .loop .walk) (l .loop .at) (l .loop .place) (l .loop .buffer) (l .loop .inv .3 sp is)
-    (e .before .before .loop-test .taken) (e .end-of .result) (e .end-of .ensures) (e .before .if1 .left) (k .step .result) (k .step .last .1 .1 .0) (k .step .ensures) (c .enum-told .given .1) in
+    (e .before .before .loop-test .taken) (e .end-of .result) (e .end-of .ensures) (omega arith) (k .step .result) (k .step .last .1 .1 .0) (k .step .ensures) (c .enum-told .given .1) in
     (n .1, omega arith, next (s .args .sp) (b .begin .ensures) .holds .size, next)
 
 enum-known-answer : tie.Need-enum-known-answer Inv-loop μ-loop
@@ -117,7 +117,7 @@ returns-2 c =
     let s = b .before .before .before in
     let g = l .loop .inv .3 (s .args .sp) (b .begin .ensures) in
     going-refused (s .args .limit) (s .args .row) (s .args .sp) (s .args .records .now) (s .args .buffer .now) (l .loop .walk) (l .loop .at) (l .loop .place) (l .loop .buffer) g
-    (e .before .before .loop-test .taken) (e .end-of .result) (e .end-of .ensures) (e .before .if1 .left) (k .step .result) (k .step .last .1 .1 .0) (k .step .ensures) _ (c .before .answer .given .1)
+    (e .before .before .loop-test .taken) (e .end-of .result) (e .end-of .ensures) (omega arith) (k .step .result) (k .step .last .1 .1 .0) (k .step .ensures) _ (c .before .answer .given .1)
 
 finish-requires : tie.Need-finish-requires Inv-loop μ-loop
 finish-requires c κs =
