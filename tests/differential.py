@@ -12,8 +12,7 @@
 
 It fails where an answer differs, where a refusal number was never met or something else that the
 cases are to show never showed, and where fewer than a third of the accepted sessions have kept
-time. A case that differs is made smaller and written to
-target/differential/.
+time. A case that differs is made smaller and written to target/differential/.
 """
 
 import argparse
@@ -38,10 +37,25 @@ from tools import session as session_text
 
 TARGET = ROOT / "target"
 FAILED = TARGET / "differential"
+LONGEST_RUN = 60  # seconds
+SHOWN_LINES = 60  # of a case or an answer
 
 
 def words(*numbers):
     return struct.pack(f"<{len(numbers)}I", *numbers)
+
+
+def run_program(path, data):
+    """What a program prints; where it does not end well, that is a last line in brackets."""
+    try:
+        done = subprocess.run([path], input=data, capture_output=True, timeout=LONGEST_RUN)
+    except subprocess.TimeoutExpired as stopped:
+        text, end = stopped.stdout or b"", f"(no end within {LONGEST_RUN} s)\n"
+    else:
+        text, end = done.stdout, ""
+        if done.returncode:
+            end = f"(exit status {done.returncode})\n"
+    return text.decode(errors="replace") + end
 
 
 def case_rng(seed, name, at):
@@ -64,9 +78,7 @@ class Program:
         return None if self.path.exists() else f"target/bin/{self.name} is not built"
 
     def actual(self, data):
-        done = subprocess.run([self.path], input=data, capture_output=True, timeout=60)
-        text = done.stdout.decode(errors="replace")
-        return text if done.returncode == 0 else f"{text}(exit status {done.returncode})\n"
+        return run_program(self.path, data)
 
     def actual_many(self, cases):
         return (self.actual(data) for data in cases)
@@ -278,13 +290,12 @@ class CCall(Program):
         ]
         if not headers:
             return "include/ has no header that declares quoting_session"
-        subprocess.run(
+        made = subprocess.run(
             ["cc", "-std=c11", "-O2", "-Wall", "-Wextra", "-Werror", f"-I{ROOT / 'include'}",
              f'-DMETER_HEADER="{headers[0]}"', ROOT / "tests" / "ccall.c", self.library,
-             "-o", self.runner],
-            check=True,
+             "-o", self.runner]
         )
-        return None
+        return "tests/ccall.c is not compiled" if made.returncode else None
 
     @staticmethod
     def case(head, data):
@@ -313,11 +324,9 @@ class CCall(Program):
         return next(self.actual_many([data]))
 
     def actual_many(self, cases):
-        data = b"".join(cases)
-        done = subprocess.run([self.runner], input=data, capture_output=True, timeout=120)
-        answers = done.stdout.decode().splitlines(keepends=True)
+        answers = run_program(self.runner, b"".join(cases)).splitlines(keepends=True)
         for at in range(len(cases)):
-            yield answers[at] if at < len(answers) else f"(none, exit status {done.returncode})\n"
+            yield answers[at] if at < len(answers) else "(no answer)\n"
 
     def refusals_in(self, answer):
         return [int(answer) >> 32] if int(answer) >> 32 else []
@@ -386,10 +395,22 @@ def smaller(program, tested, data):
     return case if tested.actual(case) != program.expected(case) else data
 
 
+def show(title, text, around=0):
+    """Some lines of a text, those near the line `around` at least."""
+    lines = text.splitlines()
+    start = max(0, around - SHOWN_LINES // 2) if len(lines) > SHOWN_LINES else 0
+    part = lines[start : start + SHOWN_LINES]
+    where = f" (lines {start + 1} to {start + len(part)} of {len(lines)})" if part != lines else ""
+    print("\n".join([f"--- {title}{where}", *part]))
+
+
 def show_difference(program, tested, data):
-    sys.stdout.write(f"--- the case\n{program.as_text(data)}")
     expected, actual = program.expected(data), tested.actual(data)
-    sys.stdout.write(f"--- the recount answers\n{expected}--- {program.name} answers\n{actual}")
+    both = zip(expected.splitlines(), actual.splitlines())
+    differs = next((at for at, (one, other) in enumerate(both) if one != other), 0)
+    show("the case", program.as_text(data))
+    show("the recount answers", expected, differs)
+    show(f"{program.name} answers", actual, differs)
     return expected == actual
 
 
@@ -537,7 +558,7 @@ def main():
     if args.case:
         return run_case(args.case)
 
-    seconds = args.seconds or (80 if args.quick else 400)
+    end = time.monotonic() + (args.seconds or (80 if args.quick else 400))
     kinds = [kind for kind in PROGRAMS if args.only in (None, kind.name)]
     wrong, cases = [], 0
     for kind in kinds:
@@ -549,7 +570,8 @@ def main():
         tested = OtherWay(program) if why else program
         start = time.monotonic()
         count = program.cases // 10 if args.quick else program.cases
-        tally = test(program, tested, args.seed, count, start + seconds / len(kinds))
+        until = start + (end - start) / 2 if kind is not kinds[-1] else end
+        tally = test(program, tested, args.seed, count, until)
         if tally is None:
             wrong.append(f"{program.name}: an answer differs, see above")
             continue
