@@ -250,13 +250,19 @@ pub fn filled(answer: SessionAnswer) -> usize
 }
 
 // Two passes: the first writes nothing of the caller's, the second only where nothing is refused and the pairs fit.
-fn within(limit: u32, row: &[u32], sp: Steps, records: &[u8], buffer: &mut [u32]) -> SessionAnswer
+fn passes(
+    limit: u32,
+    row: &[u32],
+    sp: Steps,
+    records: &[u8],
+    scratch: &mut [u32],
+    buffer: &mut [u32],
+) -> SessionAnswer
     requires { ⌜ limit ≤ 4000000 ⌝ }
     ensures answer { λ r. ⌜ shownSession r ≡ ran (length (now (buffer .entry))) (session paper limit (now (row .entry)) sp (now (records .entry))) ⌝ }
     ensures words { λ r. ⌜ now (buffer .exit) ≡ bufferAfter (now (buffer .entry)) (session paper limit (now (row .entry)) sp (now (records .entry))) ⌝ }
 {
-    let mut none = [0u32; 1];
-    let first = pass(limit, row, sp, records, &mut none);
+    let first = pass(limit, row, sp, records, scratch);
     match first {
         SessionAnswer::Refused {
             refusal: _,
@@ -277,6 +283,16 @@ fn within(limit: u32, row: &[u32], sp: Steps, records: &[u8], buffer: &mut [u32]
             first
         }
     }
+}
+
+// The first pass has a word of its own, where no pair fits.
+fn within(limit: u32, row: &[u32], sp: Steps, records: &[u8], buffer: &mut [u32]) -> SessionAnswer
+    requires { ⌜ limit ≤ 4000000 ⌝ }
+    ensures answer { λ r. ⌜ shownSession r ≡ ran (length (now (buffer .entry))) (session paper limit (now (row .entry)) sp (now (records .entry))) ⌝ }
+    ensures words { λ r. ⌜ now (buffer .exit) ≡ bufferAfter (now (buffer .entry)) (session paper limit (now (row .entry)) sp (now (records .entry))) ⌝ }
+{
+    let mut none = [0u32; 1];
+    passes(limit, row, sp, records, &mut none, buffer)
 }
 
 // The first session call. On success the front of the buffer has the pairs; on a refusal the buffer keeps its contents.

@@ -4,11 +4,8 @@ use Rattle.rules.specs.Terms.{paper}
 use Rattle.rules.specs.Session.{session}
 use Rattle.session.proofs.Endings.{ends-refused, ends-short, ends-written}
 use borrow.Author.Needs.{needs}
-use Rattle.session.proofs.within.Statement.{statement}
-use Rattle.session.proofs.within.Tie as tie
-
-slice-aggregate-pass : tie.Need-slice-aggregate-pass
-slice-aggregate-pass c = search needs
+use Rattle.session.proofs.passes.Statement.{statement}
+use Rattle.session.proofs.passes.Tie as tie
 
 pass-requires : tie.Need-pass-requires
 pass-requires c κs = search needs
@@ -22,45 +19,56 @@ enum-told-2 c = search needs
 filled-requires : tie.Need-filled-requires
 filled-requires c κs = search needs
 
+same-length : tie.Need-same-length
+same-length c = search needs
+
 returns : tie.Need-returns
 returns c =
     let t = c .before .before in
-    let p = t .before .before .before in
-    let s = p .before .before .before .before .before in
+    let p = t .before .before .before .before in
+    let s = p .before .before .before .before .before .before in
     ends-short (session paper (s .args .limit) (s .args .row .now) (s .args .sp) (s .args .records .now)) _ _ (p .pass .result) (p .pass .ensures) (s .args .buffer .now) _ _ _ (t .enum-told2 .given .1) (omega (arith, c .before .filled .ensures))
 
 pass-requires-2 : tie.Need-pass-requires-2
 pass-requires-2 c κs = search needs
 
+same-length-2 : tie.Need-same-length-2
+same-length-2 c = search needs
+
 returns-2 : tie.Need-returns-2
 returns-2 c =
-    let p = c .before .before .before in
-    let s = p .before .before .before .before .before in
+    let p = c .before .before .before .before in
+    let s = p .before .before .before .before .before .before in
     ends-refused (session paper (s .args .limit) (s .args .row .now) (s .args .sp) (s .args .records .now)) _ _ (p .pass .result) (p .pass .ensures) (s .args .buffer .now) _ _ (c .enum-told .given .1)
 
-same-length : tie.Need-same-length
-same-length c = search needs
+same-length-3 : tie.Need-same-length-3
+same-length-3 c = search needs
+
+same-length-4 : tie.Need-same-length-4
+same-length-4 c = search needs
 
 returns-3 : tie.Need-returns-3
 returns-3 c =
     let f = c .before .before .before .before .before in
     let t = f .before in
-    let p = t .before .before .before in
-    let s = p .before .before .before .before .before in
+    let p = t .before .before .before .before in
+    let s = p .before .before .before .before .before .before in
     ends-written (session paper (s .args .limit) (s .args .row .now) (s .args .sp) (s .args .records .now)) _ _ (p .pass .result) (p .pass .ensures) (s .args .buffer .now) _ _ _ (t .enum-told2 .given .1) _ (c .before .before .pass2 .result)
     (omega (arith, f .filled .ensures)) (c .before .before .pass2 .ensures)
 
-pub within-spec : {M : Type 1} → statement M
-within-spec =
+pub passes-spec : {M : Type 1} → statement M
+passes-spec =
     tie.close
     (tie.spec
-    slice-aggregate-pass
     pass-requires
     enum-told
     enum-told-2
     filled-requires
+    same-length
     returns
     pass-requires-2
+    same-length-2
     returns-2
-    same-length
+    same-length-3
+    same-length-4
     returns-3)
