@@ -1,5 +1,5 @@
 # Every target needs the Rattle kit (`rt` on the path) and Python 3; `client` and `bench` also a C and a Rust compiler.
-.PHONY: test demo client
+.PHONY: test demo client bench
 
 test:
 	bash .ci/run
@@ -16,3 +16,8 @@ target/bin/%:
 client:
 	rt staticlib session
 	cc -O2 -Iinclude -o target/client examples/client.c target/staticlib/libsession.a
+
+# The proved meter's C call against two meters in Rust.
+bench:
+	rt staticlib session
+	cd bench && cargo run --release --offline --quiet
