@@ -10,6 +10,7 @@ from recount.book import (
 
 REPLAY_BYTES = 262_144
 SHEET_RECORDS = 1_600
+PROBE_BYTES = 1_048_576
 PROBE_BUFFER = 4_096
 PROBE_ROW = 16
 PROBE_TABLES = 4_096
@@ -154,7 +155,9 @@ def refused_at(answer):
 
 def probe(data):
     words = to_words(data)
-    if words[:1] == [1]:
+    if len(data) > PROBE_BYTES:
+        out = None
+    elif words[:1] == [1]:
         out = probe_session(words, data)
     elif words[:1] == [2]:
         out = probe_row(words, data)

@@ -7,8 +7,6 @@
     --seed N           other cases (1 by default)
     --seconds S        stop making new cases after so long
     --only NAME        replay, sheet, probe or ccall
-    --allow-missing    where a program is not built, hold the recount's two ways of counting
-                       against each other instead of failing
 
 It fails where an answer differs, where a refusal number was never met or something else that the
 cases are to show never showed, and where fewer than a third of the accepted sessions have kept
@@ -232,6 +230,8 @@ class Probe(Program):
         yield from [words(1, size, 9, 7) + head + data for size in (0, 3, 4, 5)]
         for size in (0, 1, 19, 20):
             yield words(3) + records.write(Tick(5))[:size]
+        longest = words(3) + records.write(Tick(5)) + bytes(programs.PROBE_BYTES - 24)
+        yield from [longest, longest + b"\0"]
 
     def make(self, rng):
         how = rng.random()
@@ -353,24 +353,7 @@ PROGRAMS = [Replay, Sheet, Probe, CCall]
 # ---------------------------------------------------------------- one case, and a smaller one
 
 
-class OtherWay:
-    """Stands in for a program that is not built: the recount, counting from event to event."""
-
-    def __init__(self, program):
-        self.program = program
-
-    def actual(self, data):
-        short, book.SHORT = book.SHORT, 0
-        try:
-            return self.program.expected(data)
-        finally:
-            book.SHORT = short
-
-    def actual_many(self, cases):
-        return (self.actual(data) for data in cases)
-
-
-def smaller(program, tested, data):
+def smaller(program, data):
     """Leaves out parts as long as the answers still differ, for some seconds at most."""
     until = time.monotonic() + 15
     try:
@@ -384,7 +367,7 @@ def smaller(program, tested, data):
             case = joined(program, front, fewer)
             if time.monotonic() > until:
                 break
-            if tested.actual(case) != program.expected(case):
+            if program.actual(case) != program.expected(case):
                 parts = fewer
                 break
         else:
@@ -392,7 +375,7 @@ def smaller(program, tested, data):
                 break
             size //= 2
     case = joined(program, front, parts)
-    return case if tested.actual(case) != program.expected(case) else data
+    return case if program.actual(case) != program.expected(case) else data
 
 
 def show(title, text, around=0):
@@ -404,8 +387,8 @@ def show(title, text, around=0):
     print("\n".join([f"--- {title}{where}", *part]))
 
 
-def show_difference(program, tested, data):
-    expected, actual = program.expected(data), tested.actual(data)
+def show_difference(program, data):
+    expected, actual = program.expected(data), program.actual(data)
     both = zip(expected.splitlines(), actual.splitlines())
     differs = next((at for at, (one, other) in enumerate(both) if one != other), 0)
     show("the case", program.as_text(data))
@@ -414,12 +397,12 @@ def show_difference(program, tested, data):
     return expected == actual
 
 
-def write_failure(program, tested, data, label):
-    data = smaller(program, tested, data)
+def write_failure(program, data, label):
+    data = smaller(program, data)
     FAILED.mkdir(parents=True, exist_ok=True)
     path = FAILED / f"{label}.{program.name}"
     path.write_bytes(data)
-    show_difference(program, tested, data)
+    show_difference(program, data)
     print(f"--- this case again: python3 tests/differential.py --case {path.relative_to(ROOT)}")
 
 
@@ -464,15 +447,15 @@ def batches(cases, size):
         yield batch
 
 
-def test(program, tested, seed, count, until):
+def test(program, seed, count, until):
     """Runs the cases; answers the tally, or None where an answer differs."""
     tally = Tally()
     for batch in batches(named_cases(program, seed, count), 200 if program.name == "ccall" else 1):
-        answers = tested.actual_many([data for _, _, data in batch])
+        answers = program.actual_many([data for _, _, data in batch])
         for (label, name, data), actual in zip(batch, answers):
             expected = program.expected(data)
             if actual != expected:
-                write_failure(program, tested, data, label)
+                write_failure(program, data, label)
                 return None
             tally.count(program, name, expected)
         if time.monotonic() > until and name != "special":
@@ -493,9 +476,8 @@ def complaints(program, tally):
         yield f"{program.name}: {tally.with_time} of {tally.accepted} accepted have kept time"
 
 
-def print_tally(program, tally, seconds, instead):
-    against = "the recount's other way" if instead else "the recount"
-    print(f"{program.name}: {tally.cases} cases agree with {against}, {seconds:.0f} s")
+def print_tally(program, tally, seconds):
+    print(f"{program.name}: {tally.cases} cases agree with the recount, {seconds:.0f} s")
     print(f"    {tally.with_time} of {tally.accepted} accepted sessions have kept time")
     for title, counter in [
         ("cases that met refusal", tally.refused), ("cases with", tally.seen),
@@ -540,8 +522,8 @@ def run_case(path):
     program = found[0]()
     why = program.missing()
     if why:
-        print(f"{program.name}: {why}, so the recount's other way of counting answers")
-    same = show_difference(program, OtherWay(program) if why else program, path.read_bytes())
+        sys.exit(f"{program.name}: {why}")
+    same = show_difference(program, path.read_bytes())
     print("--- the same" if same else "--- they differ")
     return 0 if same else 1
 
@@ -552,7 +534,6 @@ def main():
     parser.add_argument("--seed", type=int, default=1)
     parser.add_argument("--seconds", type=float)
     parser.add_argument("--only", choices=[kind.name for kind in PROGRAMS])
-    parser.add_argument("--allow-missing", action="store_true")
     parser.add_argument("--case")
     args = parser.parse_args()
     if args.case:
@@ -564,21 +545,20 @@ def main():
     for kind in kinds:
         program = kind()
         why = program.missing()
-        if why and not args.allow_missing:
+        if why:
             wrong.append(f"{program.name}: {why}")
             continue
-        tested = OtherWay(program) if why else program
         start = time.monotonic()
         count = program.cases // 10 if args.quick else program.cases
         until = start + (end - start) / 2 if kind is not kinds[-1] else end
-        tally = test(program, tested, args.seed, count, until)
+        tally = test(program, args.seed, count, until)
         if tally is None:
             wrong.append(f"{program.name}: an answer differs, see above")
             continue
         cases += tally.cases
-        print_tally(program, tally, time.monotonic() - start, why)
+        print_tally(program, tally, time.monotonic() - start)
         wrong += complaints(program, tally)
-        if program.name == "ccall" and not (why or args.quick or check_record_limit(program)):
+        if program.name == "ccall" and not (args.quick or check_record_limit(program)):
             wrong.append("ccall: wrong at the limit of records")
     for line in wrong:
         print(f"differential: {line}")
