@@ -4,36 +4,39 @@ use Prim.Native.Nat.{ℕ, suc, _-_, _≤_, _<_}
 use native.Mathlib.Omega.{arith}
 use mathlib.Core.Path.{_≡_, refl, sym, ap, _∙_, subst}
 use mathlib.Core.List.{List, [], _∷_, _++_, append-nil, List·Memᴰ}
-use mathlib.Core.Bool.{Bool, true, false, false≢true}
+use mathlib.Core.Bool.{Bool, true, false, false≢true, not, _&&_}
 use lib.Dec.{leb}
+use lib.IntN.{ℤ}
 use lib.ListN.{length, take, drop, set, getD}
 use lib.Seq.{split-at, set-split}
 use borrow.Author.Tests.{leb-true, leb-false, le-leb, lt-leb}
 use Rattle.rules.specs.declared.Side.{Side}
 use Rattle.rules.specs.declared.Side.the-variants.{Buy, Sell}
 use Rattle.rules.specs.declared.Quote.{Quote}
+use Rattle.rules.specs.declared.Quote.the-variants.{Absent, At}
 use Rattle.rules.specs.declared.Order.{Order}
 use Rattle.rules.specs.declared.Row.{Row}
+use Rattle.rules.specs.declared.Steps.{Steps}
 use Rattle.rules.specs.declared.Contracts.{Contracts}
 use Rattle.rules.specs.declared.Event.{Event}
 use Rattle.rules.specs.declared.Event.the-variants.{Add, Amend, Cancel, Deal, Tick}
 use Rattle.rules.specs.Lists.{keep}
 use Rattle.rules.specs.Units.{contracts}
 use Rattle.rules.specs.Orders.{hasId, left, apply}
-use Rattle.rules.specs.Quotes.{same, best}
+use Rattle.rules.specs.Quotes.{same, atLeast, stands, best}
 use Rattle.rules.specs.Book.{lowest, traderCauses}
-use Rattle.rules.proofs.Lists.{keep-append, keep-skip}
+use Rattle.rules.proofs.Lists.{keep-append, keep-skip, both}
 use Rattle.rules.proofs.Orders.{left-at, amend-at, cancel-at, deal-some, deal-all}
 use Rattle.rules.proofs.Refusals.{trader-passes}
 use Rattle.rules.proofs.Bounds.{volume-bounds}
-use Rattle.rules.proofs.Best.{sided, one-side}
+use Rattle.rules.proofs.Best.{sided, one-side, stays}
 use Rattle.orders.specs.declared.Orders.{Orders}
 use Rattle.orders.specs.Packed.{Packed, positionOf, blankOrder}
 use Rattle.orders.proofs.Slots.{count-is, front-is}
 use Rattle.quantum.specs.declared.Quotes.{Quotes}
 use Rattle.quantum.specs.declared.Touched.{Touched}
 use Rattle.quantum.specs.declared.Touched.the-variants.{Nothing, One}
-use Rattle.quantum.specs.Steps.{placeIn, Good, Accepts, Searchable, repriced, lessenedAt, quotesOf, other, Untouched}
+use Rattle.quantum.specs.Steps.{placeIn, Good, Accepts, Searchable, repriced, lessenedAt, quotesOf, quoteOn, behind, Untouched}
 use Rattle.quantum.proofs.Position.{live-position, position-has}
 
 -- ---- one order lessened
@@ -193,43 +196,39 @@ module _ (p : Order → Bool) (xs : List Order) where
     keep-without : keep p xs ≡ keep p (take k xs ++ drop (suc k) xs)
     keep-without = kept ∙ sym (keep-append p (take k xs) (drop (suc k) xs))
 
-other-side : (side : Side) → same (other side) side ≡ false
-other-side Buy = refl
-other-side Sell = refl
-
--- the side of the order that an event adds or names
+-- the order that an event adds or names
 abbrev pub touchedOf : List Order → ℕ → Event → Touched
-touchedOf live place (Add t id side price volume) = One side
-touchedOf live place (Amend t id price volume) = One (getD live place blankOrder .side)
-touchedOf live place (Cancel t id) = One (getD live place blankOrder .side)
-touchedOf live place (Deal t id volume) = One (getD live place blankOrder .side)
+touchedOf live place (Add t id side price volume) = One side price price
+touchedOf live place (Amend t id price volume) = let o = getD live place blankOrder in One (o .side) (o .price) price
+touchedOf live place (Cancel t id) = let o = getD live place blankOrder in One (o .side) (o .price) (o .price)
+touchedOf live place (Deal t id volume) = let o = getD live place blankOrder in One (o .side) (o .price) (o .price)
 touchedOf live place (Tick t) = Nothing
 
 untouched-done : (live : List Order) (place : ℕ) (e : Event) → (names e ≡ true → place < length live)
     → Untouched (touchedOf live place e) live (doneAt live place e)
-untouched-done live place (Add t id side price volume) h =
-    keep-snoc (sided (other side)) live (record { id = id; side = side; price = price; volume = volume }) (other-side side)
-untouched-done live place (Amend t id price volume) h =
+untouched-done live place (Add t id side price volume) h = λ test was is.
+    let n : Order = record { id = id; side = side; price = price; volume = volume } in
+    keep-snoc test live n (is n refl refl)
+untouched-done live place (Amend t id price volume) h = λ test was is.
     let o = getD live place blankOrder in
-    keep-set (sided (other (o .side))) live place (h refl) (other-side (o .side)) (repriced price volume o) (other-side (o .side))
-untouched-done live place (Cancel t id) h =
-    let o = getD live place blankOrder in
-    keep-without (sided (other (o .side))) live place (h refl) (other-side (o .side))
-untouched-done live place (Deal t id volume) h = go (leb (o .volume .0) (volume .0)) refl
+    let n = repriced price volume o in
+    keep-set test live place (h refl) (was o refl refl) n (is n refl refl)
+untouched-done live place (Cancel t id) h = λ test was is.
+    keep-without test live place (h refl) (was (getD live place blankOrder) refl refl)
+untouched-done live place (Deal t id volume) h = λ test was is. go test is (leb (o .volume .0) (volume .0)) refl
   where
     o : Order
     o = getD live place blankOrder
 
-    p : Order → Bool
-    p = sided (other (o .side))
-
-    go : (b : Bool) → leb (o .volume .0) (volume .0) ≡ b → keep p live ≡ keep p (lessenedAt place (volume .0) live)
-    go true e =
-        keep-without p live place (h refl) (other-side (o .side))
-        ∙ ap (keep p) (sym (lessened-all place (volume .0) live o refl (leb-true (o .volume .0) (volume .0) e)))
-    go false e =
-        keep-set p live place (h refl) (other-side (o .side)) (repriced (o .price) (contracts (o .volume .0 - volume .0)) o) (other-side (o .side))
-        ∙ ap (keep p) (sym (lessened-some place (volume .0) live o refl (leb-false (o .volume .0) (volume .0) e)))
+    go : (test : Order → Bool) → ((x : Order) → x .side ≡ o .side → x .price ≡ o .price → test x ≡ false)
+        → (b : Bool) → leb (o .volume .0) (volume .0) ≡ b → keep test live ≡ keep test (lessenedAt place (volume .0) live)
+    go test is true e =
+        keep-without test live place (h refl) (is o refl refl)
+        ∙ ap (keep test) (sym (lessened-all place (volume .0) live o refl (leb-true (o .volume .0) (volume .0) e)))
+    go test is false e =
+        let n = repriced (o .price) (contracts (o .volume .0 - volume .0)) o in
+        keep-set test live place (h refl) (is o refl refl) n (is n refl refl)
+        ∙ ap (keep test) (sym (lessened-some place (volume .0) live o refl (leb-false (o .volume .0) (volume .0) e)))
 untouched-done live place (Tick t) h = refl
 
 pub untouched : (live : List Order) (place : ℕ) (e : Event) → place ≡ placeIn e live → Good live → lowest (traderCauses live e) ≡ 0
@@ -248,31 +247,75 @@ searchable orders s = (
   λ o m. s .volumes o (subst (List·Memᴰ o) (front-is orders (s .live) (s .is)) m),
 )
 
-abbrev pub quotes : Quote → Quote → Quotes
-quotes bid ask = record { bid = bid; ask = ask }
+abbrev other : Side → Side
+other Buy = Sell
+other Sell = Buy
+
+other-side : (side : Side) → same (other side) side ≡ false
+other-side Buy = refl
+other-side Sell = refl
+
+-- an order that is strictly behind a price does not stand at it
+out : (side : Side) (p : ℤ) (o : Order) → not (atLeast side (o .price .0) p) ≡ true → stands side p o ≡ false
+out side p o h = go (same side (o .side)) (atLeast side (o .price .0) p) h
+  where
+    go : (a b : Bool) → not b ≡ true → a && b ≡ false
+    go a true h = absurd (false≢true h)
+    go true false h = refl
+    go false false h = refl
 
 module _ (row : Row) (before after : List Order) (old : Quotes) (touched : Touched) (was : old ≡ quotesOf row before)
-    (stays : Untouched touched before after) where
+    (stay : Untouched touched before after) where
   pub none-again : touched ≡ Nothing → old ≡ quotesOf row after
   none-again e =
-      let same-list : before ≡ after = subst (λ (t : Touched). Untouched t before after) e stays in
+      let same-list : before ≡ after = subst (λ (t : Touched). Untouched t before after) e stay in
       was ∙ ap (quotesOf row) same-list
 
-  module _ (least : Contracts) (side : Side) (found : Quote) (m : least ≡ row .least) (e : touched ≡ One side)
-      (f : found ≡ best side (least .0) after) where
-    found-is : (s : Side) → side ≡ s → found ≡ best s (row .least .0) after
-    found-is s g = f ∙ ap (λ (c : Contracts). best side (c .0) after) m ∙ ap (λ (s : Side). best s (row .least .0) after) g
+  on-is : (s : Side) → quoteOn s old ≡ best s (row .least .0) before
+  on-is Buy = ap (λ (q : Quotes). q .bid) was
+  on-is Sell = ap (λ (q : Quotes). q .ask) was
 
-    stays-is : (s : Side) → side ≡ s → best (other s) (row .least .0) before ≡ best (other s) (row .least .0) after
-    stays-is s g =
-        one-side (other s) (row .least .0) before after (subst (λ (t : Touched). Untouched t before after) (e ∙ ap One g) stays)
+  module _ (side : Side) (from to : Steps) (e : touched ≡ One side from to) where
+    unseen : Untouched (One side from to) before after
+    unseen = subst (λ (t : Touched). Untouched t before after) e stay
 
-    pub bid-again : side ≡ Buy → quotes found (old .ask) ≡ quotesOf row after
-    bid-again g =
-        ap (λ (q : Quote). quotes q (old .ask)) (found-is Buy g)
-        ∙ ap (λ (q : Quote). quotes (best Buy (row .least .0) after) q) (ap (λ (q : Quotes). q .ask) was ∙ stays-is Buy g)
+    -- the other side's quote stays
+    other-again : (s : Side) → side ≡ s → best (other s) (row .least .0) before ≡ best (other s) (row .least .0) after
+    other-again s g =
+        one-side (other s) (row .least .0) before after (unseen (sided (other s)) (λ o f k. away o f) (λ o f k. away o f))
+      where
+        away : (o : Order) → o .side ≡ side → sided (other s) o ≡ false
+        away o f = rw (f, g) (other-side s)
 
-    pub ask-again : side ≡ Sell → quotes (old .bid) found ≡ quotesOf row after
-    ask-again g =
-        ap (λ (q : Quote). quotes (old .bid) q) (found-is Sell g)
-        ∙ ap (λ (q : Quote). quotes q (best Sell (row .least .0) after)) (ap (λ (q : Quotes). q .bid) was ∙ stays-is Sell g)
+    -- so does a present one that the order was and stays behind
+    own-again : (q : Quote) → best side (row .least .0) before ≡ q → behind side q (from .0) ≡ true → behind side q (to .0) ≡ true
+        → best side (row .least .0) before ≡ best side (row .least .0) after
+    own-again Absent is f t = absurd (false≢true f)
+    own-again (At p) is f t =
+        is ∙ sym (stays side (row .least .0) before after p (unseen (stands side (p .0)) (λ o a b. out side (p .0) o (rw b f)) (λ o a b. out side (p .0) o (rw b t))) is)
+
+    pub behind-again : (q : Quote) → q ≡ quoteOn side old → {b : Bool} → b ≡ (behind side q (from .0) && behind side q (to .0)) → b ≡ true
+        → old ≡ quotesOf row after
+    behind-again q on is h = was ∙ go side refl
+      where
+        split : (behind side q (from .0) ≡ true) × (behind side q (to .0) ≡ true)
+        split = both (behind side q (from .0)) (behind side q (to .0)) (sym is ∙ h)
+
+        own : (s : Side) → side ≡ s → best s (row .least .0) before ≡ best s (row .least .0) after
+        own s g =
+            subst (λ (s : Side). best s (row .least .0) before ≡ best s (row .least .0) after) g
+            (own-again q (sym (on ∙ on-is side)) (split .0) (split .1))
+
+        go : (s : Side) → side ≡ s → quotesOf row before ≡ quotesOf row after
+        go Buy g = λ i. record { bid = own Buy g i; ask = other-again Buy g i }
+        go Sell g = λ i. record { bid = other-again Sell g i; ask = own Sell g i }
+
+    module _ (least : Contracts) (found : Quote) (m : least ≡ row .least) (f : found ≡ best side (least .0) after) where
+      found-is : (s : Side) → side ≡ s → found ≡ best s (row .least .0) after
+      found-is s g = f ∙ ap (λ (c : Contracts). best side (c .0) after) m ∙ ap (λ (s : Side). best s (row .least .0) after) g
+
+      pub bid-again : side ≡ Buy → record { bid = found; ask = old .ask } ≡ quotesOf row after
+      bid-again g = λ i. record { bid = found-is Buy g i; ask = (on-is Sell ∙ other-again Buy g) i }
+
+      pub ask-again : side ≡ Sell → record { bid = old .bid; ask = found } ≡ quotesOf row after
+      ask-again g = λ i. record { bid = (on-is Buy ∙ other-again Sell g) i; ask = found-is Sell g i }

@@ -2,12 +2,14 @@
 use Prim.Native.Nat.{ℕ, suc, _-_, _≤_}
 use mathlib.Core.Path.{_≡_}
 use mathlib.Core.List.{List, _++_, List·Memᴰ}
-use mathlib.Core.Bool.{Bool, true}
+use mathlib.Core.Bool.{Bool, true, false, not}
 use lib.Dec.{leb}
 use lib.IntN.{ℤ}
 use lib.ListN.{length, take, drop, set, getD}
 use Rattle.rules.specs.declared.Side.{Side}
 use Rattle.rules.specs.declared.Side.the-variants.{Buy, Sell}
+use Rattle.rules.specs.declared.Quote.{Quote}
+use Rattle.rules.specs.declared.Quote.the-variants.{Absent, At}
 use Rattle.rules.specs.declared.Order.{Order}
 use Rattle.rules.specs.declared.Row.{Row}
 use Rattle.rules.specs.declared.Event.{Event}
@@ -18,7 +20,7 @@ use Rattle.rules.specs.declared.Contracts.{Contracts}
 use Rattle.rules.specs.Lists.{if_then_else_, keep}
 use Rattle.rules.specs.Units.{contracts, goodVolume}
 use Rattle.rules.specs.Orders.{live}
-use Rattle.rules.specs.Quotes.{same}
+use Rattle.rules.specs.Quotes.{atLeast}
 use Rattle.rules.specs.Kept.{bestBid, bestAsk}
 use Rattle.rules.specs.Bounds.{Distinct, EventBounds}
 use Rattle.rules.specs.Book.{lowest, traderCauses, eventRefusal}
@@ -88,12 +90,18 @@ pub record Taking (q : Quantum) (e : Event) (place : ℕ) : Type 0 where
 abbrev pub quotesOf : Row → List Order → Quotes
 quotesOf row orders = record { bid = bestBid row orders; ask = bestAsk row orders }
 
-abbrev pub other : Side → Side
-other Buy = Sell
-other Sell = Buy
-
--- the orders that are not of the touched side are the same before and after
+-- whatever test leaves out the orders of the touched side at the touched order's two prices finds the same before and after
 abbrev pub Untouched : Touched → List Order → List Order → Type 0
 Untouched Nothing before after = before ≡ after
-Untouched (One side) before after =
-    keep (λ (o : Order). same (other side) (o .side)) before ≡ keep (λ (o : Order). same (other side) (o .side)) after
+Untouched (One side from to) before after =
+    (test : Order → Bool) → ((o : Order) → o .side ≡ side → o .price ≡ from → test o ≡ false)
+    → ((o : Order) → o .side ≡ side → o .price ≡ to → test o ≡ false) → keep test before ≡ keep test after
+
+abbrev pub quoteOn : Side → Quotes → Quote
+quoteOn Buy quotes = quotes .bid
+quoteOn Sell quotes = quotes .ask
+
+-- a price that is strictly behind a best quote that is present
+abbrev pub behind : Side → Quote → ℤ → Bool
+behind side Absent price = false
+behind side (At best) price = not (atLeast side price (best .0))

@@ -1,7 +1,7 @@
 // An open quantum by value: its live orders, the time, kept time and both best quotes.
 ghost use mathlib.Core.Path.{_≡_};
 ghost use mathlib.Core.List.{List, [], _∷_, _++_};
-ghost use mathlib.Core.Bool.{true, not};
+ghost use mathlib.Core.Bool.{true, not, _&&_};
 ghost use Prim.Native.Nat.{ℕ, _≤_, _<_};
 ghost use lib.Dec.{ltb, leb};
 ghost use lib.IntN.{ℤ};
@@ -18,7 +18,7 @@ ghost use Rattle.rules.specs.Book.{cause, lowest, traderCauses, eventRefusal};
 ghost use Rattle.rules.specs.Bounds.{EventBounds};
 ghost use Rattle.orders.specs.Packed.{Packed, packed, positionOf, blankOrder};
 ghost use Rattle.quantum.specs.Standing.{running, standing, Reached, Answered};
-ghost use Rattle.quantum.specs.Steps.{placeIn, Good, Accepts, Searchable, Untouched, quotesOf, repriced, lessenedAt, Onward, Taking};
+ghost use Rattle.quantum.specs.Steps.{placeIn, Good, Accepts, Searchable, Untouched, quotesOf, quoteOn, behind, repriced, lessenedAt, Onward, Taking};
 use orders::Orders;
 use ranges::both;
 use rules::Answer;
@@ -55,10 +55,10 @@ struct Quotes {
     ask: Quote,
 }
 
-// The side whose best quote an event can change.
+// The order that an event adds or changes: its side, and its price before and after.
 enum Touched {
     Nothing,
-    One(Side),
+    One { side: Side, from: Steps, to: Steps },
 }
 
 fn time_of(e: Event) -> Millis
@@ -311,17 +311,25 @@ fn changed(orders: Orders, e: Event, place: usize) -> Orders
     }
 }
 
-fn side_at(orders: Orders, place: usize) -> Touched
-    requires { ⌜ Packed orders × (place < orders .count) ⌝ }
-    ensures { λ r. ⌜ ((live : List Order) → orders ≡ packed live → r ≡ Touched.One (getD live place blankOrder .side)) ⌝ }
+// An order that gets another price.
+fn moved(o: Order, to: Steps) -> Touched
+    ensures { λ r. ⌜ r ≡ Touched.One (o .side) (o .price) to ⌝ }
 {
-    let o = orders.at(place);
-    let s = o.side;
-    Touched::One(s)
+    let side = o.side;
+    let from = o.price;
+    Touched::One { side, from, to }
 }
 
-// Which side must be searched again after an accepted event.
-fn touched_side(orders: Orders, e: Event, place: usize) -> Touched
+// An order that keeps its price, or goes.
+fn unmoved(o: Order) -> Touched
+    ensures { λ r. ⌜ r ≡ Touched.One (o .side) (o .price) (o .price) ⌝ }
+{
+    let price = o.price;
+    moved(o, price)
+}
+
+// What an accepted event touches.
+fn touched_by(orders: Orders, e: Event, place: usize) -> Touched
     requires { ⌜ Accepts orders e place ⌝ }
     ensures { λ r. ⌜ ((live : List Order) → orders ≡ packed live → place ≡ placeIn e live → Good live → lowest (traderCauses live e) ≡ 0 → Untouched r live (apply live e)) ⌝ }
 {
@@ -330,26 +338,56 @@ fn touched_side(orders: Orders, e: Event, place: usize) -> Touched
             t: _,
             id: _,
             side,
-            price: _,
+            price,
             volume: _,
-        } => Touched::One(side),
+        } => Touched::One {
+            side,
+            from: price,
+            to: price,
+        },
         Event::Amend {
             t: _,
             id: _,
-            price: _,
+            price,
             volume: _,
-        } => side_at(orders, place),
-        Event::Cancel { t: _, id: _ } => side_at(orders, place),
+        } => moved(orders.at(place), price),
+        Event::Cancel { t: _, id: _ } => unmoved(orders.at(place)),
         Event::Deal {
             t: _,
             id: _,
             volume: _,
-        } => side_at(orders, place),
+        } => unmoved(orders.at(place)),
         Event::Tick { t: _ } => Touched::Nothing,
     }
 }
 
-// Both best quotes of changed orders: the touched side is searched, the other one stays.
+fn quote_on(side: Side, quotes: Quotes) -> Quote
+    ensures { λ r. ⌜ r ≡ quoteOn side quotes ⌝ }
+{
+    match side {
+        Side::Buy => quotes.bid,
+        Side::Sell => quotes.ask,
+    }
+}
+
+// Whether a price is strictly behind a best quote that is present.
+fn is_behind(side: Side, best: Quote, price: Steps) -> bool
+    ensures { λ r. ⌜ r ≡ behind side best (price .0) ⌝ }
+{
+    match best {
+        Quote::Absent => false,
+        Quote::At(p) => !quote::at_least(side, price, p),
+    }
+}
+
+// Whether the touched order was and stays there, so that the best quote stays.
+fn stays_behind(side: Side, best: Quote, from: Steps, to: Steps) -> bool
+    ensures { λ r. ⌜ r ≡ (behind side best (from .0) && behind side best (to .0)) ⌝ }
+{
+    both(is_behind(side, best, from), is_behind(side, best, to))
+}
+
+// Both best quotes of changed orders: the touched side is searched unless its quote stays, the other one stays.
 fn requoted(old: Quotes, orders: Orders, touched: Touched, least: Contracts) -> Quotes
     requires { ⌜ Searchable orders ⌝ }
     ensures { λ r. ⌜ ((row : Row) (before after : List Order) → least ≡ row .least → old ≡ quotesOf row before → orders ≡ packed after → Untouched touched before after → r ≡ quotesOf row after) ⌝ }
@@ -358,7 +396,10 @@ fn requoted(old: Quotes, orders: Orders, touched: Touched, least: Contracts) -> 
     let ask = old.ask;
     match touched {
         Touched::Nothing => old,
-        Touched::One(side) => {
+        Touched::One { side, from, to } => {
+            if stays_behind(side, quote_on(side, old), from, to) {
+                return old;
+            }
             let found = orders.best(side, least);
             match side {
                 Side::Buy => Quotes { bid: found, ask },
@@ -439,9 +480,9 @@ impl Quantum {
         let bid = self.bid;
         let ask = self.ask;
         let before = self.orders;
-        let side = touched_side(before, e, place);
+        let touched = touched_by(before, e, place);
         let orders = changed(before, e, place);
-        let quotes = requoted(Quotes { bid, ask }, orders, side, least);
+        let quotes = requoted(Quotes { bid, ask }, orders, touched, least);
         let best_bid = quotes.bid;
         let best_ask = quotes.ask;
         Quantum {

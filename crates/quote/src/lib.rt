@@ -82,7 +82,7 @@ fn improved(side: Side, found: Quote, price: Steps) -> Quote
 
 // The best quote of a side among the first `count` orders: the best price of an order for which those at that price or better
 // hold `least` contracts or more together.
-pub fn best(orders: [Order; 64], count: usize, side: Side, least: Contracts) -> Quote
+fn search(orders: [Order; 64], count: usize, side: Side, least: Contracts) -> Quote
     requires { ⌜ (count ≤ 64) × ((o : Order) → List·Memᴰ o (take count orders) → o .volume .0 ≤ 1000000) ⌝ }
     ensures { λ r. ⌜ r ≡ Q.best side (least .0) (take count orders) ⌝ }
 {
@@ -114,6 +114,17 @@ pub fn best(orders: [Order; 64], count: usize, side: Side, least: Contracts) -> 
                 found = improved(side, found, price);
             }
         }
+    }
+}
+
+// The same; the side is a constant in each arm, so that the compiler makes a search for each with its own comparison.
+pub fn best(orders: [Order; 64], count: usize, side: Side, least: Contracts) -> Quote
+    requires { ⌜ (count ≤ 64) × ((o : Order) → List·Memᴰ o (take count orders) → o .volume .0 ≤ 1000000) ⌝ }
+    ensures { λ r. ⌜ r ≡ Q.best side (least .0) (take count orders) ⌝ }
+{
+    match side {
+        Side::Buy => search(orders, count, Side::Buy, least),
+        Side::Sell => search(orders, count, Side::Sell, least),
     }
 }
 

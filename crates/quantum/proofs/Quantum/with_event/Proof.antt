@@ -20,8 +20,8 @@ kept-at-requires c κs = let s = c .before in
     onward (p .row) (p .sp) (p .events) q (p .is) (c .time-of .result)
     (omega (arith, time-is (p .row) (p .sp) (p .events) q (p .is), passed .onward, c .time-of .ensures))
 
-touched-side-requires : tie.Need-touched-side-requires
-touched-side-requires c κs = let s = c .before .before .before .before .before in accepts (s .args .self) (s .args .e) (s .args .place) (s .pre)
+touched-by-requires : tie.Need-touched-by-requires
+touched-by-requires c κs = let s = c .before .before .before .before .before in accepts (s .args .self) (s .args .e) (s .args .place) (s .pre)
 
 changed-requires : tie.Need-changed-requires
 changed-requires c κs = let s = c .before .before .before .before .before .before in accepts (s .args .self) (s .args .e) (s .args .place) (s .pre)
@@ -45,7 +45,7 @@ returns c = λ row sp es g is at h.
     assembled row sp es e q (t .result) (k .result) (c .before .changed .result) (c .requoted .result) is (t .ensures)
     (k .ensures row sp es g is ∙ ap (keptBelow row sp es) (t .ensures)) after
     (c .requoted .ensures row (live es) (apply (live es) e) (least-is row sp es q is) (quotes-are row sp es q is) after
-    (c .before .before .touched-side .ensures (live es) (a .is) at (a .good) (a .passes)))
+    (c .before .before .touched-by .ensures (live es) (a .is) at (a .good) (a .passes)))
 
 pub with-event-spec : {M : Type 1} → statement M
 with-event-spec =
@@ -53,7 +53,7 @@ with-event-spec =
     (tie.spec
     time-of-requires
     kept-at-requires
-    touched-side-requires
+    touched-by-requires
     changed-requires
     requoted-requires
     returns)
