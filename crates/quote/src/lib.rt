@@ -57,11 +57,8 @@ fn share(side: Side, price: Steps, o: Order) -> u32
     let s = o.side;
     let p = o.price;
     let v = o.volume;
-    if same_side(side, s) {
-        if at_least(side, p, price) { v.0 } else { 0 }
-    } else {
-        0
-    }
+    let counts = same_side(side, s) & at_least(side, p, price);
+    (counts as u32) * v.0
 }
 
 // The better of what was found and a further price.
@@ -100,17 +97,14 @@ fn search(orders: [Order; 64], count: usize, side: Side, least: Contracts) -> Qu
         if same_side(side, s) {
             let mut held: u32 = 0;
             let mut j: usize = 0;
-            let enough = 'volumes: loop {
-                if m <= held {
-                    break 'volumes true;
-                }
+            let depth = 'volumes: loop {
                 if count <= j {
-                    break 'volumes false;
+                    break 'volumes held;
                 }
                 held += share(side, price, orders[j]);
                 j += 1;
             };
-            if enough {
+            if m <= depth {
                 found = improved(side, found, price);
             }
         }

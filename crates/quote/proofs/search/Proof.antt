@@ -1,11 +1,12 @@
 -- `quote::search` meets its contract. The outer loop's invariant: what was found is the lead of the orders that qualify among
 -- those passed. The inner loop's: what was added up is the depth of the orders passed at the candidate's price.
 -- Assumes nothing.
-use Prim.Native.Nat.{_+_, _-_, _≤_, _<_}
+use Prim.Native.Nat.{ℕ, _+_, _-_, _≤_, _<_}
 use native.Mathlib.Omega.{arith}
-use mathlib.Core.Path.{_≡_, refl, sym, _∙_}
-use mathlib.Core.Logic.{⊎-elim}
+use mathlib.Core.Path.{_≡_, refl, sym, ap, _∙_}
 use mathlib.Core.Bool.{Bool, true, false}
+use lib.Dec.{leb}
+use borrow.Author.Tests.{le-leb, lt-leb}
 use lib.IntN.{pos}
 use lib.ListN.{take, getD, length, length-take}
 use Rattle.rules.specs.declared.Order.{Order}
@@ -14,7 +15,7 @@ use Rattle.rules.specs.declared.Quote.the-variants.{At}
 use Rattle.rules.specs.Lists.{if_then_else_, keep, sum}
 use Rattle.rules.specs.Quotes.{depth, qualifies, better, lead}
 use Rattle.rules.specs.Quotes as Q
-use Rattle.rules.proofs.Best.{depth-next, depth-grows, depth-bound, reached, missed, qualified, other-side, lead-next}
+use Rattle.rules.proofs.Best.{depth-next, depth-grows, depth-bound, qualified, other-side, lead-next}
 use Rattle.quote.proofs.search.Statement.{statement}
 use Rattle.quote.proofs.search.Tie as tie
 
@@ -59,27 +60,27 @@ turn u b h e =
     let full : length (u .before .args .t1) ≡ 64 = u .before .good .0 .1 .0 .1 in
     lead-next (u .before .args .side) (passes u) (u .candidates .i) (u .before .args .t1) blank (u .candidates .found) b (omega arith) (u .candidates .inv .1) e
 
--- where the inner loop is left, its answer is whether the candidate qualifies
-judged : (c : tie.Joined3 Inv-volumes μ-volumes Inv-candidates μ-candidates)
-    → passes (outer (c .before)) (candidate (outer (c .before))) ≡ c .if3 .enough
-judged c =
-    let v = c .before in
+-- where the inner loop is left, what was added up is the depth at the candidate's price
+judged : (w : tie.Then3 Inv-volumes μ-volumes Inv-candidates μ-candidates) (b : Bool)
+    → leb (outer (w .before) .before .args .least .0) (w .before .volumes .held) ≡ b → passes (outer (w .before)) (candidate (outer (w .before))) ≡ b
+judged w b h =
+    let v = w .before in
     let u = outer v in
     let a = u .before .args in
     let n = v .volumes in
+    let end : n .j ≡ a .count = omega arith in
+    let whole : n .held ≡ depth (a .side) (candidate u .price .0) (take (a .count) (a .t1)) =
+    n .inv .1 ∙ ap (λ (k : ℕ). depth (a .side) (candidate u .price .0) (take k (a .t1))) end in
     qualified (a .side) (a .least .0) (take (a .count) (a .t1)) (candidate u) (sym (v .before .before .same-side .ensures) ∙ v .before .if2 .taken)
-    (⊎-elim
-    (λ w. reached (a .side) (candidate u .price .0) (a .least .0) (n .j) (a .count) (a .t1) (n .held) (n .inv .1) (n .inv .0) (w .0 .taken) ∙ sym (w .1))
-    (λ w. missed (a .side) (candidate u .price .0) (a .least .0) (n .j) (a .count) (a .t1) (n .held) (n .inv .1) (n .inv .0) (w .0 .left) (w .1 .taken) ∙ sym (w .2))
-    (c .if3 .came))
+    (ap (leb (a .least .0)) (sym whole) ∙ h)
 
 -- with an order's share added, it is the depth with that order
 added : (c : tie.After-share Inv-volumes μ-volumes Inv-candidates μ-candidates)
-    → let v = c .before .before .before .before in
+    → let v = c .before .before .before in
     let a = outer v .before .args in
     v .volumes .held + c .share .result ≡ depth (a .side) (candidate (outer v) .price .0) (take (v .volumes .j + 1) (a .t1))
 added c =
-    let v = c .before .before .before .before in
+    let v = c .before .before .before in
     let u = outer v in
     let a = u .before .args in
     let n = v .volumes in
@@ -117,7 +118,7 @@ share-requires c κs = tt
 
 add-held : tie.Need-add-held Inv-volumes μ-volumes Inv-candidates μ-candidates
 add-held c =
-    let v = c .before .before .before .before in
+    let v = c .before .before .before in
     let u = outer v in
     let a = u .before .args in
     let p = candidate u .price .0 in
@@ -148,16 +149,18 @@ candidates-less c = omega arith
 
 candidates-again : tie.Need-candidates-again Inv-volumes μ-volumes Inv-candidates μ-candidates
 candidates-again c =
-    let j = c .before .before in
-    (omega arith, c .improved .ensures ∙ turn (outer (j .before)) true (omega arith) (judged j ∙ c .before .if5 .taken))
+    let w = c .before .before in
+    let m = outer (w .before) .before .args .least .0 in
+    (omega arith, c .improved .ensures ∙ turn (outer (w .before)) true (omega arith) (judged w true (le-leb m (w .before .volumes .held) (c .before .if4 .taken))))
 
 candidates-less-2 : tie.Need-candidates-less-2 Inv-volumes μ-volumes Inv-candidates μ-candidates
 candidates-less-2 c = omega arith
 
 candidates-again-2 : tie.Need-candidates-again-2 Inv-volumes μ-volumes Inv-candidates μ-candidates
 candidates-again-2 c =
-    let j = c .before in
-    (omega arith, turn (outer (j .before)) false (omega arith) (judged j ∙ c .if5 .left))
+    let w = c .before in
+    let m = outer (w .before) .before .args .least .0 in
+    (omega arith, turn (outer (w .before)) false (omega arith) (judged w false (lt-leb m (w .before .volumes .held) (c .if4 .left))))
 
 candidates-less-3 : tie.Need-candidates-less-3 Inv-volumes μ-volumes Inv-candidates μ-candidates
 candidates-less-3 c = omega arith
