@@ -1,14 +1,14 @@
 -- From one book to every list of calls: what a call shows of each book that the month stands for, it promises of each list. Assumes
 -- nothing.
-use Prim.Native.Nat.{ℕ, zero, suc}
-use mathlib.Core.Path.{_≡_, refl, ap, sym, _∙_, subst₂}
-use mathlib.Core.List.{List, [], _∷_, _++_}
-use native.Mathlib.Omega.{arith}
+use Prim.Native.Nat.{ℕ, suc}
+use mathlib.Core.Path.{_≡_, ap, sym, _∙_, subst₂}
+use mathlib.Core.List.{[], _∷_, _++_}
 use Rattle.rules.specs.declared.Answer.{Answer}
 use Rattle.rules.specs.Terms.{paper}
 use Rattle.rules.specs.Answers.{Outcome, accepted, refused, outcomeBy, Reply, done, shownAnswer}
 use Rattle.rules.specs.Book.{Call, Book, refusalOf, changed, replyOf, answerOf, step, after}
 use Rattle.rules.specs.Bounds.{BookBounds}
+use Rattle.rules.proofs.Answers.{refused-by}
 use Rattle.rules.proofs.Refusals.{step-accepted, step-refused, answer-accepted, answer-refused}
 use Rattle.rules.proofs.Bounds.{bounds, after-snoc}
 use Rattle.month.specs.declared.Month.{Month}
@@ -32,17 +32,13 @@ stopped m c n h =
     (λ b g is. (is ∙ ap monthOf (sym (step-refused paper b c n (h b g is))), sym (answer-refused paper b c n (h b g is))))
 
 -- the same, where the answer is known to show the refusal
-refused-number : (n k : ℕ) → _≡_ {A = Outcome Reply} (refused k) (outcomeBy n done) → (j : ℕ) × (n ≡ suc j) × (k ≡ suc j)
-refused-number zero k e = let z : _≡_ {A = ℕ} 0 1 = cc in absurd (omega arith)
-refused-number (suc j) k e = (j, refl, cc)
-
 pub stopped-by : (m : Month) (c : Call) (k : ℕ)
     → ((b : Book) → BookBounds paper b → m ≡ monthOf b → _≡_ {A = Outcome Reply} (refused k) (outcomeBy (refusalOf paper b c) done))
     → Answered m c m (refused k)
 stopped-by m c k h =
     answered m m c (refused k)
     (λ b g is.
-    let (j, n, e) = refused-number (refusalOf paper b c) k (h b g is) in
+    let (j, n, e) = refused-by (refusalOf paper b c) k done (h b g is) in
     (is ∙ ap monthOf (sym (step-refused paper b c j n)), ap refused e ∙ sym (answer-refused paper b c j n)))
 
 -- an accepted call

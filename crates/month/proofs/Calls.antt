@@ -1,11 +1,10 @@
 -- Each call of the month, refusal by refusal and accepted, over the month's fields. Assumes nothing.
-use Prim.Native.Nat.{ℕ, zero, suc, _<_}
+use Prim.Native.Nat.{ℕ, zero, suc}
 use mathlib.Core.Path.{_≡_, refl, ap, sym, _∙_, subst}
 use mathlib.Core.Bool.{Bool, true, false, not, _&&_}
 use mathlib.Core.List.{List, [], _∷_, _++_}
 use native.Mathlib.Omega.{arith}
 use borrow.Author.Tests.{eq-eqb, eqb-true, not-false}
-use lib.Dec.{eqb}
 use lib.IntN.{ℤ}
 use lib.ListN.{length, set}
 use Rattle.rules.specs.declared.Millis.{Millis}
@@ -15,7 +14,6 @@ use Rattle.rules.specs.declared.Row.{Row}
 use Rattle.rules.specs.declared.Cell.{Cell}
 use Rattle.rules.specs.declared.CellView.{CellView}
 use Rattle.rules.specs.declared.Event.{Event}
-use Rattle.rules.specs.declared.Answer.{Answer}
 use Rattle.rules.specs.declared.Answer.the-variants.{Accepted, Refused}
 use Rattle.rules.specs.declared.Refusal.{Refusal}
 use Rattle.rules.specs.declared.Report.{Report}
@@ -28,10 +26,11 @@ use Rattle.rules.specs.Orders.{live, applyAll, present, timeFrom}
 use Rattle.rules.specs.Quotes.{best, lead}
 use Rattle.rules.specs.Kept.{keptBelow}
 use Rattle.rules.specs.Pay.{viewOf, allFailures, fee}
-use Rattle.rules.specs.Answers.{Outcome, accepted, refused, outcomeBy, Reply, done, cell, report, numberOf, shownAnswer}
-use Rattle.rules.specs.Book.{Call, Open, Send, Close, Drop, Charge, Withdraw, Look, Running, Idle, Quoting, Book, isOpen, Cause, cause, lowest, rowCauses, readRow, goodCharges, sendCauses, eventCauses, eventRefusal, causes, refusalOf, noted, closed, closedCell, charged, changed, timeIn, ordersIn, bidIn, askIn, keptIn, reportOf}
+use Rattle.rules.specs.Answers.{accepted, refused, outcomeBy, done, cell, report, numberOf, shownAnswer}
+use Rattle.rules.specs.Book.{Open, Send, Close, Drop, Charge, Withdraw, Look, Running, Idle, Quoting, Book, isOpen, Cause, lowest, rowCauses, readRow, goodCharges, sendCauses, eventRefusal, causes, refusalOf, noted, closed, closedCell, charged, changed, timeIn, ordersIn, bidIn, askIn, keptIn, reportOf}
 use Rattle.rules.specs.Book as B
-use Rattle.rules.specs.Bounds.{BookBounds, EventBounds, CellBounds}
+use Rattle.rules.specs.Bounds.{EventBounds}
+use Rattle.rules.proofs.Answers.{refused-by, accepted-by}
 use Rattle.rules.proofs.Refusals.{skip, stop, clear, passed}
 use Rattle.orders.specs.Packed.{packed}
 use Rattle.quantum.specs.declared.Quantum.{Quantum}
@@ -63,18 +62,10 @@ lowest-first (c ∷ cs) ds j e = go (c .applies) e (lowest-first cs ds j)
     go false e r = r e
 
 -- the words were read as a row, or refused
-row-refused : (n k : ℕ) (row : Row) → refused k ≡ outcomeBy n row → (j : ℕ) × (n ≡ suc j) × (k ≡ suc j)
-row-refused zero k row e = let z : _≡_ {A = ℕ} 0 1 = cc in absurd (omega arith)
-row-refused (suc j) k row e = (j, refl, cc)
-
-row-accepted : (n : ℕ) (row read : Row) → accepted row ≡ outcomeBy n read → (n ≡ 0) × (row ≡ read)
-row-accepted zero row read e = (refl, cc)
-row-accepted (suc j) row read e = let z : _≡_ {A = ℕ} 0 1 = cc in absurd (omega arith)
-
 pub open-unread : (m : Month) (words : List ℕ) (day : ℕ) (sp : Steps) (k : ℕ) → refused k ≡ readRow paper words → Answered m (Open words day sp) m (refused k)
 unfolding readRow refusalOf causes
 open-unread m words day sp k e =
-    let (j, n, f) = row-refused (lowest (rowCauses paper words)) k (rowOf words) e in
+    let (j, n, f) = refused-by (lowest (rowCauses paper words)) k (rowOf words) e in
     subst (λ (x : ℕ). Answered m (Open words day sp) m (refused x)) (sym f)
     (stopped m (Open words day sp) j (λ b g is. lowest-first (rowCauses paper words) _ j n))
 
@@ -86,7 +77,7 @@ pub record ReadAs (words : List ℕ) (row : Row) : Type 0 where
 pub read-as : (words : List ℕ) (row : Row) → accepted row ≡ readRow paper words → ReadAs words row
 unfolding readRow
 read-as words row e =
-    let (n, f) = row-accepted (lowest (rowCauses paper words)) row (rowOf words) e in
+    let (n, f) = accepted-by (lowest (rowCauses paper words)) row (rowOf words) e in
     let one = passed 0 _ _ n in
     let two = passed 1 _ _ (one .1) in
     record {

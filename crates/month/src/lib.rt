@@ -1,13 +1,12 @@
 // The month and its twelve calls. Each takes the month by value and hands back the month after it.
 ghost use mathlib.Core.Path.{_≡_};
-ghost use mathlib.Core.List.{List, [], _∷_};
-ghost use mathlib.Core.Bool.{true, not, _&&_};
+ghost use mathlib.Core.List.{List, []};
+ghost use mathlib.Core.Bool.{true};
 ghost use Prim.Native.Nat.{ℕ, _<_};
 ghost use lib.ListN.{length};
 ghost use Rattle.rules.specs.declared.Event.{Event};
 ghost use Rattle.rules.specs.declared.Event.the-variants.{Add, Amend, Cancel, Deal, Tick};
 ghost use Rattle.rules.specs.Terms.{paper};
-ghost use Rattle.rules.specs.Units.{goodCharge};
 ghost use Rattle.rules.specs.Rows.{goodRow, rowOf};
 ghost use Rattle.rules.specs.Cells.{goodCell, placeOf, blankCell, cellAt};
 ghost use Rattle.rules.specs.Answers.{shownAnswer, shownLooked, shownReport};

@@ -1,10 +1,10 @@
 -- Counting along the days, and along an array. Assumes nothing.
-use Prim.Native.Nat.{ℕ, zero, suc, _+_, _-_, _*_, _/_, _<_, min}
+use Prim.Native.Nat.{ℕ, _+_, _-_, _*_, _/_, _<_, min}
 use native.Mathlib.Omega.{arith}
 use native.Mathlib.Numerals.{add-one}
 use mathlib.Core.Path.{_≡_, refl, sym, ap, _∙_}
-use mathlib.Core.List.{List, [], _∷_, _++_, map, map-append, List·Memᴰ, List·Memᴰ·head, List·Memᴰ·tail}
-use mathlib.Core.Bool.{Bool, true, false, _||_}
+use mathlib.Core.List.{List, [], _∷_, _++_, map, map-append}
+use mathlib.Core.Bool.{Bool, true, false}
 use lib.Dec.{ltb}
 use lib.ListN.{length, take, drop, getD, take-append-drop}
 use lib.Seq.{take-suc}
@@ -14,6 +14,7 @@ use Rattle.rules.specs.Cells.{placeOf, cellAt}
 use Rattle.rules.specs.Pay.{cellFailed, allFailures, earned, fee}
 use Rattle.rules.specs.Lists.{if_then_else_, sum, below, any, howMany}
 use Rattle.rules.proofs.Lists.{sum-append}
+use Rattle.rules.proofs.Members.{any-append}
 
 sum-one : (n : ℕ) → sum (n ∷ []) ≡ n
 unfolding sum
@@ -32,15 +33,6 @@ module _ {A : Type 0} where
   howMany-next p f n count more e k = rw (add-one, map-append, howMany-snoc, ← e, ← k) refl
 
   -- ---- whether one passes, along an array
-  any-append : (p : A → Bool) (xs ys : List A) → any p (xs ++ ys) ≡ any p xs || any p ys
-  unfolding any
-  any-append p [] ys = refl
-  any-append p (x ∷ xs) ys = go (p x) (any-append p xs ys)
-    where
-      go : (b : Bool) → any p (xs ++ ys) ≡ any p xs || any p ys → b || any p (xs ++ ys) ≡ (b || any p xs) || any p ys
-      go true e = refl
-      go false e = e
-
   any-one : (p : A → Bool) (x : A) (b : Bool) → p x ≡ b → any p (x ∷ []) ≡ b
   unfolding any
   any-one p x true e = rw e refl
@@ -59,11 +51,6 @@ module _ {A : Type 0} where
   pub sum-front : (f : A → ℕ) (xs : List A) (i : ℕ) (d : A) → i < length xs
       → sum (map f (take (i + 1) xs)) ≡ sum (map f (take i xs)) + f (getD xs i d)
   sum-front f xs i d h = rw (add-one, take-suc xs i d h, map-append, sum-append) (ap (λ (n : ℕ). sum (map f (take i xs)) + n) (sum-one (f (getD xs i d))))
-
-  pub in-at : (xs : List A) (i : ℕ) (d : A) → i < length xs → List·Memᴰ (getD xs i d) xs
-  in-at [] i d h = absurd (omega arith)
-  in-at (x ∷ xs) zero d h = List·Memᴰ·head refl
-  in-at (x ∷ xs) (suc i) d h = List·Memᴰ·tail (in-at xs i d (omega arith))
 
 -- ---- the failure count of a series
 

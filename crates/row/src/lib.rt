@@ -1,10 +1,7 @@
 // The row: read from words, and chosen from the two lent tables.
 ghost use mathlib.Core.Path.{_≡_};
-ghost use mathlib.Core.Bool.{_&&_};
 ghost use Prim.Native.Nat.{_+_, _*_, _≤_};
-ghost use lib.Dec.{leb};
 ghost use lib.ListN.{length};
-ghost use Rattle.rules.specs.Lists.{within};
 ghost use Rattle.rules.specs.Terms.{paper};
 ghost use Rattle.rules.specs.Rows.{goodLength, goodRow};
 ghost use Rattle.rules.specs.Answers.{shownRow};

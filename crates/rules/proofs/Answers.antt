@@ -1,12 +1,9 @@
 -- Two different answers never show the same number and values. Assumes nothing.
-use Prim.Native.Nat.{ℕ}
+use Prim.Native.Nat.{ℕ, zero, suc}
 use native.Mathlib.Omega.{arith}
 use mathlib.Core.Path.{_≡_, refl, sym, ap, _∙_}
 use mathlib.Core.List.{List, [], _∷_}
 use lib.ListN.{getD}
-use Rattle.rules.specs.declared.Millis.{Millis}
-use Rattle.rules.specs.declared.Row.{Row}
-use Rattle.rules.specs.declared.Event.{Event}
 use Rattle.rules.specs.declared.CellView.{CellView}
 use Rattle.rules.specs.declared.Report.{Report}
 use Rattle.rules.specs.declared.Refusal.{Refusal}
@@ -21,7 +18,7 @@ use Rattle.rules.specs.declared.RecordRead.{RecordRead}
 use Rattle.rules.specs.declared.RecordRead.the-variants as E
 use Rattle.rules.specs.declared.SessionAnswer.{SessionAnswer}
 use Rattle.rules.specs.declared.SessionAnswer.the-variants as S
-use Rattle.rules.specs.Answers.{numberOf, Outcome, accepted, refused, Reply, cell, report, shownAnswer, shownLooked, shownReport, shownRow, shownRecord, shownSession, finished, stopped}
+use Rattle.rules.specs.Answers.{numberOf, Outcome, accepted, refused, outcomeBy, cell, report, shownAnswer, shownLooked, shownReport, shownRow, shownRecord, shownSession, finished, stopped}
 
 -- ---- a refusal's number names it
 
@@ -72,8 +69,8 @@ number-names r s e = sym (named r) ∙ ap (λ (n : ℕ). getD ordered n BufferSh
 -- ---- outcomes
 
 module _ {A : Type 0} where
-  never : (a : A) (n : ℕ) → accepted a ≡ refused n → ⊥
-  never a n e = let z : _≡_ {A = ℕ} 0 1 = cc in omega arith
+  pub not-refused : (a : A) (n : ℕ) → accepted a ≡ refused n → ⊥
+  not-refused a n e = let z : _≡_ {A = ℕ} 0 1 = cc in omega arith
 
   same-number : (m n : ℕ) → _≡_ {A = Outcome A} (refused m) (refused n) → m ≡ n
   same-number m n e = cc
@@ -81,12 +78,21 @@ module _ {A : Type 0} where
   same-values : (a b : A) → accepted a ≡ accepted b → a ≡ b
   same-values a b e = cc
 
+  -- what is refused or accepted by a number
+  pub refused-by : (n k : ℕ) (a : A) → refused k ≡ outcomeBy n a → (j : ℕ) × (n ≡ suc j) × (k ≡ suc j)
+  refused-by zero k a e = absurd (not-refused a k (sym e))
+  refused-by (suc j) k a e = (j, refl, same-number _ _ e)
+
+  pub accepted-by : (n : ℕ) (a b : A) → accepted a ≡ outcomeBy n b → (n ≡ 0) × (a ≡ b)
+  accepted-by zero a b e = (refl, same-values _ _ e)
+  accepted-by (suc j) a b e = absurd (not-refused _ _ e)
+
 -- ---- the answers
 
 pub answer-shown : (a b : Answer) → shownAnswer a ≡ shownAnswer b → a ≡ b
 answer-shown A.Accepted A.Accepted e = refl
-answer-shown A.Accepted (A.Refused s) e = absurd (never _ _ e)
-answer-shown (A.Refused r) A.Accepted e = absurd (never _ _ (sym e))
+answer-shown A.Accepted (A.Refused s) e = absurd (not-refused _ _ e)
+answer-shown (A.Refused r) A.Accepted e = absurd (not-refused _ _ (sym e))
 answer-shown (A.Refused r) (A.Refused s) e = ap A.Refused (number-names r s (same-number _ _ e))
 
 same-cell : (v w : CellView) → cell v ≡ cell w → v ≡ w
@@ -94,8 +100,8 @@ same-cell v w e = cc
 
 pub looked-shown : (a b : Looked) → shownLooked a ≡ shownLooked b → a ≡ b
 looked-shown (L.Found v) (L.Found w) e = ap L.Found (same-cell v w (same-values _ _ e))
-looked-shown (L.Found v) (L.Refused s) e = absurd (never _ _ e)
-looked-shown (L.Refused r) (L.Found w) e = absurd (never _ _ (sym e))
+looked-shown (L.Found v) (L.Refused s) e = absurd (not-refused _ _ e)
+looked-shown (L.Refused r) (L.Found w) e = absurd (not-refused _ _ (sym e))
 looked-shown (L.Refused r) (L.Refused s) e = ap L.Refused (number-names r s (same-number _ _ e))
 
 same-report : (v w : Report) → report v ≡ report w → v ≡ w
@@ -106,14 +112,14 @@ report-shown a b e = same-report a b (same-values _ _ e)
 
 pub row-shown : (a b : RowRead) → shownRow a ≡ shownRow b → a ≡ b
 row-shown (R.Read v) (R.Read w) e = ap R.Read (same-values _ _ e)
-row-shown (R.Read v) (R.Refused s) e = absurd (never _ _ e)
-row-shown (R.Refused r) (R.Read w) e = absurd (never _ _ (sym e))
+row-shown (R.Read v) (R.Refused s) e = absurd (not-refused _ _ e)
+row-shown (R.Refused r) (R.Read w) e = absurd (not-refused _ _ (sym e))
 row-shown (R.Refused r) (R.Refused s) e = ap R.Refused (number-names r s (same-number _ _ e))
 
 pub record-shown : (a b : RecordRead) → shownRecord a ≡ shownRecord b → a ≡ b
 record-shown (E.Read v) (E.Read w) e = ap E.Read (same-values _ _ e)
-record-shown (E.Read v) (E.Refused s) e = absurd (never _ _ e)
-record-shown (E.Refused r) (E.Read w) e = absurd (never _ _ (sym e))
+record-shown (E.Read v) (E.Refused s) e = absurd (not-refused _ _ e)
+record-shown (E.Refused r) (E.Read w) e = absurd (not-refused _ _ (sym e))
 record-shown (E.Refused r) (E.Refused s) e = ap E.Refused (number-names r s (same-number _ _ e))
 
 -- ---- session runs

@@ -1,5 +1,5 @@
 -- What `best` means, and when it stays. Assumes nothing.
-use Prim.Native.Nat.{ℕ, suc, _+_, _*_, _≤_, _<_}
+use Prim.Native.Nat.{ℕ, _+_, _*_, _≤_, _<_}
 use native.Mathlib.Nat.{suc-mul}
 use native.Mathlib.Numerals.{add-one}
 use lib.ListN.{length, getD, take, drop, take-append-drop}
@@ -7,8 +7,8 @@ use lib.Seq.{take-suc, take-take}
 use native.Mathlib.Omega.{arith}
 use mathlib.Core.Path.{_≡_, refl, sym, ap, _∙_, subst, fun-ext}
 use mathlib.Core.Logic.{_↔_}
-use mathlib.Core.List.{List, [], _∷_, _++_, map, map-append, List·Memᴰ, List·Memᴰ·head, List·Memᴰ·tail, List·Memᴰ·not-nil, Memᴰ·cast}
-use mathlib.Core.Bool.{Bool, true, false, true≢false, false≢true, _&&_}
+use mathlib.Core.List.{List, [], _∷_, _++_, map, map-append, List·Memᴰ, List·Memᴰ·head, List·Memᴰ·tail, List·Memᴰ·not-nil}
+use mathlib.Core.Bool.{Bool, true, false, true≢false, false≢true}
 use lib.Dec.{leb}
 use borrow.Author.Tests.{le-leb, lt-leb}
 use lib.IntN.{ℤ}
@@ -19,7 +19,7 @@ use Rattle.rules.specs.declared.Order.{Order}
 use Rattle.rules.specs.declared.Steps.{Steps}
 use Rattle.rules.specs.Lists.{if_then_else_, sum, keep}
 use Rattle.rules.specs.Quotes.{same, atLeast, stands, volumeOf, depth, qualifies, better, lead, best, Means}
-use Rattle.rules.proofs.Lists.{sum-append, keep-append, keep-skip, keep-one, keep-keep, kept-in, in-kept, both, and}
+use Rattle.rules.proofs.Lists.{sum-append, keep-append, keep-one, keep-keep, kept-in, in-kept, both, and}
 use Rattle.rules.proofs.Prices.{atLeast-refl, atLeast-trans, atLeast-total, atLeast-antisym}
 
 -- ---- depth, order by order
@@ -233,22 +233,6 @@ stays s m xs ys p e h = sym (meant s m ys (At p) (found, λ o k q. above o k q (
     above o k q false r =
         let n = moved s m (p .0) ys xs (sym e) o (atLeast-total s (p .0) (o .price .0) r) k q in
         before .1 o (n .0) (n .1)
-
--- one order that was and stays strictly behind a present best quote on its side
-pub behind : (s : Side) (m : ℕ) (xs ys : List Order) (o n : Order) (p : Steps) → best s m (xs ++ (o ∷ ys)) ≡ At p
-    → atLeast s (o .price .0) (p .0) ≡ false → atLeast s (n .price .0) (p .0) ≡ false
-    → best s m (xs ++ (n ∷ ys)) ≡ best s m (xs ++ (o ∷ ys))
-behind s m xs ys o n p h a b = stays s m (xs ++ (o ∷ ys)) (xs ++ (n ∷ ys)) p same-kept h ∙ sym h
-  where
-    out : (x : Order) → atLeast s (x .price .0) (p .0) ≡ false → stands s (p .0) x ≡ false
-    out x e = rw e (nothing (same s (x .side)))
-      where
-        nothing : (t : Bool) → t && false ≡ false
-        nothing true = refl
-        nothing false = refl
-
-    same-kept : keep (stands s (p .0)) (xs ++ (o ∷ ys)) ≡ keep (stands s (p .0)) (xs ++ (n ∷ ys))
-    same-kept = rw (keep-append, keep-append, keep-skip (stands s (p .0)) o ys (out o a), keep-skip (stands s (p .0)) n ys (out n b)) refl
 
 -- the orders of the other side do not matter, be the quote present or absent
 abbrev pub sided : Side → Order → Bool

@@ -3,7 +3,7 @@ use mathlib.Core.Path.{_≡_, refl}
 use mathlib.Core.List.{[], _∷_}
 use Rattle.rules.specs.Lists.{sum, count, below, keep, any, howMany}
 use Rattle.rules.specs.Cells.{series}
-use Rattle.rules.specs.Orders.{isLive, left, apply, applyAll, live, timeFrom, present}
+use Rattle.rules.specs.Orders.{isLive, apply, applyAll, live, timeFrom, present}
 use Rattle.rules.specs.Quotes.{depth, qualifies, lead, best}
 use Rattle.rules.specs.Kept.{quotesKeep, ordersKeep, upTo, keptAt, keptBelow}
 use Rattle.rules.specs.Pay.{met, weightMet, weight, cellFailed, failures, allFailures, earned, fee}
@@ -21,5 +21,5 @@ paper-checks = refl
 
 -- the printed session: K 6000, w 10000, one pair
 pub paper-session : sheetSession ≡ whole 6000 10000 (stretch 0 6000 ∷ [])
-unfolding sum count below keep any apply applyAll live timeFrom present depth qualifies lead best quotesKeep ordersKeep upTo keptAt keptBelow grown stretches keptStretches met weightMet weight isLive left goodPrice goodVolume goodCharge rowOf goodRow freshBook lowest eventCauses causes refusalOf changed step wordBytes signedOf unsignedOf eventFields fieldBytes recordOf fieldsOf eventOf unusedZero paddingZero goodRecord readRecord recordsOf recordRefusal closing runRecords session
+unfolding sum count below keep any apply applyAll live timeFrom present depth qualifies lead best quotesKeep ordersKeep upTo keptAt keptBelow grown stretches keptStretches met weightMet weight isLive goodPrice goodVolume goodCharge rowOf goodRow freshBook lowest eventCauses causes refusalOf changed step wordBytes signedOf unsignedOf eventFields fieldBytes recordOf fieldsOf eventOf unusedZero paddingZero goodRecord readRecord recordsOf recordRefusal closing runRecords session
 paper-session = refl

@@ -1,7 +1,7 @@
 -- The first of a table's full rows that passes, found by its index. Assumes nothing.
 use Prim.Native.Nat.{ℕ, zero, suc, _/_, _<_}
 use mathlib.Core.Path.{_≡_, refl, sym, _∙_}
-use mathlib.Core.List.{List, [], _∷_, _++_, map}
+use mathlib.Core.List.{List, [], _∷_, _++_, map, map-append}
 use mathlib.Core.Bool.{Bool, true, false}
 use mathlib.Core.Logic.{⊎-elim}
 use native.Mathlib.Omega.{arith}
@@ -19,10 +19,6 @@ module _ {A : Type 0} where
   first-one : (p : A → Bool) (other x : A) (b : Bool) → p x ≡ b → firstOr other p (x ∷ []) ≡ (if b then x else other)
   unfolding firstOr
   first-one p other x b e = rw e refl
-
-  map-append : (f : ℕ → A) (xs ys : List ℕ) → map f (xs ++ ys) ≡ map f xs ++ map f ys
-  map-append f [] ys = refl
-  map-append f (x ∷ xs) ys = rw (map-append f xs ys) refl
 
   -- the last index is looked at last
   first-last : (p : A → Bool) (f : ℕ → A) (other : A) (n : ℕ) (b : Bool) → p (f n) ≡ b

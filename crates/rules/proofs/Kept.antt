@@ -13,7 +13,6 @@ use Rattle.rules.specs.Orders.{live, timeOf, timeFrom, present}
 use Rattle.rules.specs.Kept.{ordersKeep, upTo, keptAt, keptBelow}
 use Rattle.rules.specs.Bounds.{Ordered}
 use Rattle.rules.proofs.Counting.{count-ext, count-stretch, count-le}
-use Rattle.rules.proofs.Orders.{present-snoc}
 
 -- ---- times never backwards
 
@@ -49,15 +48,6 @@ from-snoc t (d ∷ es) e o h = (o .0, from-snoc (timeOf d) es e (o .1) h)
 pub ordered-snoc : (es : List Event) (e : Event) → Ordered 0 es → present es ≤ timeOf e → Ordered 0 (es ++ (e ∷ []))
 unfolding present
 ordered-snoc es e o h = from-snoc 0 es e o h
-
-from-init : (t : ℕ) (es : List Event) (e : Event) → Ordered t (es ++ (e ∷ [])) → Ordered t es × (timeFrom t es ≤ timeOf e)
-unfolding timeFrom
-from-init t [] e o = (tt, o .0)
-from-init t (d ∷ es) e o = let (a, b) = from-init (timeOf d) es e (o .1) in ((o .0, a), b)
-
-pub ordered-init : (es : List Event) (e : Event) → Ordered 0 (es ++ (e ∷ [])) → Ordered 0 es × (present es ≤ timeOf e)
-unfolding present
-ordered-init es e o = from-init 0 es e o
 
 -- ---- the events seen at m
 
@@ -103,9 +93,3 @@ module _ (row : Row) (sp : ℤ) (es : List Event) where
   pub kept-le : (n : ℕ) → keptBelow row sp es n ≤ n
   unfolding keptBelow
   kept-le n = count-le (keptAt row sp es) n
-
-  -- kept so far, one event further
-  pub kept-more : Ordered 0 es → (e : Event) → present es ≤ timeOf e
-      → keptBelow row sp (es ++ (e ∷ [])) (present (es ++ (e ∷ [])))
-      ≡ keptBelow row sp es (present es) + (if ordersKeep row sp (live es) then timeOf e - present es else 0)
-  kept-more o e h = ap (keptBelow row sp (es ++ (e ∷ []))) (present-snoc es e) ∙ kept-snoc e (timeOf e) (omega arith) ∙ kept-onward o (timeOf e) h

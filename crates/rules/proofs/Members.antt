@@ -5,7 +5,7 @@ use native.Mathlib.Nat.{not-suc-le-zero, le-of-suc-le-suc}
 use mathlib.Core.Path.{_≡_, refl, sym, ap, _∙_}
 use mathlib.Core.Logic.{_⊎_, inl, inr}
 use mathlib.Core.List.{List, [], _∷_, _++_, map, List·Memᴰ, List·Memᴰ·head, List·Memᴰ·tail, List·Memᴰ·not-nil}
-use mathlib.Core.Bool.{Bool, true, false, true≢false, false≢true, _||_}
+use mathlib.Core.Bool.{Bool, true, false, true≢false, _||_}
 use lib.ListN.{length, getD, set, replicate}
 use Rattle.rules.specs.Lists.{if_then_else_, keep, any}
 use Rattle.rules.proofs.Lists.{kept-in}
@@ -40,17 +40,7 @@ module _ {A : Type 0} where
   none-any p (List·Memᴰ·head {x = y} {xs = ys} q) e = ap p q ∙ or-false (p y) (any p ys) e .0
   none-any p (List·Memᴰ·tail {x = y} {xs = ys} m) e = none-any p m (or-false (p y) (any p ys) e .1)
 
-  -- and true exactly where one passes
-  pub any-some : (p : A → Bool) (xs : List A) → any p xs ≡ true → (x : A) × List·Memᴰ x xs × (p x ≡ true)
-  unfolding any
-  any-some p [] e = absurd (false≢true e)
-  any-some p (x ∷ xs) e = go (p x) refl e (any-some p xs)
-    where
-      go : (b : Bool) → p x ≡ b → (b || any p xs) ≡ true → (any p xs ≡ true → (y : A) × List·Memᴰ y xs × (p y ≡ true))
-          → (y : A) × List·Memᴰ y (x ∷ xs) × (p y ≡ true)
-      go true f e r = (x, List·Memᴰ·head refl, f)
-      go false f e r = let (y, m, g) = r e in (y, List·Memᴰ·tail m, g)
-
+  -- and true where one passes
   pub some-any : (p : A → Bool) {x : A} {xs : List A} → List·Memᴰ x xs → p x ≡ true → any p xs ≡ true
   unfolding any
   some-any p (List·Memᴰ·head {x = y} {xs = ys} q) e = rw (sym (ap p q) ∙ e) refl
@@ -84,11 +74,6 @@ module _ {A : Type 0} where
   getD-in [] k d h = absurd (not-suc-le-zero h)
   getD-in (x ∷ xs) zero d h = List·Memᴰ·head refl
   getD-in (x ∷ xs) (suc k) d h = List·Memᴰ·tail (getD-in xs k d (le-of-suc-le-suc h))
-
-  -- what is in the list stands somewhere
-  pub in-getD : {x : A} {xs : List A} (d : A) → List·Memᴰ x xs → (k : ℕ) × (k < length xs) × (getD xs k d ≡ x)
-  in-getD d (List·Memᴰ·head {x = y} {xs = ys} q) = (zero, omega arith, sym q)
-  in-getD d (List·Memᴰ·tail {x = y} {xs = ys} m) = let (k, h, e) = in-getD d m in (suc k, omega arith, e)
 
   pub in-set : (xs : List A) (i : ℕ) (a : A) {x : A} → List·Memᴰ x (set xs i a) → (x ≡ a) ⊎ List·Memᴰ x xs
   in-set [] i a m = absurd (List·Memᴰ·not-nil m)

@@ -10,30 +10,22 @@ use mathlib.Core.Bool.{Bool, true, false, true≢false, not}
 use lib.Dec.{eqb}
 use lib.ListN.{length, getD, take, drop, set, length-append, length-map, take-append-drop}
 use lib.Seq.{split-at, set-split}
-use borrow.Author.Tests.{ltb-true, lt-ltb, le-ltb, eqb-true, eqb-false, ne-eqb}
+use borrow.Author.Tests.{not-true, ltb-true, lt-ltb, le-ltb, eqb-true, eqb-false, ne-eqb}
 use Rattle.rules.specs.declared.Side.{Side}
 use Rattle.rules.specs.declared.Order.{Order}
 use Rattle.rules.specs.declared.Millis.{Millis}
 use Rattle.rules.specs.declared.Steps.{Steps}
 use Rattle.rules.specs.declared.Contracts.{Contracts}
 use Rattle.rules.specs.declared.Event.{Event}
-use Rattle.rules.specs.declared.Event.the-variants.{Add, Amend, Cancel, Deal, Tick}
+use Rattle.rules.specs.declared.Event.the-variants.{Add, Amend, Cancel, Deal}
 use Rattle.rules.specs.Lists.{if_then_else_, keep, any}
 use Rattle.rules.specs.Units.{contracts}
 use Rattle.rules.specs.Orders.{hasId, isLive, left, amendedOrder, lessenedOrder, somethingLeft, apply, applyAll, live, timeOf, timeFrom, present}
 use Rattle.rules.specs.Bounds.{Distinct}
 use Rattle.rules.proofs.Lists.{keep-append, keep-skip, keep-one, kept-in}
-use Rattle.rules.proofs.Members.{or-false, any-append, any-none, none-any, any-some, some-any, any-keep, length-keep, keep-all, map-same, getD-in, in-getD}
+use Rattle.rules.proofs.Members.{or-false, any-append, none-any, some-any, any-keep, length-keep, keep-all, map-same, getD-in}
 
 -- ---- one more event
-
-pub live-none : live [] ≡ []
-unfolding live applyAll
-live-none = refl
-
-pub present-none : present [] ≡ 0
-unfolding present timeFrom
-present-none = refl
 
 applyAll-snoc : (os : List Order) (es : List Event) (e : Event) → applyAll os (es ++ (e ∷ [])) ≡ apply (applyAll os es) e
 unfolding applyAll
@@ -60,13 +52,6 @@ module _ (id : ℕ) (price : Steps) (volume : Contracts) (o : Order) where
   amended-id = go (hasId id o)
     where
       go : (b : Bool) → (if b then record { id = o .id; side = o .side; price = price; volume = volume } else o) .id ≡ o .id
-      go true = refl
-      go false = refl
-
-  pub amended-side : amendedOrder id price volume o .side ≡ o .side
-  amended-side = go (hasId id o)
-    where
-      go : (b : Bool) → (if b then record { id = o .id; side = o .side; price = price; volume = volume } else o) .side ≡ o .side
       go true = refl
       go false = refl
 
@@ -98,14 +83,6 @@ module _ (id volume : ℕ) (o : Order) where
     where
       go : (b : Bool)
           → (if b then record { id = o .id; side = o .side; price = o .price; volume = contracts (o .volume .0 - volume) } else o) .id ≡ o .id
-      go true = refl
-      go false = refl
-
-  pub lessened-side : lessenedOrder id volume o .side ≡ o .side
-  lessened-side = go (hasId id o)
-    where
-      go : (b : Bool)
-          → (if b then record { id = o .id; side = o .side; price = o .price; volume = contracts (o .volume .0 - volume) } else o) .side ≡ o .side
       go true = refl
       go false = refl
 
@@ -189,10 +166,6 @@ module _ (os : List Order) (t : Millis) (id : ℕ) where
     unfolding apply
     length-amend = length-map os (amendedOrder id price volume)
 
-    pub isLive-amend : (n : ℕ) → isLive n (apply os (Amend t id price volume)) ≡ isLive n os
-    unfolding apply
-    isLive-amend n = isLive-map (amendedOrder id price volume) (amended-id id price volume) n os
-
     pub distinct-amend : Distinct os → Distinct (apply os (Amend t id price volume))
     unfolding apply
     distinct-amend d = distinct-map (amendedOrder id price volume) (amended-id id price volume) os d
@@ -218,14 +191,6 @@ module _ (os : List Order) (t : Millis) (id : ℕ) where
   in-cancel o m =
       let (k, e) = kept-in (λ (o : Order). not (hasId id o)) os m in
       (k, not-true (hasId id o) e)
-    where
-      not-true : (b : Bool) → not b ≡ true → b ≡ false
-      not-true true e = sym e
-      not-true false e = refl
-
-  pub isLive-cancel : isLive id (apply os (Cancel t id)) ≡ false
-  unfolding isLive
-  isLive-cancel = any-none (hasId id) (apply os (Cancel t id)) (λ o m. in-cancel o m .1)
 
   module _ (volume : Contracts) where
     pub length-deal : length (apply os (Deal t id volume)) ≤ length os
@@ -255,28 +220,12 @@ module _ (os : List Order) (t : Millis) (id : ℕ) where
         let more : 1 ≤ lessenedOrder id (volume .0) w .volume .0 = rw e l in
         subst P e (h w k more)
 
-pub apply-tick : (os : List Order) (t : Millis) → apply os (Tick t) ≡ os
-unfolding apply
-apply-tick os t = refl
-
 -- ---- by position, where the ids are all different
 
--- the id is live exactly where it stands at a position
+-- the id is live where it stands at a position
 pub live-at : (id : ℕ) (os : List Order) (k : ℕ) (z : Order) → k < length os → hasId id (getD os k z) ≡ true → isLive id os ≡ true
 unfolding isLive
 live-at id os k z h e = some-any (hasId id) (getD-in os k z h) e
-
-pub at-live : (id : ℕ) (os : List Order) (z : Order) → isLive id os ≡ true → (k : ℕ) × (k < length os) × (hasId id (getD os k z) ≡ true)
-unfolding isLive
-at-live id os z e =
-    let (o, m, f) = any-some (hasId id) os e in
-    let (k, h, g) = in-getD z m in
-    (k, h, ap (hasId id) g ∙ f)
-
-pub not-live : (id : ℕ) (os : List Order) (z : Order) → ((k : ℕ) → k < length os → hasId id (getD os k z) ≡ false) → isLive id os ≡ false
-unfolding isLive
-not-live id os z h =
-    any-none (hasId id) os (λ o m. let (k, l, e) = in-getD z m in sym (ap (hasId id) e) ∙ h k l)
 
 -- no order before it and none after it has its id
 pub alone : (id : ℕ) (os : List Order) (k : ℕ) (z : Order) → Distinct os → k < length os → hasId id (getD os k z) ≡ true

@@ -19,6 +19,7 @@ use Rattle.rules.specs.Answers.{accepted, refused}
 use Rattle.rules.specs.Records.{wordAt, wordBytes, signedOf, unsignedOf, Fields, fields, eventFields, fieldBytes, recordOf, fieldsOf, eventOf, unusedZero, paddingZero, goodRecord, readRecord}
 use Rattle.rules.specs.Widths.{Word, SignedWord, Fits, Bytes}
 use Rattle.rules.proofs.Lists.{both, and}
+use Rattle.rules.proofs.Answers.{not-refused}
 
 -- ---- words and their bytes
 
@@ -83,7 +84,7 @@ record Words (f : Fields) : Type 0 where
   price : Word (f .price)
   volume : Word (f .volume)
 
-unsigned-fits : (z : ℤ) → SignedWord z → Word (unsignedOf z)
+pub unsigned-fits : (z : ℤ) → SignedWord z → Word (unsignedOf z)
 unfolding unsignedOf
 unsigned-fits (pos n) h = omega arith
 unsigned-fits (negsuc n) h = omega arith
@@ -251,13 +252,10 @@ good-back : (bytes : List ℕ) → Bytes bytes → length bytes ≡ 20 → Good 
 unfolding recordOf
 good-back bytes all h g = ap fieldBytes (said-back bytes all g) ∙ record-back bytes all h (g .padding)
 
-not-both : {e : Event} {n : ℕ} → refused n ≡ accepted e → ⊥
-not-both r = let z : _≡_ {A = ℕ} 0 1 = cc in omega arith
-
 by-test : (bytes : List ℕ) (e : Event) (b : Bool) → goodRecord bytes ≡ b
     → (if b then accepted (eventOf (fieldsOf bytes)) else refused 15) ≡ accepted e → Good bytes × (eventOf (fieldsOf bytes) ≡ e)
 by-test bytes e true g r = (good bytes g, cc)
-by-test bytes e false g r = absurd (not-both r)
+by-test bytes e false g r = absurd (not-refused e 15 (sym r))
 
 accepted-good : (bytes : List ℕ) (e : Event) → readRecord bytes ≡ accepted e → Good bytes × (eventOf (fieldsOf bytes) ≡ e)
 unfolding readRecord

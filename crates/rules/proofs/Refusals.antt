@@ -3,7 +3,7 @@
 use Prim.Native.Nat.{ℕ, suc, _≤_, _<_}
 use native.Mathlib.Omega.{arith}
 use mathlib.Core.Path.{_≡_, refl, ap}
-use mathlib.Core.List.{List, [], _∷_, _++_}
+use mathlib.Core.List.{List, [], _∷_}
 use mathlib.Core.Bool.{Bool, true, false, true≢false, not, _&&_}
 use lib.Dec.{leb, eqb}
 use lib.ListN.{length}
@@ -45,18 +45,6 @@ pub passed : (n : ℕ) (b : Bool) (cs : List Cause) → lowest (cause (suc n) b 
 unfolding lowest
 passed n true cs h = absurd (omega arith)
 passed n false cs h = (refl, h)
-
--- for a list not written out
-abbrev pub NoneApplies : List Cause → Type 0
-NoneApplies [] = Unit
-NoneApplies (c ∷ cs) = (c .applies ≡ false) × NoneApplies cs
-
-pub lowest-after : (cs ds : List Cause) → NoneApplies cs → lowest (cs ++ ds) ≡ lowest ds
-lowest-after [] ds h = refl
-lowest-after (c ∷ cs) ds h = skip (c .number) (cs ++ ds) (h .0) (lowest-after cs ds (h .1))
-
-pub lowest-at : (cs : List Cause) (n : ℕ) (b : Bool) (ds : List Cause) → NoneApplies cs → b ≡ true → lowest (cs ++ (cause n b ∷ ds)) ≡ n
-lowest-at cs n b ds h e = rw (lowest-after cs (cause n b ∷ ds) h) (stop n ds e)
 
 -- ---- tests
 

@@ -1,10 +1,10 @@
 -- The stretches of a test below a bound, for any test: what they are, that no other list is that, and how they grow. Assumes nothing.
 use Prim.Native.Nat.{ℕ, zero, suc, _+_, _*_, _≤_, _<_}
 use native.Mathlib.Omega.{arith}
-use lib.ListN.{length, set}
+use lib.ListN.{length}
 use mathlib.Core.Path.{_≡_, refl, sym, ap, _∙_}
-use mathlib.Core.List.{List, [], _∷_, _++_, map, List·Memᴰ, List·Memᴰ·head, List·Memᴰ·tail, List·Memᴰ·not-nil}
-use mathlib.Core.Bool.{Bool, true, false, true≢false, false≢true, not, _&&_, _||_}
+use mathlib.Core.List.{List, [], _∷_, _++_, map}
+use mathlib.Core.Bool.{Bool, true, false, true≢false, false≢true, _&&_, _||_, and-false, or-assoc}
 use lib.Dec.{leb, ltb, eqb}
 use lib.IntN.{ℤ}
 use borrow.Author.Tests.{le-leb, lt-leb, leb-true, leb-false, lt-ltb, le-ltb, ltb-true, ltb-false, eq-eqb, ne-eqb, eqb-true, eqb-false}
@@ -91,11 +91,7 @@ module _ (m : ℕ) (s : Stretch) where
   holds-before h = rw (lt-leb (s .offset) m h) refl
 
   holds-past : end s ≤ m → holds m s ≡ false
-  holds-past h = rw (le-ltb m (end s) h) (nothing (leb (s .offset) m))
-    where
-      nothing : (b : Bool) → b && false ≡ false
-      nothing true = refl
-      nothing false = refl
+  holds-past h = rw (le-ltb m (end s) h) (and-false (leb (s .offset) m))
 
 holds-one : (m n : ℕ) → holds m (stretch n 1) ≡ eqb m n
 holds-one m n = go (eqb m n) (ltb m n) refl refl
@@ -121,10 +117,6 @@ or-swap : (a b c : Bool) → a || (b || c) ≡ b || (a || c)
 or-swap true true c = refl
 or-swap true false c = refl
 or-swap false b c = refl
-
-or-assoc : (a b c : Bool) → (a || b) || c ≡ a || (b || c)
-or-assoc true b c = refl
-or-assoc false b c = refl
 
 joined-covers : (m n : ℕ) (s : Stretch) (b : Bool) → eqb (end s) n ≡ b
     → any (holds m) (if b then stretch (s .offset) (s .length + 1) ∷ [] else s ∷ stretch n 1 ∷ []) ≡ eqb m n || (holds m s || false)
@@ -256,9 +248,6 @@ runs-only p n ss h =
     let r = stretches-run p n in
     apart-same 0 ss (stretches p n) (h .apart) (r .apart) (λ m. h .covered m ∙ sym (r .covered m))
 
-pub runs-same : (p : ℕ → Bool) (n : ℕ) (ss ts : List Stretch) → Runs p n ss → Runs p n ts → ss ≡ ts
-runs-same p n ss ts h k = runs-only p n ss h ∙ sym (runs-only p n ts k)
-
 -- ---- by whole pieces
 
 -- a piece on which nothing passes
@@ -373,12 +362,6 @@ extended-last a d [] s = refl
 extended-last a d (x ∷ []) s = refl
 extended-last a d (x ∷ y ∷ ss) s = ap {B = List Stretch} (λ l. x ∷ l) (extended-last a d (y ∷ ss) s)
 
-pub ends-last : (a : ℕ) (ss : List Stretch) (s : Stretch) → endsAt a (ss ++ (s ∷ [])) ≡ eqb (end s) a
-unfolding endsAt
-ends-last a [] s = refl
-ends-last a (x ∷ []) s = refl
-ends-last a (x ∷ y ∷ ss) s = ends-last a (y ∷ ss) s
-
 pub extended-longer : (a d : ℕ) (ss : List Stretch) (s : Stretch) → end s ≡ a
     → extended a d (ss ++ (s ∷ [])) ≡ ss ++ (stretch (s .offset) (s .length + d) ∷ [])
 extended-longer a d ss s e = rw (extended-last a d ss s, eq-eqb (end s) a e) refl
@@ -410,33 +393,6 @@ module _ (p : ℕ → Bool) (a d : ℕ) (l : 1 ≤ d) (h : (m : ℕ) → a ≤ m
 
 -- ---- how many
 
-pub extended-length : (a d : ℕ) (ss : List Stretch) → length (extended a d ss) ≡ length ss + (if endsAt a ss then 0 else 1)
-unfolding extended endsAt
-extended-length a d [] = refl
-extended-length a d (s ∷ []) = go (eqb (end s) a)
-  where
-    go : (b : Bool) → length (if b then stretch (s .offset) (s .length + d) ∷ [] else s ∷ stretch a d ∷ []) ≡ 1 + (if b then 0 else 1)
-    go true = refl
-    go false = refl
-extended-length a d (s ∷ t ∷ ss) = let ih = extended-length a d (t ∷ ss) in omega arith
-
--- a piece adds one if all pass on it and the number right before it does not
-pub length-piece : (p : ℕ → Bool) (a d : ℕ) (b : Bool) → 1 ≤ d → ((m : ℕ) → a ≤ m → m < a + d → p m ≡ b)
-    → length (stretches p (a + d)) ≡ length (stretches p a) + (if b && not (before p a) then 1 else 0)
-length-piece p a d true l h =
-    ap length (stretches-true p a d l h) ∙ extended-length a d (stretches p a) ∙ rw (stretches-ends p a) (go (before p a))
-  where
-    go : (b : Bool) → length (stretches p a) + (if b then 0 else 1) ≡ length (stretches p a) + (if not b then 1 else 0)
-    go true = refl
-    go false = refl
-length-piece p a d false l h = ap length (stretches-false p a d h) ∙ omega arith
-
-pub length-next : (p : ℕ → Bool) (n : ℕ)
-    → length (stretches p (suc n)) ≡ length (stretches p n) + (if p n && not (before p n) then 1 else 0)
-length-next p n =
-    let to : suc n ≡ n + 1 = omega arith in
-    rw to (length-piece p n 1 (p n) (omega arith) (λ m l u. ap p (omega arith)))
-
 -- each but the last takes two numbers at least
 apart-few : (a n : ℕ) (ss : List Stretch) → a ≤ n + 1 → Apart a ss → Inside n ss → a + 2 * length ss ≤ n + 1
 apart-few a n [] l h i = omega arith
@@ -459,26 +415,6 @@ pub pairWords-length : (ss : List Stretch) → length (pairWords ss) ≡ 2 * len
 unfolding pairWords
 pairWords-length [] = refl
 pairWords-length (s ∷ ss) = let ih = pairWords-length ss in omega arith
-
--- the last length, written over
-pub pairWords-set : (ss : List Stretch) (o k l : ℕ)
-    → set (pairWords (ss ++ (stretch o k ∷ []))) (2 * length ss + 1) l ≡ pairWords (ss ++ (stretch o l ∷ []))
-unfolding pairWords
-pairWords-set [] o k l = refl
-pairWords-set (s ∷ ss) o k l =
-    let to : 2 * suc (length ss) + 1 ≡ suc (suc (2 * length ss + 1)) = omega arith in
-    rw (to, pairWords-set ss o k l) refl
-
--- each word fits where n does
-inside-words : (n : ℕ) (ss : List Stretch) → Inside n ss → (w : ℕ) → List·Memᴰ w (pairWords ss) → w ≤ n
-unfolding pairWords
-inside-words n [] i w h = absurd (List·Memᴰ·not-nil h)
-inside-words n (s ∷ ss) i w (List·Memᴰ·head e) = omega arith
-inside-words n (s ∷ ss) i w (List·Memᴰ·tail (List·Memᴰ·head e)) = omega arith
-inside-words n (s ∷ ss) i w (List·Memᴰ·tail (List·Memᴰ·tail h)) = inside-words n ss (i .1) w h
-
-pub stretches-words : (p : ℕ → Bool) (n w : ℕ) → List·Memᴰ w (pairWords (stretches p n)) → w ≤ n
-stretches-words p n w h = inside-words n (stretches p n) (stretches-run p n .inside) w h
 
 -- ---- the kept ones
 

@@ -3,7 +3,6 @@
 use Prim.Native.Nat.{ℕ, zero, suc}
 use Rattle.rules.specs.declared.Row.{Row}
 use Rattle.rules.specs.declared.Event.{Event}
-use Rattle.rules.specs.declared.Millis.{Millis}
 use Rattle.rules.specs.declared.Refusal.{Refusal}
 use Rattle.rules.specs.declared.Refusal.the-variants.{RowNotSevenWords, RowWordOutOfRange, ArgumentOutOfRange, CellFilled, CellBlank, QuantumOpen, NoQuantumOpen, TimeBackwards, TimePastEnd, IdLive, IdNotLive, PriceOrVolumeOutOfRange, TooManyOrders, DealAboveLeft, BadRecord, BufferShort}
 use Rattle.rules.specs.declared.CellView.{CellView}

@@ -1,11 +1,10 @@
 -- Document 01, "Event records and the session run": the session run, by the plain book.
 use Prim.Native.Nat.{ℕ, zero, suc, _+_, _*_, _/_}
 use mathlib.Core.List.{List, [], _∷_, _++_, map}
-use mathlib.Core.Bool.{Bool, true, false}
+use mathlib.Core.Bool.{Bool}
 use lib.Dec.{ltb, eqb}
 use lib.ListN.{length, take, drop}
 use Rattle.rules.specs.declared.Steps.{Steps}
-use Rattle.rules.specs.declared.Cell.{Cell}
 use Rattle.rules.specs.declared.Event.{Event}
 use Rattle.rules.specs.Lists.{if_then_else_, below}
 use Rattle.rules.specs.Terms.{Terms}
@@ -15,7 +14,7 @@ use Rattle.rules.specs.Cells.{placeOf, cellAt}
 use Rattle.rules.specs.Stretches.{Stretch, keptStretches, pairWords}
 use Rattle.rules.specs.Pay.{cellWeight}
 use Rattle.rules.specs.Answers.{Outcome, accepted, refused, Ran, finished, stopped}
-use Rattle.rules.specs.Book.{Call, Open, Send, Close, Running, Idle, Quoting, Book, freshBook, refusalOf, step}
+use Rattle.rules.specs.Book.{Open, Send, Close, Running, Idle, Quoting, Book, freshBook, refusalOf, step}
 use Rattle.rules.specs.Records.{wordAt, signedOf, readRecord}
 
 -- "A run takes at most 4,000,000 records"; the program `sheet` "1,600 records at most"

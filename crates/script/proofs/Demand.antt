@@ -1,7 +1,7 @@
 -- Demand 3 about running code: whatever the list of calls, what `script::run` promises of its answer makes each later answer the one
 -- that the plain book gives after that list. Assumes nothing.
 use Prim.Native.Nat.{ℕ, _≤_}
-use mathlib.Core.Path.{_≡_, refl, sym, ap, _∙_}
+use mathlib.Core.Path.{_≡_, refl, ap, _∙_}
 use mathlib.Core.List.{List, [], _++_}
 use mathlib.Core.Bool.{Bool, true}
 use borrow.Author.Tests.{le-leb}

@@ -1,9 +1,8 @@
 -- Every list of calls can be written: the calls read from the words of a list are that list, and all its words are read. Assumes nothing.
-use Prim.Native.Nat.{ℕ, zero, suc, _+_, _-_, _*_, _/_, _%_, _≤_, _<_}
+use Prim.Native.Nat.{ℕ, zero, suc, _+_, _*_, _<_}
 use native.Mathlib.Omega.{arith}
 use mathlib.Core.Path.{_≡_, refl, sym, ap, _∙_}
 use mathlib.Core.List.{List, [], _∷_, _++_, append-assoc}
-use lib.IntN.{ℤ, pos, negsuc}
 use lib.ListN.{length, getD, take, drop, length-append}
 use lib.Seq.{take-at, getD-append-add, drop-append-seam}
 use Rattle.rules.specs.declared.Side.{Side}
@@ -12,11 +11,11 @@ use Rattle.rules.specs.declared.Kopecks.{Kopecks}
 use Rattle.rules.specs.declared.Event.{Event}
 use Rattle.rules.specs.declared.Event.the-variants.{Add, Amend, Cancel, Deal, Tick}
 use Rattle.rules.specs.Units.{steps, kopecks}
-use Rattle.rules.specs.Records.{signedOf, unsignedOf}
-use Rattle.rules.specs.Widths.{Word, SignedWord, Fits}
+use Rattle.rules.specs.Records.{unsignedOf}
+use Rattle.rules.specs.Widths.{Word, Fits}
 use Rattle.rules.specs.Book.{Call, Open, Send, Close, Drop, Charge, Withdraw, Look, Report}
-use Rattle.rules.proofs.Records.{signed-unsigned}
-use Rattle.script.specs.Words.{word, fixedDue, addDue, due, dueAt, blockSize, callOf, callsOf, wordsRead, sideWord, eventWords, low, high, wordsOf, scriptOf, Words, Wide, CallFits, AllFit}
+use Rattle.rules.proofs.Records.{signed-unsigned, unsigned-fits}
+use Rattle.script.specs.Words.{fixedDue, addDue, due, dueAt, blockSize, callOf, callsOf, wordsRead, sideWord, eventWords, low, high, wordsOf, scriptOf, Words, Wide, CallFits, AllFit}
 use Rattle.script.proofs.Reading.{whole, short, calls-none, calls-more, words-none, words-more}
 
 -- ---- the size
@@ -166,11 +165,6 @@ joined : (xs ys : List ℕ) → Words xs → Fine ys → Fine (xs ++ ys)
 joined [] ys h k = k
 joined (x ∷ xs) ys h k = put (h 0) (joined xs ys (λ i. h (suc i)) k)
 
-word-unsigned : (z : ℤ) → SignedWord z → Word (unsignedOf z)
-unfolding unsignedOf
-word-unsigned (pos n) h = omega arith
-word-unsigned (negsuc n) h = omega arith
-
 side-fits : (side : Side) → Word (sideWord side)
 side-fits Buy = omega arith
 side-fits Sell = omega arith
@@ -181,9 +175,9 @@ charge-words h w = put (omega arith) (put (omega arith) w)
 event-fits : (e : Event) → Fits e → Fine (eventWords e)
 unfolding eventWords
 event-fits (Add t id side price volume) h =
-    put (omega arith) (put (h .0) (put (h .1) (put (side-fits side) (put (word-unsigned (price .0) (h .2)) (put (h .3) none)))))
+    put (omega arith) (put (h .0) (put (h .1) (put (side-fits side) (put (unsigned-fits (price .0) (h .2)) (put (h .3) none)))))
 event-fits (Amend t id price volume) h =
-    put (omega arith) (put (h .0) (put (h .1) (put (word-unsigned (price .0) (h .2)) (put (h .3) none))))
+    put (omega arith) (put (h .0) (put (h .1) (put (unsigned-fits (price .0) (h .2)) (put (h .3) none))))
 event-fits (Cancel t id) h = put (omega arith) (put (h .0) (put (h .1) none))
 event-fits (Deal t id volume) h = put (omega arith) (put (h .0) (put (h .1) (put (h .2) none)))
 event-fits (Tick t) h = put (omega arith) (put h none)
@@ -191,7 +185,7 @@ event-fits (Tick t) h = put (omega arith) (put h none)
 call-fits : (c : Call) → CallFits c → Fine (wordsOf c)
 unfolding wordsOf
 call-fits (Open words day sp) h =
-    put (omega arith) (put (h .0) (joined words (day ∷ unsignedOf (sp .0) ∷ []) (h .1) (put (h .2) (put (word-unsigned (sp .0) (h .3)) none))))
+    put (omega arith) (put (h .0) (joined words (day ∷ unsignedOf (sp .0) ∷ []) (h .1) (put (h .2) (put (unsigned-fits (sp .0) (h .3)) none))))
 call-fits (Send e) h = event-fits e h
 call-fits (Close active passive) h = put (omega arith) (charge-words (h .0) (charge-words (h .1) none))
 call-fits Drop h = put (omega arith) none

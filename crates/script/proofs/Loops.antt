@@ -1,12 +1,11 @@
 -- A loop over the blocks of a list of words: what is known after so many calls and words. Assumes nothing.
-use Prim.Native.Nat.{ℕ, zero, suc, _+_, _-_, _≤_, _<_}
+use Prim.Native.Nat.{ℕ, suc, _+_, _-_, _≤_, _<_}
 use native.Mathlib.Omega.{arith}
 use mathlib.Core.Path.{_≡_, refl, sym, ap, _∙_}
-use mathlib.Core.List.{List, [], _∷_, _++_}
-use lib.ListN.{length, getD, take, drop, length-drop}
+use mathlib.Core.List.{List, [], _∷_}
+use lib.ListN.{length, drop, length-drop}
 use lib.Seq.{drop-drop}
-use Rattle.rules.specs.Book.{Call, Report}
-use Rattle.script.specs.declared.Measured.{Measured}
+use Rattle.rules.specs.Book.{Call}
 use Rattle.script.specs.Words.{blockSize, callOf, callsOf, wordsRead}
 use Rattle.script.specs.Measures.{Measures}
 use Rattle.script.proofs.Reading.{size-fits, calls-none, calls-more, words-none, words-more}

@@ -1,15 +1,14 @@
 -- Laws of reading a list of words, block by block. Assumes nothing.
-use Prim.Native.Nat.{ℕ, zero, suc, _+_, _-_, _≤_, _<_}
+use Prim.Native.Nat.{ℕ, zero, suc, _+_, _≤_, _<_}
 use native.Mathlib.Omega.{arith}
 use mathlib.Core.Path.{_≡_, refl, sym, ap, _∙_}
-use mathlib.Core.List.{List, [], _∷_, _++_}
+use mathlib.Core.List.{List, [], _∷_}
 use mathlib.Core.Bool.{Bool, true, false}
-use borrow.Author.Tests.{le-leb, lt-leb, leb-true, leb-false, eq-eqb, ne-eqb, eqb-true, eqb-false}
+use borrow.Author.Tests.{le-leb, lt-leb, leb-true, eq-eqb, ne-eqb, eqb-true, eqb-false}
 use lib.Dec.{leb, eqb}
-use lib.ListN.{length, getD, take, drop, length-drop}
+use lib.ListN.{length, drop, length-drop}
 use Rattle.rules.specs.Lists.{if_then_else_}
-use Rattle.rules.specs.Book.{Call}
-use Rattle.script.specs.Words.{word, due, dueAt, blockSize, callOf, callsFrom, wordsFrom, callsOf, wordsRead}
+use Rattle.script.specs.Words.{dueAt, blockSize, callOf, callsFrom, wordsFrom, callsOf, wordsRead}
 
 -- ---- a block's size
 

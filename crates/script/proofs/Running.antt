@@ -16,7 +16,7 @@ use Rattle.month.specs.Represents.{monthOf, Reached}
 use Rattle.script.specs.declared.Done.{Done}
 use Rattle.script.specs.declared.Shown.{Shown}
 use Rattle.script.specs.declared.Measured.{Measured}
-use Rattle.script.specs.Words.{blockSize, callOf, callsOf, wordsRead, outcomesFrom, outcomesOf}
+use Rattle.script.specs.Words.{blockSize, callOf, callsOf, outcomesFrom, outcomesOf}
 use Rattle.script.specs.Measures.{Measures}
 use Rattle.script.specs.Blocks.{shownOf, outcomeNumber, Stepped}
 use Rattle.script.specs.Runs.{Runs}
@@ -26,8 +26,8 @@ use Rattle.script.proofs.Outcomes.{outcomes-more, outcomes-length}
 -- ---- lists
 
 -- one more of a list, where it goes on with that element
-more : {A : Type 0} (l : List A) (k : ℕ) (a : A) (rest : List A) → drop k l ≡ a ∷ rest → take (k + 1) l ≡ take k l ++ (a ∷ [])
-more l k a rest e = take-add k 1 l ∙ ap (λ t. take k l ++ take 1 t) e
+take-more : {A : Type 0} (l : List A) (k : ℕ) (a : A) (rest : List A) → drop k l ≡ a ∷ rest → take (k + 1) l ≡ take k l ++ (a ∷ [])
+take-more l k a rest e = take-add k 1 l ∙ ap (λ t. take k l ++ take 1 t) e
 
 -- an element in place of the first one behind a front
 replaced : (front l : List ℕ) (k n : ℕ) → length front ≡ k → k < length l → set (front ++ drop k l) k n ≡ (front ++ (n ∷ [])) ++ drop (k + 1) l
@@ -104,7 +104,7 @@ module _ (ws before out : List ℕ) (month : Month) (at k : ℕ) (g : Ongoing ws
     next = next-call ws k at size (g .passed) is-more
 
     longer : take (k + 1) (callsOf ws) ≡ take k (callsOf ws) ++ (callOf (drop at ws) ∷ [])
-    longer = more (callsOf ws) k (callOf (drop at ws)) (callsOf (drop (at + size) ws)) next
+    longer = take-more (callsOf ws) k (callOf (drop at ws)) (callsOf (drop (at + size) ws)) next
 
     passed-on : Passed ws (k + 1) (r .next) (blockSize (drop (r .next) ws))
     passed-on =

@@ -5,7 +5,7 @@ use mathlib.Core.Path.{_≡_, refl, sym, ap, _∙_}
 use mathlib.Core.List.{List}
 use mathlib.Core.Bool.{Bool, true, false}
 use borrow.Author.Tests.{ne-eqb, leb-true, leb-false}
-use lib.Dec.{leb, eqb}
+use lib.Dec.{leb}
 use lib.ListN.{length, getD, take, drop}
 use Rattle.rules.specs.declared.Side.{Side}
 use Rattle.rules.specs.declared.Side.the-variants.{Buy, Sell}
@@ -14,8 +14,8 @@ use Rattle.rules.specs.declared.Kopecks.{Kopecks}
 use Rattle.rules.specs.declared.Event.the-variants.{Add, Amend, Cancel, Deal, Tick}
 use Rattle.rules.specs.Lists.{if_then_else_}
 use Rattle.rules.specs.Units.{millis, contracts, kopecks}
-use Rattle.rules.specs.Book.{Call, Open, Send, Close, Drop, Charge, Withdraw, Look, Report}
-use Rattle.script.specs.Words.{word, due, dueAt, blockSize, stepsAt, chargeAt, sideOf, callOf}
+use Rattle.rules.specs.Book.{Open, Send, Close, Drop, Charge, Withdraw, Look, Report}
+use Rattle.script.specs.Words.{due, dueAt, blockSize, stepsAt, chargeAt, sideOf, callOf}
 use Rattle.script.proofs.Sizes.{other-kind, other-due}
 
 -- ---- a block of some size

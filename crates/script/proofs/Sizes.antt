@@ -1,13 +1,12 @@
 -- The size of a block by its kind, case by case. Assumes nothing.
-use Prim.Native.Nat.{ℕ, _+_, _-_, _≤_, _<_}
+use Prim.Native.Nat.{ℕ, _+_, _-_, _≤_}
 use native.Mathlib.Omega.{arith}
-use mathlib.Core.Path.{_≡_, refl, sym, ap, _∙_}
+use mathlib.Core.Path.{_≡_, refl, sym, _∙_}
 use mathlib.Core.List.{List}
 use borrow.Author.Tests.{ne-eqb}
 use lib.ListN.{length, getD, take, drop, length-drop, List·getD-eq-default}
 use lib.Seq.{take-all}
-use Rattle.script.specs.Words.{word, fixedDue, addDue, due, dueAt, blockSize}
-use Rattle.script.proofs.Reading.{whole, cut}
+use Rattle.script.specs.Words.{fixedDue, addDue, due, dueAt}
 
 -- past the end of the words
 pub no-word : (ws : List ℕ) (i : ℕ) → length ws ≤ i → 0 ≡ getD ws i 0

@@ -2,7 +2,7 @@
 ghost use mathlib.Core.Path.{_≡_};
 ghost use Prim.Native.Nat.{_+_, _≤_, _<_};
 ghost use lib.ListN.{length, getD, drop};
-ghost use Rattle.rules.specs.Answers.{shownAnswer, shownLooked, shownReport};
+ghost use Rattle.rules.specs.Answers.{shownAnswer, shownLooked};
 ghost use Rattle.month.specs.Represents.{Reached, Answered};
 ghost use Rattle.script.specs.Words.{fixedDue, addDue, due, blockSize, stepsAt, chargeAt, sideOf, callOf};
 ghost use Rattle.script.specs.Measures.{Measures};

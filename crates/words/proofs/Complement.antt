@@ -63,7 +63,7 @@ not-negative (pos n) h t = (tt, record { fits = let k : n < 4294967296 = omega a
 not-negative (negsuc n) h t = absurd (false≢true t)
 
 pub up-cast : (x : ℤ) → mag x < 2147483648 → leZ (pos 0) (again x) ≡ true → T (nonNeg (again x)) × Fits w32 (natAbs (again x))
-up-cast x f t = rw (same x f) (not-negative x (f) (same-test x f t))
+up-cast x f t = rw (same x f) (not-negative x f (same-test x f t))
 
 up-is : (x : ℤ) → leZ (pos 0) x ≡ true → natAbs x ≡ unsignedOf x
 unfolding unsignedOf
@@ -74,16 +74,16 @@ pub up : (x : ℤ) → mag x < 2147483648 → leZ (pos 0) (again x) ≡ true →
 up x f t = ap natAbs (same x f) ∙ up-is x (same-test x f t)
 
 -- a negative price, by way of -1 - x
-never : (n : ℕ) → leb 0 n ≡ false → ⊥
-never n t = let h : n < 0 = leb-false 0 n t in omega arith
+zero-least : (n : ℕ) → leb 0 n ≡ false → ⊥
+zero-least n t = let h : n < 0 = leb-false 0 n t in omega arith
 
 turned : (x : ℤ) → leZ (pos 0) x ≡ false → negsuc 0 -ℤ x ≡ pos (mag x)
-turned (pos n) t = absurd (never n t)
+turned (pos n) t = absurd (zero-least n t)
 turned (negsuc n) t = minus-negsuc n
 
 down-is : (x : ℤ) → leZ (pos 0) x ≡ false → 4294967295 - mag x ≡ unsignedOf x
 unfolding unsignedOf
-down-is (pos n) t = absurd (never n t)
+down-is (pos n) t = absurd (zero-least n t)
 down-is (negsuc n) t = refl
 
 module _ (x : ℤ) (fits : mag x < 2147483648) (negative : leZ (pos 0) (again x) ≡ false) where

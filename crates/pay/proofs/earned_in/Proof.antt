@@ -11,7 +11,8 @@ use Rattle.rules.specs.Lists.{sum}
 use Rattle.rules.specs.Terms.{paper}
 use Rattle.rules.specs.Cells.{blankCell}
 use Rattle.rules.specs.Pay.{earned}
-use Rattle.pay.proofs.Series.{sum-front, in-at}
+use Rattle.rules.proofs.Members.{getD-in}
+use Rattle.pay.proofs.Series.{sum-front}
 use Rattle.pay.proofs.earned_in.Statement.{statement}
 use Rattle.pay.proofs.earned_in.Tie as tie
 
@@ -40,7 +41,7 @@ earned-requires c κs =
     let a = c .before .before .before in
     let i = c .before .before .loop .i in
     let n : length (a .args .t1) ≡ 186 = long a in
-    a .pre (getD (a .args .t1) i blankCell) (in-at (a .args .t1) i blankCell (omega arith))
+    a .pre (getD (a .args .t1) i blankCell) (getD-in (a .args .t1) i blankCell (omega arith))
 
 add-total : tie.Need-add-total Inv-loop μ-loop
 add-total c = omega arith

@@ -2,7 +2,6 @@
 -- number of words left. Assumes nothing.
 use Prim.Native.Nat.{_-_}
 use native.Mathlib.Omega.{arith}
-use borrow.Author.Needs.{needs}
 use lib.ListN.{length}
 use Rattle.script.proofs.Loops.{Passed, at-start, one-more, measured}
 use Rattle.script.proofs.measure.Statement.{statement}

@@ -1,6 +1,6 @@
 -- 3, then 5; else the new charges. Assumes nothing.
-use mathlib.Core.Path.{_≡_, refl, ap, sym, subst, _∙_}
-use mathlib.Core.Bool.{Bool, true, false, true≢false, _&&_}
+use mathlib.Core.Path.{_≡_, ap, sym, subst, _∙_}
+use mathlib.Core.Bool.{Bool, true, _&&_, and-false}
 use native.Mathlib.Omega.{arith}
 use borrow.Author.Tests.{not-true, not-false}
 use Rattle.rules.specs.declared.Answer.the-variants.{Accepted, Refused}
@@ -20,14 +20,6 @@ use Rattle.month.proofs.Calls.{charge-range, charge-blank, charge-done}
 use borrow.Author.Needs.{needs}
 use Rattle.month.proofs.Month.charge.Statement.{statement}
 use Rattle.month.proofs.Month.charge.Tie as tie
-
-first-false : (x y : Bool) → x ≡ false → (x && y) ≡ false
-first-false true y h = absurd (true≢false h)
-first-false false y h = refl
-
-second-false : (x y : Bool) → y ≡ false → (x && y) ≡ false
-second-false true y h = h
-second-false false y h = refl
 
 abbrev call : tie.Start → Call
 call s = let a = s .args in Charge (a .day) (a .expiry) (a .quantum) (a .active) (a .passive)
@@ -52,7 +44,8 @@ returns c =
     let a = s .args in
     handed (a .self) (call s) (c .refused .result) (a .self) (Refused ArgumentOutOfRange) (c .refused .ensures)
     (charge-range (a .self) (a .day) (a .expiry) (a .quantum) (a .active) (a .passive)
-    (second-false (goodCell (a .day) (a .expiry) (a .quantum)) (goodCharges paper (a .active) (a .passive)) (sym (c .before .before .both-charges .ensures) ∙ not-true _ (c .before .if1 .taken))))
+    (ap (λ (t : Bool). goodCell (a .day) (a .expiry) (a .quantum) && t) (sym (c .before .before .both-charges .ensures) ∙ not-true _ (c .before .if1 .taken))
+    ∙ and-false (goodCell (a .day) (a .expiry) (a .quantum))))
 
 named-requires : tie.Need-named-requires
 named-requires c κs = search needs
@@ -90,7 +83,7 @@ returns-2 c =
     let a = s .args in
     handed (a .self) (call s) (c .refused2 .result) (a .self) (Refused ArgumentOutOfRange) (c .refused2 .ensures)
     (charge-range (a .self) (a .day) (a .expiry) (a .quantum) (a .active) (a .passive)
-    (first-false (goodCell (a .day) (a .expiry) (a .quantum)) (goodCharges paper (a .active) (a .passive)) (named-out (a .self .cells) (a .day) (a .expiry) (a .quantum) (sym (c .before .before .before .named .ensures) ∙ c .before .enum-told .given .1))))
+    (ap (λ (t : Bool). t && goodCharges paper (a .active) (a .passive)) (named-out (a .self .cells) (a .day) (a .expiry) (a .quantum) (sym (c .before .before .before .named .ensures) ∙ c .before .enum-told .given .1))))
 
 returns-3 : tie.Need-returns-3
 returns-3 c =

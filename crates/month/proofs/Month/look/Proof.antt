@@ -1,5 +1,5 @@
 -- 3, then 5; else the cell as `viewOf` has it. Assumes nothing.
-use mathlib.Core.Path.{_≡_, refl, ap, sym, _∙_}
+use mathlib.Core.Path.{refl, ap, sym, _∙_}
 use Rattle.rules.specs.declared.Cell.{Cell}
 use Rattle.rules.specs.Terms.{paper}
 use Rattle.rules.specs.Pay.{viewOf}

@@ -8,7 +8,6 @@ use Rattle.rules.specs.declared.Answer.the-variants.{Accepted, Refused}
 use Rattle.rules.specs.declared.Cell.{Cell}
 use Rattle.rules.specs.declared.Refusal.the-variants.{ArgumentOutOfRange, CellFilled, QuantumOpen}
 use Rattle.rules.specs.Lists.{within}
-use Rattle.rules.specs.Terms.{paper}
 use Rattle.rules.specs.Units.{goodPrice}
 use Rattle.rules.specs.Cells.{goodCell, placeOf, cellAt}
 use Rattle.rules.specs.Book.{Open}
