@@ -4,13 +4,14 @@ use mathlib.Core.Path.{_≡_, refl, ap, sym, _∙_}
 use mathlib.Core.Bool.{Bool, true, false}
 use mathlib.Core.List.{List, [], _∷_, _++_, append-assoc, append-nil}
 use native.Mathlib.Omega.{arith}
-use lib.ListN.{length, take, drop, set, getD, replicate, length-append, length-replicate, length-set, length-take, length-drop, List·getD-append, take-append-drop, drop-of-length-le}
+use lib.ListN.{length, take, drop, set, getD, replicate, length-append, length-replicate, length-set, length-take, length-drop, List·getD-append, List·getD-eq-default, take-append-drop, drop-of-length-le}
 use lib.Seq.{take-suc, drop-cons, set-append-seam, set-append-left, set-at, take-at, drop-at, take-append-le, drop-append-le, getD-drop, getD-append-add, getD-take}
 use Rattle.rules.specs.declared.Order.{Order}
 use Rattle.rules.specs.Lists.{if_then_else_}
 use Rattle.rules.specs.Orders.{hasId}
+use Rattle.orders.specs.declared.Found.{Found}
 use Rattle.orders.specs.declared.Orders.{Orders}
-use Rattle.orders.specs.Packed.{Packed, packed, padded, blankOrder, positionOf}
+use Rattle.orders.specs.Packed.{Packed, packed, padded, blankOrder, positionOf, foundAt}
 
 -- ---- what a value says of its list
 
@@ -45,7 +46,7 @@ pub front-is : (t : Orders) (live : List Order) → t ≡ packed live → take (
 unfolding packed
 front-is t live is = ap (λ (x : Orders). take (x .count) (x .slots)) is ∙ padded-front live
 
-pub at-is : (t : Orders) (live : List Order) (place : ℕ) → t ≡ packed live → place < t .count
+at-is : (t : Orders) (live : List Order) (place : ℕ) → t ≡ packed live → place < t .count
     → getD (t .slots) place blankOrder ≡ getD live place blankOrder
 unfolding packed padded
 at-is t live place is h =
@@ -234,3 +235,15 @@ passed-all id i count slots k e p =
     let none : drop i (take count slots) ≡ [] = drop-of-length-le (take count slots) {i = i} (omega (arith, length-take count slots)) in
     let z : positionOf id (drop i (take count slots)) ≡ 0 = ap (positionOf id) none in
     omega arith
+
+-- ---- what was found
+
+pub there-is : (t : Orders) (live : List Order) (i place : ℕ) → t ≡ packed live → i < t .count → i ≡ place
+    → _≡_ {A = Found} (record { place = i; order = getD (t .slots) i blankOrder }) (foundAt place live)
+there-is t live i place is h e =
+    λ j. record { place = e j; order = (at-is t live i is h ∙ ap (λ (n : ℕ). getD live n blankOrder) e) j }
+
+pub nowhere-is : (t : Orders) (live : List Order) (o : Order) → t ≡ packed live → o ≡ blankOrder
+    → _≡_ {A = Found} (record { place = t .count; order = o }) (foundAt (length live) live)
+nowhere-is t live o is e =
+    λ j. record { place = count-is t live is j; order = (e ∙ sym (List·getD-eq-default live blankOrder {n = length live} (omega arith))) j }

@@ -3,12 +3,13 @@ use Prim.Native.Nat.{ℕ, zero, suc, _-_, _≤_}
 use mathlib.Core.Path.{_≡_}
 use mathlib.Core.List.{List, [], _∷_, _++_}
 use lib.IntN.{pos}
-use lib.ListN.{length, replicate}
+use lib.ListN.{length, getD, replicate}
 use Rattle.rules.specs.declared.Order.{Order}
 use Rattle.rules.specs.declared.Side.the-variants.{Buy}
 use Rattle.rules.specs.Lists.{if_then_else_}
 use Rattle.rules.specs.Units.{steps, contracts}
 use Rattle.rules.specs.Orders.{hasId}
+use Rattle.orders.specs.declared.Found.{Found}
 use Rattle.orders.specs.declared.Orders.{Orders}
 
 -- what stands in a slot that no live order has
@@ -31,3 +32,7 @@ pub record Packed (orders : Orders) : Type 0 where
 unfoldable pub positionOf : ℕ → List Order → ℕ
 positionOf id [] = zero
 positionOf id (o ∷ os) = let rest = positionOf id os in if hasId id o then zero else suc rest
+
+-- the order at a place, with the place; a blank one behind the last
+abbrev pub foundAt : ℕ → List Order → Found
+foundAt place live = record { place = place; order = getD live place blankOrder }

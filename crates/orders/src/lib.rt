@@ -2,10 +2,10 @@
 ghost use mathlib.Core.Path.{_≡_};
 ghost use mathlib.Core.List.{List, [], _∷_, _++_, List·Memᴰ};
 ghost use Prim.Native.Nat.{ℕ, suc, _<_, _≤_};
-ghost use lib.ListN.{length, take, drop, getD, set};
+ghost use lib.ListN.{length, take, drop, set};
 ghost use Rattle.rules.specs.declared.Order.{Order};
 ghost use Rattle.rules.specs.Quotes as Q;
-ghost use Rattle.orders.specs.Packed.{Packed, packed, blankOrder, positionOf};
+ghost use Rattle.orders.specs.Packed.{Packed, packed, blankOrder, positionOf, foundAt};
 use rules::Contracts;
 use rules::Order;
 use rules::Quote;
@@ -15,6 +15,12 @@ use rules::Steps;
 pub struct Orders {
     count: usize,
     slots: [Order; 64],
+}
+
+// Where an order stands, and the order; where there is none, the number of orders and a blank one.
+pub struct Found {
+    pub place: usize,
+    pub order: Order,
 }
 
 // What stands in a slot that no live order has.
@@ -46,19 +52,10 @@ impl Orders {
         self.count
     }
 
-    // The order at a place.
-    pub fn at(self, place: usize) -> Order
-        requires { ⌜ Packed self × (place < self .count) ⌝ }
-        ensures { λ r. ⌜ ((live : List Order) → self ≡ packed live → r ≡ getD live place blankOrder) ⌝ }
-    {
-        let slots = self.slots;
-        slots[place]
-    }
-
-    // The place of the first order with this id, or the number of orders where there is none.
-    pub fn find(self, id: u32) -> usize
+    // The first order with this id, or none.
+    pub fn find(self, id: u32) -> Found
         requires { ⌜ Packed self ⌝ }
-        ensures { λ r. ⌜ ((live : List Order) → self ≡ packed live → r ≡ positionOf id live) ⌝ }
+        ensures { λ r. ⌜ ((live : List Order) → self ≡ packed live → r ≡ foundAt (positionOf id live) live) ⌝ }
     {
         let slots = self.slots;
         let count = self.count;
@@ -66,11 +63,22 @@ impl Orders {
         while i < count {
             let o = slots[i];
             if o.id == id {
-                return i;
+                return Found { place: i, order: o };
             }
             i += 1;
         }
-        i
+        self.nowhere()
+    }
+
+    // None.
+    pub fn nowhere(self) -> Found
+        ensures { λ r. ⌜ ((live : List Order) → self ≡ packed live → r ≡ foundAt (length live) live) ⌝ }
+    {
+        let b = blank();
+        Found {
+            place: self.count,
+            order: b,
+        }
     }
 
     // One order more, behind the others.

@@ -1,7 +1,7 @@
 -- The answer by the causes: refused by the lowest number or accepted; and a trader's causes when their tests are read off a place and the
 -- number of orders. Assumes nothing.
-use Prim.Native.Nat.{ℕ, suc, _<_}
-use mathlib.Core.Path.{_≡_, sym, ap, _∙_, subst}
+use Prim.Native.Nat.{ℕ, suc}
+use mathlib.Core.Path.{_≡_, sym, ap, _∙_}
 use mathlib.Core.List.{List, [], _∷_}
 use mathlib.Core.Bool.{Bool, not, _&&_}
 use lib.Dec.{ltb, leb}
@@ -19,7 +19,7 @@ use Rattle.rules.specs.Answers.{Outcome, Reply, accepted, refused, done, outcom
 use Rattle.rules.specs.Book.{Cause, cause, lowest, traderCauses}
 use Rattle.rules.proofs.Refusals.{clear}
 use Rattle.orders.specs.Packed.{positionOf, blankOrder}
-use Rattle.quantum.proofs.Position.{position-live, left-there}
+use Rattle.quantum.proofs.Position.{position-live, position-left}
 
 -- ---- the answer
 
@@ -44,13 +44,10 @@ pub good-is : (price : Steps) (volume : Contracts) (p v b : Bool) → b ≡ (p &
     → b ≡ (goodPrice (price .0) && goodVolume (volume .0))
 good-is price volume p v b e f g = e ∙ ap (λ (x : Bool). x && v) f ∙ ap (λ (x : Bool). goodPrice (price .0) && x) g
 
--- what is left stands at the place
-pub left-is : (os : List Order) (id place : ℕ) (o : Order) → o ≡ getD os place blankOrder → place ≡ positionOf id os → place < length os
-    → o .volume .0 ≡ left id os
-left-is os id place o e p h =
-    ap (λ (x : Order). x .volume .0) e
-    ∙ ap (λ (k : ℕ). getD os k blankOrder .volume .0) p
-    ∙ sym (left-there id os (subst (λ (k : ℕ). k < length os) p h))
+pub above-is : (os : List Order) (id volume : ℕ) (o : Order) (b : Bool) → b ≡ ltb (o .volume .0) volume → o ≡ getD os (positionOf id os) blankOrder
+    → b ≡ ltb (left id os) volume
+above-is os id volume o b e is =
+    e ∙ ap (λ (x : Order). ltb (x .volume .0) volume) is ∙ ap (λ (n : ℕ). ltb n volume) (position-left id os)
 
 -- ---- the trader's causes, event by event
 

@@ -30,31 +30,28 @@ use Rattle.rules.proofs.Orders.{left-at, amend-at, cancel-at, deal-some, deal-a
 use Rattle.rules.proofs.Refusals.{trader-passes}
 use Rattle.rules.proofs.Bounds.{volume-bounds}
 use Rattle.rules.proofs.Best.{sided, one-side, stays}
+use Rattle.orders.specs.declared.Found.{Found}
 use Rattle.orders.specs.declared.Orders.{Orders}
-use Rattle.orders.specs.Packed.{Packed, positionOf, blankOrder}
+use Rattle.orders.specs.Packed.{Packed, positionOf, blankOrder, foundAt}
 use Rattle.orders.proofs.Slots.{count-is, front-is}
 use Rattle.quantum.specs.declared.Quotes.{Quotes}
 use Rattle.quantum.specs.declared.Touched.{Touched}
 use Rattle.quantum.specs.declared.Touched.the-variants.{Nothing, One}
-use Rattle.quantum.specs.Steps.{placeIn, Good, Accepts, Searchable, repriced, lessenedAt, quotesOf, quoteOn, behind, Untouched}
+use Rattle.quantum.specs.Steps.{placeIn, foundFor, Good, Accepts, Searchable, repriced, lessenedAt, quotesOf, quoteOn, behind, Untouched}
 use Rattle.quantum.proofs.Position.{live-position, position-has}
 
 -- ---- one order lessened
 
-module _ (place volume : ℕ) (live : List Order) (o : Order) (e : o ≡ getD live place blankOrder) where
-  pub lessened-all : o .volume .0 ≤ volume → lessenedAt place volume live ≡ take place live ++ drop (suc place) live
+module _ (found : Found) (volume : ℕ) (live : List Order) where
+  pub lessened-all : found .order .volume .0 ≤ volume → lessenedAt found volume live ≡ take (found .place) live ++ drop (suc (found .place)) live
   unfolding lessenedAt
-  lessened-all h =
-      let l : leb (getD live place blankOrder .volume .0) volume ≡ true = rw (← e) (le-leb (o .volume .0) volume h) in
-      rw l refl
+  lessened-all h = rw (le-leb (found .order .volume .0) volume h) refl
 
-  pub lessened-some : volume < o .volume .0
-      → lessenedAt place volume live
-      ≡ set live place (repriced (o .price) (contracts (o .volume .0 - volume)) (getD live place blankOrder))
+  pub lessened-some : volume < found .order .volume .0
+      → lessenedAt found volume live
+      ≡ set live (found .place) (repriced (found .order .price) (contracts (found .order .volume .0 - volume)) (found .order))
   unfolding lessenedAt
-  lessened-some h =
-      let l : leb (getD live place blankOrder .volume .0) volume ≡ false = rw (← e) (lt-leb (o .volume .0) volume h) in
-      rw (l, e) refl
+  lessened-some h = rw (lt-leb (found .order .volume .0) volume h) refl
 
 -- ---- the place of an accepted event
 
@@ -88,47 +85,29 @@ module _ (live : List Order) where
   room (Deal t id volume) h n = absurd (false≢true n)
   room (Tick t) h n = absurd (false≢true n)
 
-module _ (orders : Orders) (e : Event) (place : ℕ) (a : Accepts orders e place) where
+module _ (orders : Orders) (e : Event) (found : Found) (a : Accepts orders e found) where
   whole : Packed orders
   whole = record { live = a .live; few = a .good .few; is = a .is }
 
   -- what the store by position asks
-  pub stands-there : names e ≡ true → Packed orders × (place < orders .count)
+  pub stands-there : names e ≡ true → Packed orders × (found .place < orders .count)
   stands-there n =
-      (whole, omega (arith, inside (a .live) e (a .passes) n, a .at, count-is orders (a .live) (a .is)))
+      (whole, omega (arith, inside (a .live) e (a .passes) n, ap (λ (f : Found). f .place) (a .at), count-is orders (a .live) (a .is)))
 
   pub has-room : adds e ≡ true → Packed orders × (orders .count < 64)
   has-room n = (whole, omega (arith, room (a .live) e (a .passes) n, count-is orders (a .live) (a .is)))
 
--- ---- the orders after the event, by its place
+-- ---- the orders after the event, by the order that it names
 
-abbrev pub doneAt : List Order → ℕ → Event → List Order
-doneAt live place (Add t id side price volume) = live ++ (record { id = id; side = side; price = price; volume = volume } ∷ [])
-doneAt live place (Amend t id price volume) = set live place (repriced price volume (getD live place blankOrder))
-doneAt live place (Cancel t id) = take place live ++ drop (suc place) live
-doneAt live place (Deal t id volume) = lessenedAt place (volume .0) live
-doneAt live place (Tick t) = live
-
--- a deal is not above what is left
-abbrev pub Enough : List Order → ℕ → Event → Type 0
-Enough live place (Add t id side price volume) = Unit
-Enough live place (Amend t id price volume) = Unit
-Enough live place (Cancel t id) = Unit
-Enough live place (Deal t id volume) = volume .0 ≤ getD live place blankOrder .volume .0
-Enough live place (Tick t) = Unit
+abbrev pub doneAt : List Order → Found → Event → List Order
+doneAt live found (Add t id side price volume) = live ++ (record { id = id; side = side; price = price; volume = volume } ∷ [])
+doneAt live found (Amend t id price volume) = set live (found .place) (repriced price volume (found .order))
+doneAt live found (Cancel t id) = take (found .place) live ++ drop (suc (found .place)) live
+doneAt live found (Deal t id volume) = lessenedAt found (volume .0) live
+doneAt live found (Tick t) = live
 
 module _ (live : List Order) (good : Good live) where
-  enough-there : (e : Event) → lowest (traderCauses live e) ≡ 0 → Enough live (placeIn e live) e
-  enough-there (Add t id side price volume) h = tt
-  enough-there (Amend t id price volume) h = tt
-  enough-there (Cancel t id) h = tt
-  enough-there (Deal t id volume) h =
-      let d = trader-passes live (Deal t id volume) h in
-      let l = live-position id live (d .known) in
-      omega (arith, d .enough, left-at id live (positionOf id live) blankOrder (good .distinct) l (position-has id live l))
-  enough-there (Tick t) h = tt
-
-  apply-there : (e : Event) → lowest (traderCauses live e) ≡ 0 → apply live e ≡ doneAt live (placeIn e live) e
+  apply-there : (e : Event) → lowest (traderCauses live e) ≡ 0 → apply live e ≡ doneAt live (foundFor e live) e
   unfolding apply
   apply-there (Add t id side price volume) h = refl
   apply-there (Amend t id price volume) h =
@@ -142,6 +121,9 @@ module _ (live : List Order) (good : Good live) where
       place : ℕ
       place = positionOf id live
 
+      found : Found
+      found = foundAt place live
+
       there : place < length live
       there = live-position id live (trader-passes live (Deal t id volume) h .known)
 
@@ -154,25 +136,20 @@ module _ (live : List Order) (good : Good live) where
       left-is : left id live ≡ getD live place blankOrder .volume .0
       left-is = left-at id live place blankOrder (good .distinct) there has
 
-      go : (b : Bool) → leb (getD live place blankOrder .volume .0) (volume .0) ≡ b
-          → apply live (Deal t id volume) ≡ lessenedAt place (volume .0) live
+      go : (b : Bool) → leb (getD live place blankOrder .volume .0) (volume .0) ≡ b → apply live (Deal t id volume) ≡ lessenedAt found (volume .0) live
       go true e =
           let k = leb-true (getD live place blankOrder .volume .0) (volume .0) e in
           deal-all id live place blankOrder (good .distinct) there has some t volume
-          (omega (arith, k, enough-there (Deal t id volume) h, left-is))
-          ∙ sym (lessened-all place (volume .0) live (getD live place blankOrder) refl k)
+          (omega (arith, k, trader-passes live (Deal t id volume) h .enough, left-is))
+          ∙ sym (lessened-all found (volume .0) live k)
       go false e =
           let k = leb-false (getD live place blankOrder .volume .0) (volume .0) e in
           deal-some id live place blankOrder (good .distinct) there has some t volume (omega (arith, k, left-is))
-          ∙ sym (lessened-some place (volume .0) live (getD live place blankOrder) refl k)
+          ∙ sym (lessened-some found (volume .0) live k)
   apply-there (Tick t) h = refl
 
-module _ (live : List Order) (place : ℕ) (e : Event) (at : place ≡ placeIn e live) (good : Good live) (h : lowest (traderCauses live e) ≡ 0) where
-  pub enough : Enough live place e
-  enough = subst (λ (n : ℕ). Enough live n e) (sym at) (enough-there live good e h)
-
-  pub apply-is : apply live e ≡ doneAt live place e
-  apply-is = apply-there live good e h ∙ ap (λ (n : ℕ). doneAt live n e) (sym at)
+  pub apply-is : (e : Event) (found : Found) → found ≡ foundFor e live → lowest (traderCauses live e) ≡ 0 → apply live e ≡ doneAt live found e
+  apply-is e found at h = apply-there e h ∙ ap (λ (f : Found). doneAt live f e) (sym at)
 
 -- ---- the orders that stay
 
@@ -196,47 +173,45 @@ module _ (p : Order → Bool) (xs : List Order) where
     keep-without : keep p xs ≡ keep p (take k xs ++ drop (suc k) xs)
     keep-without = kept ∙ sym (keep-append p (take k xs) (drop (suc k) xs))
 
--- the order that an event adds or names
-abbrev pub touchedOf : List Order → ℕ → Event → Touched
-touchedOf live place (Add t id side price volume) = One side price price
-touchedOf live place (Amend t id price volume) = let o = getD live place blankOrder in One (o .side) (o .price) price
-touchedOf live place (Cancel t id) = let o = getD live place blankOrder in One (o .side) (o .price) (o .price)
-touchedOf live place (Deal t id volume) = let o = getD live place blankOrder in One (o .side) (o .price) (o .price)
-touchedOf live place (Tick t) = Nothing
+-- what an event touches, by the order that it adds or names
+abbrev pub touchedOf : Found → Event → Touched
+touchedOf found (Add t id side price volume) = One side price price
+touchedOf found (Amend t id price volume) = One (found .order .side) (found .order .price) price
+touchedOf found (Cancel t id) = One (found .order .side) (found .order .price) (found .order .price)
+touchedOf found (Deal t id volume) = One (found .order .side) (found .order .price) (found .order .price)
+touchedOf found (Tick t) = Nothing
 
-untouched-done : (live : List Order) (place : ℕ) (e : Event) → (names e ≡ true → place < length live)
-    → Untouched (touchedOf live place e) live (doneAt live place e)
-untouched-done live place (Add t id side price volume) h = λ test was is.
-    let n : Order = record { id = id; side = side; price = price; volume = volume } in
-    keep-snoc test live n (is n refl refl)
-untouched-done live place (Amend t id price volume) h = λ test was is.
-    let o = getD live place blankOrder in
-    let n = repriced price volume o in
-    keep-set test live place (h refl) (was o refl refl) n (is n refl refl)
-untouched-done live place (Cancel t id) h = λ test was is.
-    keep-without test live place (h refl) (was (getD live place blankOrder) refl refl)
-untouched-done live place (Deal t id volume) h = λ test was is. go test is (leb (o .volume .0) (volume .0)) refl
-  where
-    o : Order
-    o = getD live place blankOrder
+module _ (live : List Order) (place : ℕ) where
+  abbrev o : Order
+  o = getD live place blankOrder
 
-    go : (test : Order → Bool) → ((x : Order) → x .side ≡ o .side → x .price ≡ o .price → test x ≡ false)
-        → (b : Bool) → leb (o .volume .0) (volume .0) ≡ b → keep test live ≡ keep test (lessenedAt place (volume .0) live)
-    go test is true e =
-        keep-without test live place (h refl) (is o refl refl)
-        ∙ ap (keep test) (sym (lessened-all place (volume .0) live o refl (leb-true (o .volume .0) (volume .0) e)))
-    go test is false e =
-        let n = repriced (o .price) (contracts (o .volume .0 - volume .0)) o in
-        keep-set test live place (h refl) (is o refl refl) n (is n refl refl)
-        ∙ ap (keep test) (sym (lessened-some place (volume .0) live o refl (leb-false (o .volume .0) (volume .0) e)))
-untouched-done live place (Tick t) h = refl
+  untouched-done : (e : Event) → (names e ≡ true → place < length live) → Untouched (touchedOf (foundAt place live) e) live (doneAt live (foundAt place live) e)
+  untouched-done (Add t id side price volume) h = λ test was is.
+      let n : Order = record { id = id; side = side; price = price; volume = volume } in
+      keep-snoc test live n (is n refl refl)
+  untouched-done (Amend t id price volume) h = λ test was is.
+      let n = repriced price volume o in
+      keep-set test live place (h refl) (was o refl refl) n (is n refl refl)
+  untouched-done (Cancel t id) h = λ test was is. keep-without test live place (h refl) (was o refl refl)
+  untouched-done (Deal t id volume) h = λ test was is. go test is (leb (o .volume .0) (volume .0)) refl
+    where
+      go : (test : Order → Bool) → ((x : Order) → x .side ≡ o .side → x .price ≡ o .price → test x ≡ false)
+          → (b : Bool) → leb (o .volume .0) (volume .0) ≡ b → keep test live ≡ keep test (lessenedAt (foundAt place live) (volume .0) live)
+      go test is true e =
+          keep-without test live place (h refl) (is o refl refl)
+          ∙ ap (keep test) (sym (lessened-all (foundAt place live) (volume .0) live (leb-true (o .volume .0) (volume .0) e)))
+      go test is false e =
+          let n = repriced (o .price) (contracts (o .volume .0 - volume .0)) o in
+          keep-set test live place (h refl) (is o refl refl) n (is n refl refl)
+          ∙ ap (keep test) (sym (lessened-some (foundAt place live) (volume .0) live (leb-false (o .volume .0) (volume .0) e)))
+  untouched-done (Tick t) h = refl
 
-pub untouched : (live : List Order) (place : ℕ) (e : Event) → place ≡ placeIn e live → Good live → lowest (traderCauses live e) ≡ 0
-    → (r : Touched) → r ≡ touchedOf live place e → Untouched r live (apply live e)
-untouched live place e at good h r is =
-    subst (λ (r : Touched). Untouched r live (apply live e)) (sym is)
-    (subst (λ (l : List Order). Untouched (touchedOf live place e) live l) (sym (apply-is live place e at good h))
-    (untouched-done live place e (λ n. omega (arith, inside live e h n, at))))
+pub untouched : (live : List Order) (e : Event) (found : Found) → found ≡ foundFor e live → Good live → lowest (traderCauses live e) ≡ 0
+    → (r : Touched) → r ≡ touchedOf found e → Untouched r live (apply live e)
+untouched live e found at good h r is =
+    subst (λ (r : Touched). Untouched r live (apply live e)) (sym (is ∙ ap (λ (f : Found). touchedOf f e) at))
+    (subst (λ (l : List Order). Untouched (touchedOf (foundFor e live) e) live l) (sym (apply-is live good e (foundFor e live) refl h))
+    (untouched-done live (placeIn e live) e (λ n. inside live e h n)))
 
 -- ---- the best quotes
 

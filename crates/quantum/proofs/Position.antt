@@ -84,37 +84,19 @@ position-has id (o ∷ os) h = go (hasId id o) refl (position-has id os)
         let later = position-later id o os e in
         ap (λ (n : ℕ). hasId id (getD (o ∷ os) n blankOrder)) later ∙ k (omega (arith, h, later))
 
-none-left : (id : ℕ) → left id [] ≡ (if ltb (positionOf id []) 0 then getD [] (positionOf id []) blankOrder .volume .0 else 0)
+none-left : (id : ℕ) → getD [] (positionOf id []) blankOrder .volume .0 ≡ left id []
 unfolding left positionOf
 none-left id = refl
 
-pub position-left : (id : ℕ) (os : List Order)
-    → left id os ≡ (if ltb (positionOf id os) (length os) then getD os (positionOf id os) blankOrder .volume .0 else 0)
+-- what is left stands at the place; nothing where there is none
+pub position-left : (id : ℕ) (os : List Order) → getD os (positionOf id os) blankOrder .volume .0 ≡ left id os
 position-left id [] = none-left id
 position-left id (o ∷ os) = go (hasId id o) refl (position-left id os)
   where
-    go : (b : Bool) → hasId id o ≡ b
-        → left id os ≡ (if ltb (positionOf id os) (length os) then getD os (positionOf id os) blankOrder .volume .0 else 0)
-        → left id (o ∷ os)
-        ≡ (if ltb (positionOf id (o ∷ os)) (suc (length os)) then getD (o ∷ os) (positionOf id (o ∷ os)) blankOrder .volume .0 else 0)
-    go true e h =
-        left-first id o os e
-        ∙ ap (λ (b : Bool). if b then o .volume .0 else 0) (sym (lt-ltb 0 (suc (length os)) (omega arith)))
-        ∙ ap (λ (n : ℕ). if ltb n (suc (length os)) then getD (o ∷ os) n blankOrder .volume .0 else 0) (sym (position-first id o os e))
+    go : (b : Bool) → hasId id o ≡ b → getD os (positionOf id os) blankOrder .volume .0 ≡ left id os
+        → getD (o ∷ os) (positionOf id (o ∷ os)) blankOrder .volume .0 ≡ left id (o ∷ os)
+    go true e h = ap (λ (n : ℕ). getD (o ∷ os) n blankOrder .volume .0) (position-first id o os e) ∙ sym (left-first id o os e)
     go false e h =
-        left-later id o os e
+        ap (λ (n : ℕ). getD (o ∷ os) n blankOrder .volume .0) (position-later id o os e)
         ∙ h
-        ∙ ap (λ (b : Bool). if b then getD os (positionOf id os) blankOrder .volume .0 else 0) (sym (ltb-suc (positionOf id os) (length os)))
-        ∙ ap (λ (n : ℕ). if ltb n (suc (length os)) then getD (o ∷ os) n blankOrder .volume .0 else 0) (sym (position-later id o os e))
-
--- what is left, where the order stands and where there is none
-pub left-there : (id : ℕ) (os : List Order) → positionOf id os < length os → left id os ≡ getD os (positionOf id os) blankOrder .volume .0
-left-there id os h =
-    position-left id os
-    ∙ ap (λ (b : Bool). if b then getD os (positionOf id os) blankOrder .volume .0 else 0) (lt-ltb (positionOf id os) (length os) h)
-
-pub left-nowhere : (os : List Order) (id place : ℕ) → place ≡ positionOf id os → length os ≤ place → left id os ≡ 0
-left-nowhere os id place e h =
-    position-left id os
-    ∙ ap (λ (b : Bool). if b then getD os (positionOf id os) blankOrder .volume .0 else 0)
-    (le-ltb (positionOf id os) (length os) (omega (arith, e, h)))
+        ∙ sym (left-later id o os e)

@@ -27,6 +27,7 @@ use Rattle.rules.proofs.Orders.{live-snoc, present-snoc}
 use Rattle.rules.proofs.Kept.{kept-onward, kept-snoc, kept-le}
 use Rattle.rules.proofs.Refusals.{skip, stop, event-passes, passes-trader}
 use Rattle.rules.proofs.Bounds.{volume-bounds, event-bounds-more}
+use Rattle.orders.specs.declared.Found.{Found}
 use Rattle.orders.specs.declared.Orders.{Orders}
 use Rattle.orders.specs.Packed.{Packed, packed}
 use Rattle.quote.specs.Limit.{limitOf}
@@ -34,7 +35,7 @@ use Rattle.quantum.specs.declared.Quantum.{Quantum}
 use Rattle.quantum.specs.declared.Quotes.{Quotes}
 use Rattle.quantum.specs.declared.Sent.{Sent}
 use Rattle.quantum.specs.Standing.{running, standing, Reached, taken, Answered}
-use Rattle.quantum.specs.Steps.{placeIn, Good, Accepts, Searchable, Onward, Taking, quotesOf}
+use Rattle.quantum.specs.Steps.{Good, Accepts, Searchable, Onward, Taking, quotesOf}
 
 -- ---- the fields
 
@@ -129,8 +130,8 @@ module _ (row : Row) (sp : ℤ) (es : List Event) (q : Quantum) (is : q ≡ stan
 pub good-orders : (row : Row) (es : List Event) → EventBounds row es → Good (live es)
 good-orders row es g = record { few = g .few; distinct = g .distinct; volumes = g .volumes }
 
-abbrev pub accepts : (q : Quantum) (e : Event) (place : ℕ) → Taking q e place → Accepts (q .orders) e place
-accepts q e place h =
+abbrev pub accepts : (q : Quantum) (e : Event) (found : Found) → Taking q e found → Accepts (q .orders) e found
+accepts q e found h =
     record {
       live = live (h .events);
       good = good-orders (h .row) (h .events) (h .bounds);

@@ -24,21 +24,25 @@ use Rattle.rules.specs.Quotes.{atLeast}
 use Rattle.rules.specs.Kept.{bestBid, bestAsk}
 use Rattle.rules.specs.Bounds.{Distinct, EventBounds}
 use Rattle.rules.specs.Book.{lowest, traderCauses, eventRefusal}
+use Rattle.orders.specs.declared.Found.{Found}
 use Rattle.orders.specs.declared.Orders.{Orders}
-use Rattle.orders.specs.Packed.{packed, positionOf, blankOrder}
+use Rattle.orders.specs.Packed.{packed, positionOf, blankOrder, foundAt}
 use Rattle.quantum.specs.declared.Quantum.{Quantum}
 use Rattle.quantum.specs.declared.Quotes.{Quotes}
 use Rattle.quantum.specs.declared.Touched.{Touched}
 use Rattle.quantum.specs.declared.Touched.the-variants.{Nothing, One}
 use Rattle.quantum.specs.Standing.{standing}
 
--- where the order that an event names stands among the live ones; a tick names none
+-- the order that an event names, with its place among the live ones; a tick names none
 abbrev pub placeIn : Event → List Order → ℕ
 placeIn (Add t id side price volume) orders = positionOf id orders
 placeIn (Amend t id price volume) orders = positionOf id orders
 placeIn (Cancel t id) orders = positionOf id orders
 placeIn (Deal t id volume) orders = positionOf id orders
-placeIn (Tick t) orders = 0
+placeIn (Tick t) orders = length orders
+
+abbrev pub foundFor : Event → List Order → Found
+foundFor e live = foundAt (placeIn e live) live
 
 -- live orders as the book's bounds have them
 pub record Good (orders : List Order) : Type 0 where
@@ -46,24 +50,24 @@ pub record Good (orders : List Order) : Type 0 where
   pub distinct : Distinct orders
   pub volumes : (o : Order) → List·Memᴰ o orders → goodVolume (o .volume .0) ≡ true
 
--- an event that the trader's causes let pass, with its place
-pub record Accepts (orders : Orders) (e : Event) (place : ℕ) : Type 0 where
+-- an event that the trader's causes let pass, with the order that it names
+pub record Accepts (orders : Orders) (e : Event) (found : Found) : Type 0 where
   pub live : List Order
   pub good : Good live
   pub is : orders ≡ packed live
-  pub at : place ≡ placeIn e live
+  pub at : found ≡ foundFor e live
   pub passes : lowest (traderCauses live e) ≡ 0
 
 -- an order with another price and volume
 abbrev pub repriced : Steps → Contracts → Order → Order
 repriced price volume o = record { id = o .id; side = o .side; price = price; volume = volume }
 
--- the order at a place lessened by a volume, and removed at nothing left
-unfoldable pub lessenedAt : ℕ → ℕ → List Order → List Order
-lessenedAt place volume live =
-    let o = getD live place blankOrder in
-    if leb (o .volume .0) volume then take place live ++ drop (suc place) live
-    else set live place (repriced (o .price) (contracts (o .volume .0 - volume)) o)
+-- an order lessened by a volume, and removed at nothing left
+unfoldable pub lessenedAt : Found → ℕ → List Order → List Order
+lessenedAt found volume live =
+    let o = found .order in
+    if leb (o .volume .0) volume then take (found .place) live ++ drop (suc (found .place)) live
+    else set live (found .place) (repriced (o .price) (contracts (o .volume .0 - volume)) o)
 
 -- what the search asks
 pub record Searchable (orders : Orders) : Type 0 where
@@ -77,14 +81,14 @@ pub record Onward (q : Quantum) (t : Millis) : Type 0 where
   pub kept-most : q .kept .0 ≤ q .time .0
   pub onward : q .time .0 ≤ t .0
 
--- an event that nothing refuses, with its place
-pub record Taking (q : Quantum) (e : Event) (place : ℕ) : Type 0 where
+-- an event that nothing refuses, with the order that it names
+pub record Taking (q : Quantum) (e : Event) (found : Found) : Type 0 where
   pub row : Row
   pub sp : ℤ
   pub events : List Event
   pub bounds : EventBounds row events
   pub is : q ≡ standing row sp events
-  pub at : place ≡ placeIn e (live events)
+  pub at : found ≡ foundFor e (live events)
   pub passes : eventRefusal row events e ≡ 0
 
 abbrev pub quotesOf : Row → List Order → Quotes

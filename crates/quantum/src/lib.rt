@@ -5,7 +5,7 @@ ghost use mathlib.Core.Bool.{true, not, _&&_};
 ghost use Prim.Native.Nat.{ℕ, _≤_, _<_};
 ghost use lib.Dec.{ltb, leb};
 ghost use lib.IntN.{ℤ};
-ghost use lib.ListN.{length, set, getD};
+ghost use lib.ListN.{length, set};
 ghost use Rattle.rules.specs.declared.Order.{Order};
 ghost use Rattle.rules.specs.declared.Row.{Row};
 ghost use Rattle.rules.specs.declared.Event.{Event};
@@ -16,9 +16,10 @@ ghost use Rattle.rules.specs.Kept.{ordersKeep, keptBelow};
 ghost use Rattle.rules.specs.Answers.{outcomeBy, done, shownAnswer};
 ghost use Rattle.rules.specs.Book.{cause, lowest, traderCauses, eventRefusal};
 ghost use Rattle.rules.specs.Bounds.{EventBounds};
-ghost use Rattle.orders.specs.Packed.{Packed, packed, positionOf, blankOrder};
+ghost use Rattle.orders.specs.Packed.{Packed, packed};
 ghost use Rattle.quantum.specs.Standing.{running, standing, Reached, Answered};
-ghost use Rattle.quantum.specs.Steps.{placeIn, Good, Accepts, Searchable, Untouched, quotesOf, quoteOn, behind, repriced, lessenedAt, Onward, Taking};
+ghost use Rattle.quantum.specs.Steps.{foundFor, Good, Accepts, Searchable, Untouched, quotesOf, quoteOn, behind, repriced, lessenedAt, Onward, Taking};
+use orders::Found;
 use orders::Orders;
 use ranges::both;
 use rules::Answer;
@@ -141,10 +142,10 @@ fn deal_answer(live: bool, good: bool, above: bool) -> Answer
     Answer::Refused(Refusal::IdNotLive)
 }
 
-// Where the order that an event names stands.
-fn located(orders: Orders, e: Event) -> usize
+// The order that an event names.
+fn located(orders: Orders, e: Event) -> Found
     requires { ⌜ Packed orders ⌝ }
-    ensures { λ r. ⌜ ((live : List Order) → orders ≡ packed live → r ≡ placeIn e live) ⌝ }
+    ensures { λ r. ⌜ ((live : List Order) → orders ≡ packed live → r ≡ foundFor e live) ⌝ }
 {
     match e {
         Event::Add {
@@ -166,7 +167,7 @@ fn located(orders: Orders, e: Event) -> usize
             id,
             volume: _,
         } => orders.find(id),
-        Event::Tick { t: _ } => 0,
+        Event::Tick { t: _ } => orders.nowhere(),
     }
 }
 
@@ -182,26 +183,22 @@ fn is_full(count: usize) -> bool
     64 <= count
 }
 
-// Whether a volume is above what is left of the order at a place.
-fn is_above(orders: Orders, place: usize, volume: Contracts) -> bool
-    requires { ⌜ Packed orders ⌝ }
-    ensures { λ r. ⌜ ((live : List Order) (id : ℕ) → orders ≡ packed live → place ≡ positionOf id live → r ≡ ltb (left id live) (volume .0)) ⌝ }
+// Whether a volume is above what is left of an order.
+fn is_above(o: Order, volume: Contracts) -> bool
+    ensures { λ r. ⌜ r ≡ ltb (o .volume .0) (volume .0) ⌝ }
 {
-    let count = orders.len();
-    if place < count {
-        let o = orders.at(place);
-        let v = o.volume;
-        return v.0 < volume.0;
-    }
-    0 < volume.0
+    let held = o.volume;
+    held.0 < volume.0
 }
 
 // The trader's causes, in the order of the numbers.
-fn trader_answer(orders: Orders, e: Event, place: usize) -> Answer
+fn trader_answer(orders: Orders, e: Event, found: Found) -> Answer
     requires { ⌜ Packed orders ⌝ }
-    ensures { λ r. ⌜ ((live : List Order) → orders ≡ packed live → place ≡ placeIn e live → shownAnswer r ≡ outcomeBy (lowest (traderCauses live e)) done) ⌝ }
+    ensures { λ r. ⌜ ((live : List Order) → orders ≡ packed live → found ≡ foundFor e live → shownAnswer r ≡ outcomeBy (lowest (traderCauses live e)) done) ⌝ }
 {
     let count = orders.len();
+    let place = found.place;
+    let order = found.order;
     let live = is_below(place, count);
     match e {
         Event::Add {
@@ -226,25 +223,20 @@ fn trader_answer(orders: Orders, e: Event, place: usize) -> Answer
             t: _,
             id: _,
             volume,
-        } => {
-            deal_answer(
-                live,
-                ranges::volume(volume),
-                is_above(orders, place, volume),
-            )
-        }
+        } => deal_answer(live, ranges::volume(volume), is_above(order, volume)),
         Event::Tick { t: _ } => Answer::Accepted,
     }
 }
 
 // ---- what an accepted event does
 
-// The order at a place with another price and volume.
-fn amended(orders: Orders, place: usize, price: Steps, volume: Contracts) -> Orders
-    requires { ⌜ Packed orders × (place < orders .count) ⌝ }
-    ensures { λ r. ⌜ ((live : List Order) → orders ≡ packed live → r ≡ packed (set live place (repriced price volume (getD live place blankOrder)))) ⌝ }
+// An order with another price and volume.
+fn amended(orders: Orders, found: Found, price: Steps, volume: Contracts) -> Orders
+    requires { ⌜ Packed orders × (found .place < orders .count) ⌝ }
+    ensures { λ r. ⌜ ((live : List Order) → orders ≡ packed live → r ≡ packed (set live (found .place) (repriced price volume (found .order)))) ⌝ }
 {
-    let o = orders.at(place);
+    let place = found.place;
+    let o = found.order;
     let side = o.side;
     let n = Order {
         id: o.id,
@@ -262,26 +254,28 @@ fn takes_all(volume: Contracts, held: Contracts) -> bool
     held.0 <= volume.0
 }
 
-// The order at a place lessened by a volume, and removed at nothing left.
-fn dealt(orders: Orders, place: usize, volume: Contracts) -> Orders
-    requires { ⌜ Packed orders × (place < orders .count) ⌝ }
-    ensures { λ r. ⌜ ((live : List Order) → orders ≡ packed live → volume .0 ≤ getD live place blankOrder .volume .0 → r ≡ packed (lessenedAt place (volume .0) live)) ⌝ }
+// An order lessened by a volume, and removed at nothing left.
+fn dealt(orders: Orders, found: Found, volume: Contracts) -> Orders
+    requires { ⌜ Packed orders × (found .place < orders .count) ⌝ }
+    ensures { λ r. ⌜ ((live : List Order) → orders ≡ packed live → r ≡ packed (lessenedAt found (volume .0) live)) ⌝ }
 {
-    let o = orders.at(place);
+    let place = found.place;
+    let o = found.order;
     let v = o.volume;
     if takes_all(volume, v) {
         return orders.without(place);
     }
     let price = o.price;
     let rest = v.0 - volume.0;
-    amended(orders, place, price, Contracts(rest))
+    amended(orders, found, price, Contracts(rest))
 }
 
 // The orders after the event.
-fn changed(orders: Orders, e: Event, place: usize) -> Orders
-    requires { ⌜ Accepts orders e place ⌝ }
-    ensures { λ r. ⌜ ((live : List Order) → orders ≡ packed live → place ≡ placeIn e live → Good live → lowest (traderCauses live e) ≡ 0 → r ≡ packed (apply live e)) ⌝ }
+fn changed(orders: Orders, e: Event, found: Found) -> Orders
+    requires { ⌜ Accepts orders e found ⌝ }
+    ensures { λ r. ⌜ ((live : List Order) → orders ≡ packed live → found ≡ foundFor e live → Good live → lowest (traderCauses live e) ≡ 0 → r ≡ packed (apply live e)) ⌝ }
 {
+    let place = found.place;
     match e {
         Event::Add {
             t: _,
@@ -300,13 +294,13 @@ fn changed(orders: Orders, e: Event, place: usize) -> Orders
             id: _,
             price,
             volume,
-        } => amended(orders, place, price, volume),
+        } => amended(orders, found, price, volume),
         Event::Cancel { t: _, id: _ } => orders.without(place),
         Event::Deal {
             t: _,
             id: _,
             volume,
-        } => dealt(orders, place, volume),
+        } => dealt(orders, found, volume),
         Event::Tick { t: _ } => orders,
     }
 }
@@ -329,10 +323,10 @@ fn unmoved(o: Order) -> Touched
 }
 
 // What an accepted event touches.
-fn touched_by(orders: Orders, e: Event, place: usize) -> Touched
-    requires { ⌜ Accepts orders e place ⌝ }
-    ensures { λ r. ⌜ ((live : List Order) → orders ≡ packed live → place ≡ placeIn e live → Good live → lowest (traderCauses live e) ≡ 0 → Untouched r live (apply live e)) ⌝ }
+fn touched_by(e: Event, found: Found) -> Touched
+    ensures { λ r. ⌜ ((live : List Order) → found ≡ foundFor e live → Good live → lowest (traderCauses live e) ≡ 0 → Untouched r live (apply live e)) ⌝ }
 {
+    let order = found.order;
     match e {
         Event::Add {
             t: _,
@@ -350,13 +344,13 @@ fn touched_by(orders: Orders, e: Event, place: usize) -> Touched
             id: _,
             price,
             volume: _,
-        } => moved(orders.at(place), price),
-        Event::Cancel { t: _, id: _ } => unmoved(orders.at(place)),
+        } => moved(order, price),
+        Event::Cancel { t: _, id: _ } => unmoved(order),
         Event::Deal {
             t: _,
             id: _,
             volume: _,
-        } => unmoved(orders.at(place)),
+        } => unmoved(order),
         Event::Tick { t: _ } => Touched::Nothing,
     }
 }
@@ -450,9 +444,9 @@ impl Quantum {
     }
 
     // The causes of an event's refusal, in the order of the numbers.
-    fn judged(self, e: Event, place: usize) -> Answer
+    fn judged(self, e: Event, found: Found) -> Answer
         requires { ⌜ Reached self ⌝ }
-        ensures { λ r. ⌜ ((row : Row) (sp : ℤ) (events : List Event) → self ≡ standing row sp events → place ≡ placeIn e (live events) → shownAnswer r ≡ outcomeBy (eventRefusal row events e) done) ⌝ }
+        ensures { λ r. ⌜ ((row : Row) (sp : ℤ) (events : List Event) → self ≡ standing row sp events → found ≡ foundFor e (live events) → shownAnswer r ≡ outcomeBy (eventRefusal row events e) done) ⌝ }
     {
         let t = time_of(e);
         let time = self.time;
@@ -464,13 +458,13 @@ impl Quantum {
         if end.0 < t.0 {
             return Answer::Refused(Refusal::TimePastEnd);
         }
-        trader_answer(orders, e, place)
+        trader_answer(orders, e, found)
     }
 
     // After an accepted event.
-    fn with_event(self, e: Event, place: usize) -> Quantum
-        requires { ⌜ Taking self e place ⌝ }
-        ensures { λ r. ⌜ ((row : Row) (sp : ℤ) (events : List Event) → EventBounds row events → self ≡ standing row sp events → place ≡ placeIn e (live events) → eventRefusal row events e ≡ 0 → r ≡ standing row sp (events ++ (e ∷ []))) ⌝ }
+    fn with_event(self, e: Event, found: Found) -> Quantum
+        requires { ⌜ Taking self e found ⌝ }
+        ensures { λ r. ⌜ ((row : Row) (sp : ℤ) (events : List Event) → EventBounds row events → self ≡ standing row sp events → found ≡ foundFor e (live events) → eventRefusal row events e ≡ 0 → r ≡ standing row sp (events ++ (e ∷ []))) ⌝ }
     {
         let time = time_of(e);
         let kept = self.kept_at(time);
@@ -480,8 +474,8 @@ impl Quantum {
         let bid = self.bid;
         let ask = self.ask;
         let before = self.orders;
-        let touched = touched_by(before, e, place);
-        let orders = changed(before, e, place);
+        let touched = touched_by(e, found);
+        let orders = changed(before, e, found);
         let quotes = requoted(Quotes { bid, ask }, orders, touched, least);
         let best_bid = quotes.bid;
         let best_ask = quotes.ask;
@@ -503,11 +497,11 @@ impl Quantum {
         ensures { λ r. ⌜ Answered self e r ⌝ }
     {
         let orders = self.orders;
-        let place = located(orders, e);
-        let answer = self.judged(e, place);
+        let found = located(orders, e);
+        let answer = self.judged(e, found);
         match answer {
             Answer::Accepted => Sent {
-                quantum: self.with_event(e, place),
+                quantum: self.with_event(e, found),
                 answer: Answer::Accepted,
             },
             Answer::Refused(r) => Sent {

@@ -9,14 +9,11 @@ use Rattle.quantum.proofs.Changes.{lessened-all, lessened-some}
 use Rattle.quantum.proofs.dealt.Statement.{statement}
 use Rattle.quantum.proofs.dealt.Tie as tie
 
-all : (k : tie.Then1) → k .before .before .before .at .result .volume .0 ≤ k .before .before .before .before .args .volume .0
+all : (k : tie.Then1) → let a = k .before .before .before .before .args in a .found .order .volume .0 ≤ a .volume .0
 all k = leb-true _ _ (sym (k .before .takes-all .ensures) ∙ k .if1 .taken)
 
-some : (k : tie.Else1) → k .before .before .before .before .args .volume .0 < k .before .before .before .at .result .volume .0
+some : (k : tie.Else1) → let a = k .before .before .before .before .args in a .volume .0 < a .found .order .volume .0
 some k = leb-false _ _ (sym (k .before .takes-all .ensures) ∙ k .if1 .left)
-
-at-requires : tie.Need-at-requires
-at-requires c κs = search needs
 
 takes-all-requires : tie.Need-takes-all-requires
 takes-all-requires c κs = search needs
@@ -25,11 +22,9 @@ without-requires : tie.Need-without-requires
 without-requires c κs = search needs
 
 returns : tie.Need-returns
-returns c = λ live is h.
-    let at = c .before .before .before .before in
-    let a = at .before .args in
-    c .without .ensures live is
-    ∙ ap packed (sym (lessened-all (a .place) (a .volume .0) live (at .at .result) (at .at .ensures live is) (all (c .before))))
+returns c = λ live is.
+    let a = c .before .before .before .before .before .args in
+    c .without .ensures live is ∙ ap packed (sym (lessened-all (a .found) (a .volume .0) live (all (c .before))))
 
 sub-rest : tie.Need-sub-rest
 sub-rest c = omega (arith, some (c .before .before .before))
@@ -38,12 +33,10 @@ amended-requires : tie.Need-amended-requires
 amended-requires c κs = search needs
 
 returns-2 : tie.Need-returns-2
-returns-2 c = λ live is h.
+returns-2 c = λ live is.
     let else = c .before .before .before .before in
-    let at = else .before .before .before in
-    let a = at .before .args in
-    c .amended .ensures live is
-    ∙ ap packed (sym (lessened-some (a .place) (a .volume .0) live (at .at .result) (at .at .ensures live is) (some else)))
+    let a = else .before .before .before .before .args in
+    c .amended .ensures live is ∙ ap packed (sym (lessened-some (a .found) (a .volume .0) live (some else)))
 
 pub dealt-spec : {M : Type 1} → statement M
-dealt-spec = tie.close (tie.spec at-requires takes-all-requires without-requires returns sub-rest amended-requires returns-2)
+dealt-spec = tie.close (tie.spec takes-all-requires without-requires returns sub-rest amended-requires returns-2)

@@ -1,7 +1,7 @@
--- The place of the id that the variant holds. Assumes nothing.
+-- The order with the id that the variant holds. Assumes nothing.
 use mathlib.Core.Path.{sym, ap, _∙_}
 use Rattle.rules.specs.declared.Event.{Event}
-use Rattle.quantum.specs.Steps.{placeIn}
+use Rattle.quantum.specs.Steps.{foundFor}
 use borrow.Author.Needs.{needs}
 use Rattle.quantum.proofs.located.Statement.{statement}
 use Rattle.quantum.proofs.located.Tie as tie
@@ -33,24 +33,27 @@ find-requires-4 c κs = search needs
 enum-told : tie.Need-enum-told
 enum-told c = search needs
 
+nowhere-requires : tie.Need-nowhere-requires
+nowhere-requires c κs = search needs
+
 returns : tie.Need-returns
 returns c = λ live is.
-    c .find .ensures live is ∙ sym (ap (λ (e : Event). placeIn e live) (c .before .before .e .given .1))
+    c .find .ensures live is ∙ sym (ap (λ (e : Event). foundFor e live) (c .before .before .e .given .1))
 
 returns-2 : tie.Need-returns-2
 returns-2 c = λ live is.
-    c .find2 .ensures live is ∙ sym (ap (λ (e : Event). placeIn e live) (c .before .before .e2 .given .1))
+    c .find2 .ensures live is ∙ sym (ap (λ (e : Event). foundFor e live) (c .before .before .e2 .given .1))
 
 returns-3 : tie.Need-returns-3
 returns-3 c = λ live is.
-    c .find3 .ensures live is ∙ sym (ap (λ (e : Event). placeIn e live) (c .before .before .e3 .given .1))
+    c .find3 .ensures live is ∙ sym (ap (λ (e : Event). foundFor e live) (c .before .before .e3 .given .1))
 
 returns-4 : tie.Need-returns-4
 returns-4 c = λ live is.
-    c .find4 .ensures live is ∙ sym (ap (λ (e : Event). placeIn e live) (c .before .before .e4 .given .1))
+    c .find4 .ensures live is ∙ sym (ap (λ (e : Event). foundFor e live) (c .before .before .e4 .given .1))
 
 returns-5 : tie.Need-returns-5
-returns-5 c = λ live is. sym (ap (λ (e : Event). placeIn e live) (c .enum-told .given .1))
+returns-5 c = λ live is. c .nowhere .ensures live is ∙ sym (ap (λ (e : Event). foundFor e live) (c .before .enum-told .given .1))
 
 pub located-spec : {M : Type 1} → statement M
 located-spec =
@@ -65,6 +68,7 @@ located-spec =
     enum-known-e-4
     find-requires-4
     enum-told
+    nowhere-requires
     returns
     returns-2
     returns-3

@@ -2,8 +2,9 @@
 use mathlib.Core.Path.{ap, _∙_}
 use lib.Dec.{leb}
 use Rattle.rules.specs.declared.Event.{Event}
-use Rattle.quantum.specs.Steps.{placeIn}
-use Rattle.quantum.proofs.Causes.{below-is, good-is, add-causes, amend-causes, cancel-causes, deal-causes, tick-causes}
+use Rattle.orders.specs.declared.Found.{Found}
+use Rattle.quantum.specs.Steps.{foundFor}
+use Rattle.quantum.proofs.Causes.{below-is, good-is, above-is, add-causes, amend-causes, cancel-causes, deal-causes, tick-causes}
 use borrow.Author.Needs.{needs}
 use Rattle.quantum.proofs.trader_answer.Statement.{statement}
 use Rattle.quantum.proofs.trader_answer.Tie as tie
@@ -71,42 +72,42 @@ enum-told-2 c = search needs
 returns : tie.Need-returns
 returns c = λ live is at.
     let g = c .before .before .before .before .before .before .e .given in
-    let n = c .before .before .before .before .before .before .before .before .before .len .ensures live is in
-    let place = at ∙ ap (λ (e : Event). placeIn e live) (g .1) in
+    let n = c .before .before .before .before .before .before .before .before .before .before .len .ensures live is in
+    let found = at ∙ ap (λ (e : Event). foundFor e live) (g .1) in
     c .add-answer .ensures
     ∙ add-causes live _ _ _ _ _ _ _ _ _ (g .1)
-    (below-is live _ _ _ _ (c .before .before .before .before .before .before .before .before .is-below .ensures) n place)
+    (below-is live _ _ _ _ (c .before .before .before .before .before .before .before .before .is-below .ensures) n (ap (λ (f : Found). f .place) found))
     (good-is _ _ _ _ _ (c .before .before .both .ensures) (c .before .before .before .before .price .ensures) (c .before .before .before .volume .ensures))
     (c .before .is-full .ensures ∙ ap (leb 64) n)
 
 returns-2 : tie.Need-returns-2
 returns-2 c = λ live is at.
     let g = c .before .before .before .before .before .e2 .given in
-    let n = c .before .before .before .before .before .before .before .before .len .ensures live is in
-    let place = at ∙ ap (λ (e : Event). placeIn e live) (g .1) in
+    let n = c .before .before .before .before .before .before .before .before .before .len .ensures live is in
+    let found = at ∙ ap (λ (e : Event). foundFor e live) (g .1) in
     c .amend-answer .ensures
     ∙ amend-causes live _ _ _ _ _ _ _ (g .1)
-    (below-is live _ _ _ _ (c .before .before .before .before .before .before .before .is-below .ensures) n place)
+    (below-is live _ _ _ _ (c .before .before .before .before .before .before .before .is-below .ensures) n (ap (λ (f : Found). f .place) found))
     (good-is _ _ _ _ _ (c .before .both2 .ensures) (c .before .before .before .price2 .ensures) (c .before .before .volume2 .ensures))
 
 returns-3 : tie.Need-returns-3
 returns-3 c = λ live is at.
     let g = c .before .enum-told .given in
-    let n = c .before .before .before .before .len .ensures live is in
-    let place = at ∙ ap (λ (e : Event). placeIn e live) (g .1) in
+    let n = c .before .before .before .before .before .len .ensures live is in
+    let found = at ∙ ap (λ (e : Event). foundFor e live) (g .1) in
     c .cancel-answer .ensures
-    ∙ cancel-causes live _ _ _ _ (g .1) (below-is live _ _ _ _ (c .before .before .before .is-below .ensures) n place)
+    ∙ cancel-causes live _ _ _ _ (g .1) (below-is live _ _ _ _ (c .before .before .before .is-below .ensures) n (ap (λ (f : Found). f .place) found))
 
 returns-4 : tie.Need-returns-4
 returns-4 c = λ live is at.
     let g = c .before .before .before .before .e3 .given in
-    let n = c .before .before .before .before .before .before .before .len .ensures live is in
-    let place = at ∙ ap (λ (e : Event). placeIn e live) (g .1) in
+    let n = c .before .before .before .before .before .before .before .before .len .ensures live is in
+    let found = at ∙ ap (λ (e : Event). foundFor e live) (g .1) in
     c .deal-answer .ensures
     ∙ deal-causes live _ _ _ _ _ _ _ (g .1)
-    (below-is live _ _ _ _ (c .before .before .before .before .before .before .is-below .ensures) n place)
+    (below-is live _ _ _ _ (c .before .before .before .before .before .before .is-below .ensures) n (ap (λ (f : Found). f .place) found))
     (c .before .before .volume3 .ensures)
-    (c .before .is-above .ensures live _ is place)
+    (above-is live _ _ _ _ (c .before .is-above .ensures) (ap (λ (f : Found). f .order) found))
 
 returns-5 : tie.Need-returns-5
 returns-5 c = λ live is at. tick-causes live _ _ (c .enum-told2 .given .1)

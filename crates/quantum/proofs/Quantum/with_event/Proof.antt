@@ -21,15 +21,15 @@ kept-at-requires c κs = let s = c .before in
     (omega (arith, time-is (p .row) (p .sp) (p .events) q (p .is), passed .onward, c .time-of .ensures))
 
 touched-by-requires : tie.Need-touched-by-requires
-touched-by-requires c κs = let s = c .before .before .before .before .before in accepts (s .args .self) (s .args .e) (s .args .place) (s .pre)
+touched-by-requires c κs = search needs
 
 changed-requires : tie.Need-changed-requires
-changed-requires c κs = let s = c .before .before .before .before .before .before in accepts (s .args .self) (s .args .e) (s .args .place) (s .pre)
+changed-requires c κs = let s = c .before .before .before .before .before .before in accepts (s .args .self) (s .args .e) (s .args .found) (s .pre)
 
 requoted-requires : tie.Need-requoted-requires
 requoted-requires c κs = let s = c .before .before .before .before .before .before .before in
     let p = s .pre in
-    let a = accepts (s .args .self) (s .args .e) (s .args .place) p in
+    let a = accepts (s .args .self) (s .args .e) (s .args .found) p in
     searchable (p .row) (p .events) (s .args .e) (c .changed .result) (p .bounds) (p .passes)
     (c .changed .ensures (a .live) (a .is) (a .at) (a .good) (a .passes))
 
@@ -40,12 +40,12 @@ returns c = λ row sp es g is at h.
     let e = s .args .e in
     let t = c .before .before .before .before .before .before .before .time-of in
     let k = c .before .before .before .before .before .before .kept-at in
-    let a = accepts q e (s .args .place) (record { row = row; sp = sp; events = es; bounds = g; is = is; at = at; passes = h }) in
+    let a = accepts q e (s .args .found) (record { row = row; sp = sp; events = es; bounds = g; is = is; at = at; passes = h }) in
     let after = c .before .changed .ensures (live es) (a .is) at (a .good) (a .passes) in
     assembled row sp es e q (t .result) (k .result) (c .before .changed .result) (c .requoted .result) is (t .ensures)
     (k .ensures row sp es g is ∙ ap (keptBelow row sp es) (t .ensures)) after
     (c .requoted .ensures row (live es) (apply (live es) e) (least-is row sp es q is) (quotes-are row sp es q is) after
-    (c .before .before .touched-by .ensures (live es) (a .is) at (a .good) (a .passes)))
+    (c .before .before .touched-by .ensures (live es) at (a .good) (a .passes)))
 
 pub with-event-spec : {M : Type 1} → statement M
 with-event-spec =
