@@ -37,7 +37,7 @@ use Rattle.quantum.specs.declared.Quantum.{Quantum}
 use Rattle.quantum.specs.declared.Sent.{Sent}
 use Rattle.quantum.specs.Standing as S
 use Rattle.quantum.specs.Standing.{standing, running, taken}
-use Rattle.quantum.proofs.Standing.{accepted-zero, length-is}
+use Rattle.quantum.proofs.Standing.{length-is}
 use Rattle.month.specs.declared.Month.{Month}
 use Rattle.month.specs.Represents.{quantumIn, monthOf, Answered}
 use Rattle.month.specs.Parts.{withCell, withoutQuantum}
@@ -167,7 +167,7 @@ module _ (m : Month) (e : Event) (sent : Sent) (h : m .running ≡ true) (a : S.
       (λ b g is.
       let o = opened m b g is h in
       let zero : eventRefusal (o .row) (o .events) e ≡ 0 =
-      accepted-zero _ (ap shownAnswer (sym k) ∙ a .answer (o .row) (o .sp .0) (o .events) (o .bounds .events-good) (o .quantum)) in
+      accepted-by _ done done (ap shownAnswer (sym k) ∙ a .answer (o .row) (o .sp .0) (o .events) (o .bounds .events-good) (o .quantum)) .0 in
       let next : sent .quantum ≡ standing (o .row) (o .sp .0) (o .events ++ (e ∷ [])) =
       a .quantum (o .row) (o .sp .0) (o .events) (o .bounds .events-good) (o .quantum)
       ∙ ap (λ (n : ℕ). standing (o .row) (o .sp .0) (taken n (o .events) e)) zero in (

@@ -1,13 +1,12 @@
 -- The 64 slots and the list of live orders that they stand for. Assumes nothing.
-use Prim.Native.Nat.{ℕ, zero, suc, _+_, _-_, _≤_, _<_}
+use Prim.Native.Nat.{ℕ, suc, _+_, _-_, _≤_, _<_}
 use mathlib.Core.Path.{_≡_, refl, ap, sym, _∙_}
-use mathlib.Core.Bool.{Bool, true, false}
+use mathlib.Core.Bool.{true, false}
 use mathlib.Core.List.{List, [], _∷_, _++_, append-assoc, append-nil}
 use native.Mathlib.Omega.{arith}
 use lib.ListN.{length, take, drop, set, getD, replicate, length-append, length-replicate, length-set, length-take, length-drop, List·getD-append, List·getD-eq-default, take-append-drop, drop-of-length-le}
 use lib.Seq.{take-suc, drop-cons, set-append-seam, set-append-left, set-at, take-at, drop-at, take-append-le, drop-append-le, getD-drop, getD-append-add, getD-take}
 use Rattle.rules.specs.declared.Order.{Order}
-use Rattle.rules.specs.Lists.{if_then_else_}
 use Rattle.rules.specs.Orders.{hasId}
 use Rattle.orders.specs.declared.Found.{Found}
 use Rattle.orders.specs.declared.Orders.{Orders}
@@ -116,10 +115,6 @@ module _ (place i : ℕ) (slots : List Order) (h : place ≤ i) (k : i < length 
       ∙ getD-append-add (moved place i slots) (drop i slots) (j - i) blankOrder
       ∙ getD-drop i slots (j - i) blankOrder
       ∙ ap (λ (n : ℕ). getD slots n blankOrder) f
-
-  pub shifted-length : length (shifted place i slots) ≡ length slots
-  unfolding shifted
-  shifted-length = omega (arith, length-append (moved place i slots) (drop i slots), moved-length, length-drop i slots)
 
   -- a store at i
   pub shifted-set : (o : Order) → set (shifted place i slots) i o ≡ moved place i slots ++ (o ∷ drop (suc i) slots)

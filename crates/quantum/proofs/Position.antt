@@ -1,6 +1,6 @@
 -- The place of the order with an id: below the number of orders exactly where the id is live, and there stands the order that has it and
 -- what is left of it. Assumes nothing.
-use Prim.Native.Nat.{ℕ, suc, _≤_, _<_}
+use Prim.Native.Nat.{ℕ, suc, _<_}
 use native.Mathlib.Omega.{arith}
 use mathlib.Core.Path.{_≡_, refl, sym, ap, _∙_}
 use mathlib.Core.List.{List, [], _∷_}
@@ -9,7 +9,7 @@ use lib.Dec.{ltb}
 use lib.ListN.{length, getD}
 use borrow.Author.Tests.{ltb-true, ltb-false, lt-ltb, le-ltb}
 use Rattle.rules.specs.declared.Order.{Order}
-use Rattle.rules.specs.Lists.{if_then_else_, any}
+use Rattle.rules.specs.Lists.{any}
 use Rattle.rules.specs.Orders.{hasId, isLive, left}
 use Rattle.orders.specs.Packed.{positionOf, blankOrder}
 

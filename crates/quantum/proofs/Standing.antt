@@ -1,15 +1,14 @@
 -- From the struct to the accepted events that it stands for, and back. Assumes nothing.
 use Prim.Native.Nat.{ℕ, zero, suc, _+_, _-_, _≤_, _<_}
-use mathlib.Core.Path.{_≡_, refl, ap, sym, _∙_, subst}
+use mathlib.Core.Path.{_≡_, refl, ap, sym, _∙_}
 use mathlib.Core.Bool.{Bool, true, false}
-use mathlib.Core.List.{List, [], _∷_, _++_, List·Memᴰ}
+use mathlib.Core.List.{List, [], _∷_, _++_}
 use native.Mathlib.Omega.{arith}
 use native.Mathlib.Nat.{le-refl}
 use lib.IntN.{ℤ}
 use lib.ListN.{length}
 use borrow.Author.Tests.{lt-ltb, le-ltb}
 use Rattle.rules.specs.declared.Millis.{Millis}
-use Rattle.rules.specs.declared.Order.{Order}
 use Rattle.rules.specs.declared.Row.{Row}
 use Rattle.rules.specs.declared.Event.{Event}
 use Rattle.rules.specs.declared.Quote.the-variants.{Absent}
@@ -20,7 +19,7 @@ use Rattle.rules.specs.Units.{millis}
 use Rattle.rules.specs.Orders.{live, present, timeOf, timeFrom, apply, applyAll}
 use Rattle.rules.specs.Kept.{bestBid, bestAsk, quotesKeep, ordersKeep, keptBelow}
 use Rattle.rules.specs.Quotes.{lead, best}
-use Rattle.rules.specs.Answers.{accepted, refused, outcomeBy, done, numberOf}
+use Rattle.rules.specs.Answers.{refused, outcomeBy, done, numberOf}
 use Rattle.rules.specs.Book.{lowest, traderCauses, eventCauses, eventRefusal}
 use Rattle.rules.specs.Bounds.{EventBounds}
 use Rattle.rules.proofs.Orders.{live-snoc, present-snoc}
@@ -33,8 +32,7 @@ use Rattle.orders.specs.Packed.{Packed, packed}
 use Rattle.quote.specs.Limit.{limitOf}
 use Rattle.quantum.specs.declared.Quantum.{Quantum}
 use Rattle.quantum.specs.declared.Quotes.{Quotes}
-use Rattle.quantum.specs.declared.Sent.{Sent}
-use Rattle.quantum.specs.Standing.{running, standing, Reached, taken, Answered}
+use Rattle.quantum.specs.Standing.{running, standing, taken, Answered}
 use Rattle.quantum.specs.Steps.{Good, Accepts, Searchable, Onward, Taking, quotesOf}
 
 -- ---- the fields
@@ -63,14 +61,6 @@ module _ (row : Row) (sp : ℤ) (es : List Event) (q : Quantum) (is : q ≡ stan
   pub limit-is : q .limit ≡ limitOf (row .a) (row .b) sp
   unfolding standing running
   limit-is = ap (λ (x : Quantum). x .limit) is
-
-  pub bid-is : q .bid ≡ bestBid row (live es)
-  unfolding standing running
-  bid-is = ap (λ (x : Quantum). x .bid) is
-
-  pub ask-is : q .ask ≡ bestAsk row (live es)
-  unfolding standing running
-  ask-is = ap (λ (x : Quantum). x .ask) is
 
   pub quotes-are : _≡_ {A = Quotes} (record { bid = q .bid; ask = q .ask }) (quotesOf row (live es))
   unfolding standing running
@@ -177,10 +167,6 @@ opened-is row sp limit orders e f =
     ∙ ap (λ (o : Orders). record { length = row .length; least = row .least; limit = limitOf (row .a) (row .b) sp; time = millis 0; kept = millis 0; orders = o; bid = Absent; ask = Absent }) f
 
 -- ---- what an event's answer shows
-
-pub accepted-zero : (n : ℕ) → accepted done ≡ outcomeBy n done → n ≡ 0
-accepted-zero zero e = refl
-accepted-zero (suc n) e = let z : _≡_ {A = ℕ} 0 1 = cc in absurd (omega arith)
 
 unmoved : (n m : ℕ) (es : List Event) (e : Event) → refused m ≡ outcomeBy n done → taken n es e ≡ es
 unmoved zero m es e f = let z : _≡_ {A = ℕ} 0 1 = cc in absurd (omega arith)

@@ -5,7 +5,7 @@ use mathlib.Core.List.{List, _++_, List·Memᴰ}
 use mathlib.Core.Bool.{Bool, true, false, not}
 use lib.Dec.{leb}
 use lib.IntN.{ℤ}
-use lib.ListN.{length, take, drop, set, getD}
+use lib.ListN.{length, take, drop, set}
 use Rattle.rules.specs.declared.Side.{Side}
 use Rattle.rules.specs.declared.Side.the-variants.{Buy, Sell}
 use Rattle.rules.specs.declared.Quote.{Quote}
@@ -26,7 +26,7 @@ use Rattle.rules.specs.Bounds.{Distinct, EventBounds}
 use Rattle.rules.specs.Book.{lowest, traderCauses, eventRefusal}
 use Rattle.orders.specs.declared.Found.{Found}
 use Rattle.orders.specs.declared.Orders.{Orders}
-use Rattle.orders.specs.Packed.{packed, positionOf, blankOrder, foundAt}
+use Rattle.orders.specs.Packed.{packed, positionOf, foundAt}
 use Rattle.quantum.specs.declared.Quantum.{Quantum}
 use Rattle.quantum.specs.declared.Quotes.{Quotes}
 use Rattle.quantum.specs.declared.Touched.{Touched}

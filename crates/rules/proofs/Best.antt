@@ -10,7 +10,6 @@ use mathlib.Core.Logic.{_↔_}
 use mathlib.Core.List.{List, [], _∷_, _++_, map, map-append, List·Memᴰ, List·Memᴰ·head, List·Memᴰ·tail, List·Memᴰ·not-nil}
 use mathlib.Core.Bool.{Bool, true, false, true≢false, false≢true}
 use lib.Dec.{leb}
-use borrow.Author.Tests.{le-leb, lt-leb}
 use lib.IntN.{ℤ}
 use Rattle.rules.specs.declared.Side.{Side}
 use Rattle.rules.specs.declared.Quote.{Quote}
@@ -64,17 +63,6 @@ depth-bound s p b (x ∷ xs) h =
     one : (t : Bool) → (if t then x .volume .0 else 0) ≤ b
     one true = h x (List·Memᴰ·head refl)
     one false = omega arith
-
--- m is reached on the way, so in the end; or it is not reached in the end
-module _ (s : Side) (p : ℤ) (m j n : ℕ) (xs : List Order) (held : ℕ) (e : held ≡ depth s p (take j xs)) (h : j ≤ n) where
-  pub reached : m ≤ held → leb m (depth s p (take n xs)) ≡ true
-  reached k = le-leb m (depth s p (take n xs)) (omega (arith, depth-grows s p j n xs h))
-
-  pub missed : held < m → n ≤ j → leb m (depth s p (take n xs)) ≡ false
-  missed k l = lt-leb m (depth s p (take n xs)) (omega (arith, ap (λ (x : ℕ). depth s p (take x xs)) (at-end l)))
-    where
-      at-end : n ≤ j → n ≡ j
-      at-end l = omega arith
 
 -- to qualify, part by part
 module _ (s : Side) (m : ℕ) (xs : List Order) (o : Order) where

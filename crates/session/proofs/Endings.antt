@@ -1,13 +1,13 @@
 -- What the session's calls make of a pass. Assumes nothing.
-use Prim.Native.Nat.{ℕ, zero, suc, _+_, _*_, _≤_, _<_}
+use Prim.Native.Nat.{ℕ, _+_, _*_, _≤_, _<_}
 use native.Mathlib.Omega.{arith}
 use mathlib.Core.Path.{_≡_, refl, sym, ap, _∙_, subst}
-use mathlib.Core.List.{List, [], _∷_, _++_, map}
+use mathlib.Core.List.{List, [], _∷_, _++_}
 use mathlib.Core.Bool.{Bool, true, false}
-use lib.Dec.{ltb, eqb}
+use lib.Dec.{ltb}
 use lib.ListN.{length, take, drop, length-append}
 use lib.Seq.{take-append-seam}
-use borrow.Author.Tests.{lt-ltb, le-ltb, eq-eqb, ne-eqb, ltb-true, ltb-false}
+use borrow.Author.Tests.{lt-ltb, le-ltb, eq-eqb, ne-eqb, ltb-false}
 use Rattle.rules.specs.declared.Millis.{Millis}
 use Rattle.rules.specs.declared.Steps.{Steps}
 use Rattle.rules.specs.declared.Row.{Row}
@@ -22,9 +22,9 @@ use Rattle.rules.specs.Rows.{rowOf, goodRow}
 use Rattle.rules.specs.Cells.{placeOf}
 use Rattle.rules.specs.Book.{readRow}
 use Rattle.rules.specs.Stretches.{Stretch, pairWords}
-use Rattle.rules.specs.Answers.{accepted, refused, Ran, finished, stopped, numberOf, shownSession}
+use Rattle.rules.specs.Answers.{accepted, refused, finished, stopped, numberOf, shownSession}
 use Rattle.rules.specs.Records.{wordAt, signedOf}
-use Rattle.rules.specs.Session.{Session, whole, halted, leadingWords, leadingPrice, recordsOf, runRecords, session, sessionBytes, isShort, ran, front, bufferAfter, oneNumber}
+use Rattle.rules.specs.Session.{Session, whole, halted, recordsOf, runRecords, session, sessionBytes, ran, front, bufferAfter, oneNumber}
 use Rattle.rules.proofs.Stretches.{pairWords-length}
 use Rattle.session.specs.Walks.{bookWith, counted, Passed, filledBy, numberBy}
 use Rattle.session.proofs.Runs.{session-row, session-price, session-opens, cell-inside}

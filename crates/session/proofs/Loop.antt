@@ -1,7 +1,6 @@
 -- The loop over the records: how it starts, one turn, and each way out. Assumes nothing.
 use Prim.Native.Nat.{ℕ, zero, suc, _+_, _*_, _-_, _≤_, _<_}
 use native.Mathlib.Omega.{arith}
-use native.Mathlib.Nat.{le-refl}
 use mathlib.Core.Path.{_≡_, refl, sym, ap, _∙_, subst}
 use mathlib.Core.List.{List, [], _∷_, _++_}
 use mathlib.Core.Bool.{Bool, true, false}
@@ -21,14 +20,13 @@ use Rattle.rules.specs.Lists.{if_then_else_}
 use Rattle.rules.specs.Terms.{paper}
 use Rattle.rules.specs.Rows.{goodRow}
 use Rattle.rules.specs.Orders.{present, timeFrom}
-use Rattle.rules.specs.Kept.{keptAt}
 use Rattle.rules.specs.Stretches.{Stretch, stretches, keptStretches, pairWords}
-use Rattle.rules.specs.Answers.{Outcome, accepted, refused, outcomeBy, done, numberOf, shownAnswer, Ran, finished, stopped, shownSession}
+use Rattle.rules.specs.Answers.{Outcome, accepted, refused, outcomeBy, done, numberOf, shownAnswer, finished, shownSession}
 use Rattle.rules.specs.Bounds.{EventBounds}
 use Rattle.rules.specs.Records.{readRecord}
 use Rattle.rules.specs.Session.{Session, whole, halted, recordsOf, runRecords}
 use Rattle.rules.proofs.Bounds.{event-bounds-none, event-bounds-more}
-use Rattle.quantum.proofs.Standing.{accepted-zero}
+use Rattle.rules.proofs.Answers.{accepted-by}
 use Rattle.session.specs.declared.Walk.{Walk}
 use Rattle.session.specs.declared.Stepped.{Stepped}
 use Rattle.session.specs.Walks.{Holds, walkAt, pairsOf, refusalBy, followed, Walking, Ending, Ends, Advanced, bookWith, counted, Going, Passed}
@@ -37,14 +35,14 @@ use Rattle.session.proofs.Steps.{refused-number, number-not-zero}
 
 -- ---- how a pass ends
 
-halted-whole : (s : Session) (n m k w : ℕ) (ss : List Stretch) → s ≡ halted n m → s ≡ whole k w ss → ⊥
-halted-whole s n m k w ss e f = let z : _≡_ {A = ℕ} 0 1 = cc in omega arith
+pub not-whole : {s : Session} (n place k w : ℕ) (ss : List Stretch) → s ≡ halted n place → s ≡ whole k w ss → ⊥
+not-whole n place k w ss e f = let z : _≡_ {A = ℕ} 0 1 = cc in omega arith
 
 pub passed-halted : (s : Session) (f : Refusal) (place : ℕ) (entry exit : List ℕ) → s ≡ halted (numberOf f) place
     → Passed s entry exit (S.Refused f place)
 unfolding counted
 passed-halted s f place entry exit e =
-    record { answer = sym (ap counted e); words = λ k w ss h. absurd (halted-whole s (numberOf f) place k w ss e h) }
+    record { answer = sym (ap counted e); words = λ k w ss h. absurd (not-whole (numberOf f) place k w ss e h) }
 
 whole-pairs : (s : Session) (k w k′ w′ : ℕ) (ss ss′ : List Stretch) → s ≡ whole k w ss → s ≡ whole k′ w′ ss′ → ss ≡ ss′
 whole-pairs s k w k′ w′ ss ss′ e f = cc
@@ -157,7 +155,7 @@ module _ (limit : ℕ) (row : Row) (sp : Steps) (bytes base : List ℕ) where
         pub going-on : r .answer ≡ Accepted → Going limit row sp bytes base (r .walk) end (place + 1) exit
         going-on e =
             let o = readRecord (take 20 (drop at bytes)) in
-            let zero : refusalBy row (g .events) o ≡ 0 = accepted-zero _ (ap shownAnswer (sym e) ∙ judged) in
+            let zero : refusalBy row (g .events) o ≡ 0 = accepted-by _ done done (ap shownAnswer (sym e) ∙ judged) .0 in
             let same = ap readRecord cut in
             let zero′ : refusalBy row (g .events) (readRecord (take (end - at) (drop at bytes))) ≡ 0 = ap (refusalBy row (g .events)) same ∙ zero in
             let (walk, held) = adv .walk row (sp .0) (g .events) base (g .bounds) (g .is) (g .holds) zero′ in

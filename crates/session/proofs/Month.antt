@@ -1,11 +1,10 @@
 -- The theorem: what a session answers is what the month's own calls give for the same list of events. Assumes nothing.
-use Prim.Native.Nat.{ℕ, zero, suc, _+_, _≤_, _<_}
+use Prim.Native.Nat.{ℕ, zero, suc, _≤_}
 use native.Mathlib.Omega.{arith}
-use mathlib.Core.Path.{_≡_, refl, sym, ap, _∙_, subst}
+use mathlib.Core.Path.{_≡_, refl, sym, ap, _∙_}
 use mathlib.Core.List.{List, [], _∷_, _++_, append-assoc, append-nil, map}
 use mathlib.Core.Bool.{Bool, true, false}
-use lib.Dec.{ltb, leb, eqb}
-use lib.ListN.{length}
+use lib.Dec.{ltb}
 use borrow.Author.Tests.{ltb-true, ltb-false, le-leb}
 use Rattle.rules.specs.declared.Steps.{Steps}
 use Rattle.rules.specs.declared.Row.{Row}
@@ -15,19 +14,19 @@ use Rattle.rules.specs.declared.Event.{Event}
 use Rattle.rules.specs.Lists.{if_then_else_}
 use Rattle.rules.specs.Terms.{paper}
 use Rattle.rules.specs.Units.{kopecks}
-use Rattle.rules.specs.Rows.{rowOf, goodRow, goodExpiry, goodQuantum}
+use Rattle.rules.specs.Rows.{rowOf, goodRow}
 use Rattle.rules.specs.Cells.{goodCell, placeOf, cellAt}
-use Rattle.rules.specs.Kept.{keptBelow}
 use Rattle.rules.specs.Pay.{weight, viewOf, cellWeight}
 use Rattle.rules.specs.Stretches.{Stretch}
 use Rattle.rules.specs.Answers.{Outcome, accepted, refused, cell}
 use Rattle.rules.specs.Book.{Call, Open, Send, Close, Look, Book, eventRefusal, closedCell, answerOf, step, run, after}
 use Rattle.rules.specs.Records.{goodRecord, eventOf, fieldsOf, readRecord}
-use Rattle.rules.specs.Session.{Session, whole, halted, recordsOf, runRecords, session}
+use Rattle.rules.specs.Session.{whole, recordsOf, runRecords, session}
 use Rattle.rules.proofs.Lists.{and}
 use Rattle.rules.proofs.Refusals.{passes-call, answer-accepted}
-use Rattle.rules.proofs.Bounds.{RowBounds, row-bounds, after-snoc}
+use Rattle.rules.proofs.Bounds.{row-bounds, after-snoc}
 use Rattle.session.specs.Walks.{bookWith, refusalBy, followed}
+use Rattle.session.proofs.Loop.{not-whole}
 use Rattle.session.proofs.Runs.{runs-past, runs-refused, runs-taken, runs-end, step-send, closed-cell, open-accepted, session-begun, cell-inside}
 
 -- a record that is no event is refused by 15
@@ -38,9 +37,6 @@ unread bytes n e = go (goodRecord bytes) e
     go : (b : Bool) → (if b then accepted (eventOf (fieldsOf bytes)) else refused 15) ≡ refused n → n ≡ 15
     go true e = let z : _≡_ {A = ℕ} 0 1 = cc in absurd (omega arith)
     go false e = cc
-
-not-whole : {s : Session} (n place k w : ℕ) (ss : List Stretch) → s ≡ halted n place → s ≡ whole k w ss → ⊥
-not-whole n place k w ss e f = let z : _≡_ {A = ℕ} 0 1 = cc in omega arith
 
 append-one : (es : List Event) (e : Event) (fs : List Event) → (es ++ (e ∷ [])) ++ fs ≡ es ++ (e ∷ fs)
 append-one es e fs = append-assoc es (e ∷ []) fs

@@ -6,15 +6,15 @@ use native.Mathlib.Nat.{div-eq-of-lt, add-div-left}
 use mathlib.Core.Path.{_≡_, refl, sym, ap, _∙_}
 use mathlib.Core.List.{List, [], _∷_, _++_, map}
 use mathlib.Core.Bool.{Bool, true, false, not}
-use lib.Dec.{ltb, leb, eqb}
-use lib.ListN.{length, take, drop, set, getD, replicate, length-drop, length-replicate, getD-replicate, drop-of-length-le}
+use lib.Dec.{leb, eqb}
+use lib.ListN.{length, take, drop, length-drop, length-replicate, getD-replicate}
 use lib.Seq.{drop-drop, getD-set-same}
 use borrow.Author.Tests.{lt-ltb, le-ltb, leb-true, leb-false, eqb-true}
 use Rattle.rules.specs.declared.Steps.{Steps}
 use Rattle.rules.specs.declared.Row.{Row}
 use Rattle.rules.specs.declared.Cell.{Cell}
 use Rattle.rules.specs.declared.Event.{Event}
-use Rattle.rules.specs.Lists.{if_then_else_, below, within}
+use Rattle.rules.specs.Lists.{below}
 use Rattle.rules.specs.Terms.{paper}
 use Rattle.rules.specs.Units.{kopecks, goodPrice, goodCharge}
 use Rattle.rules.specs.Rows.{rowOf, goodRow}
@@ -23,11 +23,11 @@ use Rattle.rules.specs.Kept.{keptBelow}
 use Rattle.rules.specs.Pay.{weight}
 use Rattle.rules.specs.Stretches.{Stretch, keptStretches}
 use Rattle.rules.specs.Answers.{Outcome, accepted, refused, outcomeBy}
-use Rattle.rules.specs.Book.{Open, Send, Close, Quoting, Book, freshBook, isOpen, Cause, lowest, cause, causes, eventRefusal, eventCauses, readRow, refusalOf, closedCell, changed, stepBy, step}
+use Rattle.rules.specs.Book.{Open, Send, Close, Book, freshBook, isOpen, Cause, lowest, cause, causes, eventRefusal, readRow, refusalOf, closedCell, changed, step}
 use Rattle.rules.specs.Records.{readRecord}
 use Rattle.rules.specs.Session.{Session, whole, halted, unless, recordsOf, readRefusal, recordRefusal, readStep, closing, runRecords, session}
-use Rattle.rules.proofs.Refusals.{passed, skip, stop, clear, call-passes, passes-call, step-accepted, OpenPasses}
-use Rattle.rules.proofs.Bounds.{RowBounds, row-bounds, place-small}
+use Rattle.rules.proofs.Refusals.{stop, call-passes, passes-call, step-accepted, OpenPasses}
+use Rattle.rules.proofs.Bounds.{row-bounds, place-small}
 use Rattle.session.specs.Walks.{bookWith, refusalBy, followed}
 
 -- ---- the records of some bytes, from the first on

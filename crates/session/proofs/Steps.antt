@@ -1,5 +1,5 @@
 -- One event further, and the end: the run so far as the one value for the accepted events. Assumes nothing.
-use Prim.Native.Nat.{ℕ, zero, suc, _+_, _*_, _-_, _≤_, _<_}
+use Prim.Native.Nat.{ℕ, zero, suc, _≤_}
 use native.Mathlib.Omega.{arith}
 use mathlib.Core.Path.{_≡_, refl, sym, ap, _∙_, subst}
 use mathlib.Core.List.{List, [], _∷_, _++_}
@@ -24,28 +24,23 @@ use Rattle.rules.specs.Book.{eventRefusal}
 use Rattle.rules.specs.Bounds.{EventBounds}
 use Rattle.rules.proofs.Orders.{present-snoc}
 use Rattle.rules.proofs.Kept.{keptAt-now, keptAt-snoc}
-use Rattle.rules.proofs.Stretches.{stretches-ext, stretches-few}
+use Rattle.rules.proofs.Stretches.{stretches-ext}
 use Rattle.rules.proofs.Refusals.{event-passes}
 use Rattle.rules.proofs.Bounds.{row-bounds}
 use Rattle.quantum.specs.declared.Quantum.{Quantum}
 use Rattle.quantum.specs.declared.Sent.{Sent}
 use Rattle.quantum.specs.Standing.{running, standing, Reached, taken, Answered}
-use Rattle.quantum.proofs.Standing.{accepted-zero}
+use Rattle.rules.proofs.Answers.{accepted-by}
 use Rattle.session.specs.declared.Marks.{Marks}
 use Rattle.session.specs.declared.Walk.{Walk}
-use Rattle.session.specs.declared.Stepped.{Stepped}
-use Rattle.session.specs.Walks.{lastOffset, marksAt, Holds, Growing, Grows, walkAt, pairsOf, refusalBy, followed, Walking, Advanced}
-use Rattle.session.proofs.Pairs.{marks-ext, pairs-are, start-is, last-is, pairs-few, start-early, last-some}
+use Rattle.session.specs.Walks.{lastOffset, marksAt, Holds, Growing, Grows, walkAt, pairsOf, refusalBy, Walking, Advanced}
+use Rattle.session.proofs.Pairs.{marks-ext, pairs-are, pairs-few, start-early, last-some}
 
 -- ---- the fields
 
 time-at : (row : Row) (sp : ℤ) (es : List Event) (q : Quantum) → q ≡ standing row sp es → q .time ≡ millis (present es)
 unfolding standing running
 time-at row sp es q is = ap (λ (x : Quantum). x .time) is
-
-pub length-at : (row : Row) (sp : ℤ) (es : List Event) (q : Quantum) → q ≡ standing row sp es → q .length ≡ row .length
-unfolding standing running
-length-at row sp es q is = ap (λ (x : Quantum). x .length) is
 
 module _ (row : Row) (sp : ℤ) (es : List Event) (w : Walk) (is : w ≡ walkAt row sp es) where
   pub quantum-is : w .quantum ≡ standing row sp es
@@ -140,7 +135,7 @@ reached w h =
 
 module _ (w : Walk) (e : Event) (sent : Sent) (answered : Answered (w .quantum) e sent) (acc : sent .answer ≡ Accepted) where
   passes : (row : Row) (sp : ℤ) (es : List Event) → EventBounds row es → w ≡ walkAt row sp es → eventRefusal row es e ≡ 0
-  passes row sp es g is = accepted-zero _ (ap shownAnswer (sym acc) ∙ answered .answer row sp es g (quantum-is row sp es w is))
+  passes row sp es g is = accepted-by _ done done (ap shownAnswer (sym acc) ∙ answered .answer row sp es g (quantum-is row sp es w is)) .0
 
   next-is : (row : Row) (sp : ℤ) (es : List Event) → EventBounds row es → w ≡ walkAt row sp es → sent .quantum ≡ standing row sp (es ++ (e ∷ []))
   next-is row sp es g is =

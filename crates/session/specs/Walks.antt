@@ -1,9 +1,9 @@
 -- What the session's private functions promise to each other: the one value of a run so far for the accepted events, and what a pass
 -- over the records has found and written.
-use Prim.Native.Nat.{ℕ, suc, _+_, _*_, _-_, _≤_, _<_}
+use Prim.Native.Nat.{ℕ, _+_, _*_, _≤_, _<_}
 use mathlib.Core.Path.{_≡_}
 use mathlib.Core.List.{List, [], _∷_, _++_}
-use mathlib.Core.Bool.{Bool, true, false}
+use mathlib.Core.Bool.{Bool, true}
 use lib.Dec.{leb}
 use lib.IntN.{ℤ}
 use lib.ListN.{length, drop, set}
@@ -11,7 +11,6 @@ use Rattle.rules.specs.declared.Millis.{Millis}
 use Rattle.rules.specs.declared.Steps.{Steps}
 use Rattle.rules.specs.declared.Row.{Row}
 use Rattle.rules.specs.declared.Event.{Event}
-use Rattle.rules.specs.declared.Answer.{Answer}
 use Rattle.rules.specs.declared.SessionAnswer.{SessionAnswer}
 use Rattle.rules.specs.declared.SessionAnswer.the-variants as S
 use Rattle.rules.specs.Lists.{if_then_else_}

@@ -1,6 +1,5 @@
 -- Time runs on to L, and the pairs grow to there. Assumes nothing.
 use native.Mathlib.Omega.{arith}
-use mathlib.Core.Path.{_≡_, refl}
 use Rattle.rules.specs.Terms.{paper}
 use Rattle.rules.proofs.Bounds.{row-bounds}
 use Rattle.session.proofs.Steps.{quantum-is, growing, ended-is}

@@ -1,5 +1,5 @@
 -- The event passes, and time runs on to it; or the quantum refuses it. Assumes nothing.
-use mathlib.Core.Path.{_≡_, ap, sym, _∙_}
+use mathlib.Core.Path.{ap, sym, _∙_}
 use Rattle.rules.specs.Answers.{shownAnswer, accepted}
 use Rattle.session.proofs.Steps.{reached, growing-taken, advanced-taken, advanced-refused, quantum-is}
 use borrow.Author.Needs.{needs}

@@ -1,13 +1,10 @@
 -- The invariant: the orders passed do not have the id. Assumes nothing.
-use Prim.Native.Nat.{ℕ, _+_, _-_, _≤_, _<_}
-use mathlib.Core.Path.{_≡_, refl, sym, ap, _∙_}
-use mathlib.Core.List.{List}
+use Prim.Native.Nat.{ℕ, _+_, _-_, _≤_}
+use mathlib.Core.Path.{_≡_, sym, ap, _∙_}
 use native.Mathlib.Omega.{arith}
 use borrow.Author.Needs.{needs}
 use borrow.Author.Tests.{eq-eqb, ne-eqb}
-use lib.ListN.{length, take, drop, getD, length-take}
-use lib.Seq.{getD-take}
-use Rattle.rules.specs.declared.Order.{Order}
+use lib.ListN.{length, take, drop}
 use Rattle.orders.specs.declared.Orders.{Orders}
 use Rattle.orders.specs.Packed.{Packed, positionOf, foundAt}
 use Rattle.orders.proofs.Slots.{few, long, count-is, front-is, found, passed, passed-all, there-is}

@@ -1,9 +1,7 @@
-use mathlib.Core.Path.{_≡_, ap}
-use mathlib.Core.List.{[]}
+use mathlib.Core.Path.{ap}
 use borrow.Author.Needs.{needs}
 use lib.ListN.{replicate}
 use Rattle.rules.specs.declared.Order.{Order}
-use Rattle.orders.specs.declared.Orders.{Orders}
 use Rattle.orders.specs.Packed.{packed, padded}
 use Rattle.orders.proofs.Orders.none.Statement.{statement}
 use Rattle.orders.proofs.Orders.none.Tie as tie

@@ -1,8 +1,9 @@
 -- Refused, the quantum stays; accepted, the event is taken. Assumes nothing.
 use mathlib.Core.Path.{ap, sym, _∙_}
 use Rattle.rules.specs.Orders.{live}
-use Rattle.rules.specs.Answers.{shownAnswer}
-use Rattle.quantum.proofs.Standing.{packed-is, orders-are, accepted-zero, sent-accepted, sent-refused}
+use Rattle.rules.specs.Answers.{done, shownAnswer}
+use Rattle.rules.proofs.Answers.{accepted-by}
+use Rattle.quantum.proofs.Standing.{packed-is, orders-are, sent-accepted, sent-refused}
 use borrow.Author.Needs.{needs}
 use Rattle.quantum.proofs.Quantum.send.Statement.{statement}
 use Rattle.quantum.proofs.Quantum.send.Tie as tie
@@ -30,7 +31,7 @@ with-event-requires c κs = let s = c .before .before .before .before .before in
       bounds = r .bounds;
       is = r .is;
       at = at;
-      passes = accepted-zero _ (ap shownAnswer (sym (c .enum-told .given .1)) ∙ c .before .before .judged .ensures (r .row) (r .sp) (r .events) (r .is) at);
+      passes = accepted-by _ done done (ap shownAnswer (sym (c .enum-told .given .1)) ∙ c .before .before .judged .ensures (r .row) (r .sp) (r .events) (r .is) at) .0;
     }
 
 enum-known-answer : tie.Need-enum-known-answer
@@ -44,7 +45,7 @@ returns c =
     sent-accepted q (c .with-event .result) e
     (λ row sp es g is.
     let at = c .before .before .before .before .located .ensures (live es) (orders-are row sp es q is) in
-    let zero = accepted-zero _ (ap shownAnswer (sym (c .before .enum-told .given .1)) ∙ c .before .before .before .judged .ensures row sp es is at) in
+    let zero = accepted-by _ done done (ap shownAnswer (sym (c .before .enum-told .given .1)) ∙ c .before .before .before .judged .ensures row sp es is at) .0 in
     (zero, c .with-event .ensures row sp es g is at zero))
 
 returns-2 : tie.Need-returns-2
