@@ -4,3 +4,4 @@ pub mod Steps
 pub mod Loop
 pub mod Endings
 pub mod Month
+pub mod Few

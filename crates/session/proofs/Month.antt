@@ -30,7 +30,7 @@ use Rattle.session.proofs.Loop.{not-whole}
 use Rattle.session.proofs.Runs.{runs-past, runs-refused, runs-taken, runs-end, step-send, closed-cell, open-accepted, session-begun, cell-inside}
 
 -- a record that is no event is refused by 15
-unread : (bytes : List ℕ) (n : ℕ) → readRecord bytes ≡ refused n → n ≡ 15
+pub unread : (bytes : List ℕ) (n : ℕ) → readRecord bytes ≡ refused n → n ≡ 15
 unfolding readRecord
 unread bytes n e = go (goodRecord bytes) e
   where

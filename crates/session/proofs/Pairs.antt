@@ -29,16 +29,16 @@ last-inside n [] i = omega arith
 last-inside n (s ∷ []) i = omega arith
 last-inside n (s ∷ t ∷ ss) i = last-inside n (t ∷ ss) (i .1)
 
-length-snoc : (ss : List Stretch) (s : Stretch) → length (ss ++ (s ∷ [])) ≡ length ss + 1
+pub length-snoc : (ss : List Stretch) (s : Stretch) → length (ss ++ (s ∷ [])) ≡ length ss + 1
 length-snoc ss s = length-append ss (s ∷ [])
 
 -- ---- the marks
 
-before-in : (p : ℕ → Bool) (a b : ℕ) (c : Bool) → a < b → ((k : ℕ) → a ≤ k → k < b → p k ≡ c) → before p b ≡ c
+pub before-in : (p : ℕ → Bool) (a b : ℕ) (c : Bool) → a < b → ((k : ℕ) → a ≤ k → k < b → p k ≡ c) → before p b ≡ c
 before-in p a zero c l h = absurd (omega arith)
 before-in p a (suc n) c l h = h n (omega arith) (omega arith)
 
-before-ext : (p q : ℕ → Bool) (n : ℕ) → ((m : ℕ) → m < n → p m ≡ q m) → before p n ≡ before q n
+pub before-ext : (p q : ℕ → Bool) (n : ℕ) → ((m : ℕ) → m < n → p m ≡ q m) → before p n ≡ before q n
 before-ext p q zero h = refl
 before-ext p q (suc n) h = h n (omega arith)
 
