@@ -1,16 +1,14 @@
-# Every target needs the Rattle kit (`rt` on the path) and Python 3; `client` and `bench` also a C and a Rust compiler.
+# Every target needs the Rattle kit (`rt` on the path) and Python 3; `test` and `client` also a C compiler, `bench` Rust with cargo.
 .PHONY: test demo client bench
 
 test:
 	bash .ci/run
 
 # The sheet of a shipped session, and a month of calls.
-demo: target/bin/sheet target/bin/replay
+demo:
+	rt check sheet replay
 	python3 tools/session.py to-bytes examples/brent.session | target/bin/sheet
 	python3 tools/calls.py to-bytes examples/month.calls | target/bin/replay
-
-target/bin/%:
-	rt check $*
 
 # The C client of examples/client.c, over the proved session run: target/client FILE
 client:

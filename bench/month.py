@@ -78,4 +78,5 @@ def main():
     print(f"64 live, amendments 500 to 4,500: {early:.0f}; 8,000 to 12,000: {late:.0f}")
 
 
-main()
+if __name__ == "__main__":
+    main()

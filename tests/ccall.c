@@ -3,14 +3,14 @@
    Standard input, case by case until its end: the length of the leading bytes and the length of the
    record bytes, four bytes each, low byte first, then both. Each answer is a line of its own.
    Each part stands in memory of exactly its size, so that a tool that watches memory sees a read
-   past its end. */
+   past its end; an empty part is a null pointer. */
 
 #include <inttypes.h>
 #include <stdint.h>
 #include <stdio.h>
 #include <stdlib.h>
 
-#include METER_HEADER /* the header that declares quoting_session, named by who compiles this */
+#include "quoting.h"
 
 static void stop(const char *why) {
     fprintf(stderr, "ccall: %s\n", why);
@@ -31,9 +31,10 @@ static uint32_t number(const uint8_t *bytes) {
 }
 
 static uint8_t *part(uint32_t size) {
-    uint8_t *bytes = malloc(size ? size : 1);
+    if (size == 0) return NULL;
+    uint8_t *bytes = malloc(size);
     if (bytes == NULL) stop("no memory");
-    if (size && !fill(bytes, size)) stop("the input ends in the middle of a case");
+    if (!fill(bytes, size)) stop("the input ends in the middle of a case");
     return bytes;
 }
 

@@ -10,7 +10,7 @@ from pathlib import Path
 from recount import records
 from recount.book import (
     BUY, LIVE_LIMIT, PRICE_LIMIT, SELL, VOLUME_LIMIT, Add, Amend, Book, Cancel, Deal, Open, Row,
-    Tick, best_ask, best_bid, keeps, widest,
+    Tick, best_ask, best_bid, keeps, pass_event, widest,
 )
 from recount.session import HEAD
 from tools import session as session_text
@@ -368,6 +368,24 @@ def far_behind(rng):
     return session(row, sp, s.calls)
 
 
+def becomes_best(head, data):
+    """Whether an order that was amended behind the best quote of its side stands at it later."""
+    least = HEAD.unpack(head)[3]
+    live, hidden = {}, set()
+    for event in map(records.read, records.split(data)):
+        pass_event(live, event)
+        for side, best in ((BUY, best_bid(live, least)), (SELL, best_ask(live, least))):
+            for order in live.values():
+                if order.side == side and order.id in hidden and order.price == best:
+                    return True
+        if isinstance(event, Amend):
+            order = live[event.id]
+            best = best_bid(live, least) if order.side == BUY else best_ask(live, least)
+            behind = best is not None and (order.price < best if order.side == BUY else order.price > best)
+            (hidden.add if behind else hidden.discard)(event.id)
+    return False
+
+
 def equal_prices(rng):
     """Few prices, parts that add up to M or to one less."""
     row, sp = short_row(rng), any_sp(rng)
@@ -515,7 +533,11 @@ def any_session(rng):
     """A generator's name, the leading bytes and the records."""
     generators, shares = zip(*SESSIONS)
     generator = rng.choices(generators, shares)[0]
-    return generator.__name__, *generator(rng)
+    head, data = generator(rng)
+    name = generator.__name__
+    if generator is far_behind and becomes_best(head, data):
+        name += "_then_best"
+    return name, head, data
 
 
 # ---------------------------------------------------------------- tables of rows, and records

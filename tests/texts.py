@@ -9,7 +9,7 @@ ROOT = Path(__file__).resolve().parent.parent
 sys.path.insert(0, str(ROOT))
 
 from recount import programs
-from recount.book import Book, Open, Row, row_fits
+from recount.book import Accepted, Book, Open, Row, row_fits
 from tools import calls, picture, session, text
 
 
@@ -41,7 +41,7 @@ def check_rows():
     for at, name, words in text.lines((ROOT / "examples" / "programmes.rows").read_text()):
         row = session.row_words(words)
         assert row_fits(Row(*row)), (at, name)
-        Book().call(Open(row, 1, 0))
+        assert Book().call(Open(row, 1, 0)) == Accepted(), (at, name)
         rows += 1
     assert rows == 12 + 24 + 120, rows
 

@@ -45,4 +45,5 @@ def main():
     row("all", [sum(column) for column in zip(*table)])
 
 
-main()
+if __name__ == "__main__":
+    main()

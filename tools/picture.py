@@ -1,12 +1,15 @@
-"""A picture (SVG) of a session's quantum, worked out by the recount.
+"""A picture (SVG) of a session's quantum.
 
     python3 tools/picture.py FILE.session > picture.svg
 
 Best bid and ask over time, the kept stretches shaded, and below them the share of the quantum that
-was kept beside the share that is required. Verdict and weight are in the title.
+was kept beside the share that is required. Verdict and weight are in the title. The quotes are the
+recount's; the rest is what `sheet` prints, the recount's sheet where the program is not built.
 """
 
+import subprocess
 import sys
+from collections import namedtuple
 from pathlib import Path
 from xml.sax.saxutils import escape
 
@@ -39,6 +42,24 @@ def quotes(row, events):
         pass_event(live, event)
         found[event.t] = (best_bid(live, row.least), best_ask(live, row.least))
     return [(t, bid, ask) for t, (bid, ask) in found.items()]
+
+
+Sheet = namedtuple("Sheet", "kept met weight pairs")
+
+
+def sheet(data):
+    """What `sheet` prints, read; a refused session raises a TextError."""
+    program = Path(__file__).resolve().parent.parent / "target" / "bin" / "sheet"
+    if program.exists():
+        printed = subprocess.run([program], input=data, capture_output=True, check=True).stdout.decode()
+    else:
+        printed = programs.sheet(data)
+    lines = [line.split() for line in printed.splitlines()]
+    if lines[0][0] == "refused":
+        raise text.TextError(f"{printed.strip()}: there is no quantum to draw")
+    *pairs, verdict, weight = lines[1:]
+    pairs = [(int(offset), int(length)) for _, offset, length in pairs]
+    return Sheet(int(lines[0][1]), verdict[1] == "met", int(weight[1]), pairs)
 
 
 def clock(ms):
@@ -166,9 +187,7 @@ def picture(name, data):
     """The SVG of a session's bytes; a refused session raises a TextError."""
     words, sp = session.read_head(data[: session.HEAD.size]) or ([], 0)
     rest = data[session.HEAD.size :]
-    done = session.run(words, sp, rest)
-    if isinstance(done, session.Stopped):
-        raise text.TextError(f"{programs.refused_at(done)}: there is no quantum to draw")
+    done = sheet(data)
     row = Row(*words)
     shown = quotes(row, [records.read(record) for record in records.split(rest)])
     prices = [price for _, bid, ask in shown for price in (bid, ask) if price is not None] or [sp]

@@ -53,6 +53,8 @@ def number(word, span, what):
 
 def time(word, what="t"):
     clock = re.fullmatch(r"([0-9]+):([0-5][0-9]):([0-5][0-9])(?:\.([0-9]{3}))?", word)
+    if clock is None and ":" in word:
+        raise TextError(f"{what}: {word!r} is not a time h:mm:ss")
     if clock is None:
         return number(word, WORD, what)
     h, m, s, ms = (int(part or 0) for part in clock.groups())
@@ -133,7 +135,7 @@ def run_tool(usage, to_bytes, to_text, words):
 
 def decoded(data):
     try:
-        return data.decode()
+        return data.decode("utf-8-sig")
     except UnicodeDecodeError as error:
         wrong = TextError("this is no text")
         wrong.line = data[: error.start].count(b"\n") + 1

@@ -70,7 +70,7 @@ impl Orders {
         self.nowhere()
     }
 
-    // None.
+    // What `find` answers where no order has the id.
     pub fn nowhere(self) -> Found
         ensures { λ r. ⌜ ((live : List Order) → self ≡ packed live → r ≡ foundAt (length live) live) ⌝ }
     {

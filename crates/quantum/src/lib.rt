@@ -374,7 +374,7 @@ fn is_behind(side: Side, best: Quote, price: Steps) -> bool
     }
 }
 
-// Whether the touched order was and stays there, so that the best quote stays.
+// Whether the touched order was and stays behind the best quote, so that the quote stays.
 fn stays_behind(side: Side, best: Quote, from: Steps, to: Steps) -> bool
     ensures { λ r. ⌜ r ≡ (behind side best (from .0) && behind side best (to .0)) ⌝ }
 {
@@ -520,19 +520,6 @@ impl Quantum {
         self.kept_at(last)
     }
 
-    // What a report shows.
-    pub fn now(self) -> Millis
-        ensures { λ r. ⌜ r ≡ self .time ⌝ }
-    {
-        self.time
-    }
-
-    pub fn kept_so_far(self) -> Millis
-        ensures { λ r. ⌜ r ≡ self .kept ⌝ }
-    {
-        self.kept
-    }
-
     // Whether the live orders keep the quote from now on.
     pub fn keeps(self) -> bool
         ensures { λ r. ⌜ ((row : Row) (sp : ℤ) (events : List Event) → self ≡ standing row sp events → r ≡ ordersKeep row sp (live events)) ⌝ }
@@ -547,6 +534,19 @@ impl Quantum {
         ensures { λ r. ⌜ r ≡ self .length ⌝ }
     {
         self.length
+    }
+
+    // What a report shows.
+    pub fn now(self) -> Millis
+        ensures { λ r. ⌜ r ≡ self .time ⌝ }
+    {
+        self.time
+    }
+
+    pub fn kept_so_far(self) -> Millis
+        ensures { λ r. ⌜ r ≡ self .kept ⌝ }
+    {
+        self.kept
     }
 
     pub fn best_bid(self) -> Quote

@@ -102,12 +102,15 @@ unfoldable pub failing : List ℕ → List Cell → List Cell
 failing [] cells = cells
 failing (d ∷ ds) cells = set (failing ds cells) (placeOf (d + 1) 1 0) (filled 0 0 0)
 
--- a quote that is kept from the start, and a cancel at t = L
+-- a quote that is kept from the start, with a cancel at t = L, and one that an add at t = L would complete
 abbrev quoting : List Event
 quoting = add 1 Buy 99 500 ∷ add 2 Sell 101 500 ∷ []
 
 abbrev quotingToTheEnd : List Event
 quotingToTheEnd = add 1 Buy 99 500 ∷ add 2 Sell 101 500 ∷ Cancel (millis 1000) 2 ∷ []
+
+abbrev quotingFromTheEnd : List Event
+quotingFromTheEnd = add 1 Buy 99 500 ∷ Add (millis 1000) 2 Sell (steps (pos 101)) (contracts 500) ∷ []
 
 abbrev keptIn : List Event → Value
 keptIn events = number (keptBelow row (pos 2000) events 1000)
@@ -128,7 +131,7 @@ checks =
     ∷ check C12 (number (fee paper (alone (filled 25200000 1000000000 1000000000))) ∷ []) (number 120000000 ∷ [])
     ∷ check fifteenFailed (number (fee paper (failing (below 15) (alone paying))) ∷ []) (number 10312 ∷ [])
     ∷ check sixteenFailed (number (fee paper (failing (below 16) (alone paying))) ∷ []) (number 0 ∷ [])
-    ∷ check eventAtEnd (keptIn quoting ∷ keptIn quotingToTheEnd ∷ []) (number 1000 ∷ number 1000 ∷ [])
+    ∷ check eventAtEnd (keptIn quoting ∷ keptIn quotingToTheEnd ∷ keptIn quotingFromTheEnd ∷ []) (number 1000 ∷ number 1000 ∷ number 0 ∷ [])
     ∷ check negativePrice (kept (negℤ (pos 5)) 1 ∷ kept (negℤ (pos 5)) 2 ∷ []) (keeps true ∷ keeps false ∷ [])
     ∷ []
 

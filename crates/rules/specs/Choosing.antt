@@ -18,7 +18,7 @@ rows table = map (rowWords table) (below (length table / 7))
 abbrev pub isFor : ℕ → ℕ → List ℕ → Bool
 isFor expiry quantum row = eqb (getD row 0 0) expiry && eqb (getD row 1 0) quantum
 
--- "the part of the table holding the first row with that expiry and quantum", empty where it has none
+-- the part of a table "holding the first row with that expiry and quantum", empty where it has none
 unfoldable pub firstRow : ℕ → ℕ → List ℕ → List ℕ
 firstRow expiry quantum table = firstOr [] (isFor expiry quantum) (rows table)
 

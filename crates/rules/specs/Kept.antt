@@ -44,7 +44,7 @@ ordersKeep row sp orders = quotesKeep (row .a) (row .b) sp (bestBid row orders) 
 unfoldable pub upTo : ℕ → List Event → List Event
 upTo m events = keep (λ (e : Event). leb (timeOf e) m) events
 
--- "A millisecond m is kept if, after all accepted events with t at most m," the quote is kept
+-- "A millisecond m, from 0 to L-1, is kept if, after all accepted events with t at most m," the live orders keep the quote
 unfoldable pub keptAt : Row → ℤ → List Event → ℕ → Bool
 keptAt row sp events m = ordersKeep row sp (live (upTo m events))
 

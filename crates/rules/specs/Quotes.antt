@@ -35,7 +35,8 @@ volumeOf o = o .volume .0
 unfoldable pub depth : Side → ℤ → List Order → ℕ
 depth side p orders = sum (map volumeOf (keep (stands side p) orders))
 
--- an order of the side "for which the live orders at that price or better hold M contracts or more together"
+-- a live order of the side "for which the live buy orders at that price or higher hold M contracts or more together", or the live sell
+-- orders at that price or lower
 unfoldable pub qualifies : Side → ℕ → List Order → Order → Bool
 qualifies side least orders o = same side (o .side) && leb least (depth side (o .price .0) orders)
 

@@ -9,7 +9,7 @@ use Rattle.rules.specs.Lists.{within}
 use Rattle.rules.specs.Terms.{Terms}
 use Rattle.rules.specs.Units.{millis, contracts}
 
--- "expiry (1 or 2: the nearer or the farther one that the programme lists), quantum (0 to 2)"
+-- "expiry (1 or 2: the nearer or the farther one that the programme lists), quantum (0 to 2 ..)"
 abbrev pub goodExpiry : ℕ → Bool
 goodExpiry e = within 1 2 e
 
@@ -33,7 +33,7 @@ rowOf words =
       share = getD words 6 0;
     }
 
--- every word in its range: "M the least volume (1 to 100,000), a in hundred-thousandths (0 to 100,000), b in price steps
+-- every word in its range: "M the least volume (1 to 100,000), a in hundred-thousandths (0 to 100,000 ..), b in price steps
 -- (0 to 1,000,000), p the required share in percent (1 to 79)"
 unfoldable pub goodRow : Terms → Row → Bool
 goodRow terms row =

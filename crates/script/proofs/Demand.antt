@@ -1,5 +1,5 @@
 -- Demand 3 about running code: whatever the list of calls, what `script::run` promises of its answer makes each later answer the one
--- that the plain book gives after that list. Assumes nothing.
+-- that the plain book gives after that list. Assumes only that the buffer has room for the outcomes.
 use Prim.Native.Nat.{ℕ, _≤_}
 use mathlib.Core.Path.{_≡_, refl, ap, _∙_}
 use mathlib.Core.List.{List, [], _++_}

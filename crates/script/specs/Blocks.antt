@@ -43,7 +43,7 @@ shownOf (accepted (cell v)) = showing (O.Found v)
 shownOf (accepted (report r)) = record { outcome = O.Reported; report = r }
 shownOf (refused n) = showing (O.Refused n)
 
--- "0 accepted, else the refusal's number"
+-- 0 for an accepted call, else the refusal's number
 abbrev pub outcomeNumber : Outcome → ℕ
 outcomeNumber O.Accepted = 0
 outcomeNumber (O.Refused n) = n

@@ -19,8 +19,8 @@ use Rattle.script.specs.declared.Ran.{Ran}
 use Rattle.script.specs.Words.{callsOf, wordsRead, outcomesOf}
 
 -- The words of a list, the lent buffer before and after, and the answer. Whatever the list: the month is the month of that list, and
--- each call's outcome is the plain book's; "words behind the outcomes keep their contents; a buffer with fewer words than the list has
--- calls is answered as too short, with a fresh month and nothing written".
+-- each call's outcome is the plain book's; words behind the outcomes keep their contents. A buffer with fewer words than the list has
+-- calls is answered as too short, with a fresh month and nothing written.
 pub record Runs (ws before behind : List ℕ) (r : Ran) : Type 0 where
   pub calls : r .calls ≡ length (callsOf ws)
   pub words : r .words ≡ wordsRead ws

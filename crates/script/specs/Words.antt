@@ -1,4 +1,4 @@
--- A list of calls as 32-bit words, "one block a call, each item one word": how many words a block has, the call that it says, the calls
+-- A list of calls as 32-bit words, one block a call (docs/FORMATS.md): how many words a block has, the call that it says, the calls
 -- and words that are read from a list of words, what each call is answered, and the words of a list of calls.
 use Prim.Native.Nat.{ℕ, zero, suc, _+_, _*_, _/_, _%_, _<_}
 use mathlib.Core.List.{List, [], _∷_, _++_}
@@ -41,11 +41,11 @@ fixedDue kind =
     else if eqb kind 12 then 1
     else 0
 
--- `2 t id side price volume` add, "side 1 buy, 2 sell"; 0 with another side
+-- `2 t id side price volume` add, side 1 for buy and 2 for sell; 0 with another side
 unfoldable pub addDue : ℕ → ℕ
 addDue side = if eqb side 1 || eqb side 2 then 6 else 0
 
--- `1 n w1..wn day SP` open "with n row words (n any number)", an add, or one of the others
+-- `1 n w1..wn day SP` open with n row words, an add, or one of the others
 unfoldable pub due : ℕ → ℕ → ℕ → ℕ
 due kind n side = if eqb kind 1 then 4 + n else if eqb kind 2 then addDue side else fixedDue kind
 
@@ -53,16 +53,16 @@ due kind n side = if eqb kind 1 then 4 + n else if eqb kind 2 then addDue side e
 abbrev pub dueAt : List ℕ → ℕ
 dueAt ws = due (word ws 0) (word ws 1) (word ws 3)
 
--- The number of words of the call at the front; 0 where there is none: at the end of the words, or before a block "that is cut short,
--- of another kind, or an add with another side".
+-- The number of words of the call at the front; 0 where there is none: at the end of the words, or before a block that is cut short,
+-- of another kind, or an add with another side.
 unfoldable pub blockSize : List ℕ → ℕ
 blockSize ws = if leb (dueAt ws) (length ws) then dueAt ws else 0
 
--- "SP and prices are two's complement."
+-- SP and prices are two's complement
 abbrev pub stepsAt : List ℕ → ℕ → Steps
 stepsAt ws i = steps (signedOf (word ws i))
 
--- "each charge as two words, the low one first"
+-- each charge is two words, the low one first
 abbrev pub chargeAt : List ℕ → ℕ → Kopecks
 chargeAt ws i = kopecks (word ws i + 4294967296 * word ws (i + 1))
 
@@ -112,7 +112,7 @@ callsOf ws = callsFrom (length ws) ws
 unfoldable pub wordsRead : List ℕ → ℕ
 wordsRead ws = wordsFrom (length ws) ws
 
--- "each call's outcome (0 accepted, else the refusal's number)", by the plain book
+-- each call's outcome by the plain book: 0 accepted, else the refusal's number
 unfoldable pub outcomesFrom : Book → List Call → List ℕ
 outcomesFrom b [] = []
 outcomesFrom b (c ∷ cs) = refusalOf paper b c ∷ outcomesFrom (step paper b c) cs
@@ -162,7 +162,7 @@ Words ws = (i : ℕ) → Word (getD ws i 0)
 abbrev pub Wide : Kopecks → Type 0
 Wide k = k .0 < 18446744073709551616
 
--- "whose numbers fit their types": each number of the call fits its type, and the number of an open's row words fits its word
+-- each number of the call fits its type, and the number of an open's row words fits its word
 abbrev pub CallFits : Call → Type 0
 CallFits (Open words day sp) = Word (length words) × Words words × Word day × SignedWord (sp .0)
 CallFits (Send e) = Fits e

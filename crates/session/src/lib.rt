@@ -135,7 +135,7 @@ fn step(walk: Walk, bytes: &[u8], buffer: &mut [u32]) -> Stepped
     }
 }
 
-// Time runs on to L.
+// Time runs on to L; K, w and the number of pairs.
 fn finish(walk: Walk, row: Row, buffer: &mut [u32]) -> SessionAnswer
     requires { ⌜ Ending walk row ⌝ }
     ensures { λ r. ⌜ Ends walk row r (now (buffer .entry)) (now (buffer .exit)) ⌝ }
@@ -324,7 +324,8 @@ pub fn front<'a, 'b, 'c>(
     records: &'b [u8],
     buffer: &'c mut [u32],
 ) -> &'c mut [u32]
-    ensures { λ r. ⌜ now r ≡ frontOf (length (now (buffer .entry))) (session paper runLimit (now (row .entry)) sp (now (records .entry))) ⌝ }
+    ensures words { λ r. ⌜ now r ≡ frontOf (length (now (buffer .entry))) (session paper runLimit (now (row .entry)) sp (now (records .entry))) ⌝ }
+    ensures place { λ r. ⌜ r .ptr ≡ buffer .entry .ptr ⌝ }
 {
     let n = filled(run(row, sp, records, buffer));
     &mut buffer[..n]

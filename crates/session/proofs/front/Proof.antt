@@ -1,5 +1,5 @@
 -- The front that the run has filled. Assumes nothing.
-use mathlib.Core.Path.{sym}
+use mathlib.Core.Path.{refl, sym}
 use lib.Seq.{length-take-le}
 use Rattle.rules.specs.Terms.{paper}
 use Rattle.rules.specs.Session.{runLimit, session}
@@ -24,8 +24,10 @@ slice-aggregate-result c =
 returns : tie.Need-returns
 returns c =
     let r = c .before .before .before .before in
-    let s = r .before .before .before .before .before in
-    front-is (session paper runLimit (s .args .row .now) (s .args .sp) (s .args .records .now)) (s .args .buffer .now) _ (r .run .result) (c .before .filled .result) (r .run .ensures) (c .before .filled .ensures) .0
+    let s = r .before .before .before .before .before in (
+      front-is (session paper runLimit (s .args .row .now) (s .args .sp) (s .args .records .now)) (s .args .buffer .now) _ (r .run .result) (c .before .filled .result) (r .run .ensures) (c .before .filled .ensures) .0,
+      refl,
+    )
 
 pub front-spec : {M : Type 1} → statement M
 front-spec = tie.close (tie.spec run-requires filled-requires slice-aggregate-result returns)
