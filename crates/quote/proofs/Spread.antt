@@ -8,10 +8,8 @@ use borrow.Author.Tests.{leb-true, leb-false, le-leb, lt-leb}
 use lib.Dec.{leb}
 use lib.IntN.{ℤ, pos, negsuc, negℤ, _*ℤ_}
 use lib.Signed.{leZ}
-use Rattle.rules.specs.declared.Quote.{Quote}
-use Rattle.rules.specs.declared.Quote.the-variants.{Absent, At}
-use Rattle.rules.specs.Kept.{gap, spreadKeeps, quotesKeep}
-use Rattle.quote.specs.Limit.{limitOf, quotesWithin}
+use Rattle.rules.specs.Kept.{spreadKeeps}
+use Rattle.quote.specs.Limit.{limitOf}
 
 -- at most the greater of two, by a test that says whether it is at most the second
 either : (d b q : ℕ) (t : Bool) → (t ≡ true → d ≤ q) → (t ≡ false → q < d) → leb d (max b q) ≡ t || leb d b
@@ -30,7 +28,7 @@ negative zero b k =
 negative (suc d) b zero = rw (lt-leb (suc d * 100000) 0 (omega arith)) refl
 negative (suc d) b (suc k) = refl
 
-spread-law : (a b : ℕ) (sp d : ℤ) → leZ d (pos (limitOf a b sp)) ≡ spreadKeeps a b sp d
+pub spread-law : (a b : ℕ) (sp d : ℤ) → leZ d (pos (limitOf a b sp)) ≡ spreadKeeps a b sp d
 unfolding limitOf
 spread-law a b sp (negsuc d) = sym (or-true (leZ (negsuc d *ℤ pos 100000) (pos a *ℤ sp)))
 spread-law a b (pos sp) (pos d) =
@@ -40,15 +38,3 @@ spread-law a b (pos sp) (pos d) =
 spread-law a b (negsuc sp) (pos d) =
     let only : max b (a * 0 / 100000) ≡ b = omega arith in
     ap (leb d) only ∙ negative d b (a * suc sp)
-
--- the test by the limit is document 01's
-pub within-law : (a b : ℕ) (sp : ℤ) (bid ask : Quote) → quotesWithin (limitOf a b sp) bid ask ≡ quotesKeep a b sp bid ask
-unfolding quotesWithin quotesKeep
-within-law a b sp Absent ask = refl
-within-law a b sp (At bid) Absent = refl
-within-law a b sp (At bid) (At ask) = spread-law a b sp (gap (bid .0) (ask .0))
-
--- an answer by a limit is document 01's, for any a, b and SP with that limit
-pub by-limit : (limit : ℕ) (bid ask : Quote) (r : Bool) → r ≡ quotesWithin limit bid ask
-    → (a b : ℕ) (sp : ℤ) → limit ≡ limitOf a b sp → r ≡ quotesKeep a b sp bid ask
-by-limit limit bid ask r e a b sp f = e ∙ ap (λ (n : ℕ). quotesWithin n bid ask) f ∙ within-law a b sp bid ask

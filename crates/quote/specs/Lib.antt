@@ -1,2 +1,6 @@
 -- What the code's spread test compares with.
 pub mod Limit
+-- Prices as keys, and a side's depth in columns of them.
+pub mod Keys
+pub mod Levels
+pub mod Searches

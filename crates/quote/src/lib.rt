@@ -1,126 +1,154 @@
-// The search for a best quote, and the spread test on two of them.
+// Prices as keys, a side's depth in lent columns of keys and volumes, the search for a best quote, and the spread test.
 ghost use mathlib.Core.Path.{_≡_};
-ghost use mathlib.Core.List.{List·Memᴰ};
-ghost use Prim.Native.Nat.{ℕ, _≤_};
-ghost use lib.IntN.{ℤ, pos};
-ghost use lib.ListN.{take};
+ghost use mathlib.Core.Bool.{true};
+ghost use Prim.Native.Nat.{_+_, _≤_};
+ghost use lib.IntN.{pos};
 ghost use lib.Signed.{leZ};
-ghost use Rattle.rules.specs.Lists.{if_then_else_};
-ghost use Rattle.rules.specs.Quotes.{same, atLeast, stands, better};
-ghost use Rattle.rules.specs.Quotes as Q;
-ghost use Rattle.rules.specs.Kept.{gap, quotesKeep};
-ghost use Rattle.rules.specs.declared.Order.{Order};
+ghost use Rattle.rules.specs.declared.Steps.{Steps};
 ghost use Rattle.rules.specs.declared.Quote.the-variants.{At};
-ghost use Rattle.quote.specs.Limit.{positivePart, limitOf};
+ghost use Rattle.rules.specs.Lists.{if_then_else_};
+ghost use Rattle.rules.specs.Units.{steps, goodPrice};
+ghost use Rattle.quote.specs.Limit.{positivePart, limitOf, keysKeep};
+ghost use Rattle.quote.specs.Keys.{keyOf, priceAt, quoteKey, quoteAt};
+ghost use Rattle.quote.specs.Levels.{levelAt, isBest, Columns, Searchable};
+ghost use Rattle.quote.specs.Searches.{Finds};
 use rules::Contracts;
-use rules::Order;
 use rules::Quote;
 use rules::Side;
 use rules::Steps;
 
-// Whether two sides are the same.
-pub fn same_side(a: Side, b: Side) -> bool
-    ensures { λ r. ⌜ r ≡ same a b ⌝ }
-{
-    match a {
-        Side::Buy => match b {
-            Side::Buy => true,
-            Side::Sell => false,
-        },
-        Side::Sell => match b {
-            Side::Buy => false,
-            Side::Sell => true,
-        },
-    }
+// A price level: its key, the contracts at better keys, and at it.
+pub struct Level {
+    pub key: u32,
+    pub before: u32,
+    pub at: u32,
 }
 
-fn at_most(p: Steps, q: Steps) -> bool
-    ensures { λ r. ⌜ r ≡ leZ (p .0) (q .0) ⌝ }
-{
-    p.0 <= q.0
+// What a search finds, and for how many orders it added up volumes.
+pub struct Searched {
+    pub quote: Quote,
+    pub sums: u32,
 }
 
-// Whether a price is at another or better, for orders of the side.
-pub fn at_least(side: Side, p: Steps, q: Steps) -> bool
-    ensures { λ r. ⌜ r ≡ atLeast side (p .0) (q .0) ⌝ }
+// ---- keys
+
+// The key of a price: the better price has the greater one.
+pub fn key_of(side: Side, price: Steps) -> u32
+    requires { ⌜ goodPrice (price .0) ≡ true ⌝ }
+    ensures { λ r. ⌜ r ≡ keyOf side (price .0) ⌝ }
 {
     match side {
-        Side::Buy => at_most(q, p),
-        Side::Sell => at_most(p, q),
+        Side::Buy => (1000000001 + price.0) as u32,
+        Side::Sell => (1000000001 - price.0) as u32,
     }
 }
 
-// What an order adds to the depth at a price.
-fn share(side: Side, price: Steps, o: Order) -> u32
-    ensures { λ r. ⌜ r ≡ (if stands side (price .0) o then o .volume .0 else 0) ⌝ }
+// The price of a key.
+fn price_at(side: Side, key: u32) -> Steps
+    requires { ⌜ key ≤ 2000000001 ⌝ }
+    ensures { λ r. ⌜ r ≡ steps (priceAt side key) ⌝ }
 {
-    let s = o.side;
-    let p = o.price;
-    let v = o.volume;
-    let counts = same_side(side, s) & at_least(side, p, price);
-    (counts as u32) * v.0
-}
-
-// The better of what was found and a further price.
-fn improved(side: Side, found: Quote, price: Steps) -> Quote
-    ensures { λ r. ⌜ r ≡ better side found (At price) ⌝ }
-{
-    match found {
-        Quote::Absent => Quote::At(price),
-        Quote::At(p) => {
-            if at_least(side, p, price) {
-                Quote::At(p)
-            } else {
-                Quote::At(price)
-            }
-        }
+    match side {
+        Side::Buy => Steps(key as i32 - 1000000001),
+        Side::Sell => Steps(1000000001 - key as i32),
     }
 }
 
-// The best quote of a side among the first `count` orders: the best price of an order for which those at that price or better
-// hold `least` contracts or more together.
-fn search(orders: [Order; 64], count: usize, side: Side, least: Contracts) -> Quote
-    requires { ⌜ (count ≤ 64) × ((o : Order) → List·Memᴰ o (take count orders) → o .volume .0 ≤ 1000000) ⌝ }
-    ensures { λ r. ⌜ r ≡ Q.best side (least .0) (take count orders) ⌝ }
+// The quote of a key; 0 is the key of none.
+pub fn quote_at(side: Side, key: u32) -> Quote
+    requires { ⌜ key ≤ 2000000001 ⌝ }
+    ensures { λ r. ⌜ r ≡ quoteAt side key ⌝ }
+{
+    if key == 0 {
+        return Quote::Absent;
+    }
+    Quote::At(price_at(side, key))
+}
+
+// The key of a quote.
+pub fn quote_key(side: Side, quote: Quote) -> u32
+    requires { ⌜ ((p : Steps) → quote ≡ At p → goodPrice (p .0) ≡ true) ⌝ }
+    ensures { λ r. ⌜ r ≡ quoteKey side quote ⌝ }
+{
+    match quote {
+        Quote::Absent => 0,
+        Quote::At(p) => key_of(side, p),
+    }
+}
+
+// ---- a side's depth
+
+// What stands at a key adds to a sum.
+pub fn share(counts: bool, volume: u32) -> u32
+    ensures { λ r. ⌜ r ≡ (if counts then volume else 0) ⌝ }
+{
+    (counts as u32) * volume
+}
+
+// The level of a key.
+pub fn measured(keys: &[u32], volumes: &[u32], key: u32) -> Level
+    requires { ⌜ Columns (now keys) (now volumes) ⌝ }
+    ensures { λ r. ⌜ r ≡ levelAt (now (keys .entry)) (now (volumes .entry)) key ⌝ }
+{
+    let mut before: u32 = 0;
+    let mut at: u32 = 0;
+    let mut i: usize = 0;
+    while i < keys.len() {
+        let k = keys[i];
+        let v = volumes[i];
+        before += share(key < k, v);
+        at += share(key == k, v);
+        i += 1;
+    }
+    Level { key, before, at }
+}
+
+// Whether a level is the best quote's: fewer than `least` before it, and `least` or more with it, or no quote at all.
+pub fn is_best(level: Level, least: Contracts) -> bool
+    requires { ⌜ level .before + level .at ≤ 64000000 ⌝ }
+    ensures { λ r. ⌜ r ≡ isBest level (least .0) ⌝ }
 {
     let m = least.0;
-    let mut found = Quote::Absent;
+    (level.before < m) & ((level.key == 0) | (m <= level.before + level.at))
+}
+
+// The best quote of a side, from a key that it is better than or that is it: the best price of an order for which those at that
+// price or better hold `least` contracts or more together. Volumes are added up for an order only if its price is better than
+// every one already found to qualify.
+pub fn search(side: Side, keys: &[u32], volumes: &[u32], start: u32, least: Contracts) -> Searched
+    requires { ⌜ Searchable (now keys) (now volumes) start ⌝ }
+    ensures { λ r. ⌜ Finds side (now (keys .entry)) (now (volumes .entry)) start (least .0) r ⌝ }
+{
+    let m = least.0;
+    let mut found: u32 = start;
+    let mut sums: u32 = 0;
     let mut i: usize = 0;
-    'candidates: loop {
-        if count <= i {
-            break 'candidates found;
+    let quote = 'candidates: loop {
+        if keys.len() <= i {
+            break 'candidates quote_at(side, found);
         }
-        let o = orders[i];
-        let s = o.side;
-        let price = o.price;
+        let key = keys[i];
         i += 1;
-        if same_side(side, s) {
+        if found < key {
             let mut held: u32 = 0;
             let mut j: usize = 0;
             let depth = 'volumes: loop {
-                if count <= j {
+                if keys.len() <= j {
                     break 'volumes held;
                 }
-                held += share(side, price, orders[j]);
+                held += share(key <= keys[j], volumes[j]);
                 j += 1;
             };
+            sums += 1;
             if m <= depth {
-                found = improved(side, found, price);
+                found = key;
             }
         }
-    }
+    };
+    Searched { quote, sums }
 }
 
-// The same; the side is a constant in each arm, so that the compiler makes a search for each with its own comparison.
-pub fn best(orders: [Order; 64], count: usize, side: Side, least: Contracts) -> Quote
-    requires { ⌜ (count ≤ 64) × ((o : Order) → List·Memᴰ o (take count orders) → o .volume .0 ≤ 1000000) ⌝ }
-    ensures { λ r. ⌜ r ≡ Q.best side (least .0) (take count orders) ⌝ }
-{
-    match side {
-        Side::Buy => search(orders, count, Side::Buy, least),
-        Side::Sell => search(orders, count, Side::Sell, least),
-    }
-}
+// ---- the spread test
 
 fn not_negative(p: Steps) -> bool
     ensures { λ r. ⌜ r ≡ leZ (pos 0) (p .0) ⌝ }
@@ -151,22 +179,10 @@ pub fn spread_limit(a: u32, b: u32, sp: Steps) -> u32
     part
 }
 
-// Whether D is at most the limit. 64 bits hold every D of two prices.
-fn gap_within(limit: u32, bid: Steps, ask: Steps) -> bool
-    ensures { λ r. ⌜ r ≡ leZ (gap (bid .0) (ask .0)) (pos limit) ⌝ }
+// Whether two best keys keep the quote, 1 or 0: both are there, and D is at most the limit. D is 2,000,000,002 less both keys.
+pub fn keys_keep(limit: u32, bid: u32, ask: u32) -> u32
+    ensures { λ r. ⌜ r ≡ (if keysKeep limit bid ask then 1 else 0) ⌝ }
 {
-    ask.0 as i64 - bid.0 as i64 <= limit as i64
-}
-
-// Whether two best quotes keep the quote, for any a, b and SP whose limit is this one.
-pub fn quotes_keep(limit: u32, bid: Quote, ask: Quote) -> bool
-    ensures { λ r. ⌜ ((a b : ℕ) (sp : ℤ) → limit ≡ limitOf a b sp → r ≡ quotesKeep a b sp bid ask) ⌝ }
-{
-    match bid {
-        Quote::Absent => false,
-        Quote::At(b) => match ask {
-            Quote::Absent => false,
-            Quote::At(a) => gap_within(limit, b, a),
-        },
-    }
+    let there = (bid != 0) & (ask != 0);
+    (there & (2000000002 <= bid as u64 + ask as u64 + limit as u64)) as u32
 }

@@ -9,6 +9,7 @@ pub mod Cells
 pub mod Orders
 -- "Best quote and kept time"
 pub mod Quotes
+pub mod Search
 pub mod Kept
 pub mod Stretches
 pub mod Runs

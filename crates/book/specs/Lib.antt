@@ -1,0 +1,2 @@
+-- The one value of the table's words for the live orders, and what an event does to it.
+pub mod Table

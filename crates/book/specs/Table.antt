@@ -1,0 +1,68 @@
+-- The live orders of both sides in 512 words: the buys' 256, then the sells' (crate side).
+use Prim.Native.Nat.{ℕ, zero, suc, _+_, _-_, _≤_}
+use mathlib.Core.Path.{_≡_}
+use mathlib.Core.List.{List, _++_, map, List·Memᴰ}
+use mathlib.Core.Bool.{true}
+use lib.Dec.{ltb}
+use lib.ListN.{length}
+use Rattle.rules.specs.declared.Side.{Side}
+use Rattle.rules.specs.declared.Side.the-variants.{Buy, Sell}
+use Rattle.rules.specs.declared.Order.{Order}
+use Rattle.rules.specs.declared.Event.{Event}
+use Rattle.rules.specs.Lists.{if_then_else_, keep}
+use Rattle.rules.specs.Units.{goodPrice, goodVolume}
+use Rattle.rules.specs.Orders.{apply}
+use Rattle.rules.specs.Quotes.{same}
+use Rattle.rules.specs.Bounds.{Distinct}
+use Rattle.rules.specs.Book.{lowest, traderCauses}
+use Rattle.quote.specs.Keys.{keyIn}
+use Rattle.side.specs.Slots.{Slot, slot, sideOf, bestIn, seen}
+
+-- the orders of a side, in their order
+abbrev pub ofSide : Side → List Order → List Order
+ofSide side live = keep (λ (o : Order). same side (o .side)) live
+
+abbrev pub slotOf : Side → Order → Slot
+slotOf side o = slot (o .id) (keyIn side o) (o .volume .0)
+
+abbrev pub slotsIn : Side → List Order → List Slot
+slotsIn side live = map (slotOf side) (ofSide side live)
+
+-- a side's words: its orders, and its best level for the least volume of a quote
+abbrev pub sideIn : ℕ → Side → List Order → List ℕ
+sideIn least side live = sideOf (slotsIn side live) (bestIn least (slotsIn side live))
+
+unfoldable pub tableOf : ℕ → List Order → List ℕ
+tableOf least live = sideIn least Buy live ++ sideIn least Sell live
+
+-- live orders as the plain book's bounds have them
+pub record GoodOrders (live : List Order) : Type 0 where
+  pub few : length live ≤ 64
+  pub distinct : Distinct live
+  pub prices : (o : Order) → List·Memᴰ o live → goodPrice (o .price .0) ≡ true
+  pub volumes : (o : Order) → List·Memᴰ o live → goodVolume (o .volume .0) ≡ true
+
+-- a table that stands for live orders, with hints of their size
+pub record Holding (table hints : List ℕ) (least : ℕ) : Type 0 where
+  pub live : List Order
+  pub good : GoodOrders live
+  pub is : table ≡ tableOf least live
+  pub hinted : length hints ≡ 1024
+  pub some : 1 ≤ least
+
+-- the slot of the order with an id: a buy's place, 64 + a sell's, or 128 where no live order has it
+abbrev pub slotBy : ℕ → ℕ → ℕ
+slotBy buys sells = if ltb 0 buys then buys - 1 else if ltb 0 sells then 63 + sells else 128
+
+abbrev pub slotIn : ℕ → List Order → ℕ
+slotIn id live = slotBy (seen id (slotsIn Buy live)) (seen id (slotsIn Sell live))
+
+-- the live orders after an event that the number refuses, or none where it is 0
+abbrev pub sentTo : ℕ → List Order → Event → List Order
+sentTo zero live e = apply live e
+sentTo (suc n) live e = live
+
+-- what an event promises: for all live orders that the table stands for, the trader's refusal and the table after it
+pub record Sends (e : Event) (least : ℕ) (entry exit : List ℕ) (r : ℕ) : Type 0 where
+  pub refusal : (live : List Order) → GoodOrders live → entry ≡ tableOf least live → r ≡ lowest (traderCauses live e)
+  pub table : (live : List Order) → GoodOrders live → entry ≡ tableOf least live → exit ≡ tableOf least (sentTo r live e)

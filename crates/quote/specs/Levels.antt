@@ -1,0 +1,62 @@
+-- The depth of one side in columns: the keys of its orders and their volumes, one beside the other. A blank, key 0 and volume 0, counts
+-- for nothing in them.
+use Prim.Native.Nat.{ℕ, _+_, _≤_, max}
+use mathlib.Core.Path.{_≡_}
+use mathlib.Core.List.{List, [], _∷_}
+use mathlib.Core.Bool.{Bool, _&&_, _||_}
+use lib.Dec.{leb, ltb, eqb}
+use lib.ListN.{length, getD, take}
+use Rattle.rules.specs.Lists.{if_then_else_, sum, keep, count}
+use Rattle.quote.specs.declared.Level.{Level}
+
+-- the contracts at the keys that pass
+unfoldable pub held : (ℕ → Bool) → List ℕ → List ℕ → ℕ
+held t [] vs = 0
+held t (k ∷ ks) [] = 0
+held t (k ∷ ks) (v ∷ vs) = (if t k then v else 0) + held t ks vs
+
+-- the level of a key: the contracts at better keys, and at it
+unfoldable pub levelAt : List ℕ → List ℕ → ℕ → Level
+levelAt ks vs k = record { key = k; before = held (ltb k) ks vs; at = held (eqb k) ks vs }
+
+-- the contracts at a key or better are enough
+unfoldable pub enough : ℕ → List ℕ → List ℕ → ℕ → Bool
+enough least ks vs k = leb least (held (leb k) ks vs)
+
+unfoldable pub greatest : List ℕ → ℕ
+greatest [] = 0
+greatest (k ∷ ks) = max k (greatest ks)
+
+-- the best key: the greatest one with enough, 0 where none has
+unfoldable pub bestKey : ℕ → List ℕ → List ℕ → ℕ
+bestKey least ks vs = greatest (keep (enough least ks vs) ks)
+
+-- the best key's level
+unfoldable pub levelOf : ℕ → List ℕ → List ℕ → Level
+levelOf least ks vs = levelAt ks vs (bestKey least ks vs)
+
+-- fewer than `least` at better keys, and enough with those at it, or no key at all
+unfoldable pub isBest : Level → ℕ → Bool
+isBest l least = ltb (l .before) least && (eqb (l .key) 0 || leb least (l .before + l .at))
+
+-- columns whose sums fit: 64 orders of at most 1,000,000 contracts
+pub record Columns (ks vs : List ℕ) : Type 0 where
+  pub even : length ks ≡ length vs
+  pub small : sum vs ≤ 64000000
+
+-- columns that can be searched: of at most 64 orders, the keys those of prices
+pub record Searchable (ks vs : List ℕ) (start : ℕ) : Type 0 where
+  pub columns : Columns ks vs
+  pub few : length ks ≤ 64
+  pub keys : (i : ℕ) → getD ks i 0 ≤ 2000000001
+  pub start-most : start ≤ 2000000001
+
+-- ---- the search, as far as it has come
+
+-- the best key found among the first i, from a start
+abbrev pub foundBy : ℕ → ℕ → List ℕ → List ℕ → ℕ → ℕ
+foundBy start least ks vs i = max start (greatest (keep (enough least ks vs) (take i ks)))
+
+-- how many of the first i were better than what was found before them
+unfoldable pub triedBy : ℕ → ℕ → List ℕ → List ℕ → ℕ → ℕ
+triedBy start least ks vs i = count (λ (j : ℕ). ltb (foundBy start least ks vs j) (getD ks j 0)) i

@@ -1,0 +1,30 @@
+-- What the search for a best quote promises: of the orders whose columns it is lent, the better of the quote that it starts from and
+-- the best one, and for how many orders it added up volumes.
+use Prim.Native.Nat.{ℕ}
+use mathlib.Core.Path.{_≡_}
+use mathlib.Core.List.{List, _++_, map, List·Memᴰ}
+use mathlib.Core.Bool.{true}
+use lib.ListN.{length, replicate}
+use Rattle.rules.specs.declared.Side.{Side}
+use Rattle.rules.specs.declared.Order.{Order}
+use Rattle.rules.specs.Units.{goodPrice}
+use Rattle.rules.specs.Quotes.{same, volumeOf, better, best}
+use Rattle.rules.specs.Search.{sumsOf}
+use Rattle.quote.specs.declared.Searched.{Searched}
+use Rattle.quote.specs.Keys.{keyIn, quoteAt}
+use Rattle.quote.specs.Levels.{foundBy}
+
+-- the columns of these orders, all of the side: their keys and volumes, blanks behind them
+pub record ColumnsOf (side : Side) (orders : List Order) (ks vs : List ℕ) : Type 0 where
+  pub blanks : ℕ
+  pub keys : ks ≡ map (keyIn side) orders ++ replicate blanks 0
+  pub volumes : vs ≡ map volumeOf orders ++ replicate blanks 0
+  pub sided : (o : Order) → List·Memᴰ o orders → same side (o .side) ≡ true
+  pub prices : (o : Order) → List·Memᴰ o orders → goodPrice (o .price .0) ≡ true
+
+pub record Finds (side : Side) (ks vs : List ℕ) (start least : ℕ) (r : Searched) : Type 0 where
+  -- in keys
+  pub found : r .quote ≡ quoteAt side (foundBy start least ks vs (length ks))
+  -- in orders
+  pub quote : (orders : List Order) → ColumnsOf side orders ks vs → r .quote ≡ better side (quoteAt side start) (best side least orders)
+  pub sums : (orders : List Order) → ColumnsOf side orders ks vs → r .sums ≡ sumsOf side least (quoteAt side start) orders
