@@ -1,0 +1,146 @@
+-- The theorem of the game: the value is what the maker can force, by two ways that are given. Assumes nothing.
+use Prim.Native.Nat.{ℕ, zero, suc, _+_, _-_, _≤_, _<_}
+use mathlib.Core.Path.{_≡_, refl, sym, ap, subst, _∙_}
+use mathlib.Core.List.{[], _∷_}
+use mathlib.Core.Bool.{Bool, true, false}
+use native.Mathlib.Omega.{arith}
+use lib.Dec.{leb}
+use lib.ListN.{length}
+use Rattle.rules.specs.Lists.{if_then_else_}
+use Rattle.rules.specs.Answers.{accepted}
+use Rattle.rules.proofs.Answers.{accepted-by}
+use Rattle.game.specs.Play.{Volume, single, double, knocksFor, Minute, History, doubles, knocks, unvoided, Maker, Taker, quote, isVoided, next, play, Forced}
+use Rattle.game.specs.Ways.{doublesFirst, keptBack, singlesToCome, singlesFirst}
+use Rattle.game.specs.Value.{value, closed}
+use Rattle.game.specs.Answers.{safeRefusal, safeMinutes}
+use Rattle.game.proofs.Closed.{closed-none, after, maker-single, maker-double, taker-single, taker-double}
+use Rattle.game.proofs.Recurrence.{value-closed}
+use Rattle.game.proofs.Play.{minute, doubles-start, knocks-start, unvoided-start, doubles-single, doubles-double, knocks-void, knocks-stands, unvoided-void, unvoided-stands, play-length}
+use Rattle.game.proofs.Ways.{quoted-double, maker-single-last, taker-allowed, voided-paid, left-test}
+
+module _ (m h k : ℕ) where
+  -- the unvoided minutes so far, with what the minutes left are worth with what is left of both stocks
+  stake : History → ℕ
+  stake past = unvoided past + closed (m - length past) (h - doubles past) (k - knocks past)
+
+  module _ (past : History) (j : ℕ) (more : m ≡ suc (length past + j)) where
+    stake-now : stake past ≡ unvoided past + closed (suc j) (h - doubles past) (k - knocks past)
+    unfolding stake
+    stake-now =
+        let e : m - length past ≡ suc j = omega arith in
+        rw e
+
+    -- what is left after a minute more, by what it took of each stock
+    left : (x : Minute) (a b : ℕ) → h - doubles (x ∷ past) ≡ a → k - knocks (x ∷ past) ≡ b
+        → closed (m - length (x ∷ past)) (h - doubles (x ∷ past)) (k - knocks (x ∷ past)) ≡ closed j a b
+    left x a b p q = let e : m - length (x ∷ past) ≡ j = omega arith in cc
+
+    stake-next : (v : Volume) (b : Bool)
+        → stake (minute v b ∷ past) ≡ unvoided past + after j (h - doubles past) (k - knocks past) v b
+    unfolding stake
+    stake-next single true =
+        omega
+        (arith, unvoided-void past single, left (minute single true) (h - doubles past) (k - knocks past - 1) (omega (arith, doubles-single past true)) (omega (arith, knocks-void past single)))
+    stake-next single false =
+        omega
+        (arith, unvoided-stands past single, left (minute single false) (h - doubles past) (k - knocks past) (omega (arith, doubles-single past false)) (omega (arith, knocks-stands past single)))
+    stake-next double true =
+        omega
+        (arith, unvoided-void past double, left (minute double true) (h - doubles past - 1) (k - knocks past - 2) (omega (arith, doubles-double past true)) (omega (arith, knocks-void past double)))
+    stake-next double false =
+        omega
+        (arith, unvoided-stands past double, left (minute double false) (h - doubles past - 1) (k - knocks past) (omega (arith, doubles-double past false)) (omega (arith, knocks-stands past double)))
+
+    -- ---- the maker's way loses nothing in a minute, however it is answered
+
+    maker-minute : (v : Volume) (b : Bool) → quote h past (doublesFirst h past) ≡ v
+        → (if b then knocksFor v else 0) ≤ k - knocks past
+        → stake past ≤ stake (minute v b ∷ past)
+    maker-minute single b e f =
+        omega
+        (arith, stake-now, stake-next single b, maker-single j (h - doubles past) (k - knocks past) b (omega (arith, maker-single-last h past e)) f)
+    maker-minute double b e f =
+        omega
+        (arith, stake-now, stake-next double b, maker-double j (h - doubles past) (k - knocks past) b (omega (arith, quoted-double h past (doublesFirst h past) e)) f)
+
+    -- ---- the taker's way lets nothing more through, whatever is quoted
+
+    taker-minute : (v : Volume) (b : Bool) (chosen : Volume) → quote h past chosen ≡ v
+        → singlesFirst m h k past v ≡ b
+        → stake (minute v b ∷ past) ≤ stake past
+    unfolding singlesFirst
+    taker-minute single b chosen e f =
+        omega
+        (arith, stake-now, stake-next single b, taker-single j (h - doubles past) (k - knocks past) b (left-test (knocks past) 1 0 k b (omega arith) f))
+    taker-minute double b chosen e f =
+        let s : singlesToCome m h past ≡ j - (h - doubles past - 1) = omega arith in
+        let t = left-test (knocks past) 2 (singlesToCome m h past) k b (omega arith) f in
+        omega
+        (arith, stake-now, stake-next double b, taker-double j (h - doubles past) (k - knocks past) b (omega (arith, quoted-double h past chosen e)) (rw s at t))
+
+  -- ---- a whole play, minute by minute
+
+  maker-keeps : (taker : Taker) (n j : ℕ) → m ≡ n + j → stake [] ≤ stake (play h k (doublesFirst h) taker n)
+  unfolding play next
+  maker-keeps taker zero j e = omega arith
+  maker-keeps taker (suc n) j e =
+      let past = play h k (doublesFirst h) taker n in
+      let v = quote h past (doublesFirst h past) in
+      let b = isVoided k past v (taker past v) in
+      let size : length past ≡ n = play-length h k (doublesFirst h) taker n in
+      let before : stake [] ≤ stake past = maker-keeps taker n (suc j) (omega arith) in
+      omega
+      (arith, maker-minute past j (omega arith) v b refl (voided-paid k past v (taker past v) b refl))
+
+  taker-keeps : (maker : Maker) (n j : ℕ) → m ≡ n + j → stake (play h k maker (singlesFirst m h k) n) ≤ stake []
+  unfolding play next
+  taker-keeps maker zero j e = omega arith
+  taker-keeps maker (suc n) j e =
+      let past = play h k maker (singlesFirst m h k) n in
+      let v = quote h past (maker past) in
+      let b = isVoided k past v (singlesFirst m h k past v) in
+      let size : length past ≡ n = play-length h k maker (singlesFirst m h k) n in
+      let before : stake past ≤ stake [] = taker-keeps maker n (suc j) (omega arith) in
+      omega
+      (arith, taker-minute past j (omega arith) v b (maker past) refl (sym (taker-allowed m h k past v)))
+
+  -- at first nothing has happened, and at the end nothing is left
+  first : stake [] ≡ value m h k
+  unfolding stake
+  first =
+      let a : h - doubles [] ≡ h = omega (arith, doubles-start) in
+      let b : k - knocks [] ≡ k = omega (arith, knocks-start) in
+      let c : m - length {A = Minute} [] ≡ m = omega arith in
+      let e : closed (m - length {A = Minute} []) (h - doubles []) (k - knocks []) ≡ value m h k = cc (value-closed m h k) in
+      omega (arith, unvoided-start)
+
+  last : (past : History) → length past ≡ m → stake past ≡ unvoided past
+  unfolding stake
+  last past e =
+      let c : m - length past ≡ 0 = omega arith in
+      let f : closed (m - length past) (h - doubles past) (k - knocks past) ≡ 0 = cc (closed-none (h - doubles past) (k - knocks past)) in
+      omega arith
+
+  -- "he has a way of choosing that gets at least G however the taker answers", and "the taker has one that holds every maker to G at most"
+  pub forced : Forced m h k (value m h k) (doublesFirst h) (singlesFirst m h k)
+  forced =
+      record {
+        at-least = λ taker.
+            omega
+            (arith, first, maker-keeps taker m 0 (omega arith), last (play h k (doublesFirst h) taker m) (play-length h k (doublesFirst h) taker m));
+        at-most = λ maker.
+            omega
+            (arith, first, taker-keeps maker m 0 (omega arith), last (play h k maker (singlesFirst m h k) m) (play-length h k maker (singlesFirst m h k) m));
+      }
+
+  -- no other number is forced, by whatever ways
+  pub forced-only : (g : ℕ) (maker : Maker) (taker : Taker) → Forced m h k g maker taker → g ≡ value m h k
+  forced-only g maker taker f =
+      omega
+      (arith, f .at-least (singlesFirst m h k), forced .at-most maker, forced .at-least taker, f .at-most (doublesFirst h))
+
+  -- G is the number that the public call answers
+  pub answer-forced : (g : ℕ) → accepted g ≡ safeMinutes m h k → Forced m h k g (doublesFirst h) (singlesFirst m h k)
+  unfolding safeMinutes
+  answer-forced g e =
+      subst (λ (n : ℕ). Forced m h k n (doublesFirst h) (singlesFirst m h k)) (sym (accepted-by (safeRefusal m h k) g (value m h k) e .1)) forced
