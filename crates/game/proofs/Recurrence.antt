@@ -59,9 +59,9 @@ recurs : (m h k : ℕ) → (if leb 1 h then max (bySingle m h k) (byDouble m h k
 recurs m zero k = omega (arith, single-at-most m 0 k (leb 1 k) refl, single-at-least m 0 k (omega arith))
 recurs m (suc h) k =
     let l : 1 ≤ suc h = omega arith in
-    simp (le-leb 1 (suc h) l)
-    (omega
-    (arith, single-at-most m (suc h) k (leb 1 k) refl, double-at-most m (suc h) k l (leb (2 + (m - (suc h - 1))) k) refl, double-at-least m (suc h) k l))
+    let single = single-at-most m (suc h) k (leb 1 k) refl in
+    let double = double-at-most m (suc h) k l (leb (2 + (m - (suc h - 1))) k) refl in
+    simp (le-leb 1 (suc h) l) (omega (arith, double-at-least m (suc h) k l))
 
 pub value-closed : (m h k : ℕ) → value m h k ≡ closed m h k
 unfolding value
