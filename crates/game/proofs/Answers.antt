@@ -1,6 +1,5 @@
 -- The answer by the test of the numbers, and that two different answers never show the same. Assumes nothing.
 use Prim.Native.Nat.{ℕ}
-use native.Mathlib.Omega.{arith}
 use mathlib.Core.Path.{_≡_, refl, sym, ap}
 use mathlib.Core.Bool.{true, false, _||_}
 use Rattle.rules.specs.Answers.{Outcome, accepted, refused}

@@ -5,9 +5,9 @@ use mathlib.Core.List.{[], _∷_}
 use mathlib.Core.Bool.{Bool, true, false, _&&_}
 use native.Mathlib.Omega.{arith}
 use borrow.Author.Tests.{ltb-true, leb-true}
-use lib.Dec.{leb, ltb}
+use lib.Dec.{ltb}
 use lib.ListN.{length}
-use Rattle.rules.specs.Lists.{sum, howMany}
+use Rattle.rules.specs.Lists.{if_then_else_, sum, howMany}
 use Rattle.game.specs.Play.{Volume, single, double, knocksFor, Minute, History, doubles, knocks, unvoided, Maker, Taker, quote, isVoided, next, play}
 
 abbrev pub minute : Volume → Bool → Minute
@@ -52,20 +52,28 @@ module _ (past : History) where
   unfolding unvoided howMany
   unvoided-stands v = omega arith
 
+pub different : single ≡ double → ⊥
+different e = let z : _≡_ {A = ℕ} 0 1 = cc in omega arith
+
 pub both-true : (a b : Bool) → (a && b) ≡ true → b ≡ true
 both-true true b e = e
 both-true false b e = cc
 
 -- ---- the stocks
 
-module _ (h : ℕ) (past : History) (fits : doubles past ≤ h) where
-  quoted-fits : (v : Volume) (b : Bool) → doubles (minute (quote h past v) b ∷ past) ≤ h
-  quoted-fits single b = omega (arith, doubles-single past b)
-  quoted-fits double b = by (ltb (doubles past) h) refl
-    where
-      by : (t : Bool) → ltb (doubles past) h ≡ t → doubles (minute (quote h past double) b ∷ past) ≤ h
-      by true e = simp e (omega (arith, doubles-double past b, ltb-true (doubles past) h e))
-      by false e = simp e (omega (arith, doubles-single past b))
+module _ (h : ℕ) (past : History) where
+  by-test : (t : Bool) → ltb (doubles past) h ≡ t → (if t then double else single) ≡ double → doubles past < h
+  by-test true e q = ltb-true (doubles past) h e
+  by-test false e q = absurd (different q)
+
+  -- whatever the maker chooses, a double minute is one of the h
+  pub quoted-double : (chosen : Volume) → quote h past chosen ≡ double → doubles past < h
+  quoted-double single q = absurd (different q)
+  quoted-double double q = by-test (ltb (doubles past) h) refl q
+
+  quoted-fits : doubles past ≤ h → (v : Volume) (b : Bool) → (v ≡ double → doubles past < h) → doubles (minute v b ∷ past) ≤ h
+  quoted-fits fits single b l = omega (arith, doubles-single past b)
+  quoted-fits fits double b l = let f = l refl in omega (arith, doubles-double past b)
 
 module _ (k : ℕ) (past : History) (fits : knocks past ≤ k) (v : Volume) where
   spent-fits : (b : Bool) → (b ≡ true → knocks past + knocksFor v ≤ k) → knocks (minute v b ∷ past) ≤ k
@@ -90,7 +98,8 @@ module _ (h k : ℕ) (maker : Maker) (taker : Taker) where
   play-doubles zero = omega (arith, doubles-start)
   play-doubles (suc n) =
       let past = play h k maker taker n in
-      quoted-fits h past (play-doubles n) (maker past) (next h k maker taker past .voided)
+      quoted-fits h past (play-doubles n) (quote h past (maker past)) (next h k maker taker past .voided)
+      (quoted-double h past (maker past))
 
   -- "from a stock of k"
   pub play-knocks : (n : ℕ) → knocks (play h k maker taker n) ≤ k

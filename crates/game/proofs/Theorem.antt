@@ -14,8 +14,8 @@ use Rattle.game.specs.Value.{value, closed}
 use Rattle.game.specs.Answers.{safeRefusal, safeMinutes}
 use Rattle.game.proofs.Closed.{closed-none, after, maker-single, maker-double, taker-single, taker-double}
 use Rattle.game.proofs.Recurrence.{value-closed}
-use Rattle.game.proofs.Play.{minute, doubles-start, knocks-start, unvoided-start, doubles-single, doubles-double, knocks-void, knocks-stands, unvoided-void, unvoided-stands, play-length}
-use Rattle.game.proofs.Ways.{quoted-double, maker-single-last, taker-allowed, voided-paid, left-test}
+use Rattle.game.proofs.Play.{minute, doubles-start, knocks-start, unvoided-start, doubles-single, doubles-double, knocks-void, knocks-stands, unvoided-void, unvoided-stands, quoted-double, play-length}
+use Rattle.game.proofs.Ways.{maker-single-last, taker-allowed, voided-paid, left-test}
 
 -- what is left of each stock
 abbrev doublesLeft : ℕ → History → ℕ

@@ -1,30 +1,18 @@
 -- The two ways never choose what the rules do not allow, and what their choices say of the stocks. Assumes nothing.
-use Prim.Native.Nat.{ℕ, _+_, _-_, _≤_, _<_}
+use Prim.Native.Nat.{ℕ, _+_, _-_, _≤_}
 use mathlib.Core.Path.{_≡_, refl, sym, _∙_}
 use mathlib.Core.Bool.{Bool, true, false, _&&_}
 use native.Mathlib.Omega.{arith}
-use borrow.Author.Tests.{ltb-true, ltb-false, leb-true, leb-false, le-leb, lt-leb}
+use borrow.Author.Tests.{ltb-false, leb-true, leb-false, le-leb, lt-leb}
 use lib.Dec.{leb, ltb}
 use Rattle.rules.specs.Lists.{if_then_else_}
 use Rattle.game.specs.Play.{Volume, single, double, knocksFor, History, doubles, knocks, quote, isVoided}
 use Rattle.game.specs.Ways.{doublesFirst, keptBack, singlesFirst}
-use Rattle.game.proofs.Play.{both-true}
-
-different : single ≡ double → ⊥
-different e = let z : _≡_ {A = ℕ} 0 1 = cc in omega arith
+use Rattle.game.proofs.Play.{different, both-true}
 
 -- ---- the maker
 
 module _ (h : ℕ) (past : History) where
-  -- whatever he chooses, a double minute is one of the h
-  quoted-by : (t : Bool) → ltb (doubles past) h ≡ t → (if t then double else single) ≡ double → doubles past < h
-  quoted-by true e q = ltb-true (doubles past) h e
-  quoted-by false e q = absurd (different q)
-
-  pub quoted-double : (chosen : Volume) → quote h past chosen ≡ double → doubles past < h
-  quoted-double single q = absurd (different q)
-  quoted-double double q = quoted-by (ltb (doubles past) h) refl q
-
   allowed-by : (t : Bool) → ltb (doubles past) h ≡ t
       → quote h past (if t then double else single) ≡ (if t then double else single)
   allowed-by true e = simp e
