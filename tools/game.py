@@ -8,7 +8,7 @@
 
 The maker quotes double until his doubles are used, and then single: a way that gets him the safe
 minutes against every taker. A line shows what was quoted, what the taker did, his knocks left, the
-unvoided minutes so far, and the minutes that are safe from there on. A minute that the taker lacks
+unvoided minutes so far, and how many are safe in all by then. A minute that the taker lacks
 the knocks to void stands. The safe minutes are the proved programs' (`probe`, `safe_table`), the
 recount's where they are not built.
 """
@@ -75,7 +75,7 @@ def typed(m, lines, is_asked):
 
 
 def line(past, h, k, m, wished):
-    """The latest minute, with what is safe from there on."""
+    """The latest minute, with how many are safe in all by then."""
     quoted, voided = past[-1]
     left = k - game.knocks(past)
     done = "void" if voided else "stand"
