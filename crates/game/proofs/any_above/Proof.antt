@@ -1,4 +1,5 @@
 -- The three tests, joined. Assumes nothing.
+use mathlib.Core.Path.{_∙_}
 use borrow.Author.Needs.{needs}
 use Rattle.game.proofs.any_above.Statement.{statement}
 use Rattle.game.proofs.any_above.Tie as tie
@@ -19,7 +20,7 @@ either-requires-2 : tie.Need-either-requires-2
 either-requires-2 c κs = search needs
 
 returns : tie.Need-returns
-returns c = cc
+returns c = c .either2 .ensures ∙ simp (c .before .is-above3 .ensures, c .before .before .either .ensures, c .before .before .before .is-above2 .ensures, c .before .before .before .before .is-above .ensures)
 
 pub any-above-spec : {M : Type 1} → statement M
 any-above-spec =
