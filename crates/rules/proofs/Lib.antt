@@ -4,6 +4,7 @@ pub mod Counting
 pub mod Prices
 pub mod Best
 pub mod Stretches
+pub mod Fewest
 pub mod Checks
 pub mod Answers
 pub mod Members
