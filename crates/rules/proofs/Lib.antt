@@ -14,3 +14,4 @@ pub mod Refusals
 pub mod Bounds
 pub mod Choosing
 pub mod Records
+pub mod Written
