@@ -195,7 +195,7 @@ apart-or-shorter a (s ∷ t ∷ ss) h k =
 
     go : (b : Bool) → leb (t .offset) (end s) ≡ b → (end s + 1 ≤ t .offset → Apart (end s + 1) (t ∷ ss) ⊎ Shorter (t ∷ ss))
         → Apart a (s ∷ t ∷ ss) ⊎ Shorter (s ∷ t ∷ ss)
-    go true e f = inr (merged-shorter s t ss (h .1 .0) (leb-true (t .offset) (end s) e))
+    go true e f = inr (merged-shorter s t ss (omega arith) (leb-true (t .offset) (end s) e))
     go false e f = let l = leb-false (t .offset) (end s) e in further (f (omega arith))
 
 -- ---- the theorem
@@ -226,7 +226,7 @@ fewest p n =
             lengths = apart-lengths 0 (stretches p n) (r .apart);
             covered = r .covered;
           };
-      fewer = λ other h differs. go other differs (ours-or-more p n other h);
+      fewer = λ other h differs. omega (arith, go other differs (ours-or-more p n other h));
     }
   where
     go : (other : List Stretch) → other ≢ stretches p n → (other ≡ stretches p n) ⊎ (length (stretches p n) < length other)

@@ -29,7 +29,7 @@ use Rattle.rules.proofs.Fewest.{fewest-kept}
 -- ---- the pairs of a run
 
 -- a record that is no event is refused by 15
-unread : (bytes : List ℕ) (n : ℕ) → readRecord bytes ≡ refused n → n ≡ 15
+pub unread : (bytes : List ℕ) (n : ℕ) → readRecord bytes ≡ refused n → n ≡ 15
 unfolding readRecord
 unread bytes n e = go (goodRecord bytes) e
   where
@@ -38,7 +38,7 @@ unread bytes n e = go (goodRecord bytes) e
     go false e = cc
 
 -- a run that goes on to its end is not stopped here
-unless-whole : (n place : ℕ) (next : Session) (k w : ℕ) (ss : List Stretch) → unless n place next ≡ whole k w ss → (n ≡ 0) × (next ≡ whole k w ss)
+pub unless-whole : (n place : ℕ) (next : Session) (k w : ℕ) (ss : List Stretch) → unless n place next ≡ whole k w ss → (n ≡ 0) × (next ≡ whole k w ss)
 unless-whole zero place next k w ss e = (refl, e)
 unless-whole (suc n) place next k w ss e = let z : _≡_ {A = ℕ} 0 1 = cc in absurd (omega arith)
 
