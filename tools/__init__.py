@@ -1,1 +1,1 @@
-"""Readable texts of sessions and calls, and a picture of a quantum."""
+"""Readable texts of sessions and calls, a picture of a quantum, and maker against taker."""

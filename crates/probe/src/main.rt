@@ -12,6 +12,8 @@ use rules::SessionAnswer;
 use rules::Side;
 use rules::Steps;
 
+mod safe; // safe.rt: maker against taker
+
 fn text(bytes: &[u8]) {
     io::write_all(STDOUT_FILENO, bytes);
 }
@@ -254,6 +256,9 @@ fn run_case(input: &[u8]) -> bool {
     if kind == 3 {
         record_case(&input[4..]);
         return true;
+    }
+    if kind == 8 {
+        return safe::safe_case(input);
     }
     false
 }

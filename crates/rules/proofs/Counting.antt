@@ -1,7 +1,9 @@
 -- Counting a test below a bound, for any test. Assumes nothing.
 use Prim.Native.Nat.{ℕ, zero, suc, _+_, _≤_, _<_}
-use mathlib.Core.Path.{_≡_, refl, ap, _∙_}
-use mathlib.Core.Bool.{Bool, true, false}
+use mathlib.Core.Path.{_≡_, refl, sym, ap, _∙_}
+use mathlib.Core.Bool.{Bool, true, false, true≢false, _||_}
+use lib.Dec.{eqb}
+use borrow.Author.Tests.{ne-eqb, eqb-true}
 use native.Mathlib.Omega.{arith}
 use Rattle.rules.specs.Lists.{if_then_else_, count}
 
@@ -43,3 +45,45 @@ pub count-le : (p : ℕ → Bool) (n : ℕ) → count p n ≤ n
 unfolding count
 count-le p zero = omega arith
 count-le p (suc n) = more-le (p n) (count p n) n (count-le p n)
+
+-- no fewer pass where each that passed still does
+pub count-more : (p q : ℕ → Bool) (n : ℕ) → ((m : ℕ) → m < n → p m ≡ true → q m ≡ true) → count p n ≤ count q n
+unfolding count
+count-more p q zero h = omega arith
+count-more p q (suc n) h = go (p n) (q n) (h n (omega arith)) (count-more p q n (λ m l. h m (omega arith)))
+  where
+    go : (b c : Bool) → (b ≡ true → c ≡ true) → count p n ≤ count q n → count p n + (if b then 1 else 0) ≤ count q n + (if c then 1 else 0)
+    go true true e ih = omega arith
+    go true false e ih = absurd (true≢false (sym (e refl)))
+    go false true e ih = omega arith
+    go false false e ih = omega arith
+
+pub count-or : (p q : ℕ → Bool) (n : ℕ) → count (λ m. p m || q m) n ≤ count p n + count q n
+unfolding count
+count-or p q zero = omega arith
+count-or p q (suc n) = go (p n) (q n) (count-or p q n)
+  where
+    go : (b c : Bool) → count (λ m. p m || q m) n ≤ count p n + count q n
+        → count (λ m. p m || q m) n + (if b || c then 1 else 0) ≤ count p n + (if b then 1 else 0) + (count q n + (if c then 1 else 0))
+    go true true ih = omega arith
+    go true false ih = omega arith
+    go false true ih = omega arith
+    go false false ih = omega arith
+
+pub count-none : (p : ℕ → Bool) (n : ℕ) → ((m : ℕ) → m < n → p m ≡ false) → count p n ≡ 0
+unfolding count
+count-none p zero h = refl
+count-none p (suc n) h = rw (h n (omega arith)) (let ih = count-none p n (λ m l. h m (omega arith)) in omega arith)
+
+-- a number is one number
+pub count-is : (a n : ℕ) → count (eqb a) n ≤ 1
+unfolding count
+count-is a zero = omega arith
+count-is a (suc n) = go (eqb a n) refl (count-is a n)
+  where
+    go : (b : Bool) → eqb a n ≡ b → count (eqb a) n ≤ 1 → count (eqb a) n + (if b then 1 else 0) ≤ 1
+    go true e ih =
+        let k = eqb-true a n e in
+        let none = count-none (eqb a) n (λ m l. ne-eqb a m (λ f. omega arith)) in
+        omega arith
+    go false e ih = omega arith

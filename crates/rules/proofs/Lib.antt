@@ -4,6 +4,7 @@ pub mod Counting
 pub mod Prices
 pub mod Best
 pub mod Stretches
+pub mod Fewest
 pub mod Checks
 pub mod Answers
 pub mod Members
@@ -13,3 +14,4 @@ pub mod Refusals
 pub mod Bounds
 pub mod Choosing
 pub mod Records
+pub mod Written

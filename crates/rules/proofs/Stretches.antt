@@ -84,7 +84,7 @@ ltb-next m n = go (eqb m n) (ltb m n) refl refl
         le-ltb m (suc n) (omega arith)
 
 module _ (m : ℕ) (s : Stretch) where
-  holds-in : s .offset ≤ m → m < end s → holds m s ≡ true
+  pub holds-in : s .offset ≤ m → m < end s → holds m s ≡ true
   holds-in h k = rw (le-leb (s .offset) m h, lt-ltb m (end s) k) refl
 
   holds-before : m < s .offset → holds m s ≡ false
@@ -243,10 +243,14 @@ apart-same a (s ∷ ss) (t ∷ ts) h k c =
     let tail = apart-same (end s + 1) ss ts (h .2) rest (λ m. tails a s t ss ts h k c (omega arith) m (leb (end s + 1) m) refl) in
     rw (first, tail) refl
 
-pub runs-only : (p : ℕ → Bool) (n : ℕ) (ss : List Stretch) → Runs p n ss → ss ≡ stretches p n
-runs-only p n ss h =
+-- a list with gaps that holds the numbers that pass and no others is ours
+pub apart-only : (p : ℕ → Bool) (n : ℕ) (ss : List Stretch) → Apart 0 ss → ((m : ℕ) → covers ss m ≡ ltb m n && p m) → ss ≡ stretches p n
+apart-only p n ss h c =
     let r = stretches-run p n in
-    apart-same 0 ss (stretches p n) (h .apart) (r .apart) (λ m. h .covered m ∙ sym (r .covered m))
+    apart-same 0 ss (stretches p n) h (r .apart) (λ m. c m ∙ sym (r .covered m))
+
+pub runs-only : (p : ℕ → Bool) (n : ℕ) (ss : List Stretch) → Runs p n ss → ss ≡ stretches p n
+runs-only p n ss h = apart-only p n ss (h .apart) (h .covered)
 
 -- ---- by whole pieces
 

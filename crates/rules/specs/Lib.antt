@@ -25,5 +25,7 @@ pub mod Choosing
 pub mod Records
 pub mod Widths
 pub mod Session
+-- document 02, W10: fewest pairs
+pub mod Fewest
 -- "Checks on paper"
 pub mod Checks

@@ -5,3 +5,4 @@ pub mod Loop
 pub mod Endings
 pub mod Month
 pub mod Few
+pub mod Fewest

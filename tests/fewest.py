@@ -1,0 +1,131 @@
+"""Fewest pairs (document 02, W10): the session run's pairs against all lists of pairs.
+
+For each choice of kept milliseconds in a short window, at the start and at the end of a quantum, a
+session is run that keeps exactly these. All lists of pairs in the window are gone through that are
+sorted by offset and have lengths of at least 1, as long as the choices can need. Of those that
+cover the kept milliseconds and no others, the run's list must be one, and every other must have
+more pairs. It fails too where no other list has two pairs that overlap, touch or start together.
+"""
+
+import sys
+from collections import Counter, defaultdict
+from pathlib import Path
+
+ROOT = Path(__file__).resolve().parent.parent
+sys.path.insert(0, str(ROOT))
+
+from recount import programs, records
+from recount.book import BUY, SELL, Add, Cancel, Tick
+from tests.differential import run_program, words
+
+PROBE = ROOT / "target" / "bin" / "probe"
+WINDOW = 7  # milliseconds
+MOST = 4  # stretches that so many milliseconds can have
+ROW = [1, 0, 1_000, 1, 0, 1, 60]
+LENGTH = ROW[2]
+FILL = 9
+
+
+def covered(pairs):
+    """The milliseconds of some pairs, as bits."""
+    bits = 0
+    for offset, length in pairs:
+        bits |= ((1 << length) - 1) << offset
+    return bits
+
+
+def all_lists():
+    """All sorted lists of pairs in the window, by what they cover."""
+    ones = [(o, n) for o in range(WINDOW) for n in range(1, WINDOW - o + 1)]
+    lists, found = [()], defaultdict(list)
+    for _ in range(MOST + 1):
+        for pairs in lists:
+            found[covered(pairs)].append(pairs)
+        lists = [l + (p,) for l in lists for p in ones if not l or l[-1][0] <= p[0]]
+    return found
+
+
+def is_fewest(lists, kept, ours):
+    """Ours covers what is kept, and every other list that does has more pairs."""
+    fitting = lists[kept]
+    return ours in fitting and all(len(l) > len(ours) for l in fitting if l != ours)
+
+
+def session_bytes(kept, at, busy):
+    """Record bytes of a session that keeps these milliseconds of the window that starts at `at`."""
+    quote, gone = (lambda t: Add(t, 2, SELL, 100, 1)), (lambda t: Cancel(t, 2))
+    events, quoting = [Add(0, 1, BUY, 99, 1)], False
+    for m in range(WINDOW + 1):
+        t, due = at + m, bool(kept >> m & 1)
+        if t == LENGTH:
+            break
+        if due and not quoting:
+            events.append(quote(t))
+        if quoting and not due:
+            events.append(gone(t))
+        if busy:
+            # within its millisecond the quote goes and comes back, so nothing is lost
+            events += [gone(t), quote(t), Tick(t)] if due else [Tick(t)]
+        quoting = due
+    return b"".join(map(records.write, events))
+
+
+def pairs_of(answer, at):
+    """The pairs that a probe has printed, of the buffer's front and of the part returned."""
+    first, buffer, front = answer.splitlines()
+    count = int(first.split()[-1])
+    found = [int(word) for word in buffer.split()[1:]]
+    assert found[2 * count :] == [FILL] * (len(found) - 2 * count), answer
+    assert [int(word) for word in front.split()[1:]] == found[: 2 * count], answer
+    return tuple((found[2 * i] - at, found[2 * i + 1]) for i in range(count))
+
+
+def sights(pairs):
+    for (offset, length), (then, _) in zip(pairs, pairs[1:]):
+        if then == offset:
+            yield "start together"
+        elif then < offset + length:
+            yield "overlap"
+        elif then == offset + length:
+            yield "touch"
+
+
+def check_the_check(lists):
+    """A list with a pair in two, in another order, with one twice, too short or too long is told."""
+    kept = 0b1011011
+    assert is_fewest(lists, kept, ((0, 2), (3, 2), (6, 1)))
+    for wrong in [
+        ((0, 1), (1, 1), (3, 2), (6, 1)), ((3, 2), (0, 2), (6, 1)), ((0, 2), (0, 2), (3, 2), (6, 1)),
+        ((0, 2), (3, 2)), ((0, 2), (3, 4)), ((0, 7),), (),
+    ]:
+        assert not is_fewest(lists, kept, wrong), wrong
+
+
+def main():
+    lists = all_lists()
+    check_the_check(lists)
+    seen, sessions = Counter(), 0
+    for kept in range(1 << WINDOW):
+        for pairs in lists[kept]:
+            seen.update(set(sights(pairs)))
+        for at in (0, LENGTH - WINDOW):
+            for busy in (False, True):
+                case = words(1, 2 * MOST + 1, FILL, len(ROW), *ROW, 0) + session_bytes(kept, at, busy)
+                for name, answer in [
+                    ("probe", run_program(PROBE, case)), ("the recount", programs.probe(case)),
+                ]:
+                    if not is_fewest(lists, kept, pairs_of(answer, at)):
+                        print(f"fewest: {name}, kept {kept:0{WINDOW}b} at {at}: {answer}")
+                        return 1
+                sessions += 1
+    for sight in ("start together", "overlap", "touch"):
+        if not seen[sight]:
+            print(f"fewest: no other list in which two pairs {sight}")
+            return 1
+    count = sum(map(len, lists.values()))
+    print(f"fewest: {sessions} sessions have the fewest pairs of {count} lists")
+    return 0
+
+
+if __name__ == "__main__":
+    sys.exit(main())
