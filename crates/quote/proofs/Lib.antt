@@ -1,3 +1,4 @@
--- Laws about the spread test, and about the widths that it computes in.
+-- Laws about the spread test, the widths that prices and keys are computed in, and loops over a side's columns.
 pub mod Spread
 pub mod Widths
+pub mod Loops
