@@ -13,18 +13,9 @@ use lib.Seq.{take-suc, take-length}
 use Rattle.rules.specs.Lists.{if_then_else_, sum, keep, count}
 use Rattle.rules.proofs.Lists.{keep-append, keep-one}
 use Rattle.quote.specs.Levels.{held, enough, greatest, foundBy, triedBy}
+use Rattle.quote.proofs.Levels.{held-most, greatest-append}
 
 -- ---- the contracts at the keys that pass
-
-pub held-most : (t : ℕ → Bool) (ks vs : List ℕ) → held t ks vs ≤ sum vs
-unfolding held sum
-held-most t [] vs = omega arith
-held-most t (k ∷ ks) [] = omega arith
-held-most t (k ∷ ks) (v ∷ vs) = go (t k) (held-most t ks vs)
-  where
-    go : (b : Bool) → held t ks vs ≤ sum vs → (if b then v else 0) + held t ks vs ≤ v + sum vs
-    go true h = omega arith
-    go false h = omega arith
 
 held-part : (t : ℕ → Bool) (i : ℕ) (ks vs : List ℕ) → held t (take i ks) (take i vs) ≤ held t ks vs
 unfolding held
@@ -43,7 +34,7 @@ held-suc t (suc i) (k ∷ ks) (v ∷ vs) h e = omega (arith, held-suc t i ks vs 
 
 -- with what stands at the next key
 module _ (t : ℕ → Bool) (i : ℕ) (ks vs : List ℕ) (h s : ℕ) (more : i < length ks) (even : length ks ≡ length vs)
-  (before : h ≡ held t (take i ks) (take i vs)) (share : s ≡ (if t (getD ks i 0) then getD vs i 0 else 0)) where
+    (before : h ≡ held t (take i ks) (take i vs)) (share : s ≡ (if t (getD ks i 0) then getD vs i 0 else 0)) where
   pub held-next : h + s ≡ held t (take (i + 1) ks) (take (i + 1) vs)
   held-next = rw (before, share, add-one) (held-suc t i ks vs more even)
 
@@ -59,11 +50,6 @@ held-all t i ks vs h all even e =
     e ∙ (λ j. held t (take (all j) ks) (take (ends j) vs)) ∙ (λ j. held t (take-length ks j) (take-length vs j))
 
 -- ---- the best key found
-
-greatest-append : (xs ys : List ℕ) → greatest (xs ++ ys) ≡ max (greatest xs) (greatest ys)
-unfolding greatest
-greatest-append [] ys = omega arith
-greatest-append (x ∷ xs) ys = omega (arith, greatest-append xs ys)
 
 greatest-one : (b : Bool) (k : ℕ) → greatest (if b then k ∷ [] else []) ≡ (if b then k else 0)
 unfolding greatest

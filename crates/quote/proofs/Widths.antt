@@ -3,7 +3,7 @@ use Prim.Native.Nat.{ℕ, zero, suc, _+_, _-_, _≤_}
 use native.Mathlib.Omega.{arith}
 use mathlib.Core.Path.{_≡_, refl, sym, ap, _∙_}
 use mathlib.Core.Bool.{Bool, true, false, cond, true≢false, false≢true}
-use borrow.Author.Tests.{le-leb, lt-leb, le-ltb, ltb-true, ltb-false, leb-true}
+use borrow.Author.Tests.{le-leb, lt-leb, le-ltb, ltb-true, ltb-false}
 use lib.Dec.{T, ltb, leb}
 use lib.IntN.{ℤ, pos, negsuc, subℕ, _+ℤ_, _-ℤ_, natAbs}
 use lib.Signed.{mag, leZ, nonNeg, natAbs-le}
@@ -14,9 +14,9 @@ use Rattle.rules.specs.declared.Side.{Side}
 use Rattle.rules.specs.declared.Side.the-variants.{Buy, Sell}
 use Rattle.rules.specs.Lists.{if_then_else_}
 use Rattle.rules.specs.Units.{goodPrice}
-use Rattle.rules.proofs.Lists.{both}
 use Rattle.quote.specs.Limit.{positivePart}
 use Rattle.quote.specs.Keys.{keyOf, priceAt}
+use Rattle.quote.proofs.Keys.{positive-most, negative-most}
 
 -- ---- a number that is not negative
 
@@ -37,14 +37,6 @@ no-positive (negsuc n) e = refl
 
 -- ---- a price's key
 
-price-above : (n : ℕ) → goodPrice (pos n) ≡ true → n ≤ 1000000000
-unfolding goodPrice
-price-above n e = leb-true n 1000000000 e
-
-price-below : (n : ℕ) → goodPrice (negsuc n) ≡ true → n ≤ 999999999
-unfolding goodPrice
-price-below n e = leb-true n 999999999 (both (leb n 999999999) true e .0)
-
 -- a sum or a difference of naturals that is not negative
 less : (a b : ℕ) → b ≤ a → subℕ a b ≡ pos (a - b)
 less a b h = rw (le-ltb a b h) refl
@@ -53,7 +45,7 @@ pub key-sum : (p : ℤ) → goodPrice p ≡ true → pos 1000000001 +ℤ p ≡ p
 unfolding keyOf
 key-sum (pos n) e = refl
 key-sum (negsuc n) e =
-    let h : n ≤ 999999999 = price-below n e in
+    let h : n ≤ 999999999 = negative-most n e in
     let k : 1000000001 - suc n ≡ 1000000000 - n = omega arith in
     less 1000000001 (suc n) (omega arith) ∙ ap pos k
 
@@ -61,18 +53,11 @@ pub key-difference : (p : ℤ) → goodPrice p ≡ true → pos 1000000001 -ℤ 
 unfolding keyOf
 key-difference (pos zero) e = refl
 key-difference (pos (suc n)) e =
-    let h : suc n ≤ 1000000000 = price-above (suc n) e in
+    let h : suc n ≤ 1000000000 = positive-most (suc n) e in
     less 1000000001 (suc n) (omega arith)
 key-difference (negsuc n) e =
     let k : 1000000001 + suc n ≡ 1000000002 + n = omega arith in
     ap pos k
-
-pub key-most : (side : Side) (p : ℤ) → goodPrice p ≡ true → keyOf side p ≤ 2000000001
-unfolding keyOf
-key-most Buy (pos n) e = omega (arith, price-above n e)
-key-most Buy (negsuc n) e = omega arith
-key-most Sell (pos n) e = omega arith
-key-most Sell (negsuc n) e = omega (arith, price-below n e)
 
 -- a number worked out of a price is a key
 module _ (f : ℤ → ℤ) (p : ℤ) (k : ℕ) (h : SFits w32 p) (e : f p ≡ pos k) (m : k ≤ 2000000001) where

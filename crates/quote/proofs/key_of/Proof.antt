@@ -7,7 +7,8 @@ use mir.Val.{SFits}
 use Rattle.rules.specs.declared.Side.{Side}
 use Rattle.rules.specs.declared.Side.the-variants.{Buy, Sell}
 use Rattle.quote.specs.Keys.{keyOf}
-use Rattle.quote.proofs.Widths.{key-sum, key-difference, key-most, key-signed, key-unsigned, key-is}
+use Rattle.quote.proofs.Keys.{key-most}
+use Rattle.quote.proofs.Widths.{key-sum, key-difference, key-signed, key-unsigned, key-is}
 use Rattle.quote.proofs.key_of.Statement.{statement}
 use Rattle.quote.proofs.key_of.Tie as tie
 
