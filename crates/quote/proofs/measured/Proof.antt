@@ -44,8 +44,8 @@ Turn = tie.At-loop Inv-loop μ-loop
 
 -- a sum with what stands at the next key, by the test of the sum
 module _ (u : Turn) (t : ℕ → Bool) (h s : ℕ) (more : u .loop .i < length (u .before .before .before .args .keys .now))
-  (so-far : h ≡ held t (take (u .loop .i) (u .before .before .before .args .keys .now)) (take (u .loop .i) (u .before .before .before .args .volumes .now)))
-  (share : s ≡ (if t (getD (u .before .before .before .args .keys .now) (u .loop .i) 0) then getD (u .before .before .before .args .volumes .now) (u .loop .i) 0 else 0)) where
+    (so-far : h ≡ held t (take (u .loop .i) (u .before .before .before .args .keys .now)) (take (u .loop .i) (u .before .before .before .args .volumes .now)))
+    (share : s ≡ (if t (getD (u .before .before .before .args .keys .now) (u .loop .i) 0) then getD (u .before .before .before .args .volumes .now) (u .loop .i) 0 else 0)) where
   added : h + s ≡ held t (take (u .loop .i + 1) (u .before .before .before .args .keys .now)) (take (u .loop .i + 1) (u .before .before .before .args .volumes .now))
   added =
       let b = u .before .before .before in
@@ -84,10 +84,11 @@ loop-less c = omega arith
 loop-again : tie.Need-loop-again Inv-loop μ-loop
 loop-again c =
     let u = c .before .before .before .before .before in
-    let key = u .before .before .before .args .key in
-    (omega arith,
-    added u (ltb key) (u .loop .before) (c .before .share .result) (omega arith) (u .loop .inv .1) (c .before .share .ensures),
-    added u (eqb key) (u .loop .at) (c .share2 .result) (omega arith) (u .loop .inv .2) (c .share2 .ensures))
+    let key = u .before .before .before .args .key in (
+      omega arith,
+      added u (ltb key) (u .loop .before) (c .before .share .result) (omega arith) (u .loop .inv .1) (c .before .share .ensures),
+      added u (eqb key) (u .loop .at) (c .share2 .result) (omega arith) (u .loop .inv .2) (c .share2 .ensures),
+    )
 
 returns : tie.Need-returns Inv-loop μ-loop
 unfolding levelAt
@@ -100,7 +101,7 @@ returns c =
     λ j. record {
       key = b .args .key;
       before = held-all (ltb (b .args .key)) (u .loop .i) ks vs (u .loop .before) end (b .pre .even) (u .loop .inv .1) j;
-      at = held-all (eqb (b .args .key)) (u .loop .i) ks vs (u .loop .at) end (b .pre .even) (u .loop .inv .2) j
+      at = held-all (eqb (b .args .key)) (u .loop .i) ks vs (u .loop .at) end (b .pre .even) (u .loop .inv .2) j;
     }
 
 pub measured-spec : {M : Type 1} → statement M
