@@ -1,3 +1,4 @@
--- Laws about the spread test, and about the widths that it computes in.
+-- Laws about keys, a side's depth, the search and the spread test, and about the widths that it computes in.
+pub mod Levels
 pub mod Spread
 pub mod Widths
