@@ -52,14 +52,14 @@ key-most Sell (pos n) h = omega arith
 key-most Sell (negsuc n) h = omega (arith, negative-most n h)
 
 -- one comparison for another that holds with it, and fails with it
-leb-by : (a b c d : ℕ) → (a ≤ b → c ≤ d) → (b < a → d < c) → leb a b ≡ leb c d
+pub leb-by : (a b c d : ℕ) → (a ≤ b → c ≤ d) → (b < a → d < c) → leb a b ≡ leb c d
 leb-by a b c d under over = go (leb a b) refl
   where
     go : (t : Bool) → leb a b ≡ t → t ≡ leb c d
     go true e = sym (le-leb c d (under (leb-true a b e)))
     go false e = sym (lt-leb c d (over (leb-false a b e)))
 
-leb-always : (a b : ℕ) → a ≤ b → true ≡ leb a b
+pub leb-always : (a b : ℕ) → a ≤ b → true ≡ leb a b
 leb-always a b h = sym (le-leb a b h)
 
 leb-never : (a b : ℕ) → b < a → false ≡ leb a b
