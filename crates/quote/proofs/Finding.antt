@@ -29,10 +29,10 @@ use Rattle.quote.proofs.Keys.{key-least, key-most, key-order, key-price
 use Rattle.quote.proofs.Levels.{enough-blanks, bestKey-blanks}
 
 -- orders of prices in their range, and all of one side
-abbrev Good : List Order → Type 0
+abbrev pub Good : List Order → Type 0
 Good xs = (o : Order) → List·Memᴰ o xs → goodPrice (o .price .0) ≡ true
 
-abbrev Sided : Side → List Order → Type 0
+abbrev pub Sided : Side → List Order → Type 0
 Sided s xs = (o : Order) → List·Memᴰ o xs → same s (o .side) ≡ true
 
 -- a test before or after a map
