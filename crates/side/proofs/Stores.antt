@@ -10,7 +10,7 @@ use Rattle.side.specs.declared.Change.{Change}
 use Rattle.side.specs.Slots.{Slot, slot, blankSlot, idsOf, keysOf, volumesOf, column, header, sideOf}
 use Rattle.side.specs.Moves.{change, shifted}
 use Rattle.side.proofs.Lists.{map-set, map-take, map-drop}
-use Rattle.side.proofs.Columns.{column-set, column-more, column-shifted, four, first-set, second-set, third-set, fourth-set}
+use Rattle.side.proofs.Columns.{column-set, column-more, column-shifted, four, first-set, second-set, third-set, fourth-set, first-moved, second-moved, third-moved}
 use Rattle.side.proofs.Words.{field-length, count-is, key-at, volume-at}
 
 -- ---- one column of the orders
@@ -111,3 +111,53 @@ module _ (slots : List Slot) (level : Level) (place key volume : ℕ) (few : len
       ≡ change (getD slots place blankSlot .key) (getD slots place blankSlot .volume) key volume
   amended-told words is =
       λ i. change (key-at words slots level few is place (omega arith) i) (volume-at words slots level few is place (omega arith) i) key volume
+
+abbrev pub putKeys : List ℕ → List ℕ → List ℕ
+putKeys w keys = take 64 w ++ (keys ++ drop 64 (drop 64 w))
+
+abbrev pub putVolumes : List ℕ → List ℕ → List ℕ
+putVolumes w volumes = take 128 w ++ (volumes ++ drop 64 (drop 128 w))
+
+-- ---- an order less: what the three calls leave, one part after the other
+
+module _ (slots : List Slot) (level : Level) (place last : ℕ) (few : length slots ≤ 64) (e : suc last ≡ length slots) (h : place ≤ last) where
+  abbrev left : List Slot
+  left = take place slots ++ drop (suc place) slots
+
+  left-length : length left ≡ last
+  left-length =
+      omega (arith, length-append (take place slots) (drop (suc place) slots), length-take place slots, length-drop (suc place) slots)
+
+  -- a column of the orders, and of those that are left
+  old-wide : (f : Slot → ℕ) → length (column (map f slots)) ≡ 64
+  old-wide f = field-length f slots few
+
+  left-wide : (f : Slot → ℕ) → length (column (map f left)) ≡ 64
+  left-wide f = field-length f left (omega (arith, left-length))
+
+  pub removed-is : (words ids keys volumes : List ℕ) → words ≡ sideOf slots level
+      → ids ≡ shifted (take 64 words) place last
+      → keys ≡ shifted (take 64 (drop 64 (ids ++ drop 64 words))) place last
+      → volumes ≡ shifted (take 64 (drop 128 (putKeys (ids ++ drop 64 words) keys))) place last
+      → set (putVolumes (putKeys (ids ++ drop 64 words) keys) volumes) 192 last ≡ sideOf left level
+  unfolding sideOf
+  removed-is words ids keys volumes is p q r =
+      let a = column (idsOf slots) in
+      let b = column (keysOf slots) in
+      let c = column (volumesOf slots) in
+      let d = column (header slots level) in
+      let a′ = column (idsOf left) in
+      let b′ = column (keysOf left) in
+      let c′ = column (volumesOf left) in
+      let one : ids ++ drop 64 words ≡ four a′ b c d =
+      first-moved a b c d (old-wide _) (old-wide _) (old-wide _) words ids (λ (x : List ℕ). shifted x place last) is p
+      ∙ ap (λ (x : List ℕ). four x b c d) (field-shifted (λ (s : Slot). s .id) slots place last few e h) in
+      let two : putKeys (ids ++ drop 64 words) keys ≡ four a′ b′ c d =
+      second-moved a′ b c d (left-wide _) (old-wide _) (old-wide _) (ids ++ drop 64 words) keys (λ (x : List ℕ). shifted x place last) one q
+      ∙ ap (λ (x : List ℕ). four a′ x c d) (field-shifted (λ (s : Slot). s .key) slots place last few e h) in
+      let three : putVolumes (putKeys (ids ++ drop 64 words) keys) volumes ≡ four a′ b′ c′ d =
+      third-moved a′ b′ c d (left-wide _) (left-wide _) (old-wide _) (putKeys (ids ++ drop 64 words) keys) volumes (λ (x : List ℕ). shifted x place last) two r
+      ∙ ap (λ (x : List ℕ). four a′ b′ x d) (field-shifted (λ (s : Slot). s .volume) slots place last few e h) in
+      ap (λ (w : List ℕ). set w 192 last) three
+      ∙ fourth-set a′ b′ c′ d (left-wide _) (left-wide _) (left-wide _) 0 last
+      ∙ ap (four a′ b′ c′) (count-set slots left level last (sym left-length))
