@@ -1,8 +1,8 @@
 -- The words of a side whose orders have changed: the level that stands in them, the front of their columns of keys and volumes from the
 -- last order on, and the words with another level. Assumes nothing.
-use Prim.Native.Nat.{ℕ, zero, suc, _+_, _-_, _≤_, _<_}
+use Prim.Native.Nat.{ℕ, zero, suc, _+_, _-_, _≤_}
 use native.Mathlib.Omega.{arith}
-use mathlib.Core.Path.{_≡_, refl, sym, ap, _∙_}
+use mathlib.Core.Path.{_≡_, refl, ap, _∙_}
 use mathlib.Core.List.{List, [], _∷_, _++_, List·Memᴰ, List·Memᴰ·head, List·Memᴰ·tail}
 use lib.ListN.{length, getD, take, drop, set, replicate, length-append, length-map, length-replicate}
 use Rattle.rules.specs.Lists.{sum}

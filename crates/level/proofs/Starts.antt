@@ -1,12 +1,12 @@
 -- What the search starts from and finds. Assumes nothing.
-use Prim.Native.Nat.{ℕ, zero, suc, _≤_, max}
+use Prim.Native.Nat.{ℕ, suc, _≤_}
 use native.Mathlib.Omega.{arith}
 use mathlib.Core.Path.{_≡_, refl, sym, ap, _∙_}
 use mathlib.Core.List.{List, [], _∷_}
 use mathlib.Core.Bool.{Bool, true, false}
 use borrow.Author.Tests.{leb-true}
-use lib.Dec.{leb, ltb}
-use lib.ListN.{length, getD, take}
+use lib.Dec.{leb}
+use lib.ListN.{length, getD}
 use lib.Seq.{take-length}
 use Rattle.rules.specs.declared.Side.{Side}
 use Rattle.rules.specs.declared.Steps.{Steps}
@@ -19,7 +19,7 @@ use Rattle.quote.specs.Keys.{quoteKey, quoteAt}
 use Rattle.quote.specs.Levels.{enough, greatest, foundBy, bestKey, levelAt, levelOf, Searchable}
 use Rattle.quote.proofs.Keys.{key-quote, good-quote, say-good}
 use Rattle.quote.proofs.Levels.{start-below, found-end}
-use Rattle.side.specs.Slots.{Slot, keysOf, volumesOf, heldIn, GoodSlots}
+use Rattle.side.specs.Slots.{Slot, keysOf, volumesOf, GoodSlots}
 use Rattle.level.specs.Steps.{IsLevel}
 use Rattle.level.proofs.Depths.{before-is}
 use Rattle.level.proofs.Parts.{keys-most}

@@ -1,8 +1,8 @@
 -- `level::guessed` meets its contract: what stands in the front of the columns is the depth of the orders. Assumes nothing.
-use Prim.Native.Nat.{ℕ, _+_, _-_, _≤_}
+use Prim.Native.Nat.{_+_, _-_}
 use native.Mathlib.Omega.{arith}
 use mathlib.Core.Path.{_≡_, refl, sym, _∙_}
-use lib.ListN.{length, take, drop, length-take, length-drop}
+use lib.ListN.{length, drop, length-take, length-drop}
 use borrow.Author.Needs.{needs}
 use Rattle.side.specs.Slots.{keysOf, volumesOf}
 use Rattle.level.specs.Steps.{IsLevel}

@@ -1,5 +1,4 @@
 -- `level::requote` meets its contract: the best level stands in the words, and nothing else of them is changed. Assumes nothing.
-use Prim.Native.Nat.{ℕ}
 use mathlib.Core.Path.{_≡_}
 use lib.ListN.{length}
 use borrow.Author.Needs.{needs}

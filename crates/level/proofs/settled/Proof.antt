@@ -1,11 +1,11 @@
 -- `level::settled` meets its contract: the guess where it is the best level, else what the search finds from it. Assumes nothing.
-use Prim.Native.Nat.{ℕ, _+_, _-_, _≤_}
+use Prim.Native.Nat.{_+_, _-_}
 use native.Mathlib.Omega.{arith}
 use mathlib.Core.Path.{_≡_, sym, ap, _∙_}
 use mathlib.Core.Bool.{true}
-use lib.ListN.{length, getD, take, drop}
+use lib.ListN.{length, take, drop}
 use borrow.Author.Needs.{needs}
-use Rattle.quote.specs.Levels.{isBest, levelAt, bestKey}
+use Rattle.quote.specs.Levels.{isBest, bestKey}
 use Rattle.quote.specs.declared.Level.{Level}
 use Rattle.quote.proofs.Levels.{level-best}
 use Rattle.side.specs.Slots.{keysOf, volumesOf}

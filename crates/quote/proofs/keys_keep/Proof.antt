@@ -1,5 +1,4 @@
 -- `quote::keys_keep` meets its contract, which is its tests. Assumes nothing.
-use Prim.Native.Nat.{ℕ}
 use mathlib.Core.Path.{_≡_, refl}
 use mathlib.Core.Bool.{Bool, true, false}
 use mir.Val.{boolByte}

@@ -6,7 +6,7 @@ use mathlib.Core.Path.{_≡_, refl}
 use mathlib.Core.Bool.{Bool}
 use lib.Dec.{ltb, eqb}
 use lib.ListN.{length, getD, take}
-use Rattle.rules.specs.Lists.{if_then_else_, sum}
+use Rattle.rules.specs.Lists.{if_then_else_}
 use Rattle.quote.specs.Levels.{held, levelAt}
 use Rattle.quote.proofs.Loops.{held-next, held-fits, held-all}
 use Rattle.quote.proofs.measured.Statement.{statement}

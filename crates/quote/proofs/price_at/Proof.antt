@@ -1,6 +1,5 @@
 -- `quote::price_at` meets its contract: a key fits 32 bits with a sign, and so does its price. Assumes nothing.
-use Prim.Native.Nat.{ℕ}
-use mathlib.Core.Path.{_≡_, sym, ap, _∙_}
+use mathlib.Core.Path.{sym, ap, _∙_}
 use borrow.Author.Needs.{needs}
 use Rattle.rules.specs.declared.Side.{Side}
 use Rattle.rules.specs.Units.{steps}

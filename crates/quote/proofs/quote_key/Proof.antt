@@ -1,7 +1,6 @@
 -- `quote::quote_key` meets its contract. Assumes nothing.
-use mathlib.Core.Path.{_≡_, sym, ap, _∙_}
+use mathlib.Core.Path.{sym, ap, _∙_}
 use borrow.Author.Needs.{needs}
-use Rattle.rules.specs.declared.Quote.{Quote}
 use Rattle.quote.specs.Keys.{quoteKey}
 use Rattle.quote.proofs.quote_key.Statement.{statement}
 use Rattle.quote.proofs.quote_key.Tie as tie

@@ -105,7 +105,7 @@ module _ (u : Candidates) (more : u .candidates .i < length (keysOf u)) where
 
 candidates-holds : tie.Need-candidates-holds Inv-volumes μ-volumes Inv-candidates μ-candidates
 unfolding greatest keep triedBy count
-candidates-holds c = (omega arith, c .before .before .pre .start-most, omega arith, omega arith, refl)
+candidates-holds c = (omega arith, omega (arith, c .before .before .pre .start-most), omega arith, omega arith, refl)
 
 quote-at-requires : tie.Need-quote-at-requires Inv-volumes μ-volumes Inv-candidates μ-candidates
 quote-at-requires c κs = omega arith
@@ -175,8 +175,8 @@ candidates-again : tie.Need-candidates-again Inv-volumes μ-volumes Inv-candidat
 candidates-again c =
     let w = c .before in
     let u = outer (w .before) in
-    let e = judged w true (le-leb (leastOf u) (w .before .volumes .held) (c .if4 .taken)) in
-    let next = better u (omega arith) (w .before .before .if2 .taken) e in
+    let e = judged w true (le-leb (leastOf u) (w .before .volumes .held) (omega arith)) in
+    let next = better u (omega arith) (omega arith) e in
     (omega arith, u .before .before .before .pre .keys (u .candidates .i), omega arith, next .0, next .1)
 
 candidates-less-2 : tie.Need-candidates-less-2 Inv-volumes μ-volumes Inv-candidates μ-candidates
@@ -186,8 +186,8 @@ candidates-again-2 : tie.Need-candidates-again-2 Inv-volumes μ-volumes Inv-cand
 candidates-again-2 c =
     let w = c .before in
     let u = outer (w .before) in
-    let e = judged w false (lt-leb (leastOf u) (w .before .volumes .held) (c .if4 .left)) in
-    let next = few u (omega arith) (w .before .before .if2 .taken) e in
+    let e = judged w false (lt-leb (leastOf u) (w .before .volumes .held) (omega arith)) in
+    let next = few u (omega arith) (omega arith) e in
     (omega arith, omega arith, omega arith, next .0, next .1)
 
 candidates-less-3 : tie.Need-candidates-less-3 Inv-volumes μ-volumes Inv-candidates μ-candidates
@@ -196,7 +196,7 @@ candidates-less-3 c = omega arith
 candidates-again-3 : tie.Need-candidates-again-3 Inv-volumes μ-volumes Inv-candidates μ-candidates
 candidates-again-3 c =
     let u = c .before .before .before in
-    let next = worse u (omega arith) (c .if2 .left) in
+    let next = worse u (omega arith) (omega arith) in
     (omega arith, omega arith, omega arith, next .0, next .1)
 
 returns : tie.Need-returns Inv-volumes μ-volumes Inv-candidates μ-candidates
