@@ -1,5 +1,5 @@
 -- What the functions on the best level promise to each other.
-use Prim.Native.Nat.{ℕ}
+use Prim.Native.Nat.{ℕ, _+_, _≤_}
 use mathlib.Core.Path.{_≡_}
 use mathlib.Core.List.{List}
 use lib.ListN.{getD}
@@ -24,3 +24,8 @@ pub record Mobile (l : Level) (c : Change) : Type 0 where
   pub good : GoodSlots after
   pub changed : Changed c before after
   pub is : IsLevel before l
+
+-- what a sum loses is in it, and what stays is at most what a side holds
+pub record Lasting (sum gained lost : ℕ) : Type 0 where
+  pub enough : lost ≤ sum + gained
+  pub small : sum + gained ≤ lost + 64000000

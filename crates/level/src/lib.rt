@@ -1,14 +1,14 @@
 // The best level of a side after one of its orders changed: carried where it still holds, else guessed and measured, else searched.
 ghost use mathlib.Core.Path.{_≡_};
 ghost use mathlib.Core.List.{List};
-ghost use Prim.Native.Nat.{_≤_};
+ghost use Prim.Native.Nat.{_+_, _-_, _≤_};
 ghost use lib.Dec.{leb};
 ghost use lib.ListN.{length};
 ghost use Rattle.rules.specs.Lists.{if_then_else_};
 ghost use Rattle.quote.specs.Levels.{levelAt, levelOf, bestKey, Columns, Searchable};
 ghost use Rattle.side.specs.Slots.{Slot, sideOf, levelIn, bestIn, GoodSlots};
 ghost use Rattle.side.specs.Moves.{Moving, Changed};
-ghost use Rattle.level.specs.Steps.{IsLevel, Mobile, levelRead};
+ghost use Rattle.level.specs.Steps.{IsLevel, Lasting, Mobile, levelRead};
 use quote::Level;
 use rules::Contracts;
 use rules::Side;
@@ -23,6 +23,14 @@ const BEFORE: usize = 194;
 
 const AT: usize = 195;
 
+// A sum of contracts that gains and loses: in 64 bits, since what it gains may be what it loses.
+fn changed(sum: u32, gained: u32, lost: u32) -> u32
+    requires { ⌜ Lasting sum gained lost ⌝ }
+    ensures { λ r. ⌜ r ≡ sum + gained - lost ⌝ }
+{
+    (sum as u64 + gained as u64 - lost as u64) as u32
+}
+
 // A level after a change of one order.
 fn moved(level: Level, change: Change) -> Level
     requires { ⌜ Mobile level change ⌝ }
@@ -33,9 +41,16 @@ fn moved(level: Level, change: Change) -> Level
     let key = change.key;
     let held = change.held;
     let volume = change.volume;
-    let before = level.before + quote::share(best < key, volume.0)
-        - quote::share(best < old, held.0);
-    let at = level.at + quote::share(best == key, volume.0) - quote::share(best == old, held.0);
+    let before = changed(
+        level.before,
+        quote::share(best < key, volume.0),
+        quote::share(best < old, held.0),
+    );
+    let at = changed(
+        level.at,
+        quote::share(best == key, volume.0),
+        quote::share(best == old, held.0),
+    );
     Level {
         key: best,
         before,

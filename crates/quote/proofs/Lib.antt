@@ -1,3 +1,8 @@
--- Laws about the spread test, and about the widths that it computes in.
+-- Laws about keys, a side's depth, the search and the spread test, about the widths that prices and keys are computed in, and about
+-- loops over a side's columns.
+pub mod Finding
+pub mod Keys
+pub mod Levels
+pub mod Loops
 pub mod Spread
 pub mod Widths

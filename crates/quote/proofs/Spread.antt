@@ -1,15 +1,21 @@
--- The spread test by its limit is document 01's. Assumes nothing.
-use Prim.Native.Nat.{ℕ, zero, suc, _*_, _/_, _≤_, _<_, max}
+-- The spread test by its limit, and of two best keys, is document 01's. Assumes nothing.
+use Prim.Native.Nat.{ℕ, zero, suc, _+_, _-_, _*_, _/_, _≤_, _<_, max}
 use native.Mathlib.Nat.{le-div-iff-mul-le, div-lt-iff-lt-mul}
 use native.Mathlib.Omega.{arith}
 use mathlib.Core.Path.{_≡_, refl, sym, ap, _∙_}
-use mathlib.Core.Bool.{Bool, true, false, _||_, or-true}
-use borrow.Author.Tests.{leb-true, leb-false, le-leb, lt-leb}
-use lib.Dec.{leb}
-use lib.IntN.{ℤ, pos, negsuc, negℤ, _*ℤ_}
+use mathlib.Core.Bool.{Bool, true, false, cond, not, _&&_, _||_, or-true}
+use borrow.Author.Tests.{leb-true, leb-false, ltb-true, ltb-false, le-leb, lt-leb, ne-eqb}
+use lib.Dec.{leb, ltb, eqb}
+use lib.IntN.{ℤ, pos, negsuc, negℤ, subℕ, _*ℤ_}
 use lib.Signed.{leZ}
-use Rattle.rules.specs.Kept.{spreadKeeps}
-use Rattle.quote.specs.Limit.{limitOf}
+use Rattle.rules.specs.declared.Side.the-variants.{Buy, Sell}
+use Rattle.rules.specs.declared.Quote.{Quote}
+use Rattle.rules.specs.declared.Quote.the-variants.{Absent, At}
+use Rattle.rules.specs.Units.{goodPrice}
+use Rattle.rules.specs.Kept.{gap, spreadKeeps, quotesKeep}
+use Rattle.quote.specs.Keys.{keyOf, quoteKey}
+use Rattle.quote.specs.Limit.{limitOf, keysKeep}
+use Rattle.quote.proofs.Keys.{GoodQuote, positive-most, negative-most, key-least, leb-by, leb-always}
 
 -- at most the greater of two, by a test that says whether it is at most the second
 either : (d b q : ℕ) (t : Bool) → (t ≡ true → d ≤ q) → (t ≡ false → q < d) → leb d (max b q) ≡ t || leb d b
@@ -38,3 +44,53 @@ spread-law a b (pos sp) (pos d) =
 spread-law a b (negsuc sp) (pos d) =
     let only : max b (a * 0 / 100000) ≡ b = omega arith in
     ap (leb d) only ∙ negative d b (a * suc sp)
+
+-- ---- by keys
+
+-- a difference against a natural number
+difference-le : (m n l : ℕ) → leZ (subℕ m n) (pos l) ≡ leb m (n + l)
+difference-le m n l = go (ltb m n) refl
+  where
+    go : (t : Bool) → ltb m n ≡ t → leZ (cond t (negsuc (n - suc m)) (pos (m - n))) (pos l) ≡ leb m (n + l)
+    go true e = sym (le-leb m (n + l) (omega (arith, ltb-true m n e)))
+    go false e =
+        let h = ltb-false m n e in
+        leb-by (m - n) l m (n + l) (λ k. omega (arith, h, k)) (λ k. omega (arith, h, k))
+
+-- D is at most the limit: both keys and the limit come to 2,000,000,002
+gap-keys : (bid ask : ℤ) (l : ℕ) → goodPrice bid ≡ true → goodPrice ask ≡ true
+    → leZ (gap bid ask) (pos l) ≡ leb 2000000002 (keyOf Buy bid + keyOf Sell ask + l)
+unfolding keyOf
+gap-keys (pos zero) (pos y) l h k =
+    let n = positive-most y k in
+    leb-by (y + 0) l 2000000002 (1000000001 + 0 + (1000000001 - y) + l) (λ i. omega (arith, n, i)) (λ i. omega (arith, n, i))
+gap-keys (pos (suc x)) (pos y) l h k =
+    let n = positive-most y k in
+    difference-le y (suc x) l
+    ∙ leb-by y (suc x + l) 2000000002 (1000000001 + suc x + (1000000001 - y) + l) (λ i. omega (arith, n, i)) (λ i. omega (arith, n, i))
+gap-keys (negsuc x) (pos y) l h k =
+    let m = negative-most x h in
+    let n = positive-most y k in
+    leb-by (y + suc x) l 2000000002 (1000000000 - x + (1000000001 - y) + l) (λ i. omega (arith, m, n, i)) (λ i. omega (arith, m, n, i))
+gap-keys (pos zero) (negsuc y) l h k =
+    difference-le 0 (suc y) l
+    ∙ leb-by 0 (suc y + l) 2000000002 (1000000001 + 0 + (1000000002 + y) + l) (λ i. omega arith) (λ i. absurd (omega (arith, i)))
+gap-keys (pos (suc x)) (negsuc y) l h k = leb-always 2000000002 (1000000001 + suc x + (1000000002 + y) + l) (omega arith)
+gap-keys (negsuc x) (negsuc y) l h k =
+    let m = negative-most x h in
+    difference-le (suc x) (suc y) l
+    ∙ leb-by (suc x) (suc y + l) 2000000002 (1000000000 - x + (1000000002 + y) + l) (λ i. omega (arith, m, i)) (λ i. omega (arith, m, i))
+
+pub keys-law : (a b : ℕ) (sp : ℤ) (bid ask : Quote) → GoodQuote bid → GoodQuote ask
+    → keysKeep (limitOf a b sp) (quoteKey Buy bid) (quoteKey Sell ask) ≡ quotesKeep a b sp bid ask
+unfolding keysKeep quotesKeep
+keys-law a b sp Absent ask h k = refl
+keys-law a b sp (At bid) Absent h k = go (not (eqb (keyOf Buy (bid .0)) 0))
+  where
+    go : (t : Bool) → t && false && leb 2000000002 (keyOf Buy (bid .0) + 0 + limitOf a b sp) ≡ false
+    go true = refl
+    go false = refl
+keys-law a b sp (At bid) (At ask) h k =
+    let there : eqb (keyOf Buy (bid .0)) 0 ≡ false = ne-eqb (keyOf Buy (bid .0)) 0 (λ e. omega (arith, e, key-least Buy (bid .0) h)) in
+    let here : eqb (keyOf Sell (ask .0)) 0 ≡ false = ne-eqb (keyOf Sell (ask .0)) 0 (λ e. omega (arith, e, key-least Sell (ask .0) k)) in
+    rw (there, here) (sym (gap-keys (bid .0) (ask .0) (limitOf a b sp) h k) ∙ spread-law a b sp (gap (bid .0) (ask .0)))

@@ -1,0 +1,140 @@
+-- The words of a side whose orders have changed: the level that stands in them, the front of their columns of keys and volumes from the
+-- last order on, and the words with another level. Assumes nothing.
+use Prim.Native.Nat.{ℕ, zero, suc, _+_, _-_, _≤_}
+use native.Mathlib.Omega.{arith}
+use mathlib.Core.Path.{_≡_, refl, ap, _∙_}
+use mathlib.Core.List.{List, [], _∷_, _++_, List·Memᴰ, List·Memᴰ·head, List·Memᴰ·tail}
+use lib.ListN.{length, getD, take, drop, set, replicate, length-append, length-map, length-replicate}
+use Rattle.rules.specs.Lists.{sum}
+use Rattle.rules.proofs.Lists.{sum-append}
+use Rattle.quote.specs.declared.Level.{Level}
+use Rattle.quote.specs.Levels.{levelAt, levelOf, bestKey, Columns, Searchable}
+use Rattle.quote.proofs.Levels.{levelAt-blanks, levelOf-blanks, bestKey-blanks}
+use Rattle.side.specs.declared.Change.{Change}
+use Rattle.side.specs.Slots.{Slot, keysOf, volumesOf, idsOf, column, header, sideOf, levelIn, bestIn, GoodSlots}
+use Rattle.side.specs.Moves.{Moving}
+use Rattle.side.proofs.Columns.{padded-at, fourth-set}
+use Rattle.side.proofs.Words.{field-length, words-length, count-is, key-is, before-is, at-is, keys-taken, volumes-taken}
+use Rattle.level.specs.Steps.{levelRead, IsLevel}
+use Rattle.level.proofs.Depths.{own-level, slots-columns}
+
+-- ---- the columns of the orders, with blanks behind them
+
+blanks-sum : (n : ℕ) → sum (replicate n 0) ≡ 0
+unfolding sum
+blanks-sum zero = refl
+blanks-sum (suc n) = omega (arith, blanks-sum n)
+
+pub keys-most : (slots : List Slot) → ((s : Slot) → List·Memᴰ s slots → s .key ≤ 2000000001) → (i : ℕ) → getD (keysOf slots) i 0 ≤ 2000000001
+keys-most [] h i = omega arith
+keys-most (s ∷ slots) h zero = h s (List·Memᴰ·head refl)
+keys-most (s ∷ slots) h (suc i) = keys-most slots (λ x m. h x (List·Memᴰ·tail m)) i
+
+module _ (slots : List Slot) (g : GoodSlots slots) (n : ℕ) where
+  with-columns : Columns (keysOf slots ++ replicate n 0) (volumesOf slots ++ replicate n 0)
+  with-columns =
+      let c = slots-columns slots g in
+      record {
+        even = omega (arith, c .even, length-append (keysOf slots) (replicate n 0), length-append (volumesOf slots) (replicate n 0));
+        small = omega (arith, c .small, sum-append (volumesOf slots) (replicate n 0), blanks-sum n);
+      }
+
+  with-searchable : (start : ℕ) → length slots + n ≤ 64 → start ≤ 2000000001
+      → Searchable (keysOf slots ++ replicate n 0) (volumesOf slots ++ replicate n 0) start
+  with-searchable start h s =
+      record {
+        columns = with-columns;
+        few = omega (arith, length-append (keysOf slots) (replicate n 0), length-map slots (λ (x : Slot). x .key), length-replicate {A = ℕ} n 0);
+        keys = λ i. omega (arith, padded-at (keysOf slots) n i, keys-most slots (g .key-most) i);
+        start-most = s;
+      }
+
+-- ---- the words of the orders after a change
+
+module _ (words : List ℕ) (c : Change) (least : ℕ) (m : Moving words c least) where
+  pub moving-length : length words ≡ 256
+  moving-length = words-length words (m .after) (bestIn least (m .before)) (m .good .few) (m .is)
+
+  moving-count : getD words 192 0 ≡ length (m .after)
+  moving-count = count-is words (m .after) (bestIn least (m .before)) (m .good .few) (m .is)
+
+  pub moving-few : getD words 192 0 ≤ 64
+  moving-few = omega (arith, moving-count, m .good .few)
+
+  -- what stands in them is a level of the orders before it
+  moving-level : levelRead words ≡ bestIn least (m .before)
+  moving-level =
+      let l = bestIn least (m .before) in
+      λ i. record {
+        key = key-is words (m .after) l (m .good .few) (m .is) i;
+        before = before-is words (m .after) l (m .good .few) (m .is) i;
+        at = at-is words (m .after) l (m .good .few) (m .is) i;
+      }
+
+  pub carried : (l : Level) → l ≡ levelRead words → IsLevel (m .before) l
+  unfolding levelOf
+  carried l e =
+      let ks = keysOf (m .before) in
+      let vs = volumesOf (m .before) in
+      own-level ks vs (bestKey least ks vs) l (e ∙ moving-level)
+
+  -- the front of the columns, of n and k words that are as many
+  module _ (to n k : ℕ) (en : n ≡ to) (ek : k ≡ to) (more : getD words 192 0 ≤ to) (most : to ≤ 64) where
+    keys-part : take n (drop 64 words) ≡ keysOf (m .after) ++ replicate (to - length (m .after)) 0
+    keys-part =
+        ap (λ (j : ℕ). take j (drop 64 words)) en
+        ∙ keys-taken words (m .after) (bestIn least (m .before)) (m .good .few) (m .is) to (omega (arith, moving-count)) most
+
+    volumes-part : take k (drop 128 words) ≡ volumesOf (m .after) ++ replicate (to - length (m .after)) 0
+    volumes-part =
+        ap (λ (j : ℕ). take j (drop 128 words)) ek
+        ∙ volumes-taken words (m .after) (bestIn least (m .before)) (m .good .few) (m .is) to (omega (arith, moving-count)) most
+
+    even : length (keysOf (m .after)) ≡ length (volumesOf (m .after))
+    even = slots-columns (m .after) (m .good) .even
+
+    pub part-columns : Columns (take n (drop 64 words)) (take k (drop 128 words))
+    part-columns = rw (keys-part, volumes-part) (with-columns (m .after) (m .good) (to - length (m .after)))
+
+    pub part-searchable : (start : ℕ) → start ≤ 2000000001 → Searchable (take n (drop 64 words)) (take k (drop 128 words)) start
+    part-searchable start h =
+        rw (keys-part, volumes-part) (with-searchable (m .after) (m .good) (to - length (m .after)) start (omega (arith, moving-count)) h)
+
+    pub part-level : (key : ℕ) → levelAt (take n (drop 64 words)) (take k (drop 128 words)) key ≡ levelIn (m .after) key
+    part-level key =
+        rw (keys-part, volumes-part) (levelAt-blanks (keysOf (m .after)) (volumesOf (m .after)) even (to - length (m .after)) key)
+
+    pub part-best-key : bestKey least (take n (drop 64 words)) (take k (drop 128 words)) ≡ bestKey least (keysOf (m .after)) (volumesOf (m .after))
+    part-best-key =
+        rw (keys-part, volumes-part) (bestKey-blanks (keysOf (m .after)) (volumesOf (m .after)) even (to - length (m .after)) least)
+
+    pub part-best : levelOf least (take n (drop 64 words)) (take k (drop 128 words)) ≡ bestIn least (m .after)
+    part-best =
+        rw (keys-part, volumes-part) (levelOf-blanks (keysOf (m .after)) (volumesOf (m .after)) even (to - length (m .after)) least)
+
+-- ---- another level in the words
+
+module _ (slots : List Slot) (old new : Level) (few : length slots ≤ 64) where
+  header-put : set (set (set (column (header slots old)) 1 (new .key)) 2 (new .before)) 3 (new .at) ≡ column (header slots new)
+  unfolding column
+  header-put = refl
+
+  level-put : set (set (set (sideOf slots old) 193 (new .key)) 194 (new .before)) 195 (new .at) ≡ sideOf slots new
+  unfolding sideOf
+  level-put =
+      let a = column (idsOf slots) in
+      let b = column (keysOf slots) in
+      let c = column (volumesOf slots) in
+      let d = column (header slots old) in
+      let la : length a ≡ 64 = field-length (λ (s : Slot). s .id) slots few in
+      let lb : length b ≡ 64 = field-length (λ (s : Slot). s .key) slots few in
+      let lc : length c ≡ 64 = field-length (λ (s : Slot). s .volume) slots few in
+      ap (λ (w : List ℕ). set (set w 194 (new .before)) 195 (new .at)) (fourth-set a b c d la lb lc 1 (new .key))
+      ∙ ap (λ (w : List ℕ). set w 195 (new .at)) (fourth-set a b c (set d 1 (new .key)) la lb lc 2 (new .before))
+      ∙ fourth-set a b c (set (set d 1 (new .key)) 2 (new .before)) la lb lc 3 (new .at)
+      ∙ ap (λ (r : List ℕ). a ++ (b ++ (c ++ r))) header-put
+
+pub put : (words : List ℕ) (slots : List Slot) (old new l : Level) → length slots ≤ 64 → words ≡ sideOf slots old → l ≡ new
+    → set (set (set words 193 (l .key)) 194 (l .before)) 195 (l .at) ≡ sideOf slots new
+put words slots old new l few is e =
+    (λ i. set (set (set (is i) 193 (e i .key)) 194 (e i .before)) 195 (e i .at)) ∙ level-put slots old new few

@@ -1,0 +1,75 @@
+-- What the search starts from and finds. Assumes nothing.
+use Prim.Native.Nat.{ℕ, suc, _≤_}
+use native.Mathlib.Omega.{arith}
+use mathlib.Core.Path.{_≡_, refl, sym, ap, _∙_}
+use mathlib.Core.List.{List, [], _∷_}
+use mathlib.Core.Bool.{Bool, true, false}
+use borrow.Author.Tests.{leb-true}
+use lib.Dec.{leb}
+use lib.ListN.{length, getD}
+use lib.Seq.{take-length}
+use Rattle.rules.specs.declared.Side.{Side}
+use Rattle.rules.specs.declared.Steps.{Steps}
+use Rattle.rules.specs.declared.Quote.{Quote}
+use Rattle.rules.specs.declared.Quote.the-variants.{At}
+use Rattle.rules.specs.Lists.{if_then_else_, keep}
+use Rattle.rules.specs.Units.{goodPrice}
+use Rattle.quote.specs.declared.Level.{Level}
+use Rattle.quote.specs.Keys.{quoteKey, quoteAt}
+use Rattle.quote.specs.Levels.{enough, greatest, foundBy, bestKey, levelAt, levelOf, Searchable}
+use Rattle.quote.proofs.Keys.{key-quote, good-quote, say-good}
+use Rattle.quote.proofs.Levels.{start-below, found-end}
+use Rattle.side.specs.Slots.{Slot, keysOf, volumesOf, GoodSlots}
+use Rattle.level.specs.Steps.{IsLevel}
+use Rattle.level.proofs.Depths.{before-is}
+use Rattle.level.proofs.Parts.{keys-most}
+
+-- what is kept of numbers that are at most b
+greatest-most : (b : ℕ) (t : ℕ → Bool) (ks : List ℕ) → ((i : ℕ) → getD ks i 0 ≤ b) → greatest (keep t ks) ≤ b
+unfolding greatest keep
+greatest-most b t [] h = omega arith
+greatest-most b t (k ∷ ks) h = go (t k) (h 0) (greatest-most b t ks (λ i. h (suc i)))
+  where
+    go : (a : Bool) → k ≤ b → greatest (keep t ks) ≤ b → greatest (if a then k ∷ keep t ks else keep t ks) ≤ b
+    go true p q = omega arith
+    go false p q = q
+
+-- ---- where it starts
+
+module _ (least : ℕ) (slots : List Slot) (l : Level) (is : IsLevel slots l) (some : 1 ≤ least) where
+  pub start-low : (if leb least (l .before) then l .key else 0) ≤ bestKey least (keysOf slots) (volumesOf slots)
+  start-low = go (leb least (l .before)) refl
+    where
+      go : (b : Bool) → leb least (l .before) ≡ b → (if b then l .key else 0) ≤ bestKey least (keysOf slots) (volumesOf slots)
+      go true e =
+          start-below least (keysOf slots) (volumesOf slots) (l .key) some
+          (omega (arith, leb-true least (l .before) e, before-is slots l is))
+      go false e = omega arith
+
+  pub start-most : GoodSlots slots → (if leb least (l .before) then l .key else 0) ≤ 2000000001
+  unfolding bestKey
+  start-most g =
+      let top : bestKey least (keysOf slots) (volumesOf slots) ≤ 2000000001 =
+      greatest-most 2000000001 (enough least (keysOf slots) (volumesOf slots)) (keysOf slots) (keys-most slots (g .key-most)) in
+      omega (arith, start-low, top)
+
+-- ---- what it finds
+
+module _ (side : Side) (ks vs : List ℕ) (start least : ℕ) (s : Searchable ks vs start) (q : Quote)
+    (e : q ≡ quoteAt side (foundBy start least ks vs (length ks))) where
+  found-most : foundBy start least ks vs (length ks) ≤ 2000000001
+  found-most =
+      rw (take-length ks) (omega (arith, s .start-most, greatest-most 2000000001 (enough least ks vs) ks (s .keys)))
+
+  -- a price in its range ..
+  pub found-good : (p : Steps) → q ≡ At p → goodPrice (p .0) ≡ true
+  found-good p f =
+      let k = foundBy start least ks vs (length ks) in
+      say-good (quoteAt side k) (good-quote side k found-most) p (sym e ∙ f)
+
+  -- .. whose level is the best one, from a key that the best one is not below
+  pub found-level : (l : Level) (key : ℕ) → key ≡ quoteKey side q → l ≡ levelAt ks vs key → start ≤ bestKey least ks vs → l ≡ levelOf least ks vs
+  unfolding levelOf
+  found-level l key f g h =
+      let k = foundBy start least ks vs (length ks) in
+      g ∙ ap (levelAt ks vs) (f ∙ ap (quoteKey side) e ∙ key-quote side k found-most ∙ found-end least ks vs start h)

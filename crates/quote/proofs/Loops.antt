@@ -1,0 +1,119 @@
+-- A loop over columns, one step further: what the contracts at the keys that pass come to, the best key found, and the number of keys
+-- tried. Assumes nothing.
+use Prim.Native.Nat.{ℕ, zero, suc, _+_, _≤_, _<_, max}
+use native.Mathlib.Omega.{arith}
+use native.Mathlib.Numerals.{add-one}
+use mathlib.Core.Path.{_≡_, refl, sym, ap, _∙_}
+use mathlib.Core.List.{List, [], _∷_}
+use mathlib.Core.Bool.{Bool, true, false}
+use borrow.Author.Tests.{lt-ltb, le-ltb}
+use lib.Dec.{ltb}
+use lib.ListN.{length, getD, take}
+use lib.Seq.{take-suc, take-length}
+use Rattle.rules.specs.Lists.{if_then_else_, sum, keep, count}
+use Rattle.rules.proofs.Lists.{keep-append, keep-one}
+use Rattle.quote.specs.Levels.{held, enough, greatest, foundBy, triedBy}
+use Rattle.quote.proofs.Levels.{held-most, greatest-append}
+
+-- ---- the contracts at the keys that pass
+
+held-part : (t : ℕ → Bool) (i : ℕ) (ks vs : List ℕ) → held t (take i ks) (take i vs) ≤ held t ks vs
+unfolding held
+held-part t zero ks vs = omega arith
+held-part t (suc i) [] vs = omega arith
+held-part t (suc i) (k ∷ ks) [] = omega arith
+held-part t (suc i) (k ∷ ks) (v ∷ vs) = omega (arith, held-part t i ks vs)
+
+held-suc : (t : ℕ → Bool) (i : ℕ) (ks vs : List ℕ) → i < length ks → length ks ≡ length vs
+    → held t (take i ks) (take i vs) + (if t (getD ks i 0) then getD vs i 0 else 0) ≡ held t (take (suc i) ks) (take (suc i) vs)
+unfolding held
+held-suc t i [] vs h e = omega arith
+held-suc t i (k ∷ ks) [] h e = omega arith
+held-suc t zero (k ∷ ks) (v ∷ vs) h e = omega arith
+held-suc t (suc i) (k ∷ ks) (v ∷ vs) h e = omega (arith, held-suc t i ks vs (omega arith) (omega arith))
+
+-- with what stands at the next key
+module _ (t : ℕ → Bool) (i : ℕ) (ks vs : List ℕ) (h s : ℕ) (more : i < length ks) (even : length ks ≡ length vs)
+    (before : h ≡ held t (take i ks) (take i vs)) (share : s ≡ (if t (getD ks i 0) then getD vs i 0 else 0)) where
+  pub held-next : h + s ≡ held t (take (i + 1) ks) (take (i + 1) vs)
+  held-next = rw (before, share, add-one) (held-suc t i ks vs more even)
+
+  pub held-fits : h + s ≤ sum vs
+  held-fits =
+      omega (arith, held-next, held-part t (i + 1) ks vs, held-most t ks vs)
+
+-- over all of them
+pub held-all : (t : ℕ → Bool) (i : ℕ) (ks vs : List ℕ) (h : ℕ) → i ≡ length ks → length ks ≡ length vs
+    → h ≡ held t (take i ks) (take i vs) → h ≡ held t ks vs
+held-all t i ks vs h all even e =
+    let ends : i ≡ length vs = all ∙ even in
+    e ∙ (λ j. held t (take (all j) ks) (take (ends j) vs)) ∙ (λ j. held t (take-length ks j) (take-length vs j))
+
+-- ---- the best key found
+
+greatest-one : (b : Bool) (k : ℕ) → greatest (if b then k ∷ [] else []) ≡ (if b then k else 0)
+unfolding greatest
+greatest-one true k = omega arith
+greatest-one false k = refl
+
+-- by whether there are enough at the next key or better
+found-suc : (start least : ℕ) (ks vs : List ℕ) (i : ℕ) (b : Bool) → i < length ks → enough least ks vs (getD ks i 0) ≡ b
+    → foundBy start least ks vs (suc i) ≡ max (foundBy start least ks vs i) (if b then getD ks i 0 else 0)
+found-suc start least ks vs i b h e =
+    let t = enough least ks vs in
+    let k = getD ks i 0 in
+    let one : greatest (keep t (k ∷ [])) ≡ (if b then k else 0) =
+    ap greatest (keep-one t k) ∙ ap (λ (c : Bool). greatest (if c then k ∷ [] else [])) e ∙ greatest-one b k in
+    let all : greatest (keep t (take (suc i) ks)) ≡ max (greatest (keep t (take i ks))) (greatest (keep t (k ∷ []))) =
+    ap (λ (l : List ℕ). greatest (keep t l)) (take-suc ks i 0 h) ∙ ap greatest (keep-append t (take i ks) (k ∷ []))
+    ∙ greatest-append (keep t (take i ks)) (keep t (k ∷ [])) in
+    omega (arith, one, all)
+
+module _ (start least : ℕ) (ks vs : List ℕ) (i f : ℕ) (more : i < length ks) (before : f ≡ foundBy start least ks vs i) where
+  -- the next key is better, and enough stand at it or better
+  pub found-better : f < getD ks i 0 → enough least ks vs (getD ks i 0) ≡ true → getD ks i 0 ≡ foundBy start least ks vs (i + 1)
+  found-better h e =
+      rw add-one
+      (let next : foundBy start least ks vs (suc i) ≡ max (foundBy start least ks vs i) (getD ks i 0) = found-suc start least ks vs i true more e in
+      omega arith)
+
+  -- it is better, and too few do
+  pub found-few : enough least ks vs (getD ks i 0) ≡ false → f ≡ foundBy start least ks vs (i + 1)
+  found-few e =
+      rw add-one
+      (let next : foundBy start least ks vs (suc i) ≡ max (foundBy start least ks vs i) 0 = found-suc start least ks vs i false more e in
+      omega arith)
+
+  -- it is not better
+  pub found-worse : getD ks i 0 ≤ f → f ≡ foundBy start least ks vs (i + 1)
+  found-worse h = rw add-one (go (enough least ks vs (getD ks i 0)) refl)
+    where
+      go : (b : Bool) → enough least ks vs (getD ks i 0) ≡ b → f ≡ foundBy start least ks vs (suc i)
+      go true e =
+          let next : foundBy start least ks vs (suc i) ≡ max (foundBy start least ks vs i) (getD ks i 0) = found-suc start least ks vs i true more e in
+          omega arith
+      go false e =
+          let next : foundBy start least ks vs (suc i) ≡ max (foundBy start least ks vs i) 0 = found-suc start least ks vs i false more e in
+          omega arith
+
+-- ---- the keys tried
+
+tried-suc : (start least : ℕ) (ks vs : List ℕ) (i : ℕ) (b : Bool) → ltb (foundBy start least ks vs i) (getD ks i 0) ≡ b
+    → triedBy start least ks vs (suc i) ≡ triedBy start least ks vs i + (if b then 1 else 0)
+unfolding triedBy count
+tried-suc start least ks vs i b e = ap (λ (c : Bool). triedBy start least ks vs i + (if c then 1 else 0)) e
+
+module _ (start least : ℕ) (ks vs : List ℕ) (i f n : ℕ) (before : f ≡ foundBy start least ks vs i) (tried : n ≡ triedBy start least ks vs i) where
+  pub tried-one : f < getD ks i 0 → n + 1 ≡ triedBy start least ks vs (i + 1)
+  tried-one h =
+      rw (add-one i)
+      (let next : triedBy start least ks vs (suc i) ≡ triedBy start least ks vs i + 1 =
+      tried-suc start least ks vs i true (ap (λ (g : ℕ). ltb g (getD ks i 0)) (sym before) ∙ lt-ltb f (getD ks i 0) h) in
+      omega arith)
+
+  pub tried-none : getD ks i 0 ≤ f → n ≡ triedBy start least ks vs (i + 1)
+  tried-none h =
+      rw add-one
+      (let next : triedBy start least ks vs (suc i) ≡ triedBy start least ks vs i + 0 =
+      tried-suc start least ks vs i false (ap (λ (g : ℕ). ltb g (getD ks i 0)) (sym before) ∙ le-ltb f (getD ks i 0) h) in
+      omega arith)

@@ -1,0 +1,29 @@
+-- `quote::keys_keep` meets its contract, which is its tests. Assumes nothing.
+use mathlib.Core.Path.{_≡_, refl}
+use mathlib.Core.Bool.{Bool, true, false}
+use mir.Val.{boolByte}
+use borrow.Author.Needs.{needs}
+use Rattle.rules.specs.Lists.{if_then_else_}
+use Rattle.quote.specs.Limit.{keysKeep}
+use Rattle.quote.proofs.keys_keep.Statement.{statement}
+use Rattle.quote.proofs.keys_keep.Tie as tie
+
+as-number : (b : Bool) → boolByte b ≡ (if b then 1 else 0)
+as-number true = refl
+as-number false = refl
+
+add-result : tie.Need-add-result
+add-result c = search needs
+
+add-result-2 : tie.Need-add-result-2
+add-result-2 c = search needs
+
+cast-result : tie.Need-cast-result
+cast-result c = search needs
+
+returns : tie.Need-returns
+unfolding keysKeep
+returns c = as-number (keysKeep (c .args .limit) (c .args .bid) (c .args .ask))
+
+pub keys-keep-spec : {M : Type 1} → statement M
+keys-keep-spec = tie.close (tie.spec add-result add-result-2 cast-result returns)

@@ -1,0 +1,243 @@
+-- `quote::search` meets its contract. The outer loop's invariant: the best key found, and the number of keys tried, among those passed. The
+-- inner loop's: what was added up is held at the candidate's key or better in the part of the columns that was passed. Assumes nothing.
+use Prim.Native.Nat.{ℕ, _+_, _-_, _≤_, _<_}
+use native.Mathlib.Omega.{arith}
+use mathlib.Core.Path.{_≡_, refl, sym, ap, _∙_}
+use mathlib.Core.List.{List}
+use mathlib.Core.Bool.{Bool, true, false}
+use borrow.Author.Tests.{le-leb, lt-leb}
+use lib.Dec.{leb}
+use lib.ListN.{length, getD, take}
+use Rattle.rules.specs.Lists.{count, keep}
+use Rattle.quote.specs.Keys.{quoteAt}
+use Rattle.quote.specs.Levels.{enough, greatest, foundBy, triedBy}
+use Rattle.quote.specs.Levels as L
+use Rattle.quote.proofs.Loops.{held-next, held-fits, held-all, found-better, found-few, found-worse, tried-one, tried-none}
+use Rattle.quote.proofs.Finding.{finds}
+use Rattle.quote.proofs.search.Statement.{statement}
+use Rattle.quote.proofs.search.Tie as tie
+
+abbrev Inv-volumes : tie.InvT-volumes
+Inv-volumes side keys volumes start m found sums i key held₀ j₀ held j =
+    (j ≤ length keys) × (held ≡ L.held (leb key) (take j keys) (take j volumes))
+
+abbrev μ-volumes : tie.MeasureT-volumes
+μ-volumes side keys volumes start m found sums i key held₀ j₀ held j = length keys - j
+
+abbrev Inv-candidates : tie.InvT-candidates
+Inv-candidates side keys volumes start m found₀ sums₀ i₀ found sums i =
+    (i ≤ length keys) × (found ≤ 2000000001) × (sums ≤ i) × (found ≡ foundBy start m keys volumes i)
+    × (sums ≡ triedBy start m keys volumes i)
+
+abbrev μ-candidates : tie.MeasureT-candidates
+μ-candidates side keys volumes start m found₀ sums₀ i₀ found sums i = length keys - i
+
+abbrev Candidates : Type 0
+Candidates = tie.At-candidates Inv-volumes μ-volumes Inv-candidates μ-candidates
+
+abbrev Volumes : Type 0
+Volumes = tie.At-volumes Inv-volumes μ-volumes Inv-candidates μ-candidates
+
+-- the outer loop's turn that the inner loop stands in
+abbrev outer : Volumes → Candidates
+outer v = v .before .before .before .before
+
+abbrev keysOf : Candidates → List ℕ
+keysOf u = u .before .before .before .args .keys .now
+
+abbrev volumesOf : Candidates → List ℕ
+volumesOf u = u .before .before .before .args .volumes .now
+
+abbrev candidate : Candidates → ℕ
+candidate u = getD (keysOf u) (u .candidates .i) 0
+
+abbrev leastOf : Candidates → ℕ
+leastOf u = u .before .before .before .args .least .0
+
+abbrev even : (u : Candidates) → length (keysOf u) ≡ length (volumesOf u)
+even u = u .before .before .before .pre .columns .even
+
+-- where the inner loop is left, whether enough stand at the candidate's key or better
+judged : (w : tie.Then3 Inv-volumes μ-volumes Inv-candidates μ-candidates) (b : Bool)
+    → let u = outer (w .before) in
+    leb (leastOf u) (w .before .volumes .held) ≡ b → enough (leastOf u) (keysOf u) (volumesOf u) (candidate u) ≡ b
+unfolding enough
+judged w b h =
+    let v = w .before in
+    let u = outer v in
+    let n = v .volumes in
+    let end : n .j ≡ length (keysOf u) = omega arith in
+    ap (leb (leastOf u)) (sym (held-all (leb (candidate u)) (n .j) (keysOf u) (volumesOf u) (n .held) end (even u) (n .inv .1))) ∙ h
+
+-- what the search has come to after a turn
+abbrev After : Candidates → ℕ → ℕ → Type 0
+After u found sums =
+    let a = u .before .before .before .args in
+    let i = u .candidates .i + 1 in
+    (found ≡ foundBy (a .start) (leastOf u) (keysOf u) (volumesOf u) i) × (sums ≡ triedBy (a .start) (leastOf u) (keysOf u) (volumesOf u) i)
+
+module _ (u : Candidates) (more : u .candidates .i < length (keysOf u)) where
+  better : u .candidates .found < candidate u → enough (leastOf u) (keysOf u) (volumesOf u) (candidate u) ≡ true
+      → After u (candidate u) (u .candidates .sums + 1)
+  better h e =
+      let a = u .before .before .before .args in
+      let n = u .candidates in (
+        found-better (a .start) (leastOf u) (keysOf u) (volumesOf u) (n .i) (n .found) more (n .inv .3) h e,
+        tried-one (a .start) (leastOf u) (keysOf u) (volumesOf u) (n .i) (n .found) (n .sums) (n .inv .3) (n .inv .4) h,
+      )
+
+  few : u .candidates .found < candidate u → enough (leastOf u) (keysOf u) (volumesOf u) (candidate u) ≡ false
+      → After u (u .candidates .found) (u .candidates .sums + 1)
+  few h e =
+      let a = u .before .before .before .args in
+      let n = u .candidates in (
+        found-few (a .start) (leastOf u) (keysOf u) (volumesOf u) (n .i) (n .found) more (n .inv .3) e,
+        tried-one (a .start) (leastOf u) (keysOf u) (volumesOf u) (n .i) (n .found) (n .sums) (n .inv .3) (n .inv .4) h,
+      )
+
+  worse : candidate u ≤ u .candidates .found → After u (u .candidates .found) (u .candidates .sums)
+  worse h =
+      let a = u .before .before .before .args in
+      let n = u .candidates in (
+        found-worse (a .start) (leastOf u) (keysOf u) (volumesOf u) (n .i) (n .found) more (n .inv .3) h,
+        tried-none (a .start) (leastOf u) (keysOf u) (volumesOf u) (n .i) (n .found) (n .sums) (n .inv .3) (n .inv .4) h,
+      )
+
+candidates-holds : tie.Need-candidates-holds Inv-volumes μ-volumes Inv-candidates μ-candidates
+unfolding greatest keep triedBy count
+candidates-holds c = (omega arith, omega (arith, c .before .before .pre .start-most), omega arith, omega arith, refl)
+
+quote-at-requires : tie.Need-quote-at-requires Inv-volumes μ-volumes Inv-candidates μ-candidates
+quote-at-requires c κs = omega arith
+
+mul-key : tie.Need-mul-key Inv-volumes μ-volumes Inv-candidates μ-candidates
+mul-key c = omega arith
+
+shared-slice-read-key :
+    tie.Need-shared-slice-read-key Inv-volumes μ-volumes Inv-candidates μ-candidates
+shared-slice-read-key c = omega arith
+
+add-i : tie.Need-add-i Inv-volumes μ-volumes Inv-candidates μ-candidates
+add-i c = omega arith
+
+volumes-holds : tie.Need-volumes-holds Inv-volumes μ-volumes Inv-candidates μ-candidates
+unfolding L.held
+volumes-holds c = (omega arith, refl)
+
+mul-share : tie.Need-mul-share Inv-volumes μ-volumes Inv-candidates μ-candidates
+mul-share c = omega arith
+
+shared-slice-read-share :
+    tie.Need-shared-slice-read-share Inv-volumes μ-volumes Inv-candidates μ-candidates
+shared-slice-read-share c = omega arith
+
+mul-share-2 : tie.Need-mul-share-2 Inv-volumes μ-volumes Inv-candidates μ-candidates
+mul-share-2 c = omega arith
+
+shared-slice-read-share-2 :
+    tie.Need-shared-slice-read-share-2 Inv-volumes μ-volumes Inv-candidates μ-candidates
+shared-slice-read-share-2 c = omega (arith, even (outer (c .before .before .before)))
+
+share-requires : tie.Need-share-requires Inv-volumes μ-volumes Inv-candidates μ-candidates
+share-requires c κs = tt
+
+add-held : tie.Need-add-held Inv-volumes μ-volumes Inv-candidates μ-candidates
+add-held c =
+    let v = c .before .before .before .before in
+    let u = outer v in
+    let n = v .volumes in
+    omega (
+      arith,
+      held-fits (leb (candidate u)) (n .j) (keysOf u) (volumesOf u) (n .held) (c .share .result) (omega arith) (even u) (n .inv .1) (c .share .ensures),
+      u .before .before .before .pre .columns .small,
+    )
+
+add-j : tie.Need-add-j Inv-volumes μ-volumes Inv-candidates μ-candidates
+add-j c = omega arith
+
+volumes-less : tie.Need-volumes-less Inv-volumes μ-volumes Inv-candidates μ-candidates
+volumes-less c = omega arith
+
+volumes-again : tie.Need-volumes-again Inv-volumes μ-volumes Inv-candidates μ-candidates
+volumes-again c =
+    let v = c .before .before .before .before in
+    let u = outer v in
+    let n = v .volumes in
+    (omega arith, held-next (leb (candidate u)) (n .j) (keysOf u) (volumesOf u) (n .held) (c .share .result) (omega arith) (even u) (n .inv .1) (c .share .ensures))
+
+add-sums : tie.Need-add-sums Inv-volumes μ-volumes Inv-candidates μ-candidates
+add-sums c = omega (arith, outer (c .before) .before .before .before .pre .few)
+
+candidates-less : tie.Need-candidates-less Inv-volumes μ-volumes Inv-candidates μ-candidates
+candidates-less c = omega arith
+
+candidates-again : tie.Need-candidates-again Inv-volumes μ-volumes Inv-candidates μ-candidates
+candidates-again c =
+    let w = c .before in
+    let u = outer (w .before) in
+    let e = judged w true (le-leb (leastOf u) (w .before .volumes .held) (omega arith)) in
+    let next = better u (omega arith) (omega arith) e in
+    (omega arith, u .before .before .before .pre .keys (u .candidates .i), omega arith, next .0, next .1)
+
+candidates-less-2 : tie.Need-candidates-less-2 Inv-volumes μ-volumes Inv-candidates μ-candidates
+candidates-less-2 c = omega arith
+
+candidates-again-2 : tie.Need-candidates-again-2 Inv-volumes μ-volumes Inv-candidates μ-candidates
+candidates-again-2 c =
+    let w = c .before in
+    let u = outer (w .before) in
+    let e = judged w false (lt-leb (leastOf u) (w .before .volumes .held) (omega arith)) in
+    let next = few u (omega arith) (omega arith) e in
+    (omega arith, omega arith, omega arith, next .0, next .1)
+
+candidates-less-3 : tie.Need-candidates-less-3 Inv-volumes μ-volumes Inv-candidates μ-candidates
+candidates-less-3 c = omega arith
+
+candidates-again-3 : tie.Need-candidates-again-3 Inv-volumes μ-volumes Inv-candidates μ-candidates
+candidates-again-3 c =
+    let u = c .before .before .before in
+    let next = worse u (omega arith) (omega arith) in
+    (omega arith, omega arith, omega arith, next .0, next .1)
+
+returns : tie.Need-returns Inv-volumes μ-volumes Inv-candidates μ-candidates
+returns c =
+    let u = c .before .before in
+    let n = u .candidates in
+    let a = u .before .before .before .args in
+    let end : n .i ≡ length (keysOf u) = omega arith in
+    finds (a .side) (keysOf u) (volumesOf u) (a .start) (leastOf u) (record { quote = c .quote-at .result; sums = n .sums })
+    (u .before .before .before .pre .start-most)
+    (c .quote-at .ensures ∙ ap (quoteAt (a .side)) (n .inv .3 ∙ ap (foundBy (a .start) (leastOf u) (keysOf u) (volumesOf u)) end))
+    (n .inv .4 ∙ ap (triedBy (a .start) (leastOf u) (keysOf u) (volumesOf u)) end)
+
+pub search-spec : {M : Type 1} → statement M
+search-spec =
+    tie.close
+    (tie.spec
+    Inv-volumes
+    μ-volumes
+    Inv-candidates
+    μ-candidates
+    candidates-holds
+    quote-at-requires
+    mul-key
+    shared-slice-read-key
+    add-i
+    volumes-holds
+    mul-share
+    shared-slice-read-share
+    mul-share-2
+    shared-slice-read-share-2
+    share-requires
+    add-held
+    add-j
+    volumes-less
+    volumes-again
+    add-sums
+    candidates-less
+    candidates-again
+    candidates-less-2
+    candidates-again-2
+    candidates-less-3
+    candidates-again-3
+    returns)

@@ -1,0 +1,144 @@
+-- The three columns are lent one after the other; what the calls leave is `removed-is`'s. Assumes nothing.
+use Prim.Native.Nat.{suc, _-_}
+use mathlib.Core.Path.{_≡_, _∙_}
+use mathlib.Core.List.{_++_}
+use native.Mathlib.Omega.{arith}
+use lib.ListN.{length, getD, drop, length-set}
+use lib.Seq.{length-front}
+use borrow.Rule.Slice.PartMut.{same-len-mid}
+use Rattle.side.proofs.Words.{count-is}
+use Rattle.side.proofs.Stores.{amended-told, putKeys, putVolumes, removed-is}
+use borrow.Author.Needs.{needs}
+use Rattle.side.proofs.remove.Statement.{statement}
+use Rattle.side.proofs.remove.Tie as tie
+
+add-old : tie.Need-add-old
+add-old c = search needs
+
+mul-old : tie.Need-mul-old
+mul-old c = search needs
+
+slice-read-old : tie.Need-slice-read-old
+slice-read-old c = search needs
+
+add-held : tie.Need-add-held
+add-held c = search needs
+
+mul-held : tie.Need-mul-held
+mul-held c = search needs
+
+slice-read-held : tie.Need-slice-read-held
+slice-read-held c = search needs
+
+slice-read-rest : tie.Need-slice-read-rest
+slice-read-rest c = search needs
+
+sub-rest : tie.Need-sub-rest
+sub-rest c = search needs
+
+sub-shift : tie.Need-sub-shift
+sub-shift c = search needs
+
+part-shift-start : tie.Need-part-shift-start
+part-shift-start c = search needs
+
+part-shift-end : tie.Need-part-shift-end
+part-shift-end c = search needs
+
+cast-shift : tie.Need-cast-shift
+cast-shift c = search needs
+
+shift-requires : tie.Need-shift-requires
+shift-requires c κs = search needs
+
+sub-shift-2 : tie.Need-sub-shift-2
+sub-shift-2 c = search needs
+
+part-shift-start-2 : tie.Need-part-shift-start-2
+part-shift-start-2 c = search needs
+
+part-shift-end-2 : tie.Need-part-shift-end-2
+part-shift-end-2 c = search needs
+
+cast-shift-2 : tie.Need-cast-shift-2
+cast-shift-2 c = search needs
+
+shift-requires-2 : tie.Need-shift-requires-2
+shift-requires-2 c κs = search needs
+
+sub-shift-3 : tie.Need-sub-shift-3
+sub-shift-3 c = search needs
+
+part-shift-start-3 : tie.Need-part-shift-start-3
+part-shift-start-3 c = search needs
+
+part-shift-end-3 : tie.Need-part-shift-end-3
+part-shift-end-3 c = search needs
+
+cast-shift-3 : tie.Need-cast-shift-3
+cast-shift-3 c = search needs
+
+shift-requires-3 : tie.Need-shift-requires-3
+shift-requires-3 c κs = search needs
+
+slice-write-words : tie.Need-slice-write-words
+slice-write-words c = search needs
+
+same-length : tie.Need-same-length
+same-length c =
+    let w = c .before .before .before .before .before .before .before .before .before .before .before .before .before .before .before .before .args .words .now in
+    let ids = c .before .before .before .before .before .before .before .before .before .before .shift in
+    let keys = c .before .before .before .before .before .before .shift2 in
+    let volumes = c .before .before .shift3 in
+    let one = ids .last .0 ++ drop 64 w in
+    let two = putKeys one (keys .last .0) in
+    length-set (putVolumes two (volumes .last .0)) 192 (getD w 192 0 - 1)
+    ∙ same-len-mid 128 64 two (volumes .last .0) (volumes .kept .0)
+    ∙ same-len-mid 64 64 one (keys .last .0) (keys .kept .0)
+    ∙ length-front w (ids .last .0) 64 (ids .kept .0)
+
+returns : tie.Need-returns
+returns c =
+    let a = c .before .before .before .before .before .before .before .before .before .before .before .before .before .before .before .before .args in
+    let w = a .words .now in
+    let ids = c .before .before .before .before .before .before .before .before .before .before .shift in
+    let keys = c .before .before .before .before .before .before .shift2 in
+    let volumes = c .before .before .shift3 in
+    record {
+      words = λ slots level few h is.
+          let n = count-is w slots level few is in
+          removed-is slots level (a .place) (getD w 192 0 - 1) few (omega arith) (omega arith) w (ids .last .0) (keys .last .0) (volumes .last .0) is
+          (ids .ensures) (keys .ensures) (volumes .ensures);
+      told = λ slots level few h is. amended-told slots level (a .place) 0 0 few h w is;
+    }
+
+pub remove-spec : {M : Type 1} → statement M
+remove-spec =
+    tie.close
+    (tie.spec
+    add-old
+    mul-old
+    slice-read-old
+    add-held
+    mul-held
+    slice-read-held
+    slice-read-rest
+    sub-rest
+    sub-shift
+    part-shift-start
+    part-shift-end
+    cast-shift
+    shift-requires
+    sub-shift-2
+    part-shift-start-2
+    part-shift-end-2
+    cast-shift-2
+    shift-requires-2
+    sub-shift-3
+    part-shift-start-3
+    part-shift-end-3
+    cast-shift-3
+    shift-requires-3
+    slice-write-words
+    same-length
+    returns)
