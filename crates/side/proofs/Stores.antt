@@ -38,6 +38,15 @@ pub count-set : (slots after : List Slot) (level : Level) (n : ℕ) → n ≡ le
 count-set slots after level n e =
     column-set (header slots level) 0 n (omega arith) ∙ ap (λ (k : ℕ). column (k ∷ level .key ∷ level .before ∷ level .at ∷ [])) e
 
+level-set : (slots : List Slot) (old new : Level)
+    → set (set (set (column (header slots old)) 1 (new .key)) 2 (new .before)) 3 (new .at) ≡ column (header slots new)
+level-set slots old new =
+    let one = set (header slots old) 1 (new .key) in
+    let two = set one 2 (new .before) in
+    ap (λ (w : List ℕ). set (set w 2 (new .before)) 3 (new .at)) (column-set (header slots old) 1 (new .key) (omega arith))
+    ∙ ap (λ (w : List ℕ). set w 3 (new .at)) (column-set one 2 (new .before) (omega arith))
+    ∙ column-set two 3 (new .at) (omega arith)
+
 -- ---- one more order
 
 module _ (slots : List Slot) (level : Level) (id key volume : ℕ) (room : length slots < 64) where
@@ -161,3 +170,26 @@ module _ (slots : List Slot) (level : Level) (place last : ℕ) (few : length sl
       ap (λ (w : List ℕ). set w 192 last) three
       ∙ fourth-set a′ b′ c′ d (left-wide _) (left-wide _) (left-wide _) 0 last
       ∙ ap (four a′ b′ c′) (count-set slots left level last (sym left-length))
+
+-- ---- another level
+
+module _ (slots : List Slot) (old new : Level) (few : length slots ≤ 64) where
+  wide-as : (f : Slot → ℕ) → length (column (map f slots)) ≡ 64
+  wide-as f = field-length f slots few
+
+  stored-in : set (set (set (sideOf slots old) 193 (new .key)) 194 (new .before)) 195 (new .at) ≡ sideOf slots new
+  unfolding sideOf
+  stored-in =
+      let a = column (idsOf slots) in
+      let b = column (keysOf slots) in
+      let c = column (volumesOf slots) in
+      let d = column (header slots old) in
+      let d′ = set d 1 (new .key) in
+      ap (λ (w : List ℕ). set (set w 194 (new .before)) 195 (new .at)) (fourth-set a b c d (wide-as _) (wide-as _) (wide-as _) 1 (new .key))
+      ∙ ap (λ (w : List ℕ). set w 195 (new .at)) (fourth-set a b c d′ (wide-as _) (wide-as _) (wide-as _) 2 (new .before))
+      ∙ fourth-set a b c (set d′ 2 (new .before)) (wide-as _) (wide-as _) (wide-as _) 3 (new .at)
+      ∙ ap (four a b c) (level-set slots old new)
+
+  pub level-stored : (words : List ℕ) → words ≡ sideOf slots old
+      → set (set (set words 193 (new .key)) 194 (new .before)) 195 (new .at) ≡ sideOf slots new
+  level-stored words is = ap (λ (w : List ℕ). set (set (set w 193 (new .key)) 194 (new .before)) 195 (new .at)) is ∙ stored-in
