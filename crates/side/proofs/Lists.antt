@@ -1,11 +1,11 @@
 -- Lists: what stands behind a front of known length, what is in a cut, and stores and cuts under `map`. Assumes nothing.
-use Prim.Native.Nat.{ℕ, zero, suc, _+_, _≤_, _<_}
+use Prim.Native.Nat.{ℕ, zero, suc, _+_, _<_}
 use mathlib.Core.Path.{_≡_, refl, ap, sym, _∙_}
 use native.Mathlib.Omega.{arith}
 use mathlib.Core.List.{List, [], _∷_, _++_, map, List·Memᴰ, List·Memᴰ·head, List·Memᴰ·tail, List·Memᴰ·not-nil}
 use native.Mathlib.Nat.{zero-add, suc-add}
-use lib.ListN.{length, take, drop, set, getD, replicate}
-use lib.Seq.{getD-append-add, drop-append-add, drop-at}
+use lib.ListN.{length, take, drop, set, getD}
+use lib.Seq.{getD-append-add, drop-append-add}
 
 module _ {A : Type 0} where
   pub set-append-add : (xs ys : List A) (n : ℕ) (a : A) → set (xs ++ ys) (length xs + n) a ≡ xs ++ set ys n a
