@@ -5,7 +5,7 @@ use mathlib.Core.Bool.{Bool, true, false, not, _&&_}
 use mathlib.Core.List.{List, [], _∷_, _++_}
 use native.Mathlib.Omega.{arith}
 use borrow.Author.Tests.{eq-eqb, eqb-true, not-false}
-use lib.IntN.{ℤ}
+use lib.IntN.{ℤ, pos}
 use lib.ListN.{length, set}
 use Rattle.rules.specs.declared.Millis.{Millis}
 use Rattle.rules.specs.declared.Steps.{Steps}
@@ -16,7 +16,7 @@ use Rattle.rules.specs.declared.CellView.{CellView}
 use Rattle.rules.specs.declared.Event.{Event}
 use Rattle.rules.specs.declared.Answer.the-variants.{Accepted, Refused}
 use Rattle.rules.specs.declared.Refusal.{Refusal}
-use Rattle.rules.specs.declared.Report.{Report}
+use Rattle.rules.specs.declared.Quote.{Quote}
 use Rattle.rules.specs.Lists.{if_then_else_, within, keep, count}
 use Rattle.rules.specs.Terms.{paper}
 use Rattle.rules.specs.Units.{goodPrice, millis, kopecks}
@@ -24,22 +24,22 @@ use Rattle.rules.specs.Rows.{rowOf, goodRow}
 use Rattle.rules.specs.Cells.{goodCell, placeOf, cellAt, blankCell}
 use Rattle.rules.specs.Orders.{live, applyAll, present, timeFrom}
 use Rattle.rules.specs.Quotes.{best, lead}
-use Rattle.rules.specs.Kept.{keptBelow}
+use Rattle.rules.specs.Kept.{bestBid, bestAsk, keptBelow}
 use Rattle.rules.specs.Pay.{viewOf, allFailures, fee}
 use Rattle.rules.specs.Answers.{accepted, refused, outcomeBy, done, cell, report, numberOf, shownAnswer}
 use Rattle.rules.specs.Book.{Open, Send, Close, Drop, Charge, Withdraw, Look, Running, Idle, Quoting, Book, isOpen, Cause, lowest, rowCauses, readRow, goodCharges, sendCauses, eventRefusal, causes, refusalOf, noted, closed, closedCell, charged, changed, timeIn, ordersIn, bidIn, askIn, keptIn, reportOf}
 use Rattle.rules.specs.Book as B
-use Rattle.rules.specs.Bounds.{EventBounds}
+use Rattle.rules.specs.Bounds.{EventBounds, RunningBounds}
 use Rattle.rules.proofs.Answers.{refused-by, accepted-by}
 use Rattle.rules.proofs.Refusals.{skip, stop, clear, passed}
-use Rattle.orders.specs.Packed.{packed}
+use Rattle.rules.proofs.Bounds.{event-bounds-none}
 use Rattle.quantum.specs.declared.Quantum.{Quantum}
 use Rattle.quantum.specs.declared.Sent.{Sent}
 use Rattle.quantum.specs.Standing as S
-use Rattle.quantum.specs.Standing.{standing, running, taken}
-use Rattle.quantum.proofs.Standing.{length-is}
+use Rattle.quantum.specs.Standing.{clockOf, standing, taken}
+use Rattle.quantum.proofs.Answers.{whole-is}
 use Rattle.month.specs.declared.Month.{Month}
-use Rattle.month.specs.Represents.{quantumIn, monthOf, Answered}
+use Rattle.month.specs.Represents.{idleRow, quantumIn, monthOf, Answered}
 use Rattle.month.specs.Parts.{withCell, withoutQuantum}
 use Rattle.month.proofs.Answers.{stopped, stopped-by, went}
 use Rattle.month.proofs.Fields.{running-is, quantum-is, cells-are, closed-is, open-is, Opened, opened}
@@ -190,7 +190,7 @@ module _ (m : Month) (active passive : Kopecks) where
 
   pub close-done : goodCharges paper active passive ≡ true → m .running ≡ true → (kept length : Millis)
       → ((row : Row) (sp : ℤ) (events : List Event) → EventBounds row events → m .quantum ≡ standing row sp events → kept .0 ≡ keptBelow row sp events (row .length .0))
-      → length ≡ m .quantum .length
+      → length ≡ m .quantum .duty .length
       → Answered m (Close active passive)
       (withoutQuantum (withCell m (m .place) (record { filled = true; kept = kept; length = length; share = m .share; active = active; passive = passive })))
       (accepted done)
@@ -205,7 +205,7 @@ module _ (m : Month) (active passive : Kopecks) where
       record {
         filled = true;
         kept = millis (l (o .row) (o .sp .0) (o .events) (o .bounds .events-good) (o .quantum) i);
-        length = (w ∙ length-is (o .row) (o .sp .0) (o .events) (m .quantum) (o .quantum)) i;
+        length = (w ∙ whole-is (o .row) (o .sp .0) (o .events) (m .quantum) (o .quantum)) i;
         share = o .share i;
         active = active;
         passive = passive;
@@ -304,68 +304,63 @@ module _ (m : Month) (day expiry quantum : ℕ) where
 
 -- ---- report
 
--- what the quantum in the month shows is what the book's report says, also where none is open
-record Shows (r : Running) (q : Quantum) : Type 0 where
-  time : q .time ≡ millis (timeIn r)
-  orders : q .orders .count ≡ ordersIn r
-  bid : q .bid ≡ bidIn r
-  ask : q .ask ≡ askIn r
-  kept : q .kept ≡ millis (keptIn r)
+-- what is read off a quantum
+pub record ReadOff (q : Quantum) (time kept : Millis) (orders : ℕ) (bid ask : Quote) : Type 0 where
+  pub time-is : time ≡ q .clock .time
+  pub kept-is : kept ≡ q .clock .kept
+  pub orders-are : (row : Row) (sp : ℤ) (events : List Event) → EventBounds row events → q ≡ standing row sp events → orders ≡ length (live events)
+  pub bid-is : (row : Row) (sp : ℤ) (events : List Event) → EventBounds row events → q ≡ standing row sp events → bid ≡ bestBid row (live events)
+  pub ask-is : (row : Row) (sp : ℤ) (events : List Event) → EventBounds row events → q ≡ standing row sp events → ask ≡ bestAsk row (live events)
 
-shows : (r : Running) (q : Quantum) → q ≡ quantumIn r → Shows r q
-unfolding standing running present timeFrom live applyAll keptBelow count best lead keep packed
-shows Idle q is =
-    record {
-      time = ap (λ (x : Quantum). x .time) is;
-      orders = ap (λ (x : Quantum). x .orders .count) is;
-      bid = ap (λ (x : Quantum). x .bid) is;
-      ask = ap (λ (x : Quantum). x .ask) is;
-      kept = ap (λ (x : Quantum). x .kept) is;
-    }
-shows (Quoting place row sp events) q is =
-    record {
-      time = ap (λ (x : Quantum). x .time) is;
-      orders = ap (λ (x : Quantum). x .orders .count) is;
-      bid = ap (λ (x : Quantum). x .bid) is;
-      ask = ap (λ (x : Quantum). x .ask) is;
-      kept = ap (λ (x : Quantum). x .kept) is;
-    }
+-- it is what the book's report says, also where none is open
+record Shows (r : Running) (time kept : Millis) (orders : ℕ) (bid ask : Quote) : Type 0 where
+  time-shown : time ≡ millis (timeIn r)
+  kept-shown : kept ≡ millis (keptIn r)
+  orders-shown : orders ≡ ordersIn r
+  bid-shown : bid ≡ bidIn r
+  ask-shown : ask ≡ askIn r
 
--- the report that the month's fields make
-abbrev reportBy : Bool → Quantum → List ℕ → Kopecks → Report
-reportBy on q fs charge =
+shows : (r : Running) (q : Quantum) (time kept : Millis) (orders : ℕ) (bid ask : Quote) → RunningBounds paper r → q ≡ quantumIn r
+    → ReadOff q time kept orders bid ask → Shows r time kept orders bid ask
+unfolding standing clockOf present timeFrom live applyAll keptBelow count best lead keep
+shows Idle q time kept orders bid ask g is h =
     record {
-      running = on;
-      time = q .time;
-      orders = q .orders .count;
-      bid = q .bid;
-      ask = q .ask;
-      kept = q .kept;
-      failures = fs;
-      fee = charge;
+      time-shown = h .time-is ∙ ap (λ (x : Quantum). x .clock .time) is;
+      kept-shown = h .kept-is ∙ ap (λ (x : Quantum). x .clock .kept) is;
+      orders-shown = h .orders-are idleRow (pos 0) [] (event-bounds-none idleRow) is;
+      bid-shown = h .bid-is idleRow (pos 0) [] (event-bounds-none idleRow) is;
+      ask-shown = h .ask-is idleRow (pos 0) [] (event-bounds-none idleRow) is;
+    }
+shows (Quoting place row sp events) q time kept orders bid ask g is h =
+    record {
+      time-shown = h .time-is ∙ ap (λ (x : Quantum). x .clock .time) is;
+      kept-shown = h .kept-is ∙ ap (λ (x : Quantum). x .clock .kept) is;
+      orders-shown = h .orders-are row (sp .0) events (g .events-good) is;
+      bid-shown = h .bid-is row (sp .0) events (g .events-good) is;
+      ask-shown = h .ask-is row (sp .0) events (g .events-good) is;
     }
 
-pub report-done : (m : Month) (r : Report)
-    → r ≡ reportBy (m .running) (m .quantum) (allFailures paper (m .cells)) (kopecks (fee paper (m .cells)))
-    → Answered m B.Report m (accepted (report r))
+pub report-done : (m : Month) (time kept : Millis) (orders : ℕ) (bid ask : Quote) (failures : List ℕ) (charge : Kopecks)
+    → ReadOff (m .quantum) time kept orders bid ask → failures ≡ allFailures paper (m .cells) → charge ≡ kopecks (fee paper (m .cells))
+    → Answered m B.Report m
+    (accepted (report (record { running = m .running; time = time; orders = orders; bid = bid; ask = ask; kept = kept; failures = failures; fee = charge })))
 unfolding refusalOf causes changed reportOf
-report-done m r e =
-    went m m B.Report (report r)
+report-done m time kept orders bid ask failures charge h f c =
+    went m m B.Report (report _)
     (λ b g is.
-    let s = shows (b .running) (m .quantum) (quantum-is m b is) in (
+    let s = shows (b .running) (m .quantum) time kept orders bid ask (g .running) (quantum-is m b is) h in (
       clear,
       is,
-      ap report
-          (e
-          ∙ λ i.
-          record {
+      λ i.
+          report
+          (record {
             running = running-is m b is i;
-            time = s .time i;
-            orders = s .orders i;
-            bid = s .bid i;
-            ask = s .ask i;
-            kept = s .kept i;
-            failures = allFailures paper (cells-are m b is i);
-            fee = kopecks (fee paper (cells-are m b is i));
+            time = s .time-shown i;
+            orders = s .orders-shown i;
+            bid = s .bid-shown i;
+            ask = s .ask-shown i;
+            kept = s .kept-shown i;
+            failures = (f ∙ ap (allFailures paper) (cells-are m b is)) i;
+            fee = (c ∙ ap (λ (cells : List Cell). kopecks (fee paper cells)) (cells-are m b is)) i;
           }),
     ))

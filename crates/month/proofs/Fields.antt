@@ -87,8 +87,16 @@ opened m b g is h = go (b .running) refl (g .running)
 
 -- the quantum in the month is one that its calls handed back, also where none is open
 in-running : (q : Quantum) (r : Running) → q ≡ quantumIn r → RunningBounds paper r → S.Reached q
-in-running q Idle e s = record { row = idleRow; sp = pos 0; events = []; bounds = event-bounds-none idleRow; is = e }
-in-running q (Quoting place row sp events) e s = record { row = row; sp = sp .0; events = events; bounds = s .events-good; is = e }
+in-running q Idle e s = record { row = idleRow; sp = pos 0; events = []; some = omega arith; bounds = event-bounds-none idleRow; is = e }
+in-running q (Quoting place row sp events) e s =
+    record {
+      row = row;
+      sp = sp .0;
+      events = events;
+      some = row-bounds paper row (s .row-good) .least-least;
+      bounds = s .events-good;
+      is = e;
+    }
 
 pub quantum-reached : (m : Month) → Reached m → S.Reached (m .quantum)
 quantum-reached m r =

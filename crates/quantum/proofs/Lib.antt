@@ -1,4 +1,4 @@
-pub mod Position
-pub mod Causes
-pub mod Changes
+-- Laws, by subject.
 pub mod Standing
+pub mod Steps
+pub mod Answers

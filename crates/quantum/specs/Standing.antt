@@ -1,45 +1,55 @@
--- The one value of the struct that stands for an open quantum's accepted events, and what its calls promise.
-use Prim.Native.Nat.{ℕ, zero, suc}
+-- The one value of the structs and the table that stands for an open quantum's accepted events, and what its calls promise.
+use Prim.Native.Nat.{ℕ, zero, suc, _+_, _*_, _-_, _≤_}
 use mathlib.Core.Path.{_≡_}
 use mathlib.Core.List.{List, [], _∷_, _++_}
+use mathlib.Core.Bool.{Bool, true, false}
 use lib.IntN.{ℤ}
-use Rattle.rules.specs.declared.Order.{Order}
+use lib.ListN.{length}
+use Rattle.rules.specs.declared.Millis.{Millis}
 use Rattle.rules.specs.declared.Row.{Row}
 use Rattle.rules.specs.declared.Event.{Event}
+use Rattle.rules.specs.declared.Event.the-variants.{Add, Amend, Cancel, Deal, Tick}
+use Rattle.rules.specs.Lists.{if_then_else_}
 use Rattle.rules.specs.Units.{millis}
-use Rattle.rules.specs.Orders.{live, present}
-use Rattle.rules.specs.Kept.{bestBid, bestAsk, keptBelow}
+use Rattle.rules.specs.Orders.{live, present, timeOf}
+use Rattle.rules.specs.Kept.{ordersKeep, keptBelow}
 use Rattle.rules.specs.Answers.{outcomeBy, done, shownAnswer}
 use Rattle.rules.specs.Book.{eventRefusal}
 use Rattle.rules.specs.Bounds.{EventBounds}
-use Rattle.orders.specs.Packed.{packed}
 use Rattle.quote.specs.Limit.{limitOf}
+use Rattle.book.specs.Table.{tableOf}
+use Rattle.quantum.specs.declared.Duty.{Duty}
+use Rattle.quantum.specs.declared.Clock.{Clock}
+use Rattle.quantum.specs.declared.Stepped.{Stepped}
 use Rattle.quantum.specs.declared.Quantum.{Quantum}
 use Rattle.quantum.specs.declared.Sent.{Sent}
 
--- at time t with these live orders, when these events were accepted
-unfoldable pub running : Row → ℤ → List Event → ℕ → List Order → Quantum
-running row sp events t orders =
+-- what a quantum is opened with
+unfoldable pub dutyOf : Row → ℤ → Duty
+dutyOf row sp = record { length = row .length; least = row .least; limit = limitOf (row .a) (row .b) sp }
+
+-- after these accepted events: the time, kept time, and whether the live orders keep the quote from now on
+unfoldable pub clockOf : Row → ℤ → List Event → Clock
+clockOf row sp events =
     record {
-      length = row .length;
-      least = row .least;
-      limit = limitOf (row .a) (row .b) sp;
-      time = millis t;
-      kept = millis (keptBelow row sp events t);
-      orders = packed orders;
-      bid = bestBid row orders;
-      ask = bestAsk row orders;
+      time = millis (present events);
+      kept = millis (keptBelow row sp events (present events));
+      keeps = if ordersKeep row sp (live events) then 1 else 0;
     }
 
--- after these accepted events
+-- the table of the live orders
+abbrev pub tableAfter : Row → List Event → List ℕ
+tableAfter row events = tableOf (row .least .0) (live events)
+
 unfoldable pub standing : Row → ℤ → List Event → Quantum
-standing row sp events = running row sp events (present events) (live events)
+standing row sp events = record { duty = dutyOf row sp; clock = clockOf row sp events; table = tableAfter row events }
 
 -- a quantum that a call handed back
 pub record Reached (q : Quantum) : Type 0 where
   pub row : Row
   pub sp : ℤ
   pub events : List Event
+  pub some : 1 ≤ row .least .0
   pub bounds : EventBounds row events
   pub is : q ≡ standing row sp events
 
@@ -54,3 +64,57 @@ pub record Answered (q : Quantum) (e : Event) (r : Sent) : Type 0 where
       → r .quantum ≡ standing row sp (taken (eventRefusal row events e) events e)
   pub answer : (row : Row) (sp : ℤ) (events : List Event) → EventBounds row events → q ≡ standing row sp events
       → shownAnswer (r .answer) ≡ outcomeBy (eventRefusal row events e) done
+
+-- ---- the same in parts, with the table and the hints lent
+
+-- a duty, a clock and a table that stand for some accepted events, and hints of their size
+pub record Running (duty : Duty) (clock : Clock) (table hints : List ℕ) : Type 0 where
+  pub row : Row
+  pub sp : ℤ
+  pub events : List Event
+  pub some : 1 ≤ row .least .0
+  pub bounds : EventBounds row events
+  pub duty-is : duty ≡ dutyOf row sp
+  pub clock-is : clock ≡ clockOf row sp events
+  pub table-is : table ≡ tableAfter row events
+  pub hinted : length hints ≡ 1024
+
+-- they stand for these events
+pub record Stands (row : Row) (sp : ℤ) (events : List Event) (duty : Duty) (clock : Clock) (table : List ℕ) : Type 0 where
+  pub bounds : EventBounds row events
+  pub duty-is : duty ≡ dutyOf row sp
+  pub clock-is : clock ≡ clockOf row sp events
+  pub table-is : table ≡ tableAfter row events
+
+-- what an event promises of them: the book's number, and the clock and the table with this event taken or refused
+pub record Stepping (duty : Duty) (clock : Clock) (e : Event) (entry exit : List ℕ) (r : Stepped) : Type 0 where
+  pub number : (row : Row) (sp : ℤ) (events : List Event) → Stands row sp events duty clock entry → r .refusal ≡ eventRefusal row events e
+  pub clock-after : (row : Row) (sp : ℤ) (events : List Event) → Stands row sp events duty clock entry
+      → r .clock ≡ clockOf row sp (taken (eventRefusal row events e) events e)
+  pub table-after : (row : Row) (sp : ℤ) (events : List Event) → Stands row sp events duty clock entry
+      → exit ≡ tableAfter row (taken (eventRefusal row events e) events e)
+
+-- ---- time running on
+
+-- a clock that may run on to t
+pub record Onward (c : Clock) (t : Millis) : Type 0 where
+  pub kept-most : c .kept .0 ≤ c .time .0
+  pub onward : c .time .0 ≤ t .0
+  pub keeps-most : c .keeps ≤ 1
+
+-- the quotes of before count up to t
+abbrev pub ranOn : Clock → Millis → ℕ → Clock
+ranOn c t keeps = record { time = t; kept = millis (c .kept .0 + c .keeps * (t .0 - c .time .0)); keeps = keeps }
+
+abbrev pub isTick : Event → Bool
+isTick (Add t id side price volume) = false
+isTick (Amend t id price volume) = false
+isTick (Cancel t id) = false
+isTick (Deal t id volume) = false
+isTick (Tick t) = true
+
+-- an event whose time is t, neither backwards nor past the end
+pub record InTime (duty : Duty) (c : Clock) (e : Event) (t : Millis) : Type 0 where
+  pub is : t .0 ≡ timeOf e
+  pub onward : c .time .0 ≤ t .0
+  pub inside : t .0 ≤ duty .length .0

@@ -1,65 +1,104 @@
-// An open quantum by value: its live orders, the time, kept time and both best quotes.
+// An open quantum: its duty, its clock (time, kept time, whether the quote is kept now) and the table of its live orders. `step` takes an
+// event on a lent table, for a run over many; a Quantum holds all three by value, for the month.
 ghost use mathlib.Core.Path.{_≡_};
-ghost use mathlib.Core.List.{List, [], _∷_, _++_};
-ghost use mathlib.Core.Bool.{true, not, _&&_};
-ghost use Prim.Native.Nat.{_<_};
-ghost use lib.Dec.{ltb, leb};
+ghost use mathlib.Core.List.{List, []};
+ghost use mathlib.Core.Bool.{true};
+ghost use Prim.Native.Nat.{_≤_};
 ghost use lib.IntN.{ℤ};
-ghost use lib.ListN.{length, set};
-ghost use Rattle.rules.specs.declared.Order.{Order};
-ghost use Rattle.rules.specs.declared.Row.{Row};
+ghost use lib.ListN.{length};
 ghost use Rattle.rules.specs.declared.Event.{Event};
+ghost use Rattle.rules.specs.declared.Row.{Row};
+ghost use Rattle.rules.specs.declared.Side.the-variants.{Buy, Sell};
 ghost use Rattle.rules.specs.Terms.{paper};
 ghost use Rattle.rules.specs.Rows.{goodRow};
-ghost use Rattle.rules.specs.Orders.{live, timeOf, apply};
-ghost use Rattle.rules.specs.Kept.{ordersKeep, keptBelow};
-ghost use Rattle.rules.specs.Answers.{outcomeBy, done, shownAnswer};
-ghost use Rattle.rules.specs.Book.{cause, lowest, traderCauses, eventRefusal};
+ghost use Rattle.rules.specs.Orders.{live as liveOrders, timeOf};
+ghost use Rattle.rules.specs.Kept.{bestBid, bestAsk, keptBelow};
+ghost use Rattle.rules.specs.Answers.{numberOf};
 ghost use Rattle.rules.specs.Bounds.{EventBounds};
-ghost use Rattle.orders.specs.Packed.{Packed, packed};
-ghost use Rattle.quantum.specs.Standing.{standing, Reached, Answered};
-ghost use Rattle.quantum.specs.Steps.{foundFor, Good, Accepts, Searchable, Untouched, quotesOf, quoteOn, behind, repriced, lessenedAt, Onward, Taking};
-use orders::Found;
-use orders::Orders;
-use ranges::both;
+ghost use Rattle.quantum.specs.Standing.{dutyOf, clockOf, standing, Reached, Answered, Running, Stepping, Onward, ranOn, InTime, isTick};
 use rules::Answer;
 use rules::Contracts;
 use rules::Event;
 use rules::Millis;
-use rules::Order;
 use rules::Quote;
 use rules::Refusal;
 use rules::Row;
 use rules::Side;
 use rules::Steps;
 
-pub struct Quantum {
-    length: Millis,
-    least: Contracts,
-    limit: u32,
-    time: Millis,
-    kept: Millis,
-    orders: Orders,
-    bid: Quote,
-    ask: Quote,
+// What a quantum is opened with: its length, the least volume of a quote, and the widest spread.
+pub struct Duty {
+    pub length: Millis,
+    pub least: Contracts,
+    pub limit: u32,
 }
 
-// What an event hands back.
+// The time, the kept time, and whether the live orders keep the quote from now on (1) or not (0).
+pub struct Clock {
+    pub time: Millis,
+    pub kept: Millis,
+    pub keeps: u32,
+}
+
+// What an event hands back: the clock after it, and the refusal's number or 0.
+pub struct Stepped {
+    pub clock: Clock,
+    pub refusal: u32,
+}
+
+pub struct Quantum {
+    duty: Duty,
+    clock: Clock,
+    table: [u32; 512],
+}
+
+// What an event hands back of a quantum.
 pub struct Sent {
     pub quantum: Quantum,
     pub answer: Answer,
 }
 
-// Both best quotes.
-struct Quotes {
-    bid: Quote,
-    ask: Quote,
+// ---- opening
+
+pub fn duty_of(row: Row, sp: Steps) -> Duty
+    requires { ⌜ goodRow paper row ≡ true ⌝ }
+    ensures { λ r. ⌜ r ≡ dutyOf row (sp .0) ⌝ }
+{
+    let length = row.length;
+    let least = row.least;
+    Duty {
+        length,
+        least,
+        limit: quote::spread_limit(row.a, row.b, sp),
+    }
 }
 
-// The order that an event adds or changes: its side, and its price before and after.
-enum Touched {
-    Nothing,
-    One { side: Side, from: Steps, to: Steps },
+// Time 0, nothing kept, no quote.
+pub fn started() -> Clock
+    ensures { λ r. ⌜ ((row : Row) (sp : ℤ) → r ≡ clockOf row sp []) ⌝ }
+{
+    Clock {
+        time: Millis(0),
+        kept: Millis(0),
+        keeps: 0,
+    }
+}
+
+// ---- an event
+
+// Time runs on to t: the quotes of before count up to there.
+pub fn onward(clock: Clock, t: Millis, keeps: u32) -> Clock
+    requires { ⌜ Onward clock t ⌝ }
+    ensures { λ r. ⌜ r ≡ ranOn clock t keeps ⌝ }
+{
+    let time = clock.time;
+    let kept = clock.kept;
+    let more = clock.keeps * (t.0 - time.0);
+    Clock {
+        time: t,
+        kept: Millis(kept.0 + more),
+        keeps,
+    }
 }
 
 fn time_of(e: Event) -> Millis
@@ -89,321 +128,122 @@ fn time_of(e: Event) -> Millis
     }
 }
 
-// ---- the causes
-
-fn add_answer(live: bool, good: bool, full: bool) -> Answer
-    ensures { λ r. ⌜ shownAnswer r ≡ outcomeBy (lowest (cause 10 live ∷ cause 12 (not good) ∷ cause 13 full ∷ [])) done ⌝ }
+fn is_tick(e: Event) -> bool
+    ensures { λ r. ⌜ r ≡ isTick e ⌝ }
 {
-    if live {
-        return Answer::Refused(Refusal::IdLive);
-    }
-    if good {
-        if full {
-            return Answer::Refused(Refusal::TooManyOrders);
-        }
-        return Answer::Accepted;
-    }
-    Answer::Refused(Refusal::PriceOrVolumeOutOfRange)
-}
-
-fn amend_answer(live: bool, good: bool) -> Answer
-    ensures { λ r. ⌜ shownAnswer r ≡ outcomeBy (lowest (cause 11 (not live) ∷ cause 12 (not good) ∷ [])) done ⌝ }
-{
-    if live {
-        if good {
-            return Answer::Accepted;
-        }
-        return Answer::Refused(Refusal::PriceOrVolumeOutOfRange);
-    }
-    Answer::Refused(Refusal::IdNotLive)
-}
-
-fn cancel_answer(live: bool) -> Answer
-    ensures { λ r. ⌜ shownAnswer r ≡ outcomeBy (lowest (cause 11 (not live) ∷ [])) done ⌝ }
-{
-    if live {
-        return Answer::Accepted;
-    }
-    Answer::Refused(Refusal::IdNotLive)
-}
-
-fn deal_answer(live: bool, good: bool, above: bool) -> Answer
-    ensures { λ r. ⌜ shownAnswer r ≡ outcomeBy (lowest (cause 11 (not live) ∷ cause 12 (not good) ∷ cause 14 above ∷ [])) done ⌝ }
-{
-    if live {
-        if good {
-            if above {
-                return Answer::Refused(Refusal::DealAboveLeft);
-            }
-            return Answer::Accepted;
-        }
-        return Answer::Refused(Refusal::PriceOrVolumeOutOfRange);
-    }
-    Answer::Refused(Refusal::IdNotLive)
-}
-
-// The order that an event names.
-fn located(orders: Orders, e: Event) -> Found
-    requires { ⌜ Packed orders ⌝ }
-    ensures { λ r. ⌜ ((live : List Order) → orders ≡ packed live → r ≡ foundFor e live) ⌝ }
-{
-    match e {
-        Event::Add {
-            t: _,
-            id,
-            side: _,
-            price: _,
-            volume: _,
-        } => orders.find(id),
-        Event::Amend {
-            t: _,
-            id,
-            price: _,
-            volume: _,
-        } => orders.find(id),
-        Event::Cancel { t: _, id } => orders.find(id),
-        Event::Deal {
-            t: _,
-            id,
-            volume: _,
-        } => orders.find(id),
-        Event::Tick { t: _ } => orders.nowhere(),
-    }
-}
-
-fn is_below(a: usize, b: usize) -> bool
-    ensures { λ r. ⌜ r ≡ ltb a b ⌝ }
-{
-    a < b
-}
-
-fn is_full(count: usize) -> bool
-    ensures { λ r. ⌜ r ≡ leb 64 count ⌝ }
-{
-    64 <= count
-}
-
-// Whether a volume is above what is left of an order.
-fn is_above(o: Order, volume: Contracts) -> bool
-    ensures { λ r. ⌜ r ≡ ltb (o .volume .0) (volume .0) ⌝ }
-{
-    let held = o.volume;
-    held.0 < volume.0
-}
-
-// The trader's causes, in the order of the numbers.
-fn trader_answer(orders: Orders, e: Event, found: Found) -> Answer
-    requires { ⌜ Packed orders ⌝ }
-    ensures { λ r. ⌜ ((live : List Order) → orders ≡ packed live → found ≡ foundFor e live → shownAnswer r ≡ outcomeBy (lowest (traderCauses live e)) done) ⌝ }
-{
-    let count = orders.len();
-    let place = found.place;
-    let order = found.order;
-    let live = is_below(place, count);
     match e {
         Event::Add {
             t: _,
             id: _,
             side: _,
-            price,
-            volume,
-        } => add_answer(
-            live,
-            both(ranges::price(price), ranges::volume(volume)),
-            is_full(count),
-        ),
-        Event::Amend {
-            t: _,
-            id: _,
-            price,
-            volume,
-        } => amend_answer(live, both(ranges::price(price), ranges::volume(volume))),
-        Event::Cancel { t: _, id: _ } => cancel_answer(live),
-        Event::Deal {
-            t: _,
-            id: _,
-            volume,
-        } => deal_answer(live, ranges::volume(volume), is_above(order, volume)),
-        Event::Tick { t: _ } => Answer::Accepted,
-    }
-}
-
-// ---- what an accepted event does
-
-// An order with another price and volume.
-fn amended(orders: Orders, found: Found, price: Steps, volume: Contracts) -> Orders
-    requires { ⌜ Packed orders × (found .place < orders .count) ⌝ }
-    ensures { λ r. ⌜ ((live : List Order) → orders ≡ packed live → r ≡ packed (set live (found .place) (repriced price volume (found .order)))) ⌝ }
-{
-    let place = found.place;
-    let o = found.order;
-    let side = o.side;
-    let n = Order {
-        id: o.id,
-        side,
-        price,
-        volume,
-    };
-    orders.replaced(place, n)
-}
-
-// Whether a volume leaves nothing of an order's.
-fn takes_all(volume: Contracts, held: Contracts) -> bool
-    ensures { λ r. ⌜ r ≡ leb (held .0) (volume .0) ⌝ }
-{
-    held.0 <= volume.0
-}
-
-// An order lessened by a volume, and removed at nothing left.
-fn dealt(orders: Orders, found: Found, volume: Contracts) -> Orders
-    requires { ⌜ Packed orders × (found .place < orders .count) ⌝ }
-    ensures { λ r. ⌜ ((live : List Order) → orders ≡ packed live → r ≡ packed (lessenedAt found (volume .0) live)) ⌝ }
-{
-    let place = found.place;
-    let o = found.order;
-    let v = o.volume;
-    if takes_all(volume, v) {
-        return orders.without(place);
-    }
-    let price = o.price;
-    let rest = v.0 - volume.0;
-    amended(orders, found, price, Contracts(rest))
-}
-
-// The orders after the event.
-fn changed(orders: Orders, e: Event, found: Found) -> Orders
-    requires { ⌜ Accepts orders e found ⌝ }
-    ensures { λ r. ⌜ ((live : List Order) → orders ≡ packed live → found ≡ foundFor e live → Good live → lowest (traderCauses live e) ≡ 0 → r ≡ packed (apply live e)) ⌝ }
-{
-    let place = found.place;
-    match e {
-        Event::Add {
-            t: _,
-            id,
-            side,
-            price,
-            volume,
-        } => orders.with(Order {
-            id,
-            side,
-            price,
-            volume,
-        }),
-        Event::Amend {
-            t: _,
-            id: _,
-            price,
-            volume,
-        } => amended(orders, found, price, volume),
-        Event::Cancel { t: _, id: _ } => orders.without(place),
-        Event::Deal {
-            t: _,
-            id: _,
-            volume,
-        } => dealt(orders, found, volume),
-        Event::Tick { t: _ } => orders,
-    }
-}
-
-// An order that gets another price.
-fn moved(o: Order, to: Steps) -> Touched
-    ensures { λ r. ⌜ r ≡ Touched.One (o .side) (o .price) to ⌝ }
-{
-    let side = o.side;
-    let from = o.price;
-    Touched::One { side, from, to }
-}
-
-// An order that keeps its price, or goes.
-fn unmoved(o: Order) -> Touched
-    ensures { λ r. ⌜ r ≡ Touched.One (o .side) (o .price) (o .price) ⌝ }
-{
-    let price = o.price;
-    moved(o, price)
-}
-
-// What an accepted event touches.
-fn touched_by(e: Event, found: Found) -> Touched
-    ensures { λ r. ⌜ ((live : List Order) → found ≡ foundFor e live → Good live → lowest (traderCauses live e) ≡ 0 → Untouched r live (apply live e)) ⌝ }
-{
-    let order = found.order;
-    match e {
-        Event::Add {
-            t: _,
-            id: _,
-            side,
-            price,
+            price: _,
             volume: _,
-        } => Touched::One {
-            side,
-            from: price,
-            to: price,
-        },
+        } => false,
         Event::Amend {
             t: _,
             id: _,
-            price,
+            price: _,
             volume: _,
-        } => moved(order, price),
-        Event::Cancel { t: _, id: _ } => unmoved(order),
+        } => false,
+        Event::Cancel { t: _, id: _ } => false,
         Event::Deal {
             t: _,
             id: _,
             volume: _,
-        } => unmoved(order),
-        Event::Tick { t: _ } => Touched::Nothing,
+        } => false,
+        Event::Tick { t: _ } => true,
     }
 }
 
-fn quote_on(side: Side, quotes: Quotes) -> Quote
-    ensures { λ r. ⌜ r ≡ quoteOn side quotes ⌝ }
+fn refused(clock: Clock, refusal: u32) -> Stepped
+    ensures { λ r. ⌜ (r .clock ≡ clock) × (r .refusal ≡ refusal) ⌝ }
 {
-    match side {
-        Side::Buy => quotes.bid,
-        Side::Sell => quotes.ask,
+    Stepped { clock, refusal }
+}
+
+// The orders and the best quotes after an event in time, then the clock.
+fn taken(duty: Duty, clock: Clock, table: &mut [u32], hints: &mut [u8], e: Event, t: Millis) -> Stepped
+    requires { ⌜ Running duty clock (now table) (now hints) × InTime duty clock e t ⌝ }
+    ensures { λ r. ⌜ Stepping duty clock e (now (table .entry)) (now (table .exit)) r ⌝ }
+{
+    let least = duty.least;
+    let refusal = book::send(table, hints, e, least);
+    if 0 < refusal {
+        return refused(clock, refusal);
+    }
+    Stepped {
+        clock: onward(clock, t, book::keeps(table, duty.limit)),
+        refusal: 0,
     }
 }
 
-// Whether a price is strictly behind a best quote that is present.
-fn is_behind(side: Side, best: Quote, price: Steps) -> bool
-    ensures { λ r. ⌜ r ≡ behind side best (price .0) ⌝ }
+// An event: the causes in the order of their numbers, then what it does. A tick changes no order.
+pub fn step(duty: Duty, clock: Clock, table: &mut [u32], hints: &mut [u8], e: Event) -> Stepped
+    requires { ⌜ Running duty clock (now table) (now hints) ⌝ }
+    ensures { λ r. ⌜ Stepping duty clock e (now (table .entry)) (now (table .exit)) r ⌝ }
 {
-    match best {
-        Quote::Absent => false,
-        Quote::At(p) => !quote::at_least(side, price, p),
+    let t = time_of(e);
+    let now = clock.time;
+    let end = duty.length;
+    if t.0 < now.0 {
+        return refused(clock, 8);
     }
+    if end.0 < t.0 {
+        return refused(clock, 9);
+    }
+    if is_tick(e) {
+        return Stepped {
+            clock: onward(clock, t, clock.keeps),
+            refusal: 0,
+        };
+    }
+    taken(duty, clock, table, hints, e, t)
 }
 
-// Whether the touched order was and stays behind the best quote, so that the quote stays.
-fn stays_behind(side: Side, best: Quote, from: Steps, to: Steps) -> bool
-    ensures { λ r. ⌜ r ≡ (behind side best (from .0) && behind side best (to .0)) ⌝ }
+// The refusal of a number that a record can have.
+pub fn refusal_of(n: u32) -> Refusal
+    requires { ⌜ (8 ≤ n) × (n ≤ 15) ⌝ }
+    ensures { λ r. ⌜ numberOf r ≡ n ⌝ }
 {
-    both(is_behind(side, best, from), is_behind(side, best, to))
-}
-
-// Both best quotes of changed orders: the touched side is searched unless its quote stays, the other one stays.
-fn requoted(old: Quotes, orders: Orders, touched: Touched, least: Contracts) -> Quotes
-    requires { ⌜ Searchable orders ⌝ }
-    ensures { λ r. ⌜ ((row : Row) (before after : List Order) → least ≡ row .least → old ≡ quotesOf row before → orders ≡ packed after → Untouched touched before after → r ≡ quotesOf row after) ⌝ }
-{
-    let bid = old.bid;
-    let ask = old.ask;
-    match touched {
-        Touched::Nothing => old,
-        Touched::One { side, from, to } => {
-            if stays_behind(side, quote_on(side, old), from, to) {
-                return old;
-            }
-            let found = orders.best(side, least);
-            match side {
-                Side::Buy => Quotes { bid: found, ask },
-                Side::Sell => Quotes { bid, ask: found },
-            }
-        }
+    match n {
+        8 => Refusal::TimeBackwards,
+        9 => Refusal::TimePastEnd,
+        10 => Refusal::IdLive,
+        11 => Refusal::IdNotLive,
+        12 => Refusal::PriceOrVolumeOutOfRange,
+        13 => Refusal::TooManyOrders,
+        14 => Refusal::DealAboveLeft,
+        _ => Refusal::BadRecord,
     }
 }
 
 // ---- the quantum
+
+// An event on the table of a quantum, lent with hints that say nothing yet.
+fn stepped_on(duty: Duty, clock: Clock, table: [u32; 512], e: Event) -> Sent
+    requires { ⌜ Reached (record { duty = duty; clock = clock; table = table }) ⌝ }
+    ensures { λ r. ⌜ Answered (record { duty = duty; clock = clock; table = table }) e r ⌝ }
+{
+    let mut next = table;
+    let mut hints = [0u8; 1024];
+    let stepped = step(duty, clock, &mut next, &mut hints, e);
+    let after = stepped.clock;
+    let n = stepped.refusal;
+    if 0 < n {
+        return Sent {
+            quantum: Quantum { duty, clock, table },
+            answer: Answer::Refused(refusal_of(n)),
+        };
+    }
+    Sent {
+        quantum: Quantum {
+            duty,
+            clock: after,
+            table: next,
+        },
+        answer: Answer::Accepted,
+    }
+}
 
 impl Quantum {
     // A quantum opens with no orders, at time 0.
@@ -411,84 +251,10 @@ impl Quantum {
         requires { ⌜ goodRow paper row ≡ true ⌝ }
         ensures { λ r. ⌜ r ≡ standing row (sp .0) [] ⌝ }
     {
-        let length = row.length;
-        let least = row.least;
-        let limit = quote::spread_limit(row.a, row.b, sp);
-        let orders = Orders::none();
-        Quantum {
-            length,
-            least,
-            limit,
-            time: Millis(0),
-            kept: Millis(0),
-            orders,
-            bid: Quote::Absent,
-            ask: Quote::Absent,
-        }
-    }
-
-    // The milliseconds kept when time has run on to t: the quotes of before count up to there.
-    fn kept_at(self, t: Millis) -> Millis
-        requires { ⌜ Onward self t ⌝ }
-        ensures { λ r. ⌜ ((row : Row) (sp : ℤ) (events : List Event) → EventBounds row events → self ≡ standing row sp events → r .0 ≡ keptBelow row sp events (t .0)) ⌝ }
-    {
-        let limit = self.limit;
-        let bid = self.bid;
-        let ask = self.ask;
-        let time = self.time;
-        let kept = self.kept;
-        if quote::quotes_keep(limit, bid, ask) {
-            return Millis(kept.0 + (t.0 - time.0));
-        }
-        kept
-    }
-
-    // The causes of an event's refusal, in the order of the numbers.
-    fn judged(self, e: Event, found: Found) -> Answer
-        requires { ⌜ Reached self ⌝ }
-        ensures { λ r. ⌜ ((row : Row) (sp : ℤ) (events : List Event) → self ≡ standing row sp events → found ≡ foundFor e (live events) → shownAnswer r ≡ outcomeBy (eventRefusal row events e) done) ⌝ }
-    {
-        let t = time_of(e);
-        let time = self.time;
-        let end = self.length;
-        let orders = self.orders;
-        if t.0 < time.0 {
-            return Answer::Refused(Refusal::TimeBackwards);
-        }
-        if end.0 < t.0 {
-            return Answer::Refused(Refusal::TimePastEnd);
-        }
-        trader_answer(orders, e, found)
-    }
-
-    // After an accepted event.
-    fn with_event(self, e: Event, found: Found) -> Quantum
-        requires { ⌜ Taking self e found ⌝ }
-        ensures { λ r. ⌜ ((row : Row) (sp : ℤ) (events : List Event) → EventBounds row events → self ≡ standing row sp events → found ≡ foundFor e (live events) → eventRefusal row events e ≡ 0 → r ≡ standing row sp (events ++ (e ∷ []))) ⌝ }
-    {
-        let time = time_of(e);
-        let kept = self.kept_at(time);
-        let length = self.length;
-        let least = self.least;
-        let limit = self.limit;
-        let bid = self.bid;
-        let ask = self.ask;
-        let before = self.orders;
-        let touched = touched_by(e, found);
-        let orders = changed(before, e, found);
-        let quotes = requoted(Quotes { bid, ask }, orders, touched, least);
-        let best_bid = quotes.bid;
-        let best_ask = quotes.ask;
-        Quantum {
-            length,
-            least,
-            limit,
-            time,
-            kept,
-            orders,
-            bid: best_bid,
-            ask: best_ask,
-        }
+        let duty = duty_of(row, sp);
+        let clock = started();
+        let table = book::empty();
+        Quantum { duty, clock, table }
     }
 
     // An event: taken, or refused with the quantum as it was.
@@ -496,19 +262,10 @@ impl Quantum {
         requires { ⌜ Reached self ⌝ }
         ensures { λ r. ⌜ Answered self e r ⌝ }
     {
-        let orders = self.orders;
-        let found = located(orders, e);
-        let answer = self.judged(e, found);
-        match answer {
-            Answer::Accepted => Sent {
-                quantum: self.with_event(e, found),
-                answer: Answer::Accepted,
-            },
-            Answer::Refused(r) => Sent {
-                quantum: self,
-                answer: Answer::Refused(r),
-            },
-        }
+        let duty = self.duty;
+        let clock = self.clock;
+        let table = self.table;
+        stepped_on(duty, clock, table, e)
     }
 
     // Kept time at the quantum's end.
@@ -516,56 +273,56 @@ impl Quantum {
         requires { ⌜ Reached self ⌝ }
         ensures { λ r. ⌜ ((row : Row) (sp : ℤ) (events : List Event) → EventBounds row events → self ≡ standing row sp events → r .0 ≡ keptBelow row sp events (row .length .0)) ⌝ }
     {
-        let last = self.length;
-        self.kept_at(last)
-    }
-
-    // Whether the live orders keep the quote from now on.
-    pub fn keeps(self) -> bool
-        ensures { λ r. ⌜ ((row : Row) (sp : ℤ) (events : List Event) → self ≡ standing row sp events → r ≡ ordersKeep row sp (live events)) ⌝ }
-    {
-        let limit = self.limit;
-        let bid = self.bid;
-        let ask = self.ask;
-        quote::quotes_keep(limit, bid, ask)
+        let duty = self.duty;
+        let clock = self.clock;
+        let last = duty.length;
+        let end = onward(clock, last, 0);
+        end.kept
     }
 
     pub fn whole(self) -> Millis
-        ensures { λ r. ⌜ r ≡ self .length ⌝ }
+        ensures { λ r. ⌜ r ≡ self .duty .length ⌝ }
     {
-        self.length
+        let duty = self.duty;
+        duty.length
     }
 
     // What a report shows.
     pub fn now(self) -> Millis
-        ensures { λ r. ⌜ r ≡ self .time ⌝ }
+        ensures { λ r. ⌜ r ≡ self .clock .time ⌝ }
     {
-        self.time
+        let clock = self.clock;
+        clock.time
     }
 
     pub fn kept_so_far(self) -> Millis
-        ensures { λ r. ⌜ r ≡ self .kept ⌝ }
+        ensures { λ r. ⌜ r ≡ self .clock .kept ⌝ }
     {
-        self.kept
+        let clock = self.clock;
+        clock.kept
     }
 
     pub fn best_bid(self) -> Quote
-        ensures { λ r. ⌜ r ≡ self .bid ⌝ }
+        requires { ⌜ Reached self ⌝ }
+        ensures { λ r. ⌜ ((row : Row) (sp : ℤ) (events : List Event) → EventBounds row events → self ≡ standing row sp events → r ≡ bestBid row (liveOrders events)) ⌝ }
     {
-        self.bid
+        let table = self.table;
+        book::best(&table, Side::Buy)
     }
 
     pub fn best_ask(self) -> Quote
-        ensures { λ r. ⌜ r ≡ self .ask ⌝ }
+        requires { ⌜ Reached self ⌝ }
+        ensures { λ r. ⌜ ((row : Row) (sp : ℤ) (events : List Event) → EventBounds row events → self ≡ standing row sp events → r ≡ bestAsk row (liveOrders events)) ⌝ }
     {
-        self.ask
+        let table = self.table;
+        book::best(&table, Side::Sell)
     }
 
     pub fn live(self) -> u32
         requires { ⌜ Reached self ⌝ }
-        ensures { λ r. ⌜ r ≡ self .orders .count ⌝ }
+        ensures { λ r. ⌜ ((row : Row) (sp : ℤ) (events : List Event) → EventBounds row events → self ≡ standing row sp events → r ≡ length (liveOrders events)) ⌝ }
     {
-        let orders = self.orders;
-        orders.len() as u32
+        let table = self.table;
+        book::count(&table)
     }
 }

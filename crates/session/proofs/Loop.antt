@@ -4,34 +4,35 @@ use native.Mathlib.Omega.{arith}
 use mathlib.Core.Path.{_≡_, refl, sym, ap, _∙_, subst}
 use mathlib.Core.List.{List, [], _∷_, _++_}
 use mathlib.Core.Bool.{Bool, true, false}
-use lib.Dec.{leb}
-use lib.ListN.{length, take, drop, length-drop, drop-of-length-le}
-use lib.Seq.{take-all, drop-drop}
-use borrow.Author.Tests.{leb-true, leb-false}
+use lib.Dec.{leb, ltb}
+use lib.ListN.{length, take, drop, length-take, length-drop}
+use lib.Seq.{drop-drop}
+use borrow.Author.Tests.{lt-leb, ltb-true, ltb-false}
 use Rattle.rules.specs.declared.Steps.{Steps}
 use Rattle.rules.specs.declared.Row.{Row}
 use Rattle.rules.specs.declared.Event.{Event}
 use Rattle.rules.specs.declared.Refusal.{Refusal}
 use Rattle.rules.specs.declared.Refusal.the-variants.{BadRecord}
-use Rattle.rules.specs.declared.Answer.the-variants.{Accepted, Refused}
 use Rattle.rules.specs.declared.SessionAnswer.{SessionAnswer}
 use Rattle.rules.specs.declared.SessionAnswer.the-variants as S
 use Rattle.rules.specs.Lists.{if_then_else_}
 use Rattle.rules.specs.Terms.{paper}
 use Rattle.rules.specs.Rows.{goodRow}
-use Rattle.rules.specs.Orders.{present, timeFrom}
+use Rattle.rules.specs.Orders.{live, applyAll, present, timeFrom}
 use Rattle.rules.specs.Stretches.{Stretch, stretches, keptStretches, pairWords}
-use Rattle.rules.specs.Answers.{Outcome, accepted, refused, outcomeBy, done, numberOf, shownAnswer, finished, shownSession}
+use Rattle.rules.specs.Answers.{Outcome, accepted, refused, numberOf, finished, shownSession}
 use Rattle.rules.specs.Bounds.{EventBounds}
-use Rattle.rules.specs.Records.{readRecord}
+use Rattle.rules.specs.Records.{fieldsOf, eventOf, goodRecord, readRecord}
 use Rattle.rules.specs.Session.{Session, whole, halted, recordsOf, runRecords}
 use Rattle.rules.proofs.Bounds.{event-bounds-none, event-bounds-more}
-use Rattle.rules.proofs.Answers.{accepted-by}
+use Rattle.book.specs.Table.{tableOf}
+use Rattle.quantum.specs.declared.Duty.{Duty}
+use Rattle.quantum.specs.Standing.{dutyOf, tableAfter}
+use Rattle.quantum.proofs.Answers.{event-numbered}
 use Rattle.session.specs.declared.Walk.{Walk}
 use Rattle.session.specs.declared.Stepped.{Stepped}
-use Rattle.session.specs.Walks.{Holds, walkAt, pairsOf, refusalBy, followed, Walking, Ending, Ends, Advanced, bookWith, counted, Going, Passed}
+use Rattle.session.specs.Walks.{Holds, walkAt, pairsOf, refusalBy, followed, Walking, Walked, Ending, Ends, Advanced, bookWith, counted, Going, Passed}
 use Rattle.session.proofs.Runs.{records-none, records-some, runs-past, runs-refused, runs-taken, runs-end}
-use Rattle.session.proofs.Steps.{refused-number, number-not-zero}
 
 -- ---- how a pass ends
 
@@ -59,24 +60,36 @@ passed-whole s k w ss entry exit r e a h =
 
 -- ---- the bytes of a record
 
-cut-by : (bytes : List ℕ) (at end : ℕ) (b : Bool) → leb (length bytes - at) 20 ≡ b → end ≡ (if b then length bytes else at + 20)
-    → (take (end - at) (drop at bytes) ≡ take 20 (drop at bytes)) × (drop end bytes ≡ drop 20 (drop at bytes))
-cut-by bytes at end true e is =
-    let l = leb-true (length bytes - at) 20 e in
-    let n = length-drop at bytes in (
-      take-all (end - at) (drop at bytes) (omega arith) ∙ sym (take-all 20 (drop at bytes) (omega arith)),
-      drop-of-length-le bytes {i = end} (omega arith) ∙ sym (drop-of-length-le (drop at bytes) {i = 20} (omega arith)),
-    )
-cut-by bytes at end false e is =
-    let to : end - at ≡ 20 = omega arith in
-    (ap (λ (n : ℕ). take n (drop at bytes)) to, ap (λ (n : ℕ). drop n bytes) is ∙ sym (drop-drop 20 at bytes))
+pub part-is : (bytes : List ℕ) (at : ℕ) → take (at + 20 - at) (drop at bytes) ≡ take 20 (drop at bytes)
+part-is bytes at = let n : at + 20 - at ≡ 20 = omega arith in ap (λ (n : ℕ). take n (drop at bytes)) n
 
-end-past : (n at end : ℕ) (b : Bool) → leb (n - at) 20 ≡ b → at < n → end ≡ (if b then n else at + 20) → (at < end) × (end ≤ n)
-end-past n at end true e l is = (omega arith, omega arith)
-end-past n at end false e l is = let k = leb-false (n - at) 20 e in (omega arith, omega arith)
+-- a table of no orders
+pub none-live : (row : Row) (table : List ℕ) → table ≡ tableOf (row .least .0) [] → table ≡ tableAfter row []
+unfolding live applyAll
+none-live row table e = e
 
-pub end-bounds : (n at end : ℕ) → at < n → end ≡ (if leb (n - at) 20 then n else at + 20) → (at < end) × (end ≤ n)
-end-bounds n at end l is = end-past n at end (leb (n - at) 20) refl l is
+-- a record that is cut short is no event
+short-record : (bytes : List ℕ) → length bytes < 20 → readRecord bytes ≡ refused 15
+unfolding readRecord goodRecord
+short-record bytes l = rw (lt-leb 20 (length bytes) l) refl
+
+-- a record that is no event is refused by 15
+fifteen-only : (bytes : List ℕ) (n : ℕ) → readRecord bytes ≡ refused n → n ≡ 15
+unfolding readRecord
+fifteen-only bytes n = go (goodRecord bytes)
+  where
+    go : (b : Bool) → (if b then accepted (eventOf (fieldsOf bytes)) else refused 15) ≡ refused n → n ≡ 15
+    go true e = let z : _≡_ {A = ℕ} 0 1 = cc in absurd (omega arith)
+    go false e = cc
+
+-- so it is refused by 15, whatever the refusal is called
+pub unread : (bytes : List ℕ) (n : ℕ) → refused n ≡ readRecord bytes → _≡_ {A = Outcome Event} (refused 15) (readRecord bytes)
+unread bytes n e = ap (λ (k : ℕ). refused k) (sym (fifteen-only bytes n (sym e))) ∙ e
+
+record-numbered : (row : Row) (es : List Event) (o : Outcome Event) → ((n : ℕ) → o ≡ refused n → n ≡ 15) → 0 < refusalBy row es o
+    → (8 ≤ refusalBy row es o) × (refusalBy row es o ≤ 15)
+record-numbered row es (refused n) h l = let e = h n refl in (omega arith, omega arith)
+record-numbered row es (accepted e) h l = event-numbered row es e l
 
 followed-bounds : (row : Row) (es : List Event) (o : Outcome Event) → EventBounds row es → refusalBy row es o ≡ 0 → EventBounds row (followed es o)
 followed-bounds row es (refused n) g h = g
@@ -86,22 +99,34 @@ module _ (limit : ℕ) (row : Row) (sp : Steps) (bytes base : List ℕ) where
   abbrev Run : ℕ → Session
   Run cell = runRecords paper limit cell 1 (bookWith cell row sp []) (recordsOf bytes)
 
-  pub going-start : (w : Walk) → w ≡ walkAt row (sp .0) [] → Going limit row sp bytes base w 0 1 base
+  pub going-start : (w : Walk) (table : List ℕ) → w ≡ walkAt row (sp .0) [] → table ≡ tableAfter row [] → Going limit row sp bytes base w 0 1 table base
   unfolding present timeFrom stretches pairWords
-  going-start w is =
+  going-start w table is t =
       record {
         events = [];
         bounds = event-bounds-none row;
         is = is;
+        table-is = t;
         holds = record { size = refl; words = λ l. refl };
         inside = omega arith;
         small = omega arith;
         runs = λ cell. refl;
       }
 
-  module _ (w : Walk) (at place : ℕ) (buffer : List ℕ) (g : Going limit row sp bytes base w at place buffer) where
-    pub going-walking : goodRow paper row ≡ true → Walking w
-    going-walking good = record { row = row; sp = sp .0; events = g .events; good = good; bounds = g .bounds; is = g .is }
+  module _ (w : Walk) (at place : ℕ) (table buffer : List ℕ) (g : Going limit row sp bytes base w at place table buffer) where
+    pub going-walking : (duty : Duty) (hints : List ℕ) → goodRow paper row ≡ true → duty ≡ dutyOf row (sp .0) → length hints ≡ 1024 → Walking w duty table hints
+    going-walking duty hints good d h =
+        record {
+          row = row;
+          sp = sp .0;
+          events = g .events;
+          good = good;
+          bounds = g .bounds;
+          is = g .is;
+          duty-is = d;
+          table-is = g .table-is;
+          hinted = h;
+        }
 
     pub going-ending : goodRow paper row ≡ true → Ending w row
     going-ending good = record { sp = sp .0; events = g .events; good = good; bounds = g .bounds; is = g .is }
@@ -128,48 +153,67 @@ module _ (limit : ℕ) (row : Row) (sp : Steps) (bytes base : List ℕ) where
           passed-halted (Run cell) BadRecord place base exit
           (next-record cell ∙ runs-past limit cell row sp place (g .events) (take 20 (drop at bytes)) (recordsOf (drop 20 (drop at bytes))) p)
 
-      module _ (end : ℕ) (is : end ≡ (if leb (length bytes - at) 20 then length bytes else at + 20)) (p : place ≤ limit) (r : Stepped) (exit : List ℕ)
-          (adv : Advanced w (readRecord (take (end - at) (drop at bytes))) r buffer exit) where
-        cut : take (end - at) (drop at bytes) ≡ take 20 (drop at bytes)
-        cut = cut-by bytes at end (leb (length bytes - at) 20) refl is .0
+      -- what refuses the record, by its number
+      stops : (exit : List ℕ) (f : Refusal) (n : ℕ) → numberOf f ≡ suc n → place ≤ limit
+          → refusalBy row (g .events) (readRecord (take 20 (drop at bytes))) ≡ suc n → (cell : ℕ) → Passed (Run cell) base exit (S.Refused f place)
+      stops exit f n z p k cell =
+          passed-halted (Run cell) f place base exit
+          (next-record cell
+          ∙ runs-refused limit cell row sp place (g .events) (take 20 (drop at bytes)) (recordsOf (drop 20 (drop at bytes))) n p k
+          ∙ ap (λ (m : ℕ). halted m place) (sym z))
 
-        rest : drop end bytes ≡ drop 20 (drop at bytes)
-        rest = cut-by bytes at end (leb (length bytes - at) 20) refl is .1
+      -- fewer than 20 bytes are left
+      pub going-short : (exit : List ℕ) → length bytes < at + 20 → (cell : ℕ) → cell < 186 → Passed (Run cell) base exit (S.Refused BadRecord place)
+      going-short exit h cell c = go (ltb limit place) refl
+        where
+          few : length (take 20 (drop at bytes)) < 20
+          few = omega (arith, length-take 20 (drop at bytes), length-drop at bytes)
 
-        judged : shownAnswer (r .answer) ≡ outcomeBy (refusalBy row (g .events) (readRecord (take 20 (drop at bytes)))) done
-        judged =
-            adv .answer row (sp .0) (g .events) (g .bounds) (g .is)
-            ∙ ap (λ (l : List ℕ). outcomeBy (refusalBy row (g .events) (readRecord l)) done) cut
+          go : (b : Bool) → ltb limit place ≡ b → Passed (Run cell) base exit (S.Refused BadRecord place)
+          go true e = going-past exit (ltb-true limit place e) cell c
+          go false e =
+              stops exit BadRecord 14 refl (ltb-false limit place e) (ap (refusalBy row (g .events)) (short-record (take 20 (drop at bytes)) few)) cell
 
-        pub going-refused : (f : Refusal) → r .answer ≡ Refused f → (cell : ℕ) → cell < 186 → Passed (Run cell) base exit (S.Refused f place)
-        going-refused f e cell c = stops (numberOf f) refl (refused-number f _ (ap shownAnswer (sym e) ∙ judged))
+      module _ (p : place ≤ limit) (duty : Duty) (d : duty ≡ dutyOf row (sp .0)) (r : Stepped) (next exit : List ℕ) (part : List ℕ) (cut : part ≡ take 20 (drop at bytes))
+          (adv : Advanced w duty (readRecord part) r table next buffer exit) where
+        stood : Walked row (sp .0) (g .events) w duty table
+        stood = record { bounds = g .bounds; is = g .is; duty-is = d; table-is = g .table-is }
+
+        judged : r .refusal ≡ refusalBy row (g .events) (readRecord (take 20 (drop at bytes)))
+        judged = adv .number row (sp .0) (g .events) stood ∙ ap (λ (l : List ℕ). refusalBy row (g .events) (readRecord l)) cut
+
+        pub going-numbered : 0 < r .refusal → (8 ≤ r .refusal) × (r .refusal ≤ 15)
+        going-numbered h =
+            let b = record-numbered row (g .events) (readRecord (take 20 (drop at bytes))) (fifteen-only (take 20 (drop at bytes))) (omega (arith, judged, h)) in
+            (omega (arith, judged, b .0), omega (arith, judged, b .1))
+
+        pub going-refused : (f : Refusal) → 0 < r .refusal → numberOf f ≡ r .refusal → (cell : ℕ) → cell < 186 → Passed (Run cell) base exit (S.Refused f place)
+        going-refused f h e cell c = go (r .refusal) refl
           where
-            stops : (n : ℕ) → numberOf f ≡ n → refusalBy row (g .events) (readRecord (take 20 (drop at bytes))) ≡ numberOf f → Passed (Run cell) base exit (S.Refused f place)
-            stops zero z k = absurd (number-not-zero f z)
-            stops (suc n) z k =
-                passed-halted (Run cell) f place base exit
-                (next-record cell
-                ∙ runs-refused limit cell row sp place (g .events) (take 20 (drop at bytes)) (recordsOf (drop 20 (drop at bytes))) n p (k ∙ z)
-                ∙ ap (λ (m : ℕ). halted m place) (sym z))
+            go : (n : ℕ) → r .refusal ≡ n → Passed (Run cell) base exit (S.Refused f place)
+            go zero z = absurd (omega (arith, h, z))
+            go (suc n) z = stops exit f n (e ∙ z) p (sym judged ∙ z) cell
 
-        pub going-on : r .answer ≡ Accepted → Going limit row sp bytes base (r .walk) end (place + 1) exit
-        going-on e =
+        pub going-on : at + 20 ≤ length bytes → r .refusal ≤ 0 → Going limit row sp bytes base (r .walk) (at + 20) (place + 1) next exit
+        going-on room e =
             let o = readRecord (take 20 (drop at bytes)) in
-            let zero : refusalBy row (g .events) o ≡ 0 = accepted-by _ done done (ap shownAnswer (sym e) ∙ judged) .0 in
+            let zero : refusalBy row (g .events) o ≡ 0 = omega (arith, judged, e) in
             let same = ap readRecord cut in
-            let zero′ : refusalBy row (g .events) (readRecord (take (end - at) (drop at bytes))) ≡ 0 = ap (refusalBy row (g .events)) same ∙ zero in
-            let (walk, held) = adv .walk row (sp .0) (g .events) base (g .bounds) (g .is) (g .holds) zero′ in
+            let zero′ : refusalBy row (g .events) (readRecord part) ≡ 0 = ap (refusalBy row (g .events)) same ∙ zero in
+            let (walk, held) = adv .walk row (sp .0) (g .events) base stood (g .holds) zero′ in
             let more = ap (followed (g .events)) same in
+            let rest : drop 20 (drop at bytes) ≡ drop (at + 20) bytes = drop-drop 20 at bytes in
             record {
               events = followed (g .events) o;
               bounds = followed-bounds row (g .events) o (g .bounds) zero;
               is = walk ∙ ap (walkAt row (sp .0)) more;
+              table-is = adv .orders row (sp .0) (g .events) stood zero′ ∙ ap (tableAfter row) more;
               holds = subst (λ (es : List Event). Holds base (pairsOf row (sp .0) es) exit) more held;
-              inside = end-bounds (length bytes) at end l is .1;
+              inside = room;
               small = omega arith;
               runs = λ cell.
                   next-record cell
                   ∙ runs-taken limit cell row sp place (g .events) (take 20 (drop at bytes)) (recordsOf (drop 20 (drop at bytes))) p zero
                   ∙ ap (λ (n : ℕ). runRecords paper limit cell n (bookWith cell row sp (followed (g .events) o)) (recordsOf (drop 20 (drop at bytes)))) (omega arith)
-                  ∙ ap (λ (l : List ℕ). runRecords paper limit cell (place + 1) (bookWith cell row sp (followed (g .events) o)) (recordsOf l)) (sym rest);
+                  ∙ ap (λ (l : List ℕ). runRecords paper limit cell (place + 1) (bookWith cell row sp (followed (g .events) o)) (recordsOf l)) rest;
             }

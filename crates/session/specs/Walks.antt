@@ -4,7 +4,7 @@ use Prim.Native.Nat.{ℕ, _+_, _*_, _≤_, _<_}
 use mathlib.Core.Path.{_≡_}
 use mathlib.Core.List.{List, [], _∷_, _++_}
 use mathlib.Core.Bool.{Bool, true}
-use lib.Dec.{leb}
+use lib.Dec.{leb, eqb}
 use lib.IntN.{ℤ}
 use lib.ListN.{length, drop, set}
 use Rattle.rules.specs.declared.Millis.{Millis}
@@ -22,11 +22,12 @@ use Rattle.rules.specs.Kept.{keptAt, keptBelow}
 use Rattle.rules.specs.Stretches.{Stretch, stretches, keptStretches, pairWords}
 use Rattle.rules.specs.Runs.{before}
 use Rattle.rules.specs.Pay.{weight}
-use Rattle.rules.specs.Answers.{Outcome, accepted, refused, outcomeBy, done, shownAnswer, Ran, finished, stopped, shownSession}
+use Rattle.rules.specs.Answers.{Outcome, accepted, refused, Ran, finished, stopped, shownSession}
 use Rattle.rules.specs.Book.{Quoting, Book, eventRefusal}
 use Rattle.rules.specs.Bounds.{EventBounds}
 use Rattle.rules.specs.Session.{Session, whole, halted, recordsOf, runRecords}
-use Rattle.quantum.specs.Standing.{standing}
+use Rattle.quantum.specs.declared.Duty.{Duty}
+use Rattle.quantum.specs.Standing.{dutyOf, clockOf, tableAfter}
 use Rattle.session.specs.declared.Marks.{Marks}
 use Rattle.session.specs.declared.Walk.{Walk}
 use Rattle.session.specs.declared.Stepped.{Stepped}
@@ -41,7 +42,7 @@ lastOffset (s ∷ t ∷ ss) = lastOffset (t ∷ ss)
 
 -- the pairs of what passes below n
 unfoldable pub marksAt : (ℕ → Bool) → ℕ → Marks
-marksAt p n = record { pairs = length (stretches p n); start = lastOffset (stretches p n); last = before p n }
+marksAt p n = record { pairs = length (stretches p n); start = lastOffset (stretches p n); last = if before p n then 1 else 0 }
 
 -- a buffer that was base at first and has the pairs at its front, where they fit
 pub record Holds (base : List ℕ) (ss : List Stretch) (buffer : List ℕ) : Type 0 where
@@ -54,7 +55,7 @@ putPair buffer n x y = if leb (2 * n + 2) (length buffer) then set (set buffer (
 
 -- the marks when what passes goes on from a
 unfoldable pub begunAt : Marks → ℕ → Marks
-begunAt m a = if m .last then m else record { pairs = m .pairs + 1; start = a; last = true }
+begunAt m a = if eqb (m .last) 1 then m else record { pairs = m .pairs + 1; start = a; last = 1 }
 
 -- what lets the marks grow to a time
 pub record Growing (m : Marks) (from to : Millis) : Type 0 where
@@ -62,7 +63,7 @@ pub record Growing (m : Marks) (from to : Millis) : Type 0 where
   pub small : to .0 ≤ 86400000
   pub started : m .start ≤ from .0
   pub few : m .pairs ≤ from .0 + 1
-  pub some : m .last ≡ true → 1 ≤ m .pairs
+  pub some : m .last ≡ 1 → 1 ≤ m .pairs
 
 -- the marks and the buffer when time has run on, and all of it passed or none
 abbrev pub Grows : Marks → Millis → Millis → Bool → Marks → List ℕ → List ℕ → Type 0
@@ -73,7 +74,7 @@ Grows m from to keeps r entry exit =
 -- ---- a run so far
 
 unfoldable pub walkAt : Row → ℤ → List Event → Walk
-walkAt row sp es = record { quantum = standing row sp es; marks = marksAt (keptAt row sp es) (present es) }
+walkAt row sp es = record { clock = clockOf row sp es; marks = marksAt (keptAt row sp es) (present es) }
 
 abbrev pub pairsOf : Row → ℤ → List Event → List Stretch
 pairsOf row sp es = stretches (keptAt row sp es) (present es)
@@ -87,22 +88,31 @@ abbrev pub followed : List Event → Outcome Event → List Event
 followed es (refused n) = es
 followed es (accepted e) = es ++ (e ∷ [])
 
--- a run that some accepted events led to
-pub record Walking (w : Walk) : Type 0 where
+-- a run that some accepted events led to, with the table of their live orders
+pub record Walking (w : Walk) (duty : Duty) (table hints : List ℕ) : Type 0 where
   pub row : Row
   pub sp : ℤ
   pub events : List Event
   pub good : goodRow paper row ≡ true
   pub bounds : EventBounds row events
   pub is : w ≡ walkAt row sp events
+  pub duty-is : duty ≡ dutyOf row sp
+  pub table-is : table ≡ tableAfter row events
+  pub hinted : length hints ≡ 1024
+
+-- they stand for these events
+pub record Walked (row : Row) (sp : ℤ) (es : List Event) (w : Walk) (duty : Duty) (table : List ℕ) : Type 0 where
+  pub bounds : EventBounds row es
+  pub is : w ≡ walkAt row sp es
+  pub duty-is : duty ≡ dutyOf row sp
+  pub table-is : table ≡ tableAfter row es
 
 -- what a record promises
-pub record Advanced (w : Walk) (o : Outcome Event) (r : Stepped) (entry exit : List ℕ) : Type 0 where
-  pub answer : (row : Row) (sp : ℤ) (es : List Event) → EventBounds row es → w ≡ walkAt row sp es
-      → shownAnswer (r .answer) ≡ outcomeBy (refusalBy row es o) done
-  pub walk : (row : Row) (sp : ℤ) (es : List Event) (base : List ℕ) → EventBounds row es → w ≡ walkAt row sp es
-      → Holds base (pairsOf row sp es) entry → refusalBy row es o ≡ 0
-      → (r .walk ≡ walkAt row sp (followed es o)) × Holds base (pairsOf row sp (followed es o)) exit
+pub record Advanced (w : Walk) (duty : Duty) (o : Outcome Event) (r : Stepped) (table next entry exit : List ℕ) : Type 0 where
+  pub number : (row : Row) (sp : ℤ) (es : List Event) → Walked row sp es w duty table → r .refusal ≡ refusalBy row es o
+  pub orders : (row : Row) (sp : ℤ) (es : List Event) → Walked row sp es w duty table → refusalBy row es o ≡ 0 → next ≡ tableAfter row (followed es o)
+  pub walk : (row : Row) (sp : ℤ) (es : List Event) (base : List ℕ) → Walked row sp es w duty table → Holds base (pairsOf row sp es) entry
+      → refusalBy row es o ≡ 0 → (r .walk ≡ walkAt row sp (followed es o)) × Holds base (pairsOf row sp (followed es o)) exit
 
 -- a run at its last record, of that row
 pub record Ending (w : Walk) (row : Row) : Type 0 where
@@ -131,10 +141,11 @@ counted (whole kept weight pairs) = finished kept weight (length pairs)
 counted (halted number place) = stopped number place
 
 -- in the loop over the records: at the byte that the record of this place starts with
-pub record Going (limit : ℕ) (row : Row) (sp : Steps) (bytes base : List ℕ) (w : Walk) (at place : ℕ) (buffer : List ℕ) : Type 0 where
+pub record Going (limit : ℕ) (row : Row) (sp : Steps) (bytes base : List ℕ) (w : Walk) (at place : ℕ) (table buffer : List ℕ) : Type 0 where
   pub events : List Event
   pub bounds : EventBounds row events
   pub is : w ≡ walkAt row (sp .0) events
+  pub table-is : table ≡ tableAfter row events
   pub holds : Holds base (pairsOf row (sp .0) events) buffer
   pub inside : at ≤ length bytes
   pub small : place ≤ limit + 1

@@ -3,18 +3,17 @@ ghost use mathlib.Core.Path.{_≡_};
 ghost use Prim.Native.Nat.{ℕ, _+_, _*_, _-_, _≤_, _<_};
 ghost use mathlib.Core.Bool.{true};
 ghost use mathlib.Core.List.{[]};
-ghost use lib.Dec.{leb};
+ghost use lib.IntN.{ℤ};
 ghost use lib.ListN.{length};
-ghost use Rattle.rules.specs.declared.Event.{Event};
-ghost use Rattle.rules.specs.Lists.{if_then_else_};
+ghost use Rattle.rules.specs.declared.Row.{Row};
 ghost use Rattle.rules.specs.Terms.{paper};
 ghost use Rattle.rules.specs.Rows.{goodRow};
 ghost use Rattle.rules.specs.Answers.{accepted, shownSession};
 ghost use Rattle.rules.specs.Records.{readRecord};
 ghost use Rattle.rules.specs.Session.{runLimit, recordsOf, runRecords, session, sessionBytes, ran, front as frontOf, bufferAfter, oneNumber};
 ghost use Rattle.session.specs.Walks.{putPair, begunAt, Growing, Grows, Walking, Advanced, Ending, Ends, walkAt, bookWith, Passed, filledBy, numberBy};
-use quantum::Quantum;
-use rules::Answer;
+use quantum::Clock;
+use quantum::Duty;
 use rules::Event;
 use rules::Millis;
 use rules::RecordRead;
@@ -24,23 +23,23 @@ use rules::RowRead;
 use rules::SessionAnswer;
 use rules::Steps;
 
-// The pairs so far: how many, where the last one starts, and whether it reaches the present.
+// The pairs so far: how many, where the last one starts, and whether it reaches the present (1) or not (0).
 struct Marks {
     pairs: u32,
     start: u32,
-    last: bool,
+    last: u32,
 }
 
 // A run so far.
 struct Walk {
-    quantum: Quantum,
+    clock: Clock,
     marks: Marks,
 }
 
-// What a record hands back.
+// What a record hands back: the run after it, and the refusal's number or 0.
 struct Stepped {
     walk: Walk,
-    answer: Answer,
+    refusal: u32,
 }
 
 // Writes the pair counted n from 0, where it fits.
@@ -60,13 +59,13 @@ fn begun(marks: Marks, from: Millis) -> Marks
     requires { ⌜ marks .pairs ≤ 100000000 ⌝ }
     ensures { λ r. ⌜ r ≡ begunAt marks (from .0) ⌝ }
 {
-    if marks.last {
+    if marks.last == 1 {
         return marks;
     }
     Marks {
         pairs: marks.pairs + 1,
         start: from.0,
-        last: true,
+        last: 1,
     }
 }
 
@@ -88,50 +87,44 @@ fn grow(marks: Marks, from: Millis, to: Millis, keeps: bool, buffer: &mut [u32])
     Marks {
         pairs: marks.pairs,
         start: marks.start,
-        last: false,
+        last: 0,
     }
 }
 
 // An event taken, with the pairs that the time up to it adds; or refused.
-fn taken(walk: Walk, e: Event, buffer: &mut [u32]) -> Stepped
-    requires { ⌜ Walking walk ⌝ }
-    ensures { λ r. ⌜ Advanced walk (accepted e) r (now (buffer .entry)) (now (buffer .exit)) ⌝ }
+fn taken(walk: Walk, e: Event, duty: Duty, table: &mut [u32], hints: &mut [u8], buffer: &mut [u32]) -> Stepped
+    requires { ⌜ Walking walk duty (now table) (now hints) ⌝ }
+    ensures { λ r. ⌜ Advanced walk duty (accepted e) r (now (table .entry)) (now (table .exit)) (now (buffer .entry)) (now (buffer .exit)) ⌝ }
 {
-    let q = walk.quantum;
+    let clock = walk.clock;
     let marks = walk.marks;
-    let sent = q.send(e);
-    let answer = sent.answer;
-    let next = sent.quantum;
-    match answer {
-        Answer::Accepted => {
-            let grown = grow(marks, q.now(), next.now(), q.keeps(), buffer);
-            Stepped {
-                walk: Walk {
-                    quantum: next,
-                    marks: grown,
-                },
-                answer: Answer::Accepted,
-            }
-        }
-        Answer::Refused(r) => Stepped {
-            walk,
-            answer: Answer::Refused(r),
+    let stepped = quantum::step(duty, clock, table, hints, e);
+    let next = stepped.clock;
+    let refusal = stepped.refusal;
+    if 0 < refusal {
+        return Stepped { walk, refusal };
+    }
+    let from = clock.time;
+    let to = next.time;
+    let grown = grow(marks, from, to, clock.keeps == 1, buffer);
+    Stepped {
+        walk: Walk {
+            clock: next,
+            marks: grown,
         },
+        refusal: 0,
     }
 }
 
 // A record read, and its event taken; or refused.
-fn step(walk: Walk, bytes: &[u8], buffer: &mut [u32]) -> Stepped
-    requires { ⌜ Walking walk ⌝ }
-    ensures { λ r. ⌜ Advanced walk (readRecord (now (bytes .entry))) r (now (buffer .entry)) (now (buffer .exit)) ⌝ }
+fn step(walk: Walk, bytes: &[u8], duty: Duty, table: &mut [u32], hints: &mut [u8], buffer: &mut [u32]) -> Stepped
+    requires { ⌜ Walking walk duty (now table) (now hints) ⌝ }
+    ensures { λ r. ⌜ Advanced walk duty (readRecord (now (bytes .entry))) r (now (table .entry)) (now (table .exit)) (now (buffer .entry)) (now (buffer .exit)) ⌝ }
 {
     let read = record::read(bytes);
     match read {
-        RecordRead::Read(e) => taken(walk, e, buffer),
-        RecordRead::Refused(r) => Stepped {
-            walk,
-            answer: Answer::Refused(r),
-        },
+        RecordRead::Read(e) => taken(walk, e, duty, table, hints, buffer),
+        RecordRead::Refused(_) => Stepped { walk, refusal: 15 },
     }
 }
 
@@ -140,12 +133,14 @@ fn finish(walk: Walk, row: Row, buffer: &mut [u32]) -> SessionAnswer
     requires { ⌜ Ending walk row ⌝ }
     ensures { λ r. ⌜ Ends walk row r (now (buffer .entry)) (now (buffer .exit)) ⌝ }
 {
-    let q = walk.quantum;
+    let clock = walk.clock;
     let marks = walk.marks;
     let length = row.length;
     let share = row.share;
-    let kept = q.ended();
-    let grown = grow(marks, q.now(), length, q.keeps(), buffer);
+    let end = quantum::onward(clock, length, 0);
+    let kept = end.kept;
+    let from = clock.time;
+    let grown = grow(marks, from, length, clock.keeps == 1, buffer);
     SessionAnswer::Finished {
         kept,
         weight: pay::weight_of(kept, length, share),
@@ -154,29 +149,17 @@ fn finish(walk: Walk, row: Row, buffer: &mut [u32]) -> SessionAnswer
 }
 
 // A quantum opens, and no pair is there.
-fn begin(row: Row, sp: Steps) -> Walk
-    requires { ⌜ goodRow paper row ≡ true ⌝ }
-    ensures { λ r. ⌜ r ≡ walkAt row (sp .0) [] ⌝ }
+fn begin() -> Walk
+    ensures { λ r. ⌜ ((row : Row) (sp : ℤ) → r ≡ walkAt row sp []) ⌝ }
 {
     Walk {
-        quantum: Quantum::opened(row, sp),
+        clock: quantum::started(),
         marks: Marks {
             pairs: 0,
             start: 0,
-            last: false,
+            last: 0,
         },
     }
-}
-
-// Where the record that starts at a byte ends: 20 bytes on, or at the end of all.
-fn end_of(length: usize, at: usize) -> usize
-    requires { ⌜ at ≤ length ⌝ }
-    ensures { λ r. ⌜ r ≡ (if leb (length - at) 20 then length else at + 20) ⌝ }
-{
-    if length - at <= 20 {
-        return length;
-    }
-    at + 20
 }
 
 // One pass over the records: the first refusal, or K, w and the number of pairs, whose words are written as far as they fit.
@@ -184,30 +167,37 @@ fn walked(limit: u32, row: Row, sp: Steps, records: &[u8], buffer: &mut [u32]) -
     requires { ⌜ (limit ≤ 4000000) × (goodRow paper row ≡ true) ⌝ }
     ensures { λ r. ⌜ ((cell : ℕ) → cell < 186 → Passed (runRecords paper limit cell 1 (bookWith cell row sp []) (recordsOf (now (records .entry)))) (now (buffer .entry)) (now (buffer .exit)) r) ⌝ }
 {
-    let mut walk = begin(row, sp);
+    let duty = quantum::duty_of(row, sp);
+    let mut table = book::empty();
+    let mut hints = [0u8; 1024];
+    let mut walk = begin();
     let mut at: usize = 0;
     let mut place: u32 = 1;
-    while at < records.len() {
+    let full = records.len() / 20 * 20;
+    while at < full {
         if limit < place {
             return SessionAnswer::Refused {
                 refusal: Refusal::BadRecord,
                 place,
             };
         }
-        let end = end_of(records.len(), at);
-        let stepped = step(walk, &records[at..end], buffer);
-        let answer = stepped.answer;
-        let next = stepped.walk;
-        match answer {
-            Answer::Accepted => {
-                walk = next;
-                at = end;
-                place += 1;
-            }
-            Answer::Refused(refusal) => {
-                return SessionAnswer::Refused { refusal, place };
-            }
+        let stepped = step(walk, &records[at..at + 20], duty, &mut table, &mut hints, buffer);
+        let n = stepped.refusal;
+        if 0 < n {
+            return SessionAnswer::Refused {
+                refusal: quantum::refusal_of(n),
+                place,
+            };
         }
+        walk = stepped.walk;
+        at += 20;
+        place += 1;
+    }
+    if full < records.len() {
+        return SessionAnswer::Refused {
+            refusal: Refusal::BadRecord,
+            place,
+        };
     }
     finish(walk, row, buffer)
 }

@@ -1,14 +1,19 @@
--- The quantum of no events, and no pair. Assumes nothing.
+-- No events, no pair. Assumes nothing.
 use Rattle.session.proofs.Steps.{begins}
 use borrow.Author.Needs.{needs}
 use Rattle.session.proofs.begin.Statement.{statement}
 use Rattle.session.proofs.begin.Tie as tie
+use Rattle.session.proofs.begin.Reads as reads
+use Rattle.session.proofs.begin.Lts as lts
+use Rattle.quantum.proofs.started.Reads as started-reads
 
-opened-requires : tie.Need-opened-requires
-opened-requires c κs = search needs
+-- src/lib.rt:156:16
+started-requires : tie.Need-started-requires
+started-requires c κs = search needs
 
+-- src/lib.rt:152:1
 returns : tie.Need-returns
-returns c = begins (c .before .args .row) (c .before .args .sp .0) (c .opened .result) (c .opened .ensures)
+returns c = λ row sp. begins row sp (c .started .result) (c .started .ensures row sp)
 
 pub begin-spec : {M : Type 1} → statement M
-begin-spec = tie.close (tie.spec opened-requires returns)
+begin-spec = tie.close (tie.spec started-requires returns)

@@ -1,63 +1,58 @@
 -- Time runs on to L, and the pairs grow to there. Assumes nothing.
+use mathlib.Core.Path.{refl, ap, _∙_}
 use native.Mathlib.Omega.{arith}
 use Rattle.rules.specs.Terms.{paper}
 use Rattle.rules.proofs.Bounds.{row-bounds}
-use Rattle.session.proofs.Steps.{quantum-is, growing, ended-is}
+use Rattle.quantum.specs.declared.Clock.{Clock}
+use Rattle.quantum.proofs.Standing.{time-is, kept-at}
+use Rattle.session.proofs.Steps.{clock-is, growing, may-end, ended-is}
 use borrow.Author.Needs.{needs}
 use Rattle.session.proofs.finish.Statement.{statement}
 use Rattle.session.proofs.finish.Tie as tie
+use Rattle.session.proofs.finish.Reads as reads
+use Rattle.session.proofs.finish.Lts as lts
+use Rattle.pay.proofs.weight_of.Reads as weight-of-reads
+use Rattle.quantum.proofs.onward.Reads as onward-reads
+use Rattle.session.proofs.grow.Reads as grow-reads
 
-ended-requires : tie.Need-ended-requires
-ended-requires c κs =
+-- src/lib.rt:140:9
+onward-requires : tie.Need-onward-requires
+onward-requires c κs =
     let s = c .before .before .before .before in
     let h = s .pre in
-    record {
-      row = s .args .row;
-      sp = h .sp;
-      events = h .events;
-      bounds = h .bounds;
-      is = quantum-is (s .args .row) (h .sp) (h .events) (s .args .walk) (h .is);
-    }
+    may-end (s .args .row) (h .sp) (h .events) (s .args .walk) (h .is) (h .bounds)
 
-now-requires : tie.Need-now-requires
-now-requires c κs = search needs
-
-keeps-requires : tie.Need-keeps-requires
-keeps-requires c κs = search needs
-
+-- src/lib.rt:143:9
 grow-requires : tie.Need-grow-requires
 grow-requires c κs =
-    let s = c .before .before .before .before .before .before .before .before in
+    let s = c .before .before .before .before .before .before .before .before .before in
     let h = s .pre in
-    growing (s .args .row) (h .sp) (h .events) (s .args .walk) (h .is) (h .bounds) (c .before .before .now .result) (c .before .before .now .ensures)
-    (s .args .row .length) (h .bounds .ends) (omega arith) (h .good)
+    growing (s .args .row) (h .sp) (h .events) (s .args .walk) (h .is) (s .args .row .length) (h .bounds .ends) (omega arith) (h .good)
 
+-- src/lib.rt:146:17
 weight-of-requires : tie.Need-weight-of-requires
 weight-of-requires c κs =
-    let s = c .before .before .before .before .before .before .before .before .before .before .before in
+    let s = c .before .before .before .before .before .before .before .before .before .before .before .before in
     let b = row-bounds paper (s .args .row) (s .pre .good) in
     (omega (arith, b .length-least), b .share-most)
 
+-- src/lib.rt:132:1
 same-length : tie.Need-same-length
 same-length c = search needs
 
+-- src/lib.rt:132:1
 returns : tie.Need-returns
 returns c = λ sp es base g is h.
-    let k = c .before .before .before .before .before in
-    let s = k .before .before .before .before .before .before .before in
-    ended-is (s .args .row) sp es (s .args .walk) is g (k .before .now .result) (k .before .now .ensures) (k .keeps .result) (c .before .before .before .grow .result)
-    (s .args .buffer .now) _ base (k .keeps .ensures (s .args .row) sp es (quantum-is (s .args .row) sp es (s .args .walk) is))
-    (c .before .before .before .grow .ensures) h (k .before .before .ended .result .0) (c .weight-of .result)
-    (k .before .before .ended .ensures (s .args .row) sp es g (quantum-is (s .args .row) sp es (s .args .walk) is)) (c .weight-of .ensures)
+    let w = c .before .before .before in
+    let o = w .before .before .before .before .before in
+    let s = o .before .before .before .before .before in
+    let row = s .args .row in
+    let k = s .args .walk .clock in
+    let e = clock-is row sp es (s .args .walk) is in
+    ended-is row sp es (s .args .walk) is g _ (w .grow .result) (s .args .buffer .now) _ base refl (w .grow .ensures) h (o .onward .result .kept .0) (c .weight-of .result)
+    (ap (λ (x : Clock). x .kept .0) (o .onward .ensures) ∙ kept-at row sp es k e g (row .length .0) (omega (arith, time-is row sp es k e, g .ends)))
+    (c .weight-of .ensures)
 
 pub finish-spec : {M : Type 1} → statement M
 finish-spec =
-    tie.close
-    (tie.spec
-    ended-requires
-    now-requires
-    keeps-requires
-    grow-requires
-    weight-of-requires
-    same-length
-    returns)
+    tie.close (tie.spec onward-requires grow-requires weight-of-requires same-length returns)

@@ -1,69 +1,77 @@
 -- The event passes, and time runs on to it; or the quantum refuses it. Assumes nothing.
-use mathlib.Core.Path.{ap, sym, _∙_}
-use Rattle.rules.specs.Answers.{shownAnswer, accepted}
-use Rattle.session.proofs.Steps.{reached, growing-taken, advanced-taken, advanced-refused, quantum-is}
+use mathlib.Core.Path.{refl}
+use Rattle.session.proofs.Steps.{running, growing-taken, advanced-taken, advanced-refused}
 use borrow.Author.Needs.{needs}
 use Rattle.session.proofs.taken.Statement.{statement}
 use Rattle.session.proofs.taken.Tie as tie
+use Rattle.session.proofs.taken.Reads as reads
+use Rattle.session.proofs.taken.Lts as lts
+use Rattle.quantum.proofs.step.Reads as step-reads
+use Rattle.session.proofs.grow.Reads as grow-reads
 
-send-requires : tie.Need-send-requires
-send-requires c κs = reached (c .before .before .before .args .walk) (c .before .before .before .pre)
+-- src/lib.rt:101:9
+step-requires : tie.Need-step-requires
+step-requires c κs =
+    let s = c .before .before .before .before .before .before .before in
+    running (s .args .walk) (s .args .duty) (s .args .table .now) (s .args .hints .now) (s .pre)
 
-enum-told : tie.Need-enum-told
-enum-told c = search needs
-
-now-requires : tie.Need-now-requires
-now-requires c κs = search needs
-
-now-requires-2 : tie.Need-now-requires-2
-now-requires-2 c κs = search needs
-
-keeps-requires : tie.Need-keeps-requires
-keeps-requires c κs = search needs
-
-grow-requires : tie.Need-grow-requires
-grow-requires c κs =
-    let t = c .before .before .before .before in
-    let g = t .before .before .before in
-    let s = g .before .before .before .before in
-    growing-taken (s .args .walk) (s .args .e) (g .send .result) (g .send .ensures) (t .enum-told .given .1) (c .before .before .before .now .result) (c .before .before .now2 .result)
-    (c .before .before .before .now .ensures) (c .before .before .now2 .ensures) (s .pre)
-
-enum-known-answer : tie.Need-enum-known-answer
-enum-known-answer c = search needs
-
+-- src/lib.rt:105:9
 same-length : tie.Need-same-length
 same-length c = search needs
 
+-- src/lib.rt:105:9
+same-length-2 : tie.Need-same-length-2
+same-length-2 c = search needs
+
+-- src/lib.rt:105:9
 returns : tie.Need-returns
 returns c =
-    let k = c .before .before .before .before in
-    let t = k .before .before .before in
-    let g = t .before .before .before in
-    let s = g .before .before .before .before in
-    advanced-taken (s .args .walk) (s .args .e) (g .send .result) (g .send .ensures) (t .enum-told .given .1) (k .before .before .now .result) (k .before .now2 .result)
-    (k .before .before .now .ensures) (k .before .now2 .ensures) (k .keeps .result) (c .before .before .grow .result) (s .args .buffer .now) _
-    (k .keeps .ensures) (c .before .before .grow .ensures)
+    let g = c .before .before .before .before .before .before in
+    let s = g .before .before .before .before .before .before .before .before in
+    advanced-refused (s .args .walk) (s .args .duty) (s .args .e) (s .args .table .now) (g .step .last .1 .1 .0) (g .step .result) (g .step .ensures)
+    (s .args .buffer .now) _ (c .if1 .taken)
 
+-- src/lib.rt:109:9
+grow-requires : tie.Need-grow-requires
+grow-requires c κs =
+    let f = c .before .before .before .before in
+    let g = f .before .before .before .before .before .before in
+    let s = g .before .before .before .before .before .before .before .before in
+    growing-taken (s .args .walk) (s .args .duty) (s .args .e) (s .args .table .now) (g .step .last .1 .1 .0) (g .step .result) (g .step .ensures) (f .if1 .left)
+    (s .args .hints .now) (s .pre)
+
+-- src/lib.rt:95:1
+same-length-3 : tie.Need-same-length-3
+same-length-3 c = search needs
+
+-- src/lib.rt:95:1
+same-length-4 : tie.Need-same-length-4
+same-length-4 c = search needs
+
+-- src/lib.rt:95:1
+same-length-5 : tie.Need-same-length-5
+same-length-5 c = search needs
+
+-- src/lib.rt:95:1
 returns-2 : tie.Need-returns-2
 returns-2 c =
-    let g = c .before .before .before .before in
-    let s = g .before .before .before .before in
-    advanced-refused (s .args .walk) (accepted (s .args .e)) _ (s .args .buffer .now) _
-    (λ row sp es b is.
-    ap shownAnswer (sym (c .before .answer .given .1)) ∙ g .send .ensures .answer row sp es b (quantum-is row sp es (s .args .walk) is))
+    let w = c .before .before in
+    let f = w .before .before .before .before .before in
+    let g = f .before .before .before .before .before .before in
+    let s = g .before .before .before .before .before .before .before .before in
+    advanced-taken (s .args .walk) (s .args .duty) (s .args .e) (s .args .table .now) (g .step .last .1 .1 .0) (g .step .result) (g .step .ensures) (f .if1 .left)
+    _ (w .grow .result) (s .args .buffer .now) _ refl (w .grow .ensures)
 
 pub taken-spec : {M : Type 1} → statement M
 taken-spec =
     tie.close
     (tie.spec
-    send-requires
-    enum-told
-    now-requires
-    now-requires-2
-    keeps-requires
-    grow-requires
-    enum-known-answer
+    step-requires
     same-length
+    same-length-2
     returns
+    grow-requires
+    same-length-3
+    same-length-4
+    same-length-5
     returns-2)

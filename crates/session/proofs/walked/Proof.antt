@@ -1,142 +1,218 @@
--- The loop's invariant: some events led to the run so far, the records passed are theirs, and the pairs are in the buffer as far as they
--- fit. Assumes nothing.
-use Prim.Native.Nat.{_+_, _-_, _≤_}
+-- The loop's invariant: some events led to the run so far and its table, the records passed are theirs, and the pairs are in the buffer as
+-- far as they fit. Assumes nothing.
+use Prim.Native.Nat.{ℕ, _+_, _*_, _-_, _/_, _≤_, _<_}
 use native.Mathlib.Omega.{arith}
-use mathlib.Core.Path.{_≡_, refl}
-use mathlib.Core.List.{[]}
+use mathlib.Core.Path.{_≡_, refl, sym, ap, _∙_}
+use mathlib.Core.List.{List, []}
 use lib.ListN.{length}
 use borrow.Author.Needs.{needs}
 use Rattle.rules.specs.declared.Steps.{Steps}
+use Rattle.quantum.specs.Standing.{dutyOf}
 use Rattle.session.specs.Walks.{walkAt, Going}
-use Rattle.session.proofs.Loop.{end-bounds, going-start, going-walking, going-ending, going-end, going-past, going-refused, going-on}
+use Rattle.session.proofs.Loop.{going-start, going-walking, going-ending, going-end, going-past, going-short, going-numbered, going-refused, going-on, part-is, none-live}
 use Rattle.session.proofs.walked.Statement.{statement}
 use Rattle.session.proofs.walked.Tie as tie
+use Rattle.session.proofs.walked.Reads as reads
+use Rattle.session.proofs.walked.Lts as lts
+use Rattle.book.proofs.empty.Reads as empty-reads
+use Rattle.quantum.proofs.duty_of.Reads as duty-of-reads
+use Rattle.quantum.proofs.refusal_of.Reads as refusal-of-reads
+use Rattle.session.proofs.begin.Reads as begin-reads
+use Rattle.session.proofs.finish.Reads as finish-reads
+use Rattle.session.proofs.step.Reads as step-reads
 
 abbrev Inv-loop : tie.InvT-loop
-Inv-loop limit row records buffer₀ walk₀ at₀ place₀ buffer walk at place = (at ≤ length records) × (place ≤ limit + 1) × (length buffer ≡ length buffer₀)
-    × ((sp : Steps) → walk₀ ≡ walkAt row (sp .0) [] → Going limit row sp records buffer₀ walk at place buffer)
+Inv-loop limit row records buffer₀ duty table₀ hints₀ walk₀ at₀ place₀ full buffer table hints walk at place = (at + 20 ≡ 20 * place) × (at ≤ full) × (full ≤ length records) × (length records < full + 20) × (place ≤ limit + 1) × (length buffer ≡ length buffer₀) × (length table ≡ 512) × (length hints ≡ 1024)
+    × ((sp : Steps) → duty ≡ dutyOf row (sp .0) → Going limit row sp records buffer₀ walk at place table buffer)
 
 abbrev μ-loop : tie.MeasureT-loop
-μ-loop limit row records buffer₀ walk₀ at₀ place₀ buffer walk at place = length records - at
+μ-loop limit row records buffer₀ duty table₀ hints₀ walk₀ at₀ place₀ full buffer table hints walk at place = length records - at
 
+-- src/lib.rt:170:9
+duty-of-requires : tie.Need-duty-of-requires Inv-loop μ-loop
+duty-of-requires c κs = c .before .before .pre .1
+
+-- src/lib.rt:171:21
+empty-requires : tie.Need-empty-requires Inv-loop μ-loop
+empty-requires c κs = search needs
+
+-- src/lib.rt:173:9
 begin-requires : tie.Need-begin-requires Inv-loop μ-loop
-begin-requires c κs = c .before .before .pre .1
+begin-requires c κs = tt
 
+-- src/lib.rt:176:16
+mul-full : tie.Need-mul-full Inv-loop μ-loop
+mul-full c = omega arith
+
+-- src/lib.rt:177:5
 loop-holds : tie.Need-loop-holds Inv-loop μ-loop
 loop-holds c =
-    let s = c .before .before .before in
-    (omega arith, omega arith, refl, λ sp is. going-start (s .args .limit) (s .args .row) sp (s .args .records .now) (s .args .buffer .now) (c .begin .result) is)
+    let s = c .before .before .before .before .before in
+    (refl, omega arith, omega arith, omega arith, omega arith, refl, search needs, refl,
+    λ sp is.
+    going-start (s .args .limit) (s .args .row) sp (s .args .records .now) (s .args .buffer .now) (c .begin .result) (c .before .empty .result) (c .begin .ensures (s .args .row) (sp .0))
+    (none-live (s .args .row) (c .before .empty .result) (c .before .empty .ensures (s .args .row .least .0))))
 
+-- src/lib.rt:179:13
 same-length : tie.Need-same-length Inv-loop μ-loop
 same-length c = search needs
 
+-- src/lib.rt:179:13
 returns : tie.Need-returns Inv-loop μ-loop
 returns c =
     let l = c .before .before in
     let b = l .before in
-    let s = b .before .before .before in
-    let g = l .loop .inv .3 (s .args .sp) (b .begin .ensures) in
-    going-past (s .args .limit) (s .args .row) (s .args .sp) (s .args .records .now) (s .args .buffer .now) (l .loop .walk) (l .loop .at) (l .loop .place) (l .loop .buffer) g (c .before .loop-test .taken) (l .loop .buffer) (omega arith)
+    let s = b .before .before .before .before .before in
+    let g = l .loop .inv .8 (s .args .sp) (b .before .before .duty-of .ensures) in
+    going-past (s .args .limit) (s .args .row) (s .args .sp) (s .args .records .now) (s .args .buffer .now) (l .loop .walk) (l .loop .at) (l .loop .place) (l .loop .table) (l .loop .buffer) g
+    (omega (arith, l .loop .inv .2, c .before .loop-test .taken)) (l .loop .buffer) (omega arith)
 
-end-of-requires : tie.Need-end-of-requires Inv-loop μ-loop
-end-of-requires c κs = omega arith
+-- src/lib.rt:184:47
+add-step : tie.Need-add-step Inv-loop μ-loop
+add-step c = omega arith
 
+-- src/lib.rt:184:34
 sub-step : tie.Need-sub-step Inv-loop μ-loop
-sub-step c =
-    let l = c .before .before .before in
-    let s = l .before .before .before .before in
-    let e = end-bounds (length (s .args .records .now)) (l .loop .at) (c .end-of .result) (c .before .before .loop-test .taken) (c .end-of .ensures) in
-    omega (arith, e .0)
+sub-step c = omega arith
 
+-- src/lib.rt:184:34
 part-step-start : tie.Need-part-step-start Inv-loop μ-loop
-part-step-start c =
-    let l = c .before .before .before in
-    let s = l .before .before .before .before in
-    let e = end-bounds (length (s .args .records .now)) (l .loop .at) (c .end-of .result) (c .before .before .loop-test .taken) (c .end-of .ensures) in
-    omega (arith, e .0)
+part-step-start c = omega arith
 
+-- src/lib.rt:184:34
 part-step-end : tie.Need-part-step-end Inv-loop μ-loop
-part-step-end c =
-    let l = c .before .before .before in
-    let s = l .before .before .before .before in
-    let e = end-bounds (length (s .args .records .now)) (l .loop .at) (c .end-of .result) (c .before .before .loop-test .taken) (c .end-of .ensures) in
-    omega (arith, e .1)
+part-step-end c = omega arith
 
+-- src/lib.rt:184:63
+slice-aggregate-step : tie.Need-slice-aggregate-step Inv-loop μ-loop
+slice-aggregate-step c = sym (c .before .before .before .before .loop .inv .6)
+
+-- src/lib.rt:184:75
+slice-aggregate-step-2 : tie.Need-slice-aggregate-step-2 Inv-loop μ-loop
+slice-aggregate-step-2 c = sym (c .before .before .before .before .before .loop .inv .7)
+
+-- src/lib.rt:184:13
 step-requires : tie.Need-step-requires Inv-loop μ-loop
 step-requires c κs =
-    let l = c .before .before .before .before .before in
+    let l = c .before .before .before .before .before .before in
     let b = l .before in
-    let s = b .before .before .before in
-    let g = l .loop .inv .3 (s .args .sp) (b .begin .ensures) in
-    going-walking (s .args .limit) (s .args .row) (s .args .sp) (s .args .records .now) (s .args .buffer .now) (l .loop .walk) (l .loop .at) (l .loop .place) (l .loop .buffer) g (s .pre .1)
+    let s = b .before .before .before .before .before in
+    let d = b .before .before .duty-of in
+    let g = l .loop .inv .8 (s .args .sp) (d .ensures) in
+    going-walking (s .args .limit) (s .args .row) (s .args .sp) (s .args .records .now) (s .args .buffer .now) (l .loop .walk) (l .loop .at) (l .loop .place) (l .loop .table) (l .loop .buffer) g
+    (d .result) (l .loop .hints) (s .pre .1) (d .ensures) (l .loop .inv .7)
 
-enum-told : tie.Need-enum-told Inv-loop μ-loop
-enum-told c = search needs
-
-add-place : tie.Need-add-place Inv-loop μ-loop
-add-place c = omega arith
-
-loop-less : tie.Need-loop-less Inv-loop μ-loop
-loop-less c =
+-- src/lib.rt:188:26
+refusal-of-requires : tie.Need-refusal-of-requires Inv-loop μ-loop
+refusal-of-requires c κs =
     let k = c .before .before .before .before .before in
-    let e = k .before .before .before in
-    let l = e .before .before .before in
+    let i = k .before .before .before .before .before .before in
+    let l = i .before in
     let b = l .before in
-    let s = b .before .before .before in
-    let g = l .loop .inv .3 (s .args .sp) (b .begin .ensures) in
-    let n = end-bounds (length (s .args .records .now)) (l .loop .at) (e .end-of .result) (e .before .before .loop-test .taken) (e .end-of .ensures) in
-    omega (arith, n .0, n .1)
+    let s = b .before .before .before .before .before in
+    let d = b .before .before .duty-of in
+    let g = l .loop .inv .8 (s .args .sp) (d .ensures) in
+    let inside : l .loop .at < length (s .args .records .now) = omega (arith, l .loop .inv .2, i .loop-test .taken) in
+    let few : l .loop .place ≤ s .args .limit = omega (arith, k .before .before .before .before .before .if1 .left) in
+    let cut = part-is (s .args .records .now) (l .loop .at) in
+    going-numbered (s .args .limit) (s .args .row) (s .args .sp) (s .args .records .now) (s .args .buffer .now) (l .loop .walk) (l .loop .at) (l .loop .place) (l .loop .table) (l .loop .buffer) g
+    inside few (d .result) (d .ensures) (k .step .result) (k .step .last .1 .1 .1 .0) (k .step .last .1 .1 .1 .1 .1 .0) _ cut (k .step .ensures) (c .if2 .taken)
 
-loop-again : tie.Need-loop-again Inv-loop μ-loop
-loop-again c =
-    let k = c .before .before .before .before .before in
-    let e = k .before .before .before in
-    let l = e .before .before .before in
-    let b = l .before in
-    let s = b .before .before .before in
-    let g = l .loop .inv .3 (s .args .sp) (b .begin .ensures) in
-    let n = end-bounds (length (s .args .records .now)) (l .loop .at) (e .end-of .result) (e .before .before .loop-test .taken) (e .end-of .ensures) in
-    let next : (sp : Steps) → b .begin .result ≡ walkAt (s .args .row) (sp .0) [] → Going (s .args .limit) (s .args .row) sp (s .args .records .now) (s .args .buffer .now) (k .step .result .walk) (e .end-of .result) (l .loop .place + 1) (k .step .last .1 .1 .0) =
-    λ sp is.
-    going-on (s .args .limit) (s .args .row) sp (s .args .records .now) (s .args .buffer .now) (l .loop .walk) (l .loop .at) (l .loop .place) (l .loop .buffer) (l .loop .inv .3 sp is)
-    (e .before .before .loop-test .taken) (e .end-of .result) (e .end-of .ensures) (omega arith) (k .step .result) (k .step .last .1 .1 .0) (k .step .ensures) (c .enum-told .given .1) in
-    (n .1, omega arith, next (s .args .sp) (b .begin .ensures) .holds .size, next)
-
-enum-known-answer : tie.Need-enum-known-answer Inv-loop μ-loop
-enum-known-answer c = search needs
-
+-- src/lib.rt:187:13
 same-length-2 : tie.Need-same-length-2 Inv-loop μ-loop
 same-length-2 c = search needs
 
+-- src/lib.rt:187:13
 returns-2 : tie.Need-returns-2 Inv-loop μ-loop
 returns-2 c =
     let k = c .before .before .before .before .before .before in
-    let e = k .before .before .before in
-    let l = e .before .before .before in
+    let i = k .before .before .before .before .before .before in
+    let l = i .before in
     let b = l .before in
-    let s = b .before .before .before in
-    let g = l .loop .inv .3 (s .args .sp) (b .begin .ensures) in
-    going-refused (s .args .limit) (s .args .row) (s .args .sp) (s .args .records .now) (s .args .buffer .now) (l .loop .walk) (l .loop .at) (l .loop .place) (l .loop .buffer) g
-    (e .before .before .loop-test .taken) (e .end-of .result) (e .end-of .ensures) (omega arith) (k .step .result) (k .step .last .1 .1 .0) (k .step .ensures) _ (c .before .answer .given .1)
+    let s = b .before .before .before .before .before in
+    let d = b .before .before .duty-of in
+    let g = l .loop .inv .8 (s .args .sp) (d .ensures) in
+    let inside : l .loop .at < length (s .args .records .now) = omega (arith, l .loop .inv .2, i .loop-test .taken) in
+    let few : l .loop .place ≤ s .args .limit = omega (arith, k .before .before .before .before .before .if1 .left) in
+    let cut = part-is (s .args .records .now) (l .loop .at) in
+    going-refused (s .args .limit) (s .args .row) (s .args .sp) (s .args .records .now) (s .args .buffer .now) (l .loop .walk) (l .loop .at) (l .loop .place) (l .loop .table) (l .loop .buffer) g
+    inside few (d .result) (d .ensures) (k .step .result) (k .step .last .1 .1 .1 .0) (k .step .last .1 .1 .1 .1 .1 .0) _ cut (k .step .ensures) (c .refusal-of .result) (c .before .if2 .taken) (c .refusal-of .ensures)
 
-finish-requires : tie.Need-finish-requires Inv-loop μ-loop
-finish-requires c κs =
-    let l = c .before .before in
+-- src/lib.rt:193:9
+add-at : tie.Need-add-at Inv-loop μ-loop
+add-at c =
+    let l = c .before .before .before .before .before .before .before .before .before .before .before .before .before in
+    let s = l .before .before .before .before .before .before in
+    omega (arith, l .loop .inv .0, l .loop .inv .4, s .pre .0)
+
+-- src/lib.rt:194:9
+add-place : tie.Need-add-place Inv-loop μ-loop
+add-place c =
+    let l = c .before .before .before .before .before .before .before .before .before .before .before .before .before in
+    let s = l .before .before .before .before .before .before in
+    omega (arith, l .loop .inv .4, s .pre .0)
+
+-- src/lib.rt:177:5
+loop-less : tie.Need-loop-less Inv-loop μ-loop
+loop-less c = omega arith
+
+-- src/lib.rt:177:5
+loop-again : tie.Need-loop-again Inv-loop μ-loop
+loop-again c =
+    let k = c .before .before .before .before .before .before in
+    let i = k .before .before .before .before .before .before in
+    let l = i .before in
     let b = l .before in
-    let s = b .before .before .before in
-    let g = l .loop .inv .3 (s .args .sp) (b .begin .ensures) in
-    going-ending (s .args .limit) (s .args .row) (s .args .sp) (s .args .records .now) (s .args .buffer .now) (l .loop .walk) (l .loop .at) (l .loop .place) (l .loop .buffer) g (s .pre .1)
+    let s = b .before .before .before .before .before in
+    let d = b .before .before .duty-of in
+    let inside : l .loop .at < length (s .args .records .now) = omega (arith, l .loop .inv .2, i .loop-test .taken) in
+    let few : l .loop .place ≤ s .args .limit = omega (arith, k .before .before .before .before .before .if1 .left) in
+    let cut = part-is (s .args .records .now) (l .loop .at) in
+    let whole : l .loop .at + 20 ≤ length (s .args .records .now) / 20 * 20 = omega (arith, l .loop .inv .0, i .loop-test .taken) in
+    let next : (sp : Steps) → d .result ≡ dutyOf (s .args .row) (sp .0) → Going (s .args .limit) (s .args .row) sp (s .args .records .now) (s .args .buffer .now) (k .step .result .walk) (l .loop .at + 20) (l .loop .place + 1) (k .step .last .1 .1 .1 .0) (k .step .last .1 .1 .1 .1 .1 .0) =
+    λ sp is.
+    going-on (s .args .limit) (s .args .row) sp (s .args .records .now) (s .args .buffer .now) (l .loop .walk) (l .loop .at) (l .loop .place) (l .loop .table) (l .loop .buffer) (l .loop .inv .8 sp is)
+    inside few (d .result) is (k .step .result) (k .step .last .1 .1 .1 .0) (k .step .last .1 .1 .1 .1 .1 .0) _ cut (k .step .ensures) (omega (arith, whole, l .loop .inv .2)) (c .before .if2 .left) in
+    (omega (arith, l .loop .inv .0), whole, l .loop .inv .2, l .loop .inv .3, omega (arith, few), next (s .args .sp) (d .ensures) .holds .size, c .before .before .before .before .before .table2 .given, c .before .before .before .before .hints2 .given, next)
 
+-- src/lib.rt:197:9
 same-length-3 : tie.Need-same-length-3 Inv-loop μ-loop
 same-length-3 c = search needs
 
+-- src/lib.rt:197:9
 returns-3 : tie.Need-returns-3 Inv-loop μ-loop
 returns-3 c =
-    let l = c .before .before .before .before .before in
+    let l = c .before .before in
     let b = l .before in
-    let s = b .before .before .before in
-    let g = l .loop .inv .3 (s .args .sp) (b .begin .ensures) in
-    going-end (s .args .limit) (s .args .row) (s .args .sp) (s .args .records .now) (s .args .buffer .now) (l .loop .walk) (l .loop .at) (l .loop .place) (l .loop .buffer) g (c .before .before .finish .result) (c .before .before .finish .last .1 .1 .0) (c .before .before .before .before .loop-test .left) (c .before .before .finish .ensures)
+    let s = b .before .before .before .before .before in
+    let g = l .loop .inv .8 (s .args .sp) (b .before .before .duty-of .ensures) in
+    going-short (s .args .limit) (s .args .row) (s .args .sp) (s .args .records .now) (s .args .buffer .now) (l .loop .walk) (l .loop .at) (l .loop .place) (l .loop .table) (l .loop .buffer) g
+    (omega (arith, l .loop .inv .1, c .if3 .taken)) (l .loop .buffer) (omega (arith, l .loop .inv .3, c .before .loop-test .left))
+
+-- src/lib.rt:202:5
+finish-requires : tie.Need-finish-requires Inv-loop μ-loop
+finish-requires c κs =
+    let l = c .before .before .before in
+    let b = l .before in
+    let s = b .before .before .before .before .before in
+    let g = l .loop .inv .8 (s .args .sp) (b .before .before .duty-of .ensures) in
+    going-ending (s .args .limit) (s .args .row) (s .args .sp) (s .args .records .now) (s .args .buffer .now) (l .loop .walk) (l .loop .at) (l .loop .place) (l .loop .table) (l .loop .buffer) g (s .pre .1)
+
+-- src/lib.rt:166:1
+same-length-4 : tie.Need-same-length-4 Inv-loop μ-loop
+same-length-4 c = search needs
+
+-- src/lib.rt:166:1
+returns-4 : tie.Need-returns-4 Inv-loop μ-loop
+returns-4 c =
+    let f = c .before .before in
+    let e = f .before .before in
+    let l = e .before .before in
+    let b = l .before in
+    let s = b .before .before .before .before .before in
+    let g = l .loop .inv .8 (s .args .sp) (b .before .before .duty-of .ensures) in
+    going-end (s .args .limit) (s .args .row) (s .args .sp) (s .args .records .now) (s .args .buffer .now) (l .loop .walk) (l .loop .at) (l .loop .place) (l .loop .table) (l .loop .buffer) g
+    (f .finish .result) (f .finish .last .1 .1 .0) (omega (arith, e .if3 .left, e .before .loop-test .left)) (f .finish .ensures)
 
 pub walked-spec : {M : Type 1} → statement M
 walked-spec =
@@ -144,22 +220,29 @@ walked-spec =
     (tie.spec
     Inv-loop
     μ-loop
+    duty-of-requires
+    empty-requires
     begin-requires
+    mul-full
     loop-holds
     same-length
     returns
-    end-of-requires
+    add-step
     sub-step
     part-step-start
     part-step-end
+    slice-aggregate-step
+    slice-aggregate-step-2
     step-requires
-    enum-told
+    refusal-of-requires
+    same-length-2
+    returns-2
+    add-at
     add-place
     loop-less
     loop-again
-    enum-known-answer
-    same-length-2
-    returns-2
-    finish-requires
     same-length-3
-    returns-3)
+    returns-3
+    finish-requires
+    same-length-4
+    returns-4)

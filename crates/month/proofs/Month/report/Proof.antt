@@ -19,31 +19,25 @@ live-requires : tie.Need-live-requires
 live-requires c κs = let s = c .before .before .before .before .before in quantum-reached (s .args .self) (s .pre)
 
 best-bid-requires : tie.Need-best-bid-requires
-best-bid-requires c κs = search needs
+best-bid-requires c κs = let s = c .before .before .before .before .before .before in quantum-reached (s .args .self) (s .pre)
 
 best-ask-requires : tie.Need-best-ask-requires
-best-ask-requires c κs = search needs
+best-ask-requires c κs = let s = c .before .before .before .before .before .before .before in quantum-reached (s .args .self) (s .pre)
 
 kept-so-far-requires : tie.Need-kept-so-far-requires
 kept-so-far-requires c κs = search needs
 
 returns : tie.Need-returns
 returns c =
-    let m = c .before .before .before .before .before .before .before .before .before .args .self in (
-      refl,
-      report-done m _
-          (λ i.
-          record {
-            running = m .running;
-            time = c .before .before .before .before .now .ensures i;
-            orders = c .before .before .before .live .ensures i;
-            bid = c .before .before .best-bid .ensures i;
-            ask = c .before .best-ask .ensures i;
-            kept = c .kept-so-far .ensures i;
-            failures = c .before .before .before .before .before .before .failures .ensures i;
-            fee = c .before .before .before .before .before .fee .ensures i;
-          }),
-    )
+    let m = c .before .before .before .before .before .before .before .before .before .args .self in
+    let read = record {
+      time-is = c .before .before .before .before .now .ensures;
+      kept-is = c .kept-so-far .ensures;
+      orders-are = c .before .before .before .live .ensures;
+      bid-is = c .before .before .best-bid .ensures;
+      ask-is = c .before .best-ask .ensures;
+    } in
+    (refl, report-done m _ _ _ _ _ _ _ read (c .before .before .before .before .before .before .failures .ensures) (c .before .before .before .before .before .fee .ensures))
 
 pub report-spec : {M : Type 1} → statement M
 report-spec =

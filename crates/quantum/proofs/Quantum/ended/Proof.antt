@@ -1,23 +1,42 @@
--- Time runs on to L. Assumes nothing.
-use mathlib.Core.Path.{_≡_, ap, _∙_}
+-- Time runs on to the end. Assumes nothing.
+use mathlib.Core.Path.{_≡_, ap, sym, _∙_}
 use native.Mathlib.Omega.{arith}
-use Rattle.rules.specs.declared.Millis.{Millis}
 use Rattle.rules.specs.Kept.{keptBelow}
-use Rattle.quantum.proofs.Standing.{length-is, time-is, onward}
+use Rattle.quantum.specs.declared.Clock.{Clock}
+use Rattle.quantum.proofs.Standing.{time-is, length-is, onward, kept-at}
+use Rattle.quantum.proofs.Answers.{stands-for}
 use Rattle.quantum.proofs.Quantum.ended.Statement.{statement}
 use Rattle.quantum.proofs.Quantum.ended.Tie as tie
+use Rattle.quantum.proofs.Quantum.ended.Reads as reads
+use Rattle.quantum.proofs.Quantum.ended.Lts as lts
+use Rattle.quantum.proofs.onward.Reads as onward-reads
 
-kept-at-requires : tie.Need-kept-at-requires
-kept-at-requires c κs = let s = c .before in
-    let r = s .pre in
+-- src/lib.rt:262:13
+onward-requires : tie.Need-onward-requires
+onward-requires c κs =
+    let s = c .before .before .before in
+    let p = s .pre in
     let q = s .args .self in
-    let l : q .length .0 ≡ r .row .length .0 = ap (λ (x : Millis). x .0) (length-is (r .row) (r .sp) (r .events) q (r .is)) in
-    onward (r .row) (r .sp) (r .events) q (r .is) (q .length) (omega (arith, time-is (r .row) (r .sp) (r .events) q (r .is), r .bounds .ends))
+    let h = stands-for (p .row) (p .sp) (p .events) q (p .is) (p .bounds) in
+    onward (p .row) (p .sp) (p .events) (q .clock) (h .clock-is) (q .duty .length)
+    (omega (
+      arith,
+      time-is (p .row) (p .sp) (p .events) (q .clock) (h .clock-is),
+      length-is (p .row) (p .sp) (p .events) (q .duty) (q .clock) (q .table) h,
+      p .bounds .ends,
+    ))
 
+-- src/lib.rt:255:5
 returns : tie.Need-returns
 returns c = λ row sp es g is.
-    let q = c .before .before .args .self in
-    c .kept-at .ensures row sp es g is ∙ ap (λ (x : Millis). keptBelow row sp es (x .0)) (length-is row sp es q is)
+    let s = c .before .before .before .before .before in
+    let q = s .args .self in
+    let h = stands-for row sp es q is g in
+    let t = time-is row sp es (q .clock) (h .clock-is) in
+    let l = length-is row sp es (q .duty) (q .clock) (q .table) h in
+    ap (λ (x : Clock). x .kept .0) (c .before .onward .ensures)
+    ∙ kept-at row sp es (q .clock) (h .clock-is) g (q .duty .length .0) (omega (arith, t, l, g .ends))
+    ∙ ap (keptBelow row sp es) l
 
 pub ended-spec : {M : Type 1} → statement M
-ended-spec = tie.close (tie.spec kept-at-requires returns)
+ended-spec = tie.close (tie.spec onward-requires returns)

@@ -1,27 +1,29 @@
--- At most 64 are live. Assumes nothing.
-use mathlib.Core.Path.{sym, _∙_}
-use native.Mathlib.Omega.{arith}
-use Rattle.rules.specs.Orders.{live}
-use Rattle.orders.proofs.Slots.{count-is}
-use Rattle.quantum.proofs.Standing.{orders-are}
+-- Read off the table. Assumes nothing.
+use Rattle.rules.specs.Orders.{live as liveOrders}
+use Rattle.quantum.proofs.Standing.{good-orders}
+use Rattle.quantum.proofs.Answers.{stands-for, held-in}
 use borrow.Author.Needs.{needs}
 use Rattle.quantum.proofs.Quantum.live.Statement.{statement}
 use Rattle.quantum.proofs.Quantum.live.Tie as tie
+use Rattle.quantum.proofs.Quantum.live.Reads as reads
+use Rattle.quantum.proofs.Quantum.live.Lts as lts
+use Rattle.book.proofs.live.Reads as live-reads
 
-len-requires : tie.Need-len-requires
-len-requires c κs = search needs
+-- src/lib.rt:302:20
+slice-aggregate-count : tie.Need-slice-aggregate-count
+slice-aggregate-count c = search needs
 
-cast-result : tie.Need-cast-result
-cast-result c = let s = c .before .before in
-    let r = s .pre in
-    let e = c .len .ensures (live (r .events)) (orders-are (r .row) (r .sp) (r .events) (s .args .self) (r .is)) in
-    omega (arith, e, r .bounds .few)
+-- src/lib.rt:302:9
+count-requires : tie.Need-count-requires
+count-requires c κs =
+    let s = c .before .before in
+    held-in (s .args .self) (s .pre)
 
+-- src/lib.rt:297:5
 returns : tie.Need-returns
-returns c = let s = c .before .before in
-    let r = s .pre in
-    let o = orders-are (r .row) (r .sp) (r .events) (s .args .self) (r .is) in
-    c .len .ensures (live (r .events)) o ∙ sym (count-is (s .args .self .orders) (live (r .events)) o)
+returns c = λ row sp es g is.
+    let q = c .before .before .before .args .self in
+    c .count .ensures (row .least .0) (liveOrders es) (good-orders row es g) (stands-for row sp es q is g .table-is)
 
 pub live-spec : {M : Type 1} → statement M
-live-spec = tie.close (tie.spec len-requires cast-result returns)
+live-spec = tie.close (tie.spec slice-aggregate-count count-requires returns)

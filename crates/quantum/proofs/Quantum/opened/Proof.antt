@@ -1,21 +1,32 @@
--- No events, no orders, time 0. Assumes nothing.
-use Rattle.rules.specs.Terms.{paper}
-use Rattle.rules.proofs.Bounds.{row-bounds}
-use Rattle.quantum.proofs.Standing.{opened-is}
+-- No events: the duty of the row, a clock at 0, no orders. Assumes nothing.
+use Rattle.quantum.proofs.Answers.{opened-is}
 use borrow.Author.Needs.{needs}
 use Rattle.quantum.proofs.Quantum.opened.Statement.{statement}
 use Rattle.quantum.proofs.Quantum.opened.Tie as tie
+use Rattle.quantum.proofs.Quantum.opened.Reads as reads
+use Rattle.quantum.proofs.Quantum.opened.Lts as lts
+use Rattle.book.proofs.empty.Reads as empty-reads
+use Rattle.quantum.proofs.duty_of.Reads as duty-of-reads
+use Rattle.quantum.proofs.started.Reads as started-reads
 
-spread-limit-requires : tie.Need-spread-limit-requires
-spread-limit-requires c κs = row-bounds paper (c .before .before .args .row) (c .before .before .pre) .a-most
+-- src/lib.rt:237:13
+duty-of-requires : tie.Need-duty-of-requires
+duty-of-requires c κs = search needs
 
-none-requires : tie.Need-none-requires
-none-requires c κs = search needs
+-- src/lib.rt:238:13
+started-requires : tie.Need-started-requires
+started-requires c κs = search needs
 
+-- src/lib.rt:239:13
+empty-requires : tie.Need-empty-requires
+empty-requires c κs = search needs
+
+-- src/lib.rt:233:5
 returns : tie.Need-returns
 returns c =
-    let s = c .before .before .before .before in
-    opened-is (s .args .row) (s .args .sp .0) (c .before .spread-limit .result) (c .none .result) (c .before .spread-limit .ensures) (c .none .ensures)
+    let s = c .before .before .before in
+    opened-is (s .args .row) (s .args .sp .0) (c .before .before .duty-of .result) (c .before .started .result) (c .empty .result)
+    (c .before .before .duty-of .ensures) (c .before .started .ensures (s .args .row) (s .args .sp .0)) (c .empty .ensures (s .args .row .least .0))
 
 pub opened-spec : {M : Type 1} → statement M
-opened-spec = tie.close (tie.spec spread-limit-requires none-requires returns)
+opened-spec = tie.close (tie.spec duty-of-requires started-requires empty-requires returns)

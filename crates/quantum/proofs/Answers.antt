@@ -1,0 +1,155 @@
+-- From the clock and the table to the quantum that holds them, and the numbers that refuse an event. Assumes nothing.
+use Prim.Native.Nat.{ℕ, zero, suc, _≤_, _<_}
+use mathlib.Core.Path.{_≡_, refl, ap, sym, _∙_}
+use mathlib.Core.Bool.{Bool, true, false}
+use mathlib.Core.List.{List, [], _∷_, _++_}
+use native.Mathlib.Omega.{arith}
+use borrow.Author.Tests.{ltb-true, ltb-false}
+use lib.Dec.{ltb}
+use lib.IntN.{ℤ}
+use lib.ListN.{length}
+use Rattle.rules.specs.declared.Row.{Row}
+use Rattle.rules.specs.declared.Event.{Event}
+use Rattle.rules.specs.declared.Event.the-variants.{Add, Amend, Cancel, Deal, Tick}
+use Rattle.rules.specs.declared.Order.{Order}
+use Rattle.rules.specs.declared.Refusal.{Refusal}
+use Rattle.rules.specs.declared.Answer.the-variants.{Accepted, Refused}
+use Rattle.rules.specs.Lists.{if_then_else_}
+use Rattle.rules.specs.Answers.{Outcome, Reply, refused, outcomeBy, done, numberOf, shownAnswer}
+use Rattle.rules.specs.Orders.{live, applyAll}
+use Rattle.rules.specs.Book.{Cause, cause, lowest, traderCauses, eventCauses, eventRefusal}
+use Rattle.rules.specs.Bounds.{EventBounds}
+use Rattle.book.specs.Table.{tableOf, Held}
+use Rattle.quantum.specs.declared.Duty.{Duty}
+use Rattle.quantum.specs.declared.Clock.{Clock}
+use Rattle.quantum.specs.declared.Stepped.{Stepped}
+use Rattle.quantum.specs.declared.Quantum.{Quantum}
+use Rattle.quantum.specs.Standing.{dutyOf, clockOf, tableAfter, standing, taken, Reached, Answered, Running, Stands, Stepping}
+
+use Rattle.quantum.proofs.Standing.{good-orders}
+
+-- ---- the numbers
+
+abbrev Numbered : ℕ → Type 0
+Numbered n = 0 < n → (8 ≤ n) × (n ≤ 15)
+
+numbered-next : (n : ℕ) (b : Bool) (cs : List Cause) → 8 ≤ n → n ≤ 15 → Numbered (lowest cs) → Numbered (lowest (cause n b ∷ cs))
+unfolding lowest
+numbered-next n true cs l u k = λ h. (l, u)
+numbered-next n false cs l u k = k
+
+numbered-none : Numbered (lowest [])
+unfolding lowest
+numbered-none = λ h. absurd (omega (arith, h))
+
+trader-numbered : (orders : List Order) (e : Event) → Numbered (lowest (traderCauses orders e))
+trader-numbered orders (Add t id side price volume) =
+    numbered-next 10 _ _ (omega arith) (omega arith)
+    (numbered-next 12 _ _ (omega arith) (omega arith) (numbered-next 13 _ _ (omega arith) (omega arith) numbered-none))
+trader-numbered orders (Amend t id price volume) =
+    numbered-next 11 _ _ (omega arith) (omega arith) (numbered-next 12 _ _ (omega arith) (omega arith) numbered-none)
+trader-numbered orders (Cancel t id) = numbered-next 11 _ _ (omega arith) (omega arith) numbered-none
+trader-numbered orders (Deal t id volume) =
+    numbered-next 11 _ _ (omega arith) (omega arith)
+    (numbered-next 12 _ _ (omega arith) (omega arith) (numbered-next 14 _ _ (omega arith) (omega arith) numbered-none))
+trader-numbered orders (Tick t) = numbered-none
+
+-- what refuses an event has a number from 8 to 14
+pub event-numbered : (row : Row) (es : List Event) (e : Event) → 0 < eventRefusal row es e → (8 ≤ eventRefusal row es e) × (eventRefusal row es e ≤ 15)
+unfolding eventRefusal eventCauses
+event-numbered row es e =
+    numbered-next 8 _ _ (omega arith) (omega arith) (numbered-next 9 _ _ (omega arith) (omega arith) (trader-numbered (live es) e))
+
+-- a number that is not the least one is above it
+above : (k n : ℕ) → k ≤ n → (n ≡ k → ⊥) → suc k ≤ n
+above k n l h = go (ltb k n) refl
+  where
+    go : (b : Bool) → ltb k n ≡ b → suc k ≤ n
+    go true e = omega (arith, ltb-true k n e)
+    go false e = absurd (h (omega (arith, ltb-false k n e)))
+
+pub fifteen : (n : ℕ) → 8 ≤ n → n ≤ 15 → (n ≡ 8 → ⊥) → (n ≡ 9 → ⊥) → (n ≡ 10 → ⊥) → (n ≡ 11 → ⊥) → (n ≡ 12 → ⊥) → (n ≡ 13 → ⊥) → (n ≡ 14 → ⊥)
+    → _≡_ {A = ℕ} 15 n
+fifteen n l u a b c d e f g =
+    let h = above 14 n (above 13 n (above 12 n (above 11 n (above 10 n (above 9 n (above 8 n l a) b) c) d) e) f) g in omega arith
+
+-- ---- the quantum
+
+module _ (row : Row) (sp : ℤ) (es : List Event) (q : Quantum) (is : q ≡ standing row sp es) where
+  pub stands-for : EventBounds row es → Stands row sp es (q .duty) (q .clock) (q .table)
+  unfolding standing
+  stands-for g =
+      record {
+        bounds = g;
+        duty-is = ap (λ (x : Quantum). x .duty) is;
+        clock-is = ap (λ (x : Quantum). x .clock) is;
+        table-is = ap (λ (x : Quantum). x .table) is;
+      }
+
+  pub whole-is : q .duty .length ≡ row .length
+  unfolding standing dutyOf
+  whole-is = ap (λ (x : Quantum). x .duty .length) is
+
+pub running-of : (q : Quantum) (hints : List ℕ) → Reached q → length hints ≡ 1024 → Running (q .duty) (q .clock) (q .table) hints
+running-of q hints r h =
+    let s = stands-for (r .row) (r .sp) (r .events) q (r .is) (r .bounds) in
+    record {
+      row = r .row;
+      sp = r .sp;
+      events = r .events;
+      some = r .some;
+      bounds = r .bounds;
+      duty-is = s .duty-is;
+      clock-is = s .clock-is;
+      table-is = s .table-is;
+      hinted = h;
+    }
+
+pub held-in : (q : Quantum) → Reached q → Held (q .table)
+held-in q r =
+    record {
+      least = r .row .least .0;
+      live = live (r .events);
+      good = good-orders (r .row) (r .events) (r .bounds);
+      is = stands-for (r .row) (r .sp) (r .events) q (r .is) (r .bounds) .table-is;
+    }
+
+pub opened-is : (row : Row) (sp : ℤ) (duty : Duty) (clock : Clock) (table : List ℕ) → duty ≡ dutyOf row sp → clock ≡ clockOf row sp []
+    → table ≡ tableOf (row .least .0) [] → _≡_ {A = Quantum} (record { duty = duty; clock = clock; table = table }) (standing row sp [])
+unfolding standing live applyAll
+opened-is row sp duty clock table d c t = λ i. record { duty = d i; clock = c i; table = t i }
+
+-- ---- what an event's answer shows
+
+module _ (q : Quantum) (e : Event) (exit : List ℕ) (r : Stepped) (h : Stepping (q .duty) (q .clock) e (q .table) exit r) where
+  module _ (row : Row) (sp : ℤ) (es : List Event) (g : EventBounds row es) (is : q ≡ standing row sp es) where
+    number-is : r .refusal ≡ eventRefusal row es e
+    number-is = h .number row sp es (stands-for row sp es q is g)
+
+    taken-is : {n : ℕ} → r .refusal ≡ n → taken (eventRefusal row es e) es e ≡ taken n es e
+    taken-is z = ap (λ (k : ℕ). taken k es e) (sym number-is ∙ z)
+
+  pub sent-accepted : r .refusal ≤ 0 → Answered q e (record { quantum = record { duty = q .duty; clock = r .clock; table = exit }; answer = Accepted })
+  unfolding standing
+  sent-accepted l =
+      let z : r .refusal ≡ 0 = omega arith in
+      record {
+        quantum = λ row sp es g is.
+            let s = stands-for row sp es q is g in
+            λ i. record { duty = s .duty-is i; clock = h .clock-after row sp es s i; table = h .table-after row sp es s i };
+        answer = λ row sp es g is. ap (λ (n : ℕ). outcomeBy n done) (sym z ∙ number-is row sp es g is);
+      }
+
+  pub sent-refused : (f : Refusal) → 0 < r .refusal → numberOf f ≡ r .refusal → Answered q e (record { quantum = q; answer = Refused f })
+  sent-refused f l k = go (r .refusal) refl
+    where
+      shown : (m : ℕ) → numberOf f ≡ suc m → _≡_ {A = Outcome Reply} (refused (numberOf f)) (outcomeBy (suc m) done)
+      shown m z = ap (λ (n : ℕ). refused n) z
+
+      go : (n : ℕ) → r .refusal ≡ n → Answered q e (record { quantum = q; answer = Refused f })
+      go zero z = absurd (omega (arith, l, z))
+      go (suc m) z =
+          record {
+            quantum = λ row sp es g is. is ∙ ap (standing row sp) (sym (taken-is row sp es g is z));
+            answer = λ row sp es g is. shown m (k ∙ z) ∙ ap (λ (n : ℕ). outcomeBy n done) (sym z ∙ number-is row sp es g is);
+          }

@@ -1,0 +1,16 @@
+-- No events: time 0, nothing kept, no quote. Assumes nothing.
+use mathlib.Core.Path.{refl}
+use Rattle.rules.specs.Lists.{count, keep}
+use Rattle.rules.specs.Orders.{live, present, timeFrom, applyAll}
+use Rattle.rules.specs.Kept.{quotesKeep, ordersKeep, keptBelow}
+use Rattle.rules.specs.Quotes.{lead, best}
+use Rattle.quantum.specs.Standing.{clockOf}
+use Rattle.quantum.proofs.started.Statement.{statement}
+use Rattle.quantum.proofs.started.Tie as tie
+
+returns : tie.Need-returns
+unfolding clockOf present timeFrom live applyAll keptBelow count best lead keep ordersKeep quotesKeep
+returns c = λ row sp. refl
+
+pub started-spec : {M : Type 1} → statement M
+started-spec = tie.close (tie.spec returns)
