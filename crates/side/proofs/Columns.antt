@@ -4,7 +4,7 @@ use mathlib.Core.Path.{_≡_, refl, ap, sym, _∙_}
 use mathlib.Core.List.{List, [], _∷_, _++_, append-assoc}
 use native.Mathlib.Omega.{arith}
 use lib.ListN.{length, take, drop, set, getD, replicate, length-append, length-replicate, length-set, length-take, length-drop, List·getD-append, replicate-append-replicate}
-use lib.Seq.{set-append-seam, set-append-left, set-at, take-at, drop-at, take-append-le, drop-append-le, take-append-add}
+use lib.Seq.{set-append-seam, set-append-left, take-at, drop-at, take-append-le, drop-append-le, take-append-add}
 use Rattle.side.specs.Slots.{column}
 use Rattle.side.specs.Moves.{shifted}
 use Rattle.side.proofs.Lists.{behind-at, behind-set, behind-drop}
@@ -64,17 +64,19 @@ column-shifted xs place last few e h =
     ∙ sym (append-assoc (take place xs) (drop (suc place) xs) (0 ∷ rest))
     ∙ ap (λ (n : ℕ). left ++ replicate n 0) (sym count)
 
+front : (xs : List ℕ) (m k : ℕ) → take (length xs + m) (xs ++ replicate (m + k) 0) ≡ xs ++ replicate m 0
+front xs m k =
+    take-append-add xs (replicate (m + k) 0) m
+    ∙ ap (λ (r : List ℕ). xs ++ take m r) (sym (replicate-append-replicate m k 0))
+    ∙ ap (λ (r : List ℕ). xs ++ r) (take-at (replicate m 0) (replicate k 0) m (length-replicate m 0))
+
 -- its front, from the words on: the words and blanks
 pub column-take : (xs : List ℕ) (n : ℕ) → length xs ≤ n → n ≤ 64 → take n (column xs) ≡ xs ++ replicate (n - length xs) 0
 unfolding column
 column-take xs n h k =
     let cut : n ≡ length xs + (n - length xs) = omega arith in
     let parts : 64 - length xs ≡ (n - length xs) + (64 - n) = omega arith in
-    ap (λ (m : ℕ). take m (xs ++ replicate (64 - length xs) 0)) cut
-    ∙ take-append-add xs (replicate (64 - length xs) 0) (n - length xs)
-    ∙ ap (λ (m : ℕ). xs ++ take (n - length xs) (replicate m 0)) parts
-    ∙ ap (λ (r : List ℕ). xs ++ take (n - length xs) r) (sym (replicate-append-replicate (n - length xs) (64 - n) 0))
-    ∙ ap (λ (r : List ℕ). xs ++ r) (take-at (replicate (n - length xs) 0) (replicate (64 - n) 0) (n - length xs) (length-replicate (n - length xs) 0))
+    (λ i. take (cut i) (xs ++ replicate (parts i) 0)) ∙ front xs (n - length xs) (64 - n)
 
 -- ---- four columns
 

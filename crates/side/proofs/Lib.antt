@@ -5,3 +5,5 @@ pub mod Shifting
 pub mod Words
 pub mod Stores
 pub mod Seen
+pub mod Found
+pub mod Changes

@@ -1,7 +1,7 @@
 -- Four stores: the last one counts. Assumes nothing.
 use mathlib.Core.Path.{refl}
 use native.Mathlib.Omega.{arith}
-use lib.ListN.{set, getD, length-set}
+use lib.ListN.{length-set}
 use Rattle.side.proofs.Stores.{added-is}
 use borrow.Author.Needs.{needs}
 use Rattle.side.proofs.add.Statement.{statement}

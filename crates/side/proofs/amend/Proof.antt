@@ -1,6 +1,6 @@
 -- Two stores. Assumes nothing.
 use native.Mathlib.Omega.{arith}
-use lib.ListN.{set, getD, length-set}
+use lib.ListN.{length-set}
 use Rattle.side.proofs.Stores.{amended-is, amended-told}
 use borrow.Author.Needs.{needs}
 use Rattle.side.proofs.amend.Statement.{statement}

@@ -1,13 +1,13 @@
 -- The three columns are lent one after the other; what the calls leave is `removed-is`'s. Assumes nothing.
-use Prim.Native.Nat.{suc, _-_}
-use mathlib.Core.Path.{_≡_, _∙_}
+use Prim.Native.Nat.{_-_}
+use mathlib.Core.Path.{_∙_}
 use mathlib.Core.List.{_++_}
 use native.Mathlib.Omega.{arith}
-use lib.ListN.{length, getD, drop, length-set}
+use lib.ListN.{getD, drop, length-set}
 use lib.Seq.{length-front}
 use borrow.Rule.Slice.PartMut.{same-len-mid}
 use Rattle.side.proofs.Words.{count-is}
-use Rattle.side.proofs.Stores.{amended-told, putKeys, putVolumes, removed-is}
+use Rattle.side.proofs.Stores.{amended-told, putKeys, removed-is}
 use borrow.Author.Needs.{needs}
 use Rattle.side.proofs.remove.Statement.{statement}
 use Rattle.side.proofs.remove.Tie as tie
@@ -92,10 +92,10 @@ same-length c =
     let volumes = c .before .before .shift3 in
     let one = ids .last .0 ++ drop 64 w in
     let two = putKeys one (keys .last .0) in
-    length-set (putVolumes two (volumes .last .0)) 192 (getD w 192 0 - 1)
-    ∙ same-len-mid 128 64 two (volumes .last .0) (volumes .kept .0)
+    simp length-set
+    (same-len-mid 128 64 two (volumes .last .0) (volumes .kept .0)
     ∙ same-len-mid 64 64 one (keys .last .0) (keys .kept .0)
-    ∙ length-front w (ids .last .0) 64 (ids .kept .0)
+    ∙ length-front w (ids .last .0) 64 (ids .kept .0))
 
 returns : tie.Need-returns
 returns c =

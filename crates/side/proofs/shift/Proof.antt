@@ -1,8 +1,8 @@
 -- The invariant: those behind the place and before i + 1 have moved up by one. Assumes nothing.
 use Prim.Native.Nat.{ℕ, _+_, _-_, _≤_}
-use mathlib.Core.Path.{_≡_, refl, sym, ap, _∙_}
+use mathlib.Core.Path.{_≡_, refl, ap, _∙_}
 use native.Mathlib.Omega.{arith}
-use lib.ListN.{length, set, getD, length-set}
+use lib.ListN.{length, getD, length-set}
 use Rattle.side.proofs.Shifting.{partly, partly-none, partly-next, partly-all}
 use Rattle.side.proofs.shift.Statement.{statement}
 use Rattle.side.proofs.shift.Tie as tie
@@ -55,7 +55,7 @@ slice-write-column-2 : tie.Need-slice-write-column-2 Inv-loop μ-loop
 slice-write-column-2 c = omega arith
 
 same-length : tie.Need-same-length Inv-loop μ-loop
-same-length c = length-set (c .before .loop .column) (c .before .before .args .last) 0 ∙ c .before .loop .inv .2
+same-length c = simp length-set (c .before .loop .inv .2)
 
 returns : tie.Need-returns Inv-loop μ-loop
 returns c =

@@ -1,0 +1,113 @@
+-- What an order more, another, or less does to the sums of contracts and to the bounds. Assumes nothing.
+use Prim.Native.Nat.{ℕ, zero, suc, _+_, _≤_, _<_}
+use mathlib.Core.Path.{_≡_, refl, ap}
+use mathlib.Core.Bool.{Bool, true, false}
+use mathlib.Core.Logic.{⊎-elim}
+use mathlib.Core.List.{List, [], _∷_, _++_, List·Memᴰ, List·Memᴰ·append-cases, List·Memᴰ·eq-of-singleton, List·Memᴰ·not-nil}
+use native.Mathlib.Omega.{arith}
+use lib.ListN.{length, take, drop, set, getD, length-append, length-set, length-take, length-drop}
+use Rattle.rules.specs.Lists.{if_then_else_}
+use Rattle.rules.proofs.Members.{in-set}
+use Rattle.quote.specs.Levels.{held}
+use Rattle.side.specs.Slots.{Slot, slot, blankSlot, heldIn, GoodSlots}
+use Rattle.side.specs.Moves.{change, part, Changed}
+use Rattle.side.proofs.Lists.{in-take, in-drop}
+
+-- ---- sums
+
+module _ (t : ℕ → Bool) where
+  -- no order adds nothing
+  part-none : part t 0 0 ≡ 0
+  part-none = go (t 0)
+    where
+      go : (b : Bool) → _≡_ {A = ℕ} (if b then 0 else 0) 0
+      go true = refl
+      go false = refl
+
+  pub held-append : (xs ys : List Slot) → heldIn t (xs ++ ys) ≡ heldIn t xs + heldIn t ys
+  unfolding held
+  held-append [] ys = omega arith
+  held-append (x ∷ xs) ys = omega (arith, held-append xs ys)
+
+  held-one : (s : Slot) → heldIn t (s ∷ []) ≡ part t (s .key) (s .volume)
+  unfolding held
+  held-one s = omega arith
+
+  held-set : (slots : List Slot) (place : ℕ) (s : Slot) → place < length slots
+      → heldIn t (set slots place s) + part t (getD slots place blankSlot .key) (getD slots place blankSlot .volume)
+      ≡ heldIn t slots + part t (s .key) (s .volume)
+  unfolding held
+  held-set [] place s h = absurd (omega arith)
+  held-set (x ∷ xs) zero s h = omega arith
+  held-set (x ∷ xs) (suc place) s h = omega (arith, held-set xs place s (omega arith))
+
+  held-without : (slots : List Slot) (place : ℕ) → place < length slots
+      → heldIn t (take place slots ++ drop (suc place) slots) + part t (getD slots place blankSlot .key) (getD slots place blankSlot .volume)
+      ≡ heldIn t slots
+  unfolding held
+  held-without [] place h = absurd (omega arith)
+  held-without (x ∷ xs) zero h = omega arith
+  held-without (x ∷ xs) (suc place) h = omega (arith, held-without xs place (omega arith))
+
+pub changed-added : (slots : List Slot) (id key volume : ℕ) → Changed (change 0 0 key volume) slots (slots ++ (slot id key volume ∷ []))
+changed-added slots id key volume t =
+    omega (arith, part-none t, held-append t slots (slot id key volume ∷ []), held-one t (slot id key volume))
+
+pub changed-amended : (slots : List Slot) (place id key volume : ℕ) → place < length slots
+    → Changed (change (getD slots place blankSlot .key) (getD slots place blankSlot .volume) key volume) slots (set slots place (slot id key volume))
+changed-amended slots place id key volume h t = held-set t slots place (slot id key volume) h
+
+pub changed-removed : (slots : List Slot) (place : ℕ) → place < length slots
+    → Changed (change (getD slots place blankSlot .key) (getD slots place blankSlot .volume) 0 0) slots (take place slots ++ drop (suc place) slots)
+changed-removed slots place h t = omega (arith, part-none t, held-without t slots place h)
+
+-- ---- bounds
+
+-- an order within the bounds
+pub record GoodSlot (s : Slot) : Type 0 where
+  pub key-least : 1 ≤ s .key
+  pub key-most : s .key ≤ 2000000001
+  pub volume-most : s .volume ≤ 1000000
+
+pub one-good : (slots : List Slot) (s : Slot) → GoodSlots slots → List·Memᴰ s slots → GoodSlot s
+one-good slots s g m = record { key-least = g .key-least s m; key-most = g .key-most s m; volume-most = g .volume-most s m }
+
+pub all-good : (slots : List Slot) → length slots ≤ 64 → ((s : Slot) → List·Memᴰ s slots → GoodSlot s) → GoodSlots slots
+all-good slots few g =
+    record {
+      few = few;
+      key-least = λ s m. g s m .key-least;
+      key-most = λ s m. g s m .key-most;
+      volume-most = λ s m. g s m .volume-most;
+    }
+
+same-good : (s o : Slot) → s ≡ o → GoodSlot o → GoodSlot s
+same-good s o e g =
+    let k = ap (λ (x : Slot). x .key) e in
+    let v = ap (λ (x : Slot). x .volume) e in
+    record {
+      key-least = omega (arith, g .key-least);
+      key-most = omega (arith, g .key-most);
+      volume-most = omega (arith, g .volume-most);
+    }
+
+pub good-none : GoodSlots []
+good-none = all-good [] (omega arith) (λ s m. absurd (List·Memᴰ·not-nil m))
+
+pub good-added : (slots : List Slot) (s : Slot) → GoodSlots slots → length slots < 64 → GoodSlot s → GoodSlots (slots ++ (s ∷ []))
+good-added slots s g room new =
+    all-good (slots ++ (s ∷ [])) (omega (arith, length-append slots (s ∷ [])))
+    (λ x m. ⊎-elim (λ old. one-good slots x g old) (λ last. same-good x s (List·Memᴰ·eq-of-singleton last) new) (List·Memᴰ·append-cases slots m))
+
+pub good-amended : (slots : List Slot) (place : ℕ) (s : Slot) → GoodSlots slots → GoodSlot s → GoodSlots (set slots place s)
+good-amended slots place s g new =
+    all-good (set slots place s) (omega (arith, length-set slots place s, g .few))
+    (λ x m. ⊎-elim (λ e. same-good x s e new) (λ old. one-good slots x g old) (in-set slots place s m))
+
+pub good-removed : (slots : List Slot) (place : ℕ) → GoodSlots slots → GoodSlots (take place slots ++ drop (suc place) slots)
+good-removed slots place g =
+    all-good (take place slots ++ drop (suc place) slots)
+    (omega (arith, length-append (take place slots) (drop (suc place) slots), length-take place slots, length-drop (suc place) slots, g .few))
+    (λ x m.
+    ⊎-elim (λ f. one-good slots x g (in-take place slots f)) (λ r. one-good slots x g (in-drop (suc place) slots r))
+    (List·Memᴰ·append-cases (take place slots) m))
