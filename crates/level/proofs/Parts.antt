@@ -1,20 +1,20 @@
--- The words of a side whose orders have changed: the level that stands in them, the front of their columns of keys and volumes from the
--- last order on, and the words with another level. Assumes nothing.
+-- The words of a side whose orders have changed: the level that stands in them, and the front of their columns of keys and volumes, from
+-- the last order on. Assumes nothing.
 use Prim.Native.Nat.{ℕ, zero, suc, _+_, _-_, _≤_}
 use native.Mathlib.Omega.{arith}
 use mathlib.Core.Path.{_≡_, refl, ap, _∙_}
 use mathlib.Core.List.{List, [], _∷_, _++_, List·Memᴰ, List·Memᴰ·head, List·Memᴰ·tail}
-use lib.ListN.{length, getD, take, drop, set, replicate, length-append, length-map, length-replicate}
+use lib.ListN.{length, getD, take, drop, replicate, length-append, length-map, length-replicate}
 use Rattle.rules.specs.Lists.{sum}
 use Rattle.rules.proofs.Lists.{sum-append}
 use Rattle.quote.specs.declared.Level.{Level}
 use Rattle.quote.specs.Levels.{levelAt, levelOf, bestKey, Columns, Searchable}
 use Rattle.quote.proofs.Levels.{levelAt-blanks, levelOf-blanks, bestKey-blanks}
 use Rattle.side.specs.declared.Change.{Change}
-use Rattle.side.specs.Slots.{Slot, keysOf, volumesOf, idsOf, column, header, sideOf, levelIn, bestIn, GoodSlots}
+use Rattle.side.specs.Slots.{Slot, keysOf, volumesOf, levelIn, bestIn, GoodSlots}
 use Rattle.side.specs.Moves.{Moving}
-use Rattle.side.proofs.Columns.{padded-at, fourth-set}
-use Rattle.side.proofs.Words.{field-length, words-length, count-is, key-is, before-is, at-is, keys-taken, volumes-taken}
+use Rattle.side.proofs.Columns.{padded-at}
+use Rattle.side.proofs.Words.{words-length, count-is, key-is, before-is, at-is, keys-taken, volumes-taken}
 use Rattle.level.specs.Steps.{levelRead, IsLevel}
 use Rattle.level.proofs.Depths.{own-level, slots-columns}
 
@@ -111,30 +111,3 @@ module _ (words : List ℕ) (c : Change) (least : ℕ) (m : Moving words c least
     pub part-best : levelOf least (take n (drop 64 words)) (take k (drop 128 words)) ≡ bestIn least (m .after)
     part-best =
         rw (keys-part, volumes-part) (levelOf-blanks (keysOf (m .after)) (volumesOf (m .after)) even (to - length (m .after)) least)
-
--- ---- another level in the words
-
-module _ (slots : List Slot) (old new : Level) (few : length slots ≤ 64) where
-  header-put : set (set (set (column (header slots old)) 1 (new .key)) 2 (new .before)) 3 (new .at) ≡ column (header slots new)
-  unfolding column
-  header-put = refl
-
-  level-put : set (set (set (sideOf slots old) 193 (new .key)) 194 (new .before)) 195 (new .at) ≡ sideOf slots new
-  unfolding sideOf
-  level-put =
-      let a = column (idsOf slots) in
-      let b = column (keysOf slots) in
-      let c = column (volumesOf slots) in
-      let d = column (header slots old) in
-      let la : length a ≡ 64 = field-length (λ (s : Slot). s .id) slots few in
-      let lb : length b ≡ 64 = field-length (λ (s : Slot). s .key) slots few in
-      let lc : length c ≡ 64 = field-length (λ (s : Slot). s .volume) slots few in
-      ap (λ (w : List ℕ). set (set w 194 (new .before)) 195 (new .at)) (fourth-set a b c d la lb lc 1 (new .key))
-      ∙ ap (λ (w : List ℕ). set w 195 (new .at)) (fourth-set a b c (set d 1 (new .key)) la lb lc 2 (new .before))
-      ∙ fourth-set a b c (set (set d 1 (new .key)) 2 (new .before)) la lb lc 3 (new .at)
-      ∙ ap (λ (r : List ℕ). a ++ (b ++ (c ++ r))) header-put
-
-pub put : (words : List ℕ) (slots : List Slot) (old new l : Level) → length slots ≤ 64 → words ≡ sideOf slots old → l ≡ new
-    → set (set (set words 193 (l .key)) 194 (l .before)) 195 (l .at) ≡ sideOf slots new
-put words slots old new l few is e =
-    (λ i. set (set (set (is i) 193 (e i .key)) 194 (e i .before)) 195 (e i .at)) ∙ level-put slots old new few

@@ -1,9 +1,10 @@
 -- `level::requote` meets its contract: the best level stands in the words, and nothing else of them is changed. Assumes nothing.
-use mathlib.Core.Path.{_≡_}
+use mathlib.Core.Path.{_≡_, ap, _∙_}
 use lib.ListN.{length}
 use borrow.Author.Needs.{needs}
-use Rattle.side.specs.Slots.{bestIn}
-use Rattle.level.proofs.Parts.{moving-length, put}
+use Rattle.side.specs.Slots.{sideOf, bestIn}
+use Rattle.side.proofs.Stores.{level-stored}
+use Rattle.level.proofs.Parts.{moving-length}
 use Rattle.level.proofs.requote.Statement.{statement}
 use Rattle.level.proofs.requote.Tie as tie
 
@@ -35,7 +36,8 @@ returns : tie.Need-returns
 returns c m =
     let a = c .before .before .before .args in
     let least = a .least .0 in
-    put (a .words .now) (m .after) (bestIn least (m .before)) (bestIn least (m .after)) (c .settled .result) (m .good .few) (m .is) (c .settled .ensures m)
+    level-stored (m .after) (bestIn least (m .before)) (c .settled .result) (m .good .few) (a .words .now) (m .is)
+    ∙ ap (sideOf (m .after)) (c .settled .ensures m)
 
 pub requote-spec : {M : Type 1} → statement M
 requote-spec =
