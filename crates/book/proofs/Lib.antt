@@ -1,1 +1,2 @@
 -- Laws, by subject.
+pub mod Sides
