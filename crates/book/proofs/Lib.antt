@@ -1,2 +1,3 @@
 -- Laws, by subject.
 pub mod Sides
+pub mod Slots

@@ -1,0 +1,64 @@
+-- What the functions on the table promise to each other.
+use Prim.Native.Nat.{ℕ, zero, suc, _+_, _<_}
+use mathlib.Core.Path.{_≡_}
+use mathlib.Core.List.{List, _++_}
+use lib.ListN.{length}
+use Rattle.rules.specs.declared.Side.{Side}
+use Rattle.rules.specs.declared.Side.the-variants.{Buy, Sell}
+use Rattle.rules.specs.declared.Order.{Order}
+use Rattle.rules.specs.declared.Event.{Event}
+use Rattle.rules.specs.Book.{lowest, traderCauses}
+use Rattle.side.specs.Slots.{sideOf, bestIn, GoodSlots}
+use Rattle.side.specs.Moves.{Changed}
+use Rattle.book.specs.declared.Answer.{Answer}
+use Rattle.book.specs.Table.{slotsIn, sideIn, tableOf, slotIn, sentTo, GoodOrders}
+
+-- a side's number: buys 0, sells 1
+abbrev pub sideNumber : Side → ℕ
+sideNumber Buy = 0
+sideNumber Sell = 1
+
+abbrev pub sideAt : ℕ → Side
+sideAt zero = Buy
+sideAt (suc n) = Sell
+
+abbrev pub otherAt : ℕ → Side
+otherAt zero = Sell
+otherAt (suc n) = Buy
+
+-- the table of the words of a side, by its number, and of the other side
+abbrev pub joined : ℕ → List ℕ → List ℕ → List ℕ
+joined zero own others = own ++ others
+joined (suc n) own others = others ++ own
+
+-- the table after an event, but for the best level of its side, which is that of before
+unfoldable pub turnedTo : ℕ → ℕ → List Order → List Order → List ℕ
+turnedTo s least before after =
+    joined s (sideOf (slotsIn (sideAt s) after) (bestIn least (slotsIn (sideAt s) before))) (sideIn least (otherAt s) after)
+
+-- a table that stands for live orders
+pub record Standing (table : List ℕ) (least : ℕ) (live : List Order) : Type 0 where
+  pub good : GoodOrders live
+  pub is : table ≡ tableOf least live
+
+pub record Held (table hints : List ℕ) : Type 0 where
+  pub least : ℕ
+  pub live : List Order
+  pub stands : Standing table least live
+  pub hinted : length hints ≡ 1024
+
+-- and the slot of the order that an event names
+pub record Located (table hints : List ℕ) (id slot : ℕ) : Type 0 where
+  pub least : ℕ
+  pub live : List Order
+  pub stands : Standing table least live
+  pub hinted : length hints ≡ 1024
+  pub at : slot ≡ slotIn id live
+
+-- what an event answers and leaves: the refusal, the table, and what changes on its side
+pub record Turned (e : Event) (least : ℕ) (live : List Order) (exit : List ℕ) (r : Answer) : Type 0 where
+  pub number : r .s < 2
+  pub refusal : r .refusal ≡ lowest (traderCauses live e)
+  pub table : exit ≡ turnedTo (r .s) least live (sentTo (r .refusal) live e)
+  pub good : GoodSlots (slotsIn (sideAt (r .s)) (sentTo (r .refusal) live e))
+  pub told : Changed (r .change) (slotsIn (sideAt (r .s)) live) (slotsIn (sideAt (r .s)) (sentTo (r .refusal) live e))
