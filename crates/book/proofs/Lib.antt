@@ -1,3 +1,4 @@
 -- Laws, by subject.
 pub mod Sides
 pub mod Slots
+pub mod Table

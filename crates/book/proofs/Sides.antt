@@ -24,6 +24,7 @@ use Rattle.rules.proofs.Members.{or-false, or-second, any-none, none-any, lengt
 use Rattle.rules.proofs.Orders.{distinct-keep, amended-other, lessened-other}
 use Rattle.rules.proofs.Bounds.{volume-bounds}
 use Rattle.book.specs.Table.{ofSide, GoodOrders}
+use Rattle.book.specs.Steps.{other}
 
 -- ---- two lists of one: those that pass, and the others
 
@@ -176,10 +177,6 @@ module _ (id : ℕ) where
   one-only (x ∷ xs) d (List·Memᴰ·head p) (List·Memᴰ·tail n) h k = absurd (twice x xs (d .0) n (ap (hasId id) (sym p) ∙ h) k)
   one-only (x ∷ xs) d (List·Memᴰ·tail m) (List·Memᴰ·head q) h k = absurd (twice x xs (d .0) m (ap (hasId id) (sym q) ∙ k) h)
   one-only (x ∷ xs) d (List·Memᴰ·tail m) (List·Memᴰ·tail n) h k = one-only xs (d .1) m n h k
-
-abbrev pub other : Side → Side
-other Buy = Sell
-other Sell = Buy
 
 apart : (s : Side) (o : Order) → same s (o .side) ≡ true → same (other s) (o .side) ≡ true → ⊥
 apart s o = go s (o .side)

@@ -21,8 +21,8 @@ use Rattle.rules.proofs.Members.{or-false, getD-in}
 use Rattle.rules.proofs.Orders.{live-at}
 use Rattle.side.specs.Slots.{Slot, slot, blankSlot, idsOf, seenFrom, seen}
 use Rattle.book.specs.Table.{ofSide, slotOf, slotsIn, slotBy, slotIn, GoodOrders}
-use Rattle.book.specs.Steps.{sideAt, otherAt}
-use Rattle.book.proofs.Sides.{other, other-unlive, live-sides, left-in, few-side, distinct-side, in-side}
+use Rattle.book.specs.Steps.{sideAt, other}
+use Rattle.book.proofs.Sides.{other-unlive, live-sides, left-in, few-side, distinct-side, in-side}
 
 abbrev pub blankOrder : Order
 blankOrder = record { id = 0; side = Buy; price = steps (pos 0); volume = contracts 0 }

@@ -22,9 +22,9 @@ abbrev pub sideAt : ℕ → Side
 sideAt zero = Buy
 sideAt (suc n) = Sell
 
-abbrev pub otherAt : ℕ → Side
-otherAt zero = Sell
-otherAt (suc n) = Buy
+abbrev pub other : Side → Side
+other Buy = Sell
+other Sell = Buy
 
 -- the table of the words of a side, by its number, and of the other side
 abbrev pub joined : ℕ → List ℕ → List ℕ → List ℕ
@@ -34,7 +34,7 @@ joined (suc n) own others = others ++ own
 -- the table after an event, but for the best level of its side, which is that of before
 unfoldable pub turnedTo : ℕ → ℕ → List Order → List Order → List ℕ
 turnedTo s least before after =
-    joined s (sideOf (slotsIn (sideAt s) after) (bestIn least (slotsIn (sideAt s) before))) (sideIn least (otherAt s) after)
+    joined s (sideOf (slotsIn (sideAt s) after) (bestIn least (slotsIn (sideAt s) before))) (sideIn least (other (sideAt s)) after)
 
 -- a table that stands for live orders
 pub record Standing (table : List ℕ) (least : ℕ) (live : List Order) : Type 0 where
@@ -44,6 +44,7 @@ pub record Standing (table : List ℕ) (least : ℕ) (live : List Order) : Type 
 pub record Held (table hints : List ℕ) : Type 0 where
   pub least : ℕ
   pub live : List Order
+  pub long : length table ≡ 512
   pub stands : Standing table least live
   pub hinted : length hints ≡ 1024
 
@@ -51,6 +52,7 @@ pub record Held (table hints : List ℕ) : Type 0 where
 pub record Located (table hints : List ℕ) (id slot : ℕ) : Type 0 where
   pub least : ℕ
   pub live : List Order
+  pub long : length table ≡ 512
   pub stands : Standing table least live
   pub hinted : length hints ≡ 1024
   pub at : slot ≡ slotIn id live
