@@ -2,3 +2,4 @@
 pub mod Sides
 pub mod Slots
 pub mod Table
+pub mod Events
