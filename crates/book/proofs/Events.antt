@@ -2,10 +2,9 @@
 use Prim.Native.Nat.{ℕ, suc, _+_, _-_, _≤_, _<_}
 use native.Mathlib.Omega.{arith}
 use mathlib.Core.Path.{_≡_, refl, sym, ap, _∙_, subst}
-use mathlib.Core.Logic.{⊎-elim}
-use mathlib.Core.List.{List, [], _∷_, _++_, map, map-append, append-nil, List·Memᴰ, List·Memᴰ·append-cases, List·Memᴰ·eq-of-singleton, Memᴰ·of-map, Memᴰ·append-left, Memᴰ·append-right}
+use mathlib.Core.List.{List, [], _∷_, _++_, map, map-append, append-nil, List·Memᴰ, Memᴰ·of-map}
 use mathlib.Core.Bool.{Bool, true, false}
-use lib.ListN.{length, getD, take, drop, set, length-append, length-map, length-set, length-take, length-drop, take-append-drop}
+use lib.ListN.{length, getD, take, drop, set, length-map}
 use Rattle.rules.specs.declared.Side.{Side}
 use Rattle.rules.specs.declared.Side.the-variants.{Buy, Sell}
 use Rattle.rules.specs.declared.Order.{Order}
@@ -18,13 +17,14 @@ use Rattle.rules.specs.Lists.{if_then_else_}
 use Rattle.rules.specs.Units.{contracts}
 use Rattle.rules.specs.Orders.{hasId, left, apply}
 use Rattle.rules.specs.Quotes.{same}
-use Rattle.rules.proofs.Members.{getD-in, in-set}
+use Rattle.rules.proofs.Members.{getD-in}
 use Rattle.rules.proofs.Orders.{amend-at, cancel-at, deal-some, deal-all, left-at}
 use Rattle.rules.proofs.Bounds.{volume-bounds}
 use Rattle.quote.specs.Keys.{keyOf}
 use Rattle.quote.proofs.Keys.{key-least, key-most}
 use Rattle.side.specs.Slots.{Slot, slot, blankSlot, GoodSlots}
 use Rattle.side.proofs.Lists.{map-set, map-take, map-drop}
+use Rattle.side.proofs.Changes.{GoodSlot, all-good}
 use Rattle.book.specs.Table.{ofSide, slotOf, slotsIn, GoodOrders}
 use Rattle.book.specs.Steps.{other}
 use Rattle.book.proofs.Sides.{names, side-add, side-named, unnamed, other-unlive, left-in, few-side, distinct-side, in-side}
@@ -33,48 +33,9 @@ use Rattle.book.proofs.Table.{slot-at}
 
 -- ---- the bounds of slots
 
--- a slot in its bounds
-pub record GoodSlot (x : Slot) : Type 0 where
-  pub key-least : 1 ≤ x .key
-  pub key-most : x .key ≤ 2000000001
-  pub volume-most : x .volume ≤ 1000000
-
-each : (xs : List Slot) → GoodSlots xs → (x : Slot) → List·Memᴰ x xs → GoodSlot x
-each xs g x m = record { key-least = g .key-least x m; key-most = g .key-most x m; volume-most = g .volume-most x m }
-
-all : (xs : List Slot) → length xs ≤ 64 → ((x : Slot) → List·Memᴰ x xs → GoodSlot x) → GoodSlots xs
-all xs few g =
-    record { few = few; key-least = λ x m. g x m .key-least; key-most = λ x m. g x m .key-most; volume-most = λ x m. g x m .volume-most }
-
-module _ (xs : List Slot) (g : GoodSlots xs) where
-  pub good-at : (k : ℕ) → k < length xs → GoodSlot (getD xs k blankSlot)
-  good-at k h = each xs g (getD xs k blankSlot) (getD-in xs k blankSlot h)
-
-  pub good-more : (x : Slot) → length xs < 64 → GoodSlot x → GoodSlots (xs ++ (x ∷ []))
-  good-more x h k =
-      all (xs ++ (x ∷ [])) (omega (arith, length-append xs (x ∷ [])))
-      (λ y m. ⊎-elim (each xs g y) (λ (n : List·Memᴰ y (x ∷ [])). subst GoodSlot (sym (List·Memᴰ·eq-of-singleton n)) k) (List·Memᴰ·append-cases xs m))
-
-  pub good-set : (k : ℕ) (x : Slot) → GoodSlot x → GoodSlots (set xs k x)
-  good-set k x h =
-      all (set xs k x) (omega (arith, length-set xs k x, g .few))
-      (λ y m. ⊎-elim (λ (e : y ≡ x). subst GoodSlot (sym e) h) (each xs g y) (in-set xs k x m))
-
-  pub good-less : (k : ℕ) → GoodSlots (take k xs ++ drop (suc k) xs)
-  good-less k =
-      all (take k xs ++ drop (suc k) xs)
-      (omega (arith, length-append (take k xs) (drop (suc k) xs), length-take k xs, length-drop (suc k) xs, g .few))
-      (λ y m. each xs g y (⊎-elim (before y) (behind y) (List·Memᴰ·append-cases (take k xs) m)))
-    where
-      before : (y : Slot) → List·Memᴰ y (take k xs) → List·Memᴰ y xs
-      before y m = subst (List·Memᴰ y) (take-append-drop k xs) (Memᴰ·append-left (drop k xs) m)
-
-      behind : (y : Slot) → List·Memᴰ y (drop (suc k) xs) → List·Memᴰ y xs
-      behind y m = subst (List·Memᴰ y) (take-append-drop (suc k) xs) (Memᴰ·append-right (take (suc k) xs) m)
-
 pub good-slots : (s : Side) (live : List Order) → GoodOrders live → GoodSlots (slotsIn s live)
 good-slots s live g =
-    all (slotsIn s live) (omega (arith, few-side s live g, length-map (ofSide s live) (slotOf s))) one
+    all-good (slotsIn s live) (omega (arith, few-side s live g, length-map (ofSide s live) (slotOf s))) one
   where
     one : (x : Slot) → List·Memᴰ x (slotsIn s live) → GoodSlot x
     one x m =

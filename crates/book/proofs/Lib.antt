@@ -3,3 +3,6 @@ pub mod Sides
 pub mod Slots
 pub mod Table
 pub mod Events
+pub mod Causes
+pub mod Turns
+pub mod Quotes

@@ -18,7 +18,7 @@ use Rattle.side.specs.Slots.{Slot, slot, blankSlot, bestIn}
 use Rattle.side.specs.Moves.{Sized}
 use Rattle.side.proofs.Lists.{behind-at}
 use Rattle.side.proofs.Words.{words-length, count-is, key-is, sized, id-at, key-at, volume-at}
-use Rattle.book.specs.Table.{ofSide, slotOf, slotsIn, sideIn, tableOf, slotIn, GoodOrders}
+use Rattle.book.specs.Table.{ofSide, slotOf, slotsIn, sideIn, tableOf, slotIn, GoodOrders, Held}
 use Rattle.book.specs.Steps.{sideAt, other, joined, Standing}
 use Rattle.book.proofs.Sides.{few-side, length-sides}
 use Rattle.book.proofs.Slots.{blankOrder, Has, slot-there}
@@ -110,6 +110,16 @@ module _ (table : List ℕ) (least : ℕ) (live : List Order) (stands : Standing
         ap (λ (t : List ℕ). take (256 * n) t ++ (half ++ drop (256 * n + 256 - 256 * n) (drop (256 * n) t))) (halves n h)
         ∙ joined-put (sideIn least (sideAt n) live) (sideIn least (other (sideAt n)) live) (half-length (sideAt n)) (half-length (other (sideAt n))) n half h
 
+    -- the half that is lent is a side's words
+    pub part-sized : Sized (take (256 * n + 256 - 256 * n) (drop (256 * n) table))
+    part-sized =
+        sized (take (256 * n + 256 - 256 * n) (drop (256 * n) table)) (slotsIn (sideAt n) live) (bestIn least (slotsIn (sideAt n) live)) (few-slots (sideAt n)) part-is
+
+    pub part-count : getD (take (256 * n + 256 - 256 * n) (drop (256 * n) table)) 192 0 ≡ length (ofSide (sideAt n) live)
+    part-count =
+        count-is (take (256 * n + 256 - 256 * n) (drop (256 * n) table)) (slotsIn (sideAt n) live) (bestIn least (slotsIn (sideAt n) live)) (few-slots (sideAt n)) part-is
+        ∙ length-map (ofSide (sideAt n) live) (slotOf (sideAt n))
+
     -- what a side's words say
     pub side-count : getD table (256 * n + 192) 0 ≡ length (ofSide (sideAt n) live)
     side-count =
@@ -149,3 +159,15 @@ module _ (table : List ℕ) (least : ℕ) (live : List Order) (stands : Standing
       let s = sideAt (h / 64) in
       let there = has-at s (ofSide s live) (h % 64) id some (sym (side-id (h / 64) side (h % 64) place) ∙ e) in
       omega (arith, slot-there live (stands .good) id (h / 64) (h % 64) side there)
+
+-- ---- a table that stands for some live orders
+
+module _ (table : List ℕ) (held : Held table) where
+  pub held-stands : Standing table (held .least) (held .live)
+  held-stands = record { good = held .good; is = held .is }
+
+  pub held-length : length table ≡ 512
+  held-length = table-length table (held .least) (held .live) held-stands
+
+  pub held-count : getD table 192 0 + getD table 448 0 ≤ 64
+  held-count = omega (arith, all-count table (held .least) (held .live) held-stands, held .good .few)

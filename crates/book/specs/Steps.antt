@@ -1,23 +1,21 @@
 -- What the functions on the table promise to each other.
-use Prim.Native.Nat.{ℕ, zero, suc, _+_, _<_}
+use Prim.Native.Nat.{ℕ, zero, suc, _+_, _*_, _≤_, _<_}
 use mathlib.Core.Path.{_≡_}
 use mathlib.Core.List.{List, _++_}
-use lib.ListN.{length}
+use lib.ListN.{length, getD}
 use Rattle.rules.specs.declared.Side.{Side}
 use Rattle.rules.specs.declared.Side.the-variants.{Buy, Sell}
 use Rattle.rules.specs.declared.Order.{Order}
 use Rattle.rules.specs.declared.Event.{Event}
+use Rattle.rules.specs.declared.Event.the-variants.{Add, Amend, Cancel, Deal, Tick}
 use Rattle.rules.specs.Book.{lowest, traderCauses}
 use Rattle.side.specs.Slots.{sideOf, bestIn, GoodSlots}
-use Rattle.side.specs.Moves.{Changed}
+use Rattle.side.specs.declared.Change.{Change}
+use Rattle.side.specs.Moves.{change, Changed}
 use Rattle.book.specs.declared.Answer.{Answer}
 use Rattle.book.specs.Table.{slotsIn, sideIn, tableOf, slotIn, sentTo, GoodOrders}
 
--- a side's number: buys 0, sells 1
-abbrev pub sideNumber : Side → ℕ
-sideNumber Buy = 0
-sideNumber Sell = 1
-
+-- a side by its number: buys 0, sells 1
 abbrev pub sideAt : ℕ → Side
 sideAt zero = Buy
 sideAt (suc n) = Sell
@@ -25,6 +23,18 @@ sideAt (suc n) = Sell
 abbrev pub other : Side → Side
 other Buy = Sell
 other Sell = Buy
+
+pub record Numbers (side : Side) (s : ℕ) : Type 0 where
+  pub is : sideAt s ≡ side
+  pub small : s < 2
+
+-- the id that an event names; a tick names none
+abbrev pub idOf : Event → ℕ
+idOf (Add t id side price volume) = id
+idOf (Amend t id price volume) = id
+idOf (Cancel t id) = id
+idOf (Deal t id volume) = id
+idOf (Tick t) = 0
 
 -- the table of the words of a side, by its number, and of the other side
 abbrev pub joined : ℕ → List ℕ → List ℕ → List ℕ
@@ -41,21 +51,26 @@ pub record Standing (table : List ℕ) (least : ℕ) (live : List Order) : Type 
   pub good : GoodOrders live
   pub is : table ≡ tableOf least live
 
-pub record Held (table hints : List ℕ) : Type 0 where
+-- some such orders, and the slot of an id among them
+pub record Located (table : List ℕ) (id slot : ℕ) : Type 0 where
   pub least : ℕ
   pub live : List Order
-  pub long : length table ≡ 512
   pub stands : Standing table least live
-  pub hinted : length hints ≡ 1024
-
--- and the slot of the order that an event names
-pub record Located (table hints : List ℕ) (id slot : ℕ) : Type 0 where
-  pub least : ℕ
-  pub live : List Order
   pub long : length table ≡ 512
-  pub stands : Standing table least live
-  pub hinted : length hints ≡ 1024
   pub at : slot ≡ slotIn id live
+
+-- the places of a side's orders, to write down in the hints
+pub record Placed (table hints : List ℕ) (s : ℕ) : Type 0 where
+  pub long : length table ≡ 512
+  pub hinted : length hints ≡ 1024
+  pub number : s < 2
+  pub few : getD table (256 * s + 192) 0 ≤ 64
+
+abbrev pub answer : ℕ → ℕ → Change → Answer
+answer refusal s change = record { refusal = refusal; s = s; change = change }
+
+abbrev pub noChange : Change
+noChange = change 0 0 0 0
 
 -- what an event answers and leaves: the refusal, the table, and what changes on its side
 pub record Turned (e : Event) (least : ℕ) (live : List Order) (exit : List ℕ) (r : Answer) : Type 0 where
