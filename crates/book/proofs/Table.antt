@@ -2,23 +2,23 @@
 use Prim.Native.Nat.{ℕ, zero, suc, _+_, _*_, _-_, _/_, _%_, _≤_, _<_}
 use native.Mathlib.Omega.{arith}
 use native.Mathlib.Nat.{not-suc-le-zero, le-of-suc-le-suc}
-use mathlib.Core.Path.{_≡_, refl, sym, ap, _∙_, subst}
+use mathlib.Core.Path.{_≡_, refl, sym, ap, _∙_}
 use mathlib.Core.List.{List, [], _∷_, _++_, map, append-nil}
-use mathlib.Core.Bool.{Bool, true, false}
-use lib.Dec.{leb}
+use mathlib.Core.Bool.{Bool, true, false, not, _&&_}
+use lib.Dec.{leb, eqb}
 use lib.ListN.{length, getD, take, drop, length-append, length-map, List·getD-append, List·getD-eq-default}
 use lib.Seq.{take-at, drop-at, take-all, drop-length}
-use borrow.Author.Tests.{eq-eqb, leb-true, leb-false}
+use borrow.Author.Tests.{eq-eqb, eqb-true, eqb-false, not-true, leb-true, leb-false}
 use Rattle.rules.specs.declared.Side.{Side}
 use Rattle.rules.specs.declared.Side.the-variants.{Buy, Sell}
 use Rattle.rules.specs.declared.Order.{Order}
-use Rattle.rules.specs.Orders.{hasId}
+use Rattle.rules.proofs.Lists.{both}
 use Rattle.quote.specs.declared.Level.{Level}
-use Rattle.side.specs.Slots.{Slot, slot, blankSlot, bestIn}
+use Rattle.side.specs.Slots.{Slot, blankSlot, sideOf, bestIn, seen}
 use Rattle.side.specs.Moves.{Sized}
 use Rattle.side.proofs.Lists.{behind-at}
 use Rattle.side.proofs.Words.{words-length, count-is, key-is, sized, id-at, key-at, volume-at}
-use Rattle.book.specs.Table.{ofSide, slotOf, slotsIn, sideIn, tableOf, slotIn, GoodOrders, Held}
+use Rattle.book.specs.Table.{ofSide, slotOf, slotsIn, sideIn, tableOf, slotBy, slotIn, Held}
 use Rattle.book.specs.Steps.{sideAt, other, joined, Standing}
 use Rattle.book.proofs.Sides.{few-side, length-sides}
 use Rattle.book.proofs.Slots.{blankOrder, Has, slot-there}
@@ -160,6 +160,21 @@ module _ (table : List ℕ) (least : ℕ) (live : List Order) (stands : Standing
       let there = has-at s (ofSide s live) (h % 64) id some (sym (side-id (h / 64) side (h % 64) place) ∙ e) in
       omega (arith, slot-there live (stands .good) id (h / 64) (h % 64) side there)
 
+  pub word-is : (id h : ℕ) (b : Bool) → h < 128 → b ≡ (eqb (getD table (256 * (h / 64) + h % 64) 0) id && not (eqb id 0)) → b ≡ true → h ≡ slotIn id live
+  word-is id h b l e t =
+      let word = getD table (256 * (h / 64) + h % 64) 0 in
+      let (same, some) = both (eqb word id) (not (eqb id 0)) (sym e ∙ t) in
+      hint-is id h l (eqb-false id 0 (not-true (eqb id 0) some)) (eqb-true word id same)
+
+  -- what both sides are asked for an id says its slot
+  pub asked-is : (id buys sells r : ℕ) → ((slots : List Slot) (level : Level) → length slots ≤ 64 → take 256 table ≡ sideOf slots level → buys ≡ seen id slots)
+      → ((slots : List Slot) (level : Level) → length slots ≤ 64 → take 256 (drop 256 table) ≡ sideOf slots level → sells ≡ seen id slots)
+      → r ≡ slotBy buys sells → r ≡ slotIn id live
+  asked-is id buys sells r b s is =
+      is
+      ∙ ap (λ (n : ℕ). slotBy n sells) (b (slotsIn Buy live) (bestIn least (slotsIn Buy live)) (few-slots Buy) (part-is 0 (omega arith)))
+      ∙ ap (slotBy (seen id (slotsIn Buy live))) (s (slotsIn Sell live) (bestIn least (slotsIn Sell live)) (few-slots Sell) (part-is 1 (omega arith)))
+
 -- ---- a table that stands for some live orders
 
 module _ (table : List ℕ) (held : Held table) where
@@ -171,3 +186,6 @@ module _ (table : List ℕ) (held : Held table) where
 
   pub held-count : getD table 192 0 + getD table 448 0 ≤ 64
   held-count = omega (arith, all-count table (held .least) (held .live) held-stands, held .good .few)
+
+  pub held-sized : (n : ℕ) → n < 2 → Sized (take (256 * n + 256 - 256 * n) (drop (256 * n) table))
+  held-sized n h = part-sized table (held .least) (held .live) held-stands n h
