@@ -12,7 +12,9 @@ use borrow.Author.Tests.{eq-eqb, eqb-true, eqb-false, not-true, leb-true, leb-fa
 use Rattle.rules.specs.declared.Side.{Side}
 use Rattle.rules.specs.declared.Side.the-variants.{Buy, Sell}
 use Rattle.rules.specs.declared.Order.{Order}
+use Rattle.rules.specs.Quotes.{same}
 use Rattle.rules.proofs.Lists.{both}
+use Rattle.rules.proofs.Members.{length-keep}
 use Rattle.quote.specs.declared.Level.{Level}
 use Rattle.side.specs.Slots.{Slot, blankSlot, sideOf, bestIn, seen}
 use Rattle.side.specs.Moves.{Sized}
@@ -126,6 +128,13 @@ module _ (table : List ℕ) (least : ℕ) (live : List Order) (stands : Standing
         at 192 (omega arith)
         ∙ count-is (sideIn least (sideAt n) live) (slotsIn (sideAt n) live) (bestIn least (slotsIn (sideAt n) live)) (few-slots (sideAt n)) refl
         ∙ length-map (ofSide (sideAt n) live) (slotOf (sideAt n))
+
+    pub side-few : getD table (256 * n + 192) 0 ≤ 64
+    side-few = omega (arith, side-count, few-side (sideAt n) live (stands .good))
+
+    -- room for one more
+    pub part-room : length live < 64 → getD (take (256 * n + 256 - 256 * n) (drop (256 * n) table)) 192 0 < 64
+    part-room room = omega (arith, part-count, length-keep (λ (o : Order). same (sideAt n) (o .side)) live)
 
     pub side-best : getD table (256 * n + 193) 0 ≡ bestIn least (slotsIn (sideAt n) live) .key
     side-best =
