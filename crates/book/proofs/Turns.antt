@@ -25,14 +25,15 @@ use Rattle.quote.specs.Keys.{keyOf}
 use Rattle.quote.proofs.Keys.{key-least, key-most}
 use Rattle.side.specs.declared.Change.{Change}
 use Rattle.side.specs.Slots.{Slot, slot, blankSlot, sideOf, bestIn, GoodSlots}
-use Rattle.side.specs.Moves.{Changed, Added, Amended, Removed}
+use Rattle.side.specs.Moves.{Changed, Sized, Added, Amended, Removed}
+use Rattle.side.proofs.Words.{words-length, count-is}
 use Rattle.side.proofs.Changes.{changed-added, changed-amended, changed-removed, GoodSlot, one-good, good-added, good-amended, good-removed}
 use Rattle.book.specs.declared.Answer.{Answer}
 use Rattle.book.specs.Table.{ofSide, slotOf, slotsIn, sideIn, tableOf, slotIn, sentTo, GoodOrders}
-use Rattle.book.specs.Steps.{sideAt, other, Numbers, joined, turnedTo, Standing, answer, noChange, Turned}
+use Rattle.book.specs.Steps.{sideAt, other, Numbers, joined, turnedTo, Standing, Placed, answer, noChange, Turned}
 use Rattle.book.proofs.Sides.{names}
 use Rattle.book.proofs.Slots.{blankOrder, Has, position, slot-stands}
-use Rattle.book.proofs.Table.{put-is, part-is, side-key, side-volume}
+use Rattle.book.proofs.Table.{joined-length, joined-at, half-length, part-is, put-is, part-sized, part-count, side-key, side-volume}
 use Rattle.book.proofs.Events.{good-slots, added, added-other, inside, left-is, others-stay, amended, cancelled, dealt-some}
 
 module _ (e : Event) (least : ℕ) (live : List Order) (table : List ℕ) (stands : Standing table least live) where
@@ -233,3 +234,31 @@ module _ (t : Millis) (least : ℕ) (live : List Order) (table : List ℕ) (stan
         (sym (made .told slots (bestIn least slots) (good-before n .few) within (part-is table least live stands n small)))
         (changed-removed slots k within))
         (made .words slots (bestIn least slots) (good-before n .few) within (part-is table least live stands n small))
+
+    -- the side's words after it went, for the hints
+    pub placed : (half hints : List ℕ) (c : Change) → length hints ≡ 1024 → Removed k (lent n table) half c → Placed (putBack n table half) hints n
+    placed half hints c long made =
+        let left = take k slots ++ drop (suc k) slots in
+        let few = good-removed slots k (good-before n) .few in
+        let words = made .words slots (bestIn least slots) (good-before n .few) within (part-is table least live stands n small) in
+        let others = sideIn least (other (sideAt n)) live in
+        let size = words-length half left (bestIn least slots) few words in
+        let rest = half-length table least live stands (other (sideAt n)) in
+        let put = put-is table least live stands n small half in
+        record {
+          long = ap length put ∙ joined-length half others size rest n small;
+          hinted = long;
+          number = small;
+          few =
+            omega (
+              arith,
+              ap (λ (t : List ℕ). getD t (256 * n + 192) 0) put,
+              joined-at half others size rest n 192 small (omega arith),
+              count-is half left (bestIn least slots) few words,
+            );
+        }
+
+    pub lent-removable : Sized (lent n table) × (k < getD (lent n table) 192 0)
+    lent-removable =
+        (part-sized table least live stands n small,
+        omega (arith, part-count table least live stands n small, has-slot .inside))
