@@ -1,141 +1,148 @@
+-- `book::deal` meets its contract. Assumes nothing.
+use Prim.Native.Nat.{ℕ, _≤_, _<_}
+use native.Mathlib.Nat.{le-refl}
+use native.Mathlib.Omega.{arith}
+use mathlib.Core.Path.{_≡_, refl, sym, _∙_, subst}
+use mathlib.Core.Bool.{Bool, true, false}
+use lib.Dec.{ltb}
 use borrow.Author.Needs.{needs}
+use borrow.Author.Tests.{ltb-true, ltb-false}
+use Rattle.rules.specs.declared.Event.the-variants.{Cancel, Deal}
+use Rattle.rules.specs.Orders.{left}
+use Rattle.book.proofs.Causes.{known, cancel-passes, deal-unknown, deal-outside, deal-above, deal-passes}
+use Rattle.book.proofs.Turns.{refuses, same-turn, deal-cancels, its-left, turned-deal}
 use Rattle.book.proofs.deal.Statement.{statement}
 use Rattle.book.proofs.deal.Tie as tie
-use Rattle.book.proofs.deal.Reads as reads
-use Rattle.book.proofs.deal.Lts as lts
-use Rattle.book.proofs.cancel.Reads as cancel-reads
-use Rattle.book.proofs.done.Reads as done-reads
-use Rattle.book.proofs.refused.Reads as refused-reads
-use Rattle.ranges.proofs.volume.Reads as volume-reads
-use Rattle.side.proofs.amend.Reads as amend-reads
 
--- src/lib.rt:227:9
+-- at most, and not the same
+less : (a b : ℕ) → a ≤ b → (b ≡ a → ⊥) → a < b
+less a b h n = go (ltb a b) refl
+  where
+    go : (t : Bool) → ltb a b ≡ t → a < b
+    go true e = ltb-true a b e
+    go false e = absurd (n (omega (arith, ltb-false a b e)))
+
 refused-requires : tie.Need-refused-requires
 refused-requires c κs = search needs
 
--- src/lib.rt:227:9
 returns : tie.Need-returns
-returns c = ?
+returns c =  λ t least live stands at.
+    let a = c .before .before .before .before .args in
+    refuses (Deal t (a .id) (a .volume)) least live (a .table .now) stands 10 (c .refused .result) (c .refused .ensures)
+    (deal-unknown live (stands .good) (a .id) (a .slot) at t (a .volume) (c .before .if1 .taken))
 
--- src/lib.rt:229:8
 volume-requires : tie.Need-volume-requires
 volume-requires c κs = search needs
 
--- src/lib.rt:232:26
 mul-held : tie.Need-mul-held
 mul-held c = search needs
 
--- src/lib.rt:232:37
 add-held : tie.Need-add-held
 add-held c = search needs
 
--- src/lib.rt:232:26
 add-held-2 : tie.Need-add-held-2
 add-held-2 c = search needs
 
--- src/lib.rt:232:20
 mul-held-2 : tie.Need-mul-held-2
 mul-held-2 c = search needs
 
--- src/lib.rt:232:20
 slice-read-held : tie.Need-slice-read-held
 slice-read-held c = search needs
 
--- src/lib.rt:235:13
 refused-requires-2 : tie.Need-refused-requires-2
 refused-requires-2 c κs = search needs
 
--- src/lib.rt:235:13
 returns-2 : tie.Need-returns-2
-returns-2 c = ?
+returns-2 c =  λ t least live stands at.
+    let a = c .before .before .before .before .before .before .before .before .args in
+    let there = c .before .before .before .before .before .if1 .left in
+    refuses (Deal t (a .id) (a .volume)) least live (a .table .now) stands 13 (c .refused2 .result) (c .refused2 .ensures)
+    (deal-above live (stands .good) (a .id) (a .slot) at t (a .volume) there (sym (c .before .before .before .before .volume .ensures) ∙ c .before .before .before .if2 .taken)
+    (subst (λ (m : ℕ). m < a .volume .0) (its-left t least live (a .table .now) stands (a .id) (a .slot) at there) (c .before .if3 .taken)))
 
--- src/lib.rt:238:13
 cancel-requires : tie.Need-cancel-requires
 cancel-requires c κs = search needs
 
--- src/lib.rt:238:13
 same-length : tie.Need-same-length
 same-length c = search needs
 
--- src/lib.rt:238:13
 same-length-2 : tie.Need-same-length-2
 same-length-2 c = search needs
 
--- src/lib.rt:238:13
 returns-3 : tie.Need-returns-3
-returns-3 c = ?
+returns-3 c =  λ t least live stands at.
+    let a = c .before .before .before .before .before .before .before .before .before .before .before .before .before .before .before .args in
+    let there = c .before .before .before .before .before .before .before .before .before .before .before .before .if1 .left in
+    let all : a .volume .0 ≡ left (a .id) live = sym (c .before .before .before .before .before .before .before .if4 .taken) ∙ its-left t least live (a .table .now) stands (a .id) (a .slot) at there in
+    same-turn (Cancel t (a .id)) (Deal t (a .id) (a .volume)) least live (c .before .before .before .before .cancel .last .0) (c .before .before .before .before .cancel .result)
+    (cancel-passes live (stands .good) (a .id) (a .slot) at t there)
+    (deal-passes live (stands .good) (a .id) (a .slot) at t (a .volume) there (sym (c .before .before .before .before .before .before .before .before .before .before .before .volume .ensures) ∙ c .before .before .before .before .before .before .before .before .before .before .if2 .taken)
+    (subst (λ (m : ℕ). m ≤ left (a .id) live) (sym all) (le-refl _)))
+    (deal-cancels live (stands .good) t (a .id) (a .volume) (known live (stands .good) (a .id) (a .slot) at t there) all)
+    (c .before .before .before .before .cancel .ensures t least live stands at)
 
--- src/lib.rt:240:25
 mul-key : tie.Need-mul-key
 mul-key c = search needs
 
--- src/lib.rt:240:36
 add-key : tie.Need-add-key
 add-key c = search needs
 
--- src/lib.rt:240:25
 add-key-2 : tie.Need-add-key-2
 add-key-2 c = search needs
 
--- src/lib.rt:240:19
 mul-key-2 : tie.Need-mul-key-2
 mul-key-2 c = search needs
 
--- src/lib.rt:240:19
 slice-read-key : tie.Need-slice-read-key
 slice-read-key c = search needs
 
--- src/lib.rt:244:28
 mul-amend : tie.Need-mul-amend
 mul-amend c = search needs
 
--- src/lib.rt:244:37
 mul-amend-2 : tie.Need-mul-amend-2
 mul-amend-2 c = search needs
 
--- src/lib.rt:244:37
 add-amend : tie.Need-add-amend
 add-amend c = search needs
 
--- src/lib.rt:244:17
 mul-amend-3 : tie.Need-mul-amend-3
 mul-amend-3 c = search needs
 
--- src/lib.rt:244:17
 sub-amend : tie.Need-sub-amend
 sub-amend c = search needs
 
--- src/lib.rt:244:17
 part-amend-start : tie.Need-part-amend-start
 part-amend-start c = search needs
 
--- src/lib.rt:244:17
 part-amend-end : tie.Need-part-amend-end
 part-amend-end c = search needs
 
--- src/lib.rt:243:13
 amend-requires : tie.Need-amend-requires
 amend-requires c κs = search needs
 
--- src/lib.rt:241:9
 done-requires : tie.Need-done-requires
 done-requires c κs = search needs
 
--- src/lib.rt:241:9
 same-length-3 : tie.Need-same-length-3
 same-length-3 c = search needs
 
--- src/lib.rt:241:9
 returns-4 : tie.Need-returns-4
-returns-4 c = ?
+returns-4 c =  λ t least live stands at.
+    let a = c .before .before .before .before .before .before .before .before .before .before .before .before .before .before .args in
+    let there = c .before .before .before .before .before .before .before .before .before .before .before .if1 .left in
+    turned-deal t least live (a .table .now) stands (a .id) (a .slot) at there (a .volume) (c .before .before .before .amend .last .0) (c .before .before .before .amend .result) (c .done .result)
+    (deal-passes live (stands .good) (a .id) (a .slot) at t (a .volume) there (sym (c .before .before .before .before .before .before .before .before .before .before .volume .ensures) ∙ c .before .before .before .before .before .before .before .before .before .if2 .taken)
+    (subst (λ (m : ℕ). a .volume .0 ≤ m) (its-left t least live (a .table .now) stands (a .id) (a .slot) at there) (c .before .before .before .before .before .before .before .if3 .left)))
+    (less _ _ (c .before .before .before .before .before .before .before .if3 .left) (c .before .before .before .before .before .before .if4 .left)) (c .before .before .before .amend .ensures) (c .done .ensures)
 
--- src/lib.rt:251:5
 refused-requires-3 : tie.Need-refused-requires-3
 refused-requires-3 c κs = search needs
 
--- src/lib.rt:222:1
 returns-5 : tie.Need-returns-5
-returns-5 c = ?
+returns-5 c =  λ t least live stands at.
+    let a = c .before .before .before .before .before .before .args in
+    refuses (Deal t (a .id) (a .volume)) least live (a .table .now) stands 11 (c .refused3 .result) (c .refused3 .ensures)
+    (deal-outside live (stands .good) (a .id) (a .slot) at t (a .volume) (c .before .before .before .if1 .left) (sym (c .before .before .volume .ensures) ∙ c .before .if2 .left))
 
 pub deal-spec : {M : Type 1} → statement M
 deal-spec =
