@@ -1,123 +1,129 @@
+-- `book::changed` meets its contract: each event by its own function. Assumes nothing.
+use Prim.Native.Nat.{ℕ}
+use mathlib.Core.Path.{_≡_, sym, ap, _∙_, subst}
+use mathlib.Core.List.{List}
+use lib.ListN.{length}
 use borrow.Author.Needs.{needs}
+use Rattle.rules.specs.declared.Order.{Order}
+use Rattle.rules.specs.declared.Event.{Event}
+use Rattle.book.specs.Table.{slotIn}
+use Rattle.book.specs.Steps.{idOf, Standing, Located, Turned}
+use Rattle.book.proofs.Table.{held-stands, held-length}
+use Rattle.book.proofs.Turns.{idle}
 use Rattle.book.proofs.changed.Statement.{statement}
 use Rattle.book.proofs.changed.Tie as tie
-use Rattle.book.proofs.changed.Reads as reads
-use Rattle.book.proofs.changed.Lts as lts
-use Rattle.book.proofs.add.Reads as add-reads
-use Rattle.book.proofs.amend.Reads as amend-reads
-use Rattle.book.proofs.cancel.Reads as cancel-reads
-use Rattle.book.proofs.deal.Reads as deal-reads
-use Rattle.book.proofs.find.Reads as find-reads
-use Rattle.book.proofs.id_of.Reads as id-of-reads
-use Rattle.book.proofs.refused.Reads as refused-reads
 
--- src/lib.rt:287:35
 id-of-requires : tie.Need-id-of-requires
 id-of-requires c κs = search needs
 
--- src/lib.rt:287:9
 find-requires : tie.Need-find-requires
 find-requires c κs = search needs
 
--- src/lib.rt:291:13
 enum-known-e : tie.Need-enum-known-e
 enum-known-e c = search needs
 
--- src/lib.rt:295:14
-add-requires : tie.Need-add-requires
-add-requires c κs = ?
+-- what was found for the event's id
+slot-is : (c : tie.After-find) (least : ℕ) (live : List Order) → Standing (c .before .before .before .before .before .before .args .table .now) least live → (id : ℕ) → idOf (c .before .before .before .before .before .before .args .e) ≡ id
+    → c .find .result ≡ slotIn id live
+slot-is c least live stands id e = c .find .ensures least live stands ∙ ap (λ (n : ℕ). slotIn n live) (c .before .id-of .ensures ∙ e)
 
--- src/lib.rt:298:13
+located : (c : tie.After-find) (id : ℕ) → idOf (c .before .before .before .before .before .before .args .e) ≡ id → Located (c .before .before .before .before .before .before .args .table .now) id (c .find .result)
+located c id e =
+    let table = c .before .before .before .before .before .before .args .table .now in
+    let held = c .before .before .before .before .before .before .pre .0 in
+    record {
+      least = held .least;
+      live = held .live;
+      stands = held-stands table held;
+      long = held-length table held;
+      at = slot-is c (held .least) (held .live) (held-stands table held) id e;
+    }
+
+hinted : (c : tie.After-find) → length (c .find .last .1 .0) ≡ 1024
+hinted c = c .find .kept .1 .0 ∙ c .before .before .before .before .before .before .pre .1
+
+add-requires : tie.Need-add-requires
+add-requires c κs = (located (c .before .before .before .before .before .before .before) _ (ap idOf (c .before .before .before .e .given .1)), hinted (c .before .before .before .before .before .before .before))
+
 enum-known-e-2 : tie.Need-enum-known-e-2
 enum-known-e-2 c = search needs
 
--- src/lib.rt:301:14
 amend-requires : tie.Need-amend-requires
-amend-requires c κs = ?
+amend-requires c κs = located (c .before .before .before .before .before .before) _ (ap idOf (c .before .before .e2 .given .1))
 
--- src/lib.rt:302:31
 enum-known-e-3 : tie.Need-enum-known-e-3
 enum-known-e-3 c = search needs
 
--- src/lib.rt:302:39
 cancel-requires : tie.Need-cancel-requires
-cancel-requires c κs = ?
+cancel-requires c κs = (located (c .before .before .before .before .before .before .before) _ (ap idOf (c .before .before .before .e3 .given .1)), hinted (c .before .before .before .before .before .before .before))
 
--- src/lib.rt:303:29
 enum-known-e-4 : tie.Need-enum-known-e-4
 enum-known-e-4 c = search needs
 
--- src/lib.rt:303:45
 deal-requires : tie.Need-deal-requires
-deal-requires c κs = ?
+deal-requires c κs = (located (c .before .before .before .before .before .before .before) _ (ap idOf (c .before .before .before .e4 .given .1)), hinted (c .before .before .before .before .before .before .before))
 
--- src/lib.rt:304:33
 enum-told : tie.Need-enum-told
 enum-told c = search needs
 
--- src/lib.rt:304:33
 refused-requires : tie.Need-refused-requires
 refused-requires c κs = search needs
 
--- src/lib.rt:283:1
 same-length : tie.Need-same-length
 same-length c = search needs
 
--- src/lib.rt:283:1
 same-length-2 : tie.Need-same-length-2
 same-length-2 c = search needs
 
--- src/lib.rt:283:1
 returns : tie.Need-returns
-returns c = ?
+returns c =  λ least live stands.
+    subst (λ (e : Event). Turned e least live (c .before .before .before .before .add .last .0) (c .before .before .before .before .add .result)) (sym (c .before .before .before .before .before .before .before .before .e .given .1))
+    (c .before .before .before .before .add .ensures (c .before .before .before .before .before .before .before .before .e .given .0 .0) least live stands (slot-is (c .before .before .before .before .before .before .before .before .before .before .before .before) least live stands _ (ap idOf (c .before .before .before .before .before .before .before .before .e .given .1))))
 
--- src/lib.rt:283:1
 same-length-3 : tie.Need-same-length-3
 same-length-3 c = search needs
 
--- src/lib.rt:283:1
 same-length-4 : tie.Need-same-length-4
 same-length-4 c = search needs
 
--- src/lib.rt:283:1
 returns-2 : tie.Need-returns-2
-returns-2 c = ?
+returns-2 c =  λ least live stands.
+    subst (λ (e : Event). Turned e least live (c .before .before .amend .last .0) (c .before .before .amend .result)) (sym (c .before .before .before .before .before .e2 .given .1))
+    (c .before .before .amend .ensures (c .before .before .before .before .before .e2 .given .0 .0) least live stands (slot-is (c .before .before .before .before .before .before .before .before .before) least live stands _ (ap idOf (c .before .before .before .before .before .e2 .given .1))))
 
--- src/lib.rt:283:1
 same-length-5 : tie.Need-same-length-5
 same-length-5 c = search needs
 
--- src/lib.rt:283:1
 same-length-6 : tie.Need-same-length-6
 same-length-6 c = search needs
 
--- src/lib.rt:283:1
 returns-3 : tie.Need-returns-3
-returns-3 c = ?
+returns-3 c =  λ least live stands.
+    subst (λ (e : Event). Turned e least live (c .before .before .before .before .cancel .last .0) (c .before .before .before .before .cancel .result)) (sym (c .before .before .before .before .before .before .before .before .e3 .given .1))
+    (c .before .before .before .before .cancel .ensures (c .before .before .before .before .before .before .before .before .e3 .given .0 .0) least live stands (slot-is (c .before .before .before .before .before .before .before .before .before .before .before .before) least live stands _ (ap idOf (c .before .before .before .before .before .before .before .before .e3 .given .1))))
 
--- src/lib.rt:283:1
 same-length-7 : tie.Need-same-length-7
 same-length-7 c = search needs
 
--- src/lib.rt:283:1
 same-length-8 : tie.Need-same-length-8
 same-length-8 c = search needs
 
--- src/lib.rt:283:1
 returns-4 : tie.Need-returns-4
-returns-4 c = ?
+returns-4 c =  λ least live stands.
+    subst (λ (e : Event). Turned e least live (c .before .before .before .before .deal .last .0) (c .before .before .before .before .deal .result)) (sym (c .before .before .before .before .before .before .before .before .e4 .given .1))
+    (c .before .before .before .before .deal .ensures (c .before .before .before .before .before .before .before .before .e4 .given .0 .0) least live stands (slot-is (c .before .before .before .before .before .before .before .before .before .before .before .before) least live stands _ (ap idOf (c .before .before .before .before .before .before .before .before .e4 .given .1))))
 
--- src/lib.rt:283:1
 same-length-9 : tie.Need-same-length-9
 same-length-9 c = search needs
 
--- src/lib.rt:283:1
 same-length-10 : tie.Need-same-length-10
 same-length-10 c = search needs
 
--- src/lib.rt:283:1
 returns-5 : tie.Need-returns-5
-returns-5 c = ?
+returns-5 c =  λ least live stands.
+    let a = c .before .before .before .before .before .before .before .before .before .before .before .args in
+    subst (λ (e : Event). Turned e least live (a .table .now) (c .refused .result)) (sym (c .before .enum-told .given .1))
+    (idle _ least live (a .table .now) stands (c .refused .result) (c .refused .ensures))
 
 pub changed-spec : {M : Type 1} → statement M
 changed-spec =
