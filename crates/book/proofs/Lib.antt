@@ -6,3 +6,4 @@ pub mod Events
 pub mod Causes
 pub mod Turns
 pub mod Quotes
+pub mod Sent

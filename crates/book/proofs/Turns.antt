@@ -41,7 +41,7 @@ module _ (e : Event) (least : ℕ) (live : List Order) (table : List ℕ) (stand
   unfolding tableOf turnedTo
   refuses n r is h =
       subst (Turned e least live table) (sym is)
-      (record { number = omega arith; refusal = sym h; table = stands .is; good = good-slots Buy live (stands .good); told = λ t. refl })
+      (record { number = omega arith; refusal = sym h; table = stands .is; others = refl; good = good-slots Buy live (stands .good); told = λ t. refl })
 
   -- the side's slots are these, the other's those of before, and the words of the side are put into the table
   pub accepts : (n : ℕ) → n < 2 → (after : List Slot) (c : Change) (half : List ℕ) (r : Answer) → r ≡ answer 0 n c
@@ -62,6 +62,7 @@ module _ (e : Event) (least : ℕ) (live : List Order) (table : List ℕ) (stand
           (λ (o : List Slot). joined n (sideOf after (bestIn least (slotsIn (sideAt n) live))) (sideOf o (bestIn least o)))
           (sym others)
           ∙ ap (λ (o : List Slot). joined n (sideOf o (bestIn least (slotsIn (sideAt n) live))) (sideIn least (other (sideAt n)) (apply live e))) (sym own);
+        others = others;
         good = subst GoodSlots (sym own) good;
         told = subst (Changed c (slotsIn (sideAt n) live)) (sym own) told;
       })
@@ -71,7 +72,7 @@ pub idle : (t : Millis) (least : ℕ) (live : List Order) (table : List ℕ) →
 unfolding tableOf turnedTo apply
 idle t least live table stands r is =
     subst (Turned (Tick t) least live table) (sym is)
-    (record { number = omega arith; refusal = sym clear; table = stands .is; good = good-slots Buy live (stands .good); told = λ t. refl })
+    (record { number = omega arith; refusal = sym clear; table = stands .is; others = refl; good = good-slots Buy live (stands .good); told = λ t. refl })
 
 -- two accepted events that leave the same orders
 pub same-turn : (d e : Event) (least : ℕ) (live : List Order) (exit : List ℕ) (r : Answer) → lowest (traderCauses live d) ≡ 0
@@ -81,6 +82,7 @@ same-turn d e least live exit r h k same t =
       number = t .number;
       refusal = t .refusal ∙ h ∙ sym k;
       table = t .table ∙ ap (turnedTo (r .s) least live) sent;
+      others = ap (slotsIn (other (sideAt (r .s)))) (sym sent) ∙ t .others;
       good = subst (λ (l : List Order). GoodSlots (slotsIn (sideAt (r .s)) l)) sent (t .good);
       told = subst (λ (l : List Order). Changed (r .change) (slotsIn (sideAt (r .s)) live) (slotsIn (sideAt (r .s)) l)) sent (t .told);
     }

@@ -77,5 +77,6 @@ pub record Turned (e : Event) (least : ℕ) (live : List Order) (exit : List ℕ
   pub number : r .s < 2
   pub refusal : r .refusal ≡ lowest (traderCauses live e)
   pub table : exit ≡ turnedTo (r .s) least live (sentTo (r .refusal) live e)
+  pub others : slotsIn (other (sideAt (r .s))) (sentTo (r .refusal) live e) ≡ slotsIn (other (sideAt (r .s))) live
   pub good : GoodSlots (slotsIn (sideAt (r .s)) (sentTo (r .refusal) live e))
   pub told : Changed (r .change) (slotsIn (sideAt (r .s)) live) (slotsIn (sideAt (r .s)) (sentTo (r .refusal) live e))
