@@ -15,7 +15,7 @@ use Rattle.rules.specs.declared.Event.{Event}
 use Rattle.rules.specs.declared.Event.the-variants.{Add, Amend, Cancel, Deal}
 use Rattle.rules.specs.Lists.{if_then_else_}
 use Rattle.rules.specs.Units.{contracts}
-use Rattle.rules.specs.Orders.{hasId, left, apply}
+use Rattle.rules.specs.Orders.{left, apply}
 use Rattle.rules.specs.Quotes.{same}
 use Rattle.rules.proofs.Members.{getD-in}
 use Rattle.rules.proofs.Orders.{amend-at, cancel-at, deal-some, deal-all, left-at}

@@ -2,28 +2,27 @@
 use Prim.Native.Nat.{ℕ, _+_, _*_, _≤_, _<_}
 use native.Mathlib.Omega.{arith}
 use mathlib.Core.Path.{_≡_, sym, ap, _∙_, subst}
-use mathlib.Core.List.{List, map, map-map, List·Memᴰ}
-use mathlib.Core.Bool.{Bool, true}
+use mathlib.Core.List.{List, map, map-map}
+use mathlib.Core.Bool.{Bool}
 use lib.IntN.{ℤ}
 use lib.ListN.{getD}
 use Rattle.rules.specs.declared.Side.{Side}
 use Rattle.rules.specs.declared.Side.the-variants.{Buy, Sell}
 use Rattle.rules.specs.declared.Order.{Order}
-use Rattle.rules.specs.declared.Quote.{Quote}
 use Rattle.rules.specs.declared.Row.{Row}
 use Rattle.rules.specs.Lists.{if_then_else_}
-use Rattle.rules.specs.Quotes.{volumeOf, best}
+use Rattle.rules.specs.Quotes.{best}
 use Rattle.rules.specs.Kept.{quotesKeep, ordersKeep}
 use Rattle.rules.proofs.Lists.{kept-in}
 use Rattle.rules.proofs.Best.{sided}
 use Rattle.quote.specs.Keys.{keyIn, quoteKey, quoteAt}
 use Rattle.quote.specs.Levels.{levelAt, levelOf, bestKey}
 use Rattle.quote.specs.Limit.{limitOf, keysKeep}
-use Rattle.quote.proofs.Keys.{GoodQuote, good-quote, key-quote}
+use Rattle.quote.proofs.Keys.{GoodQuote, good-quote}
 use Rattle.quote.proofs.Finding.{bestOf, side-most, best-key, key-best}
 use Rattle.quote.proofs.Spread.{keys-law}
-use Rattle.side.specs.Slots.{Slot, keysOf, volumesOf, bestIn}
-use Rattle.book.specs.Table.{ofSide, slotOf, slotsIn, tableOf, GoodOrders, Held}
+use Rattle.side.specs.Slots.{Slot, volumesOf, bestIn}
+use Rattle.book.specs.Table.{ofSide, slotOf, slotsIn, tableOf, GoodOrders}
 use Rattle.book.specs.Steps.{sideAt, Standing}
 use Rattle.book.proofs.Table.{side-best}
 

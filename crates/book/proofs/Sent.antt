@@ -1,17 +1,16 @@
 -- The table after an event: with the best level of its side moved, it stands for the orders after it. Assumes nothing.
-use Prim.Native.Nat.{ℕ, zero, suc, _+_, _*_, _-_, _≤_, _<_}
+use Prim.Native.Nat.{ℕ, zero, suc, _-_, _≤_, _<_}
 use native.Mathlib.Omega.{arith}
-use mathlib.Core.Path.{_≡_, refl, sym, ap, _∙_}
-use mathlib.Core.List.{List, _++_}
-use lib.ListN.{length, take, drop, length-map}
-use Rattle.rules.specs.declared.Side.{Side}
+use mathlib.Core.Path.{_≡_, refl, ap, _∙_}
+use mathlib.Core.List.{List}
+use lib.ListN.{length}
 use Rattle.rules.specs.declared.Order.{Order}
 use Rattle.rules.specs.declared.Event.{Event}
-use Rattle.side.specs.Slots.{Slot, sideOf, bestIn}
+use Rattle.side.specs.Slots.{sideOf, bestIn}
 use Rattle.side.specs.Moves.{Moving}
 use Rattle.side.proofs.Words.{words-length}
 use Rattle.book.specs.declared.Answer.{Answer}
-use Rattle.book.specs.Table.{ofSide, slotOf, slotsIn, sideIn, tableOf, sentTo, GoodOrders}
+use Rattle.book.specs.Table.{slotsIn, sideIn, tableOf, sentTo, GoodOrders}
 use Rattle.book.specs.Steps.{sideAt, other, joined, turnedTo, Turned}
 use Rattle.book.proofs.Table.{joined-part, joined-put}
 use Rattle.book.proofs.Events.{good-slots}

@@ -1,10 +1,10 @@
 -- The orders of one side: how each event changes them, and what of all live orders is read off the two sides. Assumes nothing.
-use Prim.Native.Nat.{ℕ, zero, suc, _+_, _-_, _≤_, _<_}
+use Prim.Native.Nat.{ℕ, suc, _+_, _-_, _≤_}
 use native.Mathlib.Omega.{arith}
 use mathlib.Core.Path.{_≡_, refl, sym, ap, _∙_}
-use mathlib.Core.List.{List, [], _∷_, _++_, map, append-nil, List·Memᴰ, List·Memᴰ·head, List·Memᴰ·tail}
-use mathlib.Core.Bool.{Bool, true, false, true≢false, false≢true, not, _||_}
-use lib.ListN.{length, getD}
+use mathlib.Core.List.{List, [], _∷_, _++_, map, List·Memᴰ, List·Memᴰ·head, List·Memᴰ·tail}
+use mathlib.Core.Bool.{Bool, true, false, false≢true, not, _||_}
+use lib.ListN.{length}
 use borrow.Author.Tests.{eqb-true, lt-ltb}
 use Rattle.rules.specs.declared.Side.{Side}
 use Rattle.rules.specs.declared.Side.the-variants.{Buy, Sell}
@@ -15,12 +15,12 @@ use Rattle.rules.specs.declared.Contracts.{Contracts}
 use Rattle.rules.specs.declared.Event.{Event}
 use Rattle.rules.specs.declared.Event.the-variants.{Add, Amend, Cancel, Deal, Tick}
 use Rattle.rules.specs.Lists.{if_then_else_, keep, any}
-use Rattle.rules.specs.Units.{contracts, goodPrice, goodVolume}
+use Rattle.rules.specs.Units.{contracts, goodVolume}
 use Rattle.rules.specs.Orders.{hasId, isLive, left, amendedOrder, lessenedOrder, somethingLeft, apply}
 use Rattle.rules.specs.Quotes.{same}
 use Rattle.rules.specs.Bounds.{Distinct}
 use Rattle.rules.proofs.Lists.{keep-append, keep-one, kept-in}
-use Rattle.rules.proofs.Members.{or-false, or-second, any-none, none-any, length-keep, keep-all, map-same}
+use Rattle.rules.proofs.Members.{any-none, none-any, length-keep, keep-all, map-same}
 use Rattle.rules.proofs.Orders.{distinct-keep, amended-other, lessened-other}
 use Rattle.rules.proofs.Bounds.{volume-bounds}
 use Rattle.book.specs.Table.{ofSide, GoodOrders}

@@ -5,24 +5,23 @@ use native.Mathlib.Nat.{not-suc-le-zero, le-of-suc-le-suc}
 use mathlib.Core.Path.{_≡_, refl, sym, ap, _∙_, subst}
 use mathlib.Core.List.{List, [], _∷_, map}
 use mathlib.Core.Bool.{Bool, true, false, true≢false, false≢true, _||_}
-use lib.Dec.{eqb, ltb}
+use lib.Dec.{ltb}
 use lib.IntN.{pos}
-use lib.ListN.{length, getD, length-map}
-use borrow.Author.Tests.{eqb-true, eq-eqb, lt-ltb, le-ltb, ltb-true, ltb-false}
+use lib.ListN.{length, getD}
+use borrow.Author.Tests.{eqb-true, lt-ltb}
 use Rattle.rules.specs.declared.Side.{Side}
 use Rattle.rules.specs.declared.Side.the-variants.{Buy, Sell}
 use Rattle.rules.specs.declared.Order.{Order}
-use Rattle.rules.specs.Lists.{if_then_else_}
 use Rattle.rules.specs.Units.{contracts, steps}
-use Rattle.rules.specs.Lists.{any}
-use Rattle.rules.specs.Orders.{hasId, isLive, left}
+use Rattle.rules.specs.Lists.{if_then_else_, any}
+use Rattle.rules.specs.Orders.{hasId, isLive}
 use Rattle.rules.specs.Bounds.{Distinct}
 use Rattle.rules.proofs.Members.{or-false, getD-in}
 use Rattle.rules.proofs.Orders.{live-at}
-use Rattle.side.specs.Slots.{Slot, slot, blankSlot, idsOf, seenFrom, seen}
-use Rattle.book.specs.Table.{ofSide, slotOf, slotsIn, slotBy, slotIn, GoodOrders}
+use Rattle.side.specs.Slots.{idsOf, seenFrom, seen}
+use Rattle.book.specs.Table.{ofSide, slotOf, slotsIn, slotIn, GoodOrders}
 use Rattle.book.specs.Steps.{sideAt, other}
-use Rattle.book.proofs.Sides.{other-unlive, live-sides, left-in, few-side, distinct-side, in-side}
+use Rattle.book.proofs.Sides.{other-unlive, live-sides, few-side, distinct-side}
 
 abbrev pub blankOrder : Order
 blankOrder = record { id = 0; side = Buy; price = steps (pos 0); volume = contracts 0 }

@@ -1,8 +1,8 @@
 -- The answer to an event, and the table that it leaves: refused, accepted without a change, or accepted with one. Assumes nothing.
-use Prim.Native.Nat.{ℕ, zero, suc, _+_, _*_, _-_, _/_, _%_, _≤_, _<_}
+use Prim.Native.Nat.{ℕ, suc, _+_, _*_, _-_, _/_, _%_, _≤_, _<_}
 use native.Mathlib.Omega.{arith}
 use mathlib.Core.Path.{_≡_, refl, sym, ap, _∙_, subst}
-use mathlib.Core.List.{List, [], _∷_, _++_, List·Memᴰ}
+use mathlib.Core.List.{List, [], _∷_, _++_}
 use mathlib.Core.Bool.{true}
 use lib.ListN.{length, getD, take, drop, set, length-map}
 use Rattle.rules.specs.declared.Side.{Side}
@@ -56,12 +56,12 @@ module _ (e : Event) (least : ℕ) (live : List Order) (table : List ℕ) (stand
         number = l;
         refusal = sym h;
         table =
-          put-is table least live stands n l half
-          ∙ ap (λ (w : List ℕ). joined n w (sideIn least (other (sideAt n)) live)) words
-          ∙ ap
-          (λ (o : List Slot). joined n (sideOf after (bestIn least (slotsIn (sideAt n) live))) (sideOf o (bestIn least o)))
-          (sym others)
-          ∙ ap (λ (o : List Slot). joined n (sideOf o (bestIn least (slotsIn (sideAt n) live))) (sideIn least (other (sideAt n)) (apply live e))) (sym own);
+            put-is table least live stands n l half
+            ∙ ap (λ (w : List ℕ). joined n w (sideIn least (other (sideAt n)) live)) words
+            ∙ ap
+            (λ (o : List Slot). joined n (sideOf after (bestIn least (slotsIn (sideAt n) live))) (sideOf o (bestIn least o)))
+            (sym others)
+            ∙ ap (λ (o : List Slot). joined n (sideOf o (bestIn least (slotsIn (sideAt n) live))) (sideIn least (other (sideAt n)) (apply live e))) (sym own);
         others = others;
         good = subst GoodSlots (sym own) good;
         told = subst (Changed c (slotsIn (sideAt n) live)) (sym own) told;
@@ -252,15 +252,16 @@ module _ (t : Millis) (least : ℕ) (live : List Order) (table : List ℕ) (stan
           hinted = long;
           number = small;
           few =
-            omega (
-              arith,
-              ap (λ (t : List ℕ). getD t (256 * n + 192) 0) put,
-              joined-at half others size rest n 192 small (omega arith),
-              count-is half left (bestIn least slots) few words,
-            );
+              omega (
+                arith,
+                ap (λ (t : List ℕ). getD t (256 * n + 192) 0) put,
+                joined-at half others size rest n 192 small (omega arith),
+                count-is half left (bestIn least slots) few words,
+              );
         }
 
     pub lent-removable : Sized (lent n table) × (k < getD (lent n table) 192 0)
-    lent-removable =
-        (part-sized table least live stands n small,
-        omega (arith, part-count table least live stands n small, has-slot .inside))
+    lent-removable = (
+      part-sized table least live stands n small,
+      omega (arith, part-count table least live stands n small, has-slot .inside),
+    )

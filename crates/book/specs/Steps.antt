@@ -51,8 +51,9 @@ pub record Standing (table : List ℕ) (least : ℕ) (live : List Order) : Type 
   pub good : GoodOrders live
   pub is : table ≡ tableOf least live
 
--- some such orders, and the slot of an id among them
-pub record Located (table : List ℕ) (id slot : ℕ) : Type 0 where
+-- some such orders, and a slot of an id among them
+pub record Located (table : List ℕ) (slot : ℕ) : Type 0 where
+  pub id : ℕ
   pub least : ℕ
   pub live : List Order
   pub stands : Standing table least live

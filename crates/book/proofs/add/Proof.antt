@@ -17,7 +17,7 @@ refused-requires : tie.Need-refused-requires
 refused-requires c κs = search needs
 
 returns : tie.Need-returns
-returns c =  λ t least live stands at.
+returns c = λ t least live stands at.
     let a = c .before .before .before .before .args in
     refuses (Add t (a .id) (a .side) (a .price) (a .volume)) least live (a .table .now) stands 9 (c .refused .result) (c .refused .ensures)
     (add-known live (stands .good) (a .id) (a .slot) at t (a .side) (a .price) (a .volume) (c .before .if1 .taken))
@@ -35,7 +35,7 @@ same-length : tie.Need-same-length
 same-length c = search needs
 
 returns-2 : tie.Need-returns-2
-returns-2 c =  λ t least live stands at.
+returns-2 c = λ t least live stands at.
     let a = c .before .before .before .before .before .before .before .before .before .args in
     refuses (Add t (a .id) (a .side) (a .price) (a .volume)) least live (a .table .now) stands 12 (c .refused2 .result) (c .refused2 .ensures)
     (add-full live (stands .good) (a .id) (a .slot) at t (a .side) (a .price) (a .volume) (c .before .before .before .before .before .before .if1 .left) (sym (c .before .before .before .before .before .in-range .ensures) ∙ c .before .before .before .before .if2 .taken)
@@ -119,7 +119,7 @@ same-length-3 : tie.Need-same-length-3
 same-length-3 c = search needs
 
 returns-3 : tie.Need-returns-3
-returns-3 c =  λ t least live stands at.
+returns-3 c = λ t least live stands at.
     let a = c .before .before .before .before .before .before .before .before .before .before .before .before .before .before .before .before .before .before .before .before .args in
     let few : length live < 64 =
     subst (λ (m : ℕ). m < 64) (c .before .before .before .before .before .before .before .before .before .before .before .before .before .count .ensures least live (stands .good) (stands .is)) (c .before .before .before .before .before .before .before .before .before .before .before .before .if3 .left) in
@@ -133,7 +133,7 @@ refused-requires-3 : tie.Need-refused-requires-3
 refused-requires-3 c κs = search needs
 
 returns-4 : tie.Need-returns-4
-returns-4 c =  λ t least live stands at.
+returns-4 c = λ t least live stands at.
     let a = c .before .before .before .before .before .before .args in
     refuses (Add t (a .id) (a .side) (a .price) (a .volume)) least live (a .table .now) stands 11 (c .refused3 .result) (c .refused3 .ensures)
     (add-outside live (stands .good) (a .id) (a .slot) at t (a .side) (a .price) (a .volume) (c .before .before .before .if1 .left) (sym (c .before .before .in-range .ensures) ∙ c .before .if2 .left))

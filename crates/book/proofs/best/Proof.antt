@@ -1,6 +1,6 @@
 -- `book::best` meets its contract. Assumes nothing.
 use native.Mathlib.Omega.{arith}
-use mathlib.Core.Path.{_≡_, _∙_}
+use mathlib.Core.Path.{_∙_}
 use borrow.Author.Needs.{needs}
 use Rattle.book.proofs.Table.{held-length, held-stands}
 use Rattle.book.proofs.Quotes.{word-most, word-quote}

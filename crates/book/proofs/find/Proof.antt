@@ -40,7 +40,7 @@ names-requires : tie.Need-names-requires
 names-requires c κs = search needs
 
 returns : tie.Need-returns
-returns c =  λ least live stands.
+returns c = λ least live stands.
     let start = c .before .before .before .before .before .before in
     word-is (start .args .table .now) least live stands (start .args .id) (getD (start .args .hints .now) (start .args .id % 1024) 0 % 128)
     (c .before .names .result) (omega arith) (c .before .names .ensures) (c .if1 .taken)

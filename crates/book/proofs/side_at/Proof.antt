@@ -1,6 +1,6 @@
 -- `book::side_at` meets its contract. Assumes nothing.
 use Prim.Native.Nat.{ℕ, zero, suc}
-use mathlib.Core.Path.{_≡_, refl, sym}
+use mathlib.Core.Path.{_≡_, refl}
 use borrow.Author.Needs.{needs}
 use Rattle.rules.specs.declared.Side.the-variants.{Sell}
 use Rattle.book.specs.Steps.{sideAt}
