@@ -1,1 +1,9 @@
 -- Laws, by subject.
+pub mod Sides
+pub mod Slots
+pub mod Table
+pub mod Events
+pub mod Causes
+pub mod Turns
+pub mod Quotes
+pub mod Sent

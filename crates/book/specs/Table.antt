@@ -42,7 +42,14 @@ pub record GoodOrders (live : List Order) : Type 0 where
   pub prices : (o : Order) → List·Memᴰ o live → goodPrice (o .price .0) ≡ true
   pub volumes : (o : Order) → List·Memᴰ o live → goodVolume (o .volume .0) ≡ true
 
--- a table that stands for live orders, with hints of their size
+-- a table that stands for live orders
+pub record Held (table : List ℕ) : Type 0 where
+  pub least : ℕ
+  pub live : List Order
+  pub good : GoodOrders live
+  pub is : table ≡ tableOf least live
+
+-- and for this least volume, with hints of their size
 pub record Holding (table hints : List ℕ) (least : ℕ) : Type 0 where
   pub live : List Order
   pub good : GoodOrders live

@@ -1,7 +1,23 @@
 // The live orders of both sides in 512 lent words (specs/Table has their layout): an event's order is found by its id, and an accepted
 // event changes its side's orders and best level. `hints` has 1,024 bytes that say where an id was last found; nothing rests on it.
 ghost use mathlib.Core.Path.{_≡_};
-ghost use Rattle.book.specs.Table.{tableOf, Holding, Sends};
+ghost use mathlib.Core.List.{List, []};
+ghost use mathlib.Core.Bool.{_&&_, not};
+ghost use Prim.Native.Nat.{ℕ, _+_, _≤_, _<_};
+ghost use lib.Dec.{eqb};
+ghost use lib.IntN.{ℤ};
+ghost use lib.ListN.{length};
+ghost use Rattle.rules.specs.declared.Order.{Order};
+ghost use Rattle.rules.specs.declared.Millis.{Millis};
+ghost use Rattle.rules.specs.declared.Row.{Row};
+ghost use Rattle.rules.specs.declared.Event.the-variants.{Add, Amend, Cancel, Deal};
+ghost use Rattle.rules.specs.Lists.{if_then_else_};
+ghost use Rattle.rules.specs.Units.{goodPrice, goodVolume};
+ghost use Rattle.rules.specs.Quotes.{best as bestQuote};
+ghost use Rattle.rules.specs.Kept.{ordersKeep};
+ghost use Rattle.quote.specs.Limit.{limitOf};
+ghost use Rattle.book.specs.Table.{tableOf, slotBy, slotIn, GoodOrders, Held, Holding, Sends};
+ghost use Rattle.book.specs.Steps.{Numbers, sideAt, idOf, Standing, Located, Placed, answer, noChange, Turned};
 use ranges::both;
 use rules::Contracts;
 use rules::Event;
@@ -9,3 +25,327 @@ use rules::Quote;
 use rules::Side;
 use rules::Steps;
 use side::Change;
+
+// The answer to an event: the refusal's number; or 0, and what changes on which side, buys 0 and sells 1.
+struct Answer {
+    refusal: u32,
+    s: usize,
+    change: Change,
+}
+
+fn refused(refusal: u32) -> Answer
+    ensures { λ r. ⌜ r ≡ answer refusal 0 noChange ⌝ }
+{
+    Answer {
+        refusal,
+        s: 0,
+        change: Change {
+            old: 0,
+            held: Contracts(0),
+            key: 0,
+            volume: Contracts(0),
+        },
+    }
+}
+
+fn done(s: usize, change: Change) -> Answer
+    ensures { λ r. ⌜ r ≡ answer 0 s change ⌝ }
+{
+    Answer {
+        refusal: 0,
+        s,
+        change,
+    }
+}
+
+// ---- sides and slots
+
+fn side_number(side: Side) -> usize
+    ensures { λ r. ⌜ Numbers side r ⌝ }
+{
+    match side {
+        Side::Buy => 0,
+        Side::Sell => 1,
+    }
+}
+
+fn side_at(s: usize) -> Side
+    ensures { λ r. ⌜ r ≡ sideAt s ⌝ }
+{
+    if s == 0 {
+        return Side::Buy;
+    }
+    Side::Sell
+}
+
+// The number of live orders.
+pub fn count(table: &[u32]) -> u32
+    requires { ⌜ Held (now table) ⌝ }
+    ensures { λ r. ⌜ ((least : ℕ) (live : List Order) → GoodOrders live → now (table .entry) ≡ tableOf least live → r ≡ length live) ⌝ }
+{
+    table[192] + table[448]
+}
+
+// The slot of what the scans of both sides found, or 128; buys have 0 to 63, sells 64 to 127.
+fn slot_of(buys: u32, sells: u32) -> usize
+    ensures { λ r. ⌜ r ≡ slotBy buys sells ⌝ }
+{
+    if 0 < buys {
+        return (buys - 1) as usize;
+    }
+    if 0 < sells {
+        return 63 + (sells as usize);
+    }
+    128
+}
+
+// Whether a word of the table is the id of an order; a blank's is 0.
+fn names(word: u32, id: u32) -> bool
+    ensures { λ r. ⌜ r ≡ (eqb word id && not (eqb id 0)) ⌝ }
+{
+    (word == id) & (id != 0)
+}
+
+// Where an id was last found.
+fn note(hints: &mut [u8], id: u32, slot: usize)
+    requires { ⌜ (length (now hints) ≡ 1024) × (slot ≤ 128) ⌝ }
+{
+    hints[(id % 1024) as usize] = slot as u8;
+}
+
+// The slot of the order with the id, or 128: the one that was last found for an id like this, where it stands there.
+fn find(table: &[u32], hints: &mut [u8], id: u32) -> usize
+    requires { ⌜ Held (now table) × (length (now hints) ≡ 1024) ⌝ }
+    ensures { λ r. ⌜ ((least : ℕ) (live : List Order) → Standing (now (table .entry)) least live → r ≡ slotIn id live) ⌝ }
+{
+    let hint = (hints[(id % 1024) as usize] % 128) as usize;
+    let word = table[256 * (hint / 64) + hint % 64];
+    if names(word, id) {
+        return hint;
+    }
+    let slot = slot_of(
+        side::located(&table[0..256], id),
+        side::located(&table[256..512], id),
+    );
+    note(hints, id, slot);
+    slot
+}
+
+// The orders from a place on are where they now stand.
+fn rehint(table: &[u32], hints: &mut [u8], s: usize, place: usize)
+    requires { ⌜ Placed (now table) (now hints) s ⌝ }
+{
+    let to = table[256 * s + 192] as usize;
+    let mut i = place;
+    while i < to {
+        note(hints, table[256 * s + i], 64 * s + i);
+        i += 1;
+    }
+}
+
+// ---- the events
+
+fn in_range(price: Steps, volume: Contracts) -> bool
+    ensures { λ r. ⌜ r ≡ (goodPrice (price .0) && goodVolume (volume .0)) ⌝ }
+{
+    both(ranges::price(price), ranges::volume(volume))
+}
+
+fn add(
+    table: &mut [u32],
+    hints: &mut [u8],
+    slot: usize,
+    id: u32,
+    side: Side,
+    price: Steps,
+    volume: Contracts,
+) -> Answer
+    requires { ⌜ Located (now table) slot × (length (now hints) ≡ 1024) ⌝ }
+    ensures { λ r. ⌜ ((t : Millis) (least : ℕ) (live : List Order) → Standing (now (table .entry)) least live → slot ≡ slotIn id live → Turned (Add t id side price volume) least live (now (table .exit)) r) ⌝ }
+{
+    if slot < 128 {
+        return refused(10);
+    }
+    if in_range(price, volume) {
+        if 64 <= count(table) {
+            return refused(13);
+        }
+        let s = side_number(side);
+        note(hints, id, 64 * s + table[256 * s + 192] as usize);
+        let key = quote::key_of(side, price);
+        return done(
+            s,
+            side::add(&mut table[256 * s..256 * s + 256], id, key, volume),
+        );
+    }
+    refused(12)
+}
+
+fn amend(table: &mut [u32], slot: usize, price: Steps, volume: Contracts) -> Answer
+    requires { ⌜ Located (now table) slot ⌝ }
+    ensures { λ r. ⌜ ((t : Millis) (id least : ℕ) (live : List Order) → Standing (now (table .entry)) least live → slot ≡ slotIn id live → Turned (Amend t id price volume) least live (now (table .exit)) r) ⌝ }
+{
+    if 128 <= slot {
+        return refused(11);
+    }
+    if in_range(price, volume) {
+        let s = slot / 64;
+        let key = quote::key_of(side_at(s), price);
+        return done(
+            s,
+            side::amend(&mut table[256 * s..256 * s + 256], slot % 64, key, volume),
+        );
+    }
+    refused(12)
+}
+
+fn cancel(table: &mut [u32], hints: &mut [u8], slot: usize) -> Answer
+    requires { ⌜ Located (now table) slot × (length (now hints) ≡ 1024) ⌝ }
+    ensures { λ r. ⌜ ((t : Millis) (id least : ℕ) (live : List Order) → Standing (now (table .entry)) least live → slot ≡ slotIn id live → Turned (Cancel t id) least live (now (table .exit)) r) ⌝ }
+{
+    if 128 <= slot {
+        return refused(11);
+    }
+    let s = slot / 64;
+    let place = slot % 64;
+    let change = side::remove(&mut table[256 * s..256 * s + 256], place);
+    rehint(table, hints, s, place);
+    done(s, change)
+}
+
+// What is left of the order stands in its place, or the order goes where nothing is.
+fn deal(table: &mut [u32], hints: &mut [u8], slot: usize, volume: Contracts) -> Answer
+    requires { ⌜ Located (now table) slot × (length (now hints) ≡ 1024) ⌝ }
+    ensures { λ r. ⌜ ((t : Millis) (id least : ℕ) (live : List Order) → Standing (now (table .entry)) least live → slot ≡ slotIn id live → Turned (Deal t id volume) least live (now (table .exit)) r) ⌝ }
+{
+    if 128 <= slot {
+        return refused(11);
+    }
+    if ranges::volume(volume) {
+        let s = slot / 64;
+        let place = slot % 64;
+        let held = table[256 * s + (128 + place)];
+        let dealt = volume.0;
+        if held < dealt {
+            return refused(14);
+        }
+        if held == dealt {
+            return cancel(table, hints, slot);
+        }
+        let key = table[256 * s + (64 + place)];
+        return done(
+            s,
+            side::amend(
+                &mut table[256 * s..256 * s + 256],
+                place,
+                key,
+                Contracts(held - dealt),
+            ),
+        );
+    }
+    refused(12)
+}
+
+// The id that an event names; a tick names none.
+fn id_of(e: Event) -> u32
+    ensures { λ r. ⌜ r ≡ idOf e ⌝ }
+{
+    match e {
+        Event::Add {
+            t: _,
+            id,
+            side: _,
+            price: _,
+            volume: _,
+        } => id,
+        Event::Amend {
+            t: _,
+            id,
+            price: _,
+            volume: _,
+        } => id,
+        Event::Cancel { t: _, id } => id,
+        Event::Deal {
+            t: _,
+            id,
+            volume: _,
+        } => id,
+        Event::Tick { t: _ } => 0,
+    }
+}
+
+// The answer to an event, and the orders after it; the best level of its side is still that of before.
+fn changed(table: &mut [u32], hints: &mut [u8], e: Event) -> Answer
+    requires { ⌜ Held (now table) × (length (now hints) ≡ 1024) ⌝ }
+    ensures { λ r. ⌜ ((least : ℕ) (live : List Order) → Standing (now (table .entry)) least live → Turned e least live (now (table .exit)) r) ⌝ }
+{
+    let slot = find(table, hints, id_of(e));
+    match e {
+        Event::Add {
+            t: _,
+            id,
+            side,
+            price,
+            volume,
+        } => add(table, hints, slot, id, side, price, volume),
+        Event::Amend {
+            t: _,
+            id: _,
+            price,
+            volume,
+        } => amend(table, slot, price, volume),
+        Event::Cancel { t: _, id: _ } => cancel(table, hints, slot),
+        Event::Deal {
+            t: _,
+            id: _,
+            volume,
+        } => deal(table, hints, slot, volume),
+        Event::Tick { t: _ } => refused(0),
+    }
+}
+
+// An event: the number of the trader's refusal, or 0, and then the orders and the best level of its side are those after it.
+pub fn send(table: &mut [u32], hints: &mut [u8], e: Event, least: Contracts) -> u32
+    requires { ⌜ Holding (now table) (now hints) (least .0) ⌝ }
+    ensures { λ r. ⌜ Sends e (least .0) (now (table .entry)) (now (table .exit)) r ⌝ }
+{
+    let answer = changed(table, hints, e);
+    let refusal = answer.refusal;
+    if 0 < refusal {
+        return refusal;
+    }
+    let s = answer.s;
+    level::requote(
+        &mut table[256 * s..256 * s + 256],
+        side_at(s),
+        answer.change,
+        least,
+    );
+    0
+}
+
+// ---- the quotes
+
+// Whether the live orders keep the quote, 1 or 0, by the row's spread limit.
+pub fn keeps(table: &[u32], limit: u32) -> u32
+    requires { ⌜ length (now table) ≡ 512 ⌝ }
+    ensures { λ r. ⌜ ((row : Row) (sp : ℤ) (live : List Order) → GoodOrders live → now (table .entry) ≡ tableOf (row .least .0) live → limit ≡ limitOf (row .a) (row .b) sp → r ≡ (if ordersKeep row sp live then 1 else 0)) ⌝ }
+{
+    quote::keys_keep(limit, table[193], table[449])
+}
+
+// The best quote of a side.
+pub fn best(table: &[u32], side: Side) -> Quote
+    requires { ⌜ Held (now table) ⌝ }
+    ensures { λ r. ⌜ ((least : ℕ) (live : List Order) → GoodOrders live → now (table .entry) ≡ tableOf least live → r ≡ bestQuote side least live) ⌝ }
+{
+    let s = side_number(side);
+    quote::quote_at(side, table[256 * s + 193])
+}
+
+// The table of no orders.
+pub fn empty() -> [u32; 512]
+    ensures { λ r. ⌜ ((least : ℕ) → r ≡ tableOf least []) ⌝ }
+{
+    [0u32; 512]
+}

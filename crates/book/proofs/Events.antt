@@ -1,0 +1,171 @@
+-- What an accepted event does to the slots of a side, and that they stay within their bounds. Assumes nothing.
+use Prim.Native.Nat.{ℕ, suc, _+_, _-_, _≤_, _<_}
+use native.Mathlib.Omega.{arith}
+use mathlib.Core.Path.{_≡_, refl, sym, ap, _∙_, subst}
+use mathlib.Core.List.{List, [], _∷_, _++_, map, map-append, append-nil, List·Memᴰ, Memᴰ·of-map}
+use mathlib.Core.Bool.{Bool, true, false}
+use lib.ListN.{length, getD, take, drop, set, length-map}
+use Rattle.rules.specs.declared.Side.{Side}
+use Rattle.rules.specs.declared.Side.the-variants.{Buy, Sell}
+use Rattle.rules.specs.declared.Order.{Order}
+use Rattle.rules.specs.declared.Millis.{Millis}
+use Rattle.rules.specs.declared.Steps.{Steps}
+use Rattle.rules.specs.declared.Contracts.{Contracts}
+use Rattle.rules.specs.declared.Event.{Event}
+use Rattle.rules.specs.declared.Event.the-variants.{Add, Amend, Cancel, Deal}
+use Rattle.rules.specs.Lists.{if_then_else_}
+use Rattle.rules.specs.Units.{contracts}
+use Rattle.rules.specs.Orders.{left, apply}
+use Rattle.rules.specs.Quotes.{same}
+use Rattle.rules.proofs.Members.{getD-in}
+use Rattle.rules.proofs.Orders.{amend-at, cancel-at, deal-some, deal-all, left-at}
+use Rattle.rules.proofs.Bounds.{volume-bounds}
+use Rattle.quote.specs.Keys.{keyOf}
+use Rattle.quote.proofs.Keys.{key-least, key-most}
+use Rattle.side.specs.Slots.{Slot, slot, blankSlot, GoodSlots}
+use Rattle.side.proofs.Lists.{map-set, map-take, map-drop}
+use Rattle.side.proofs.Changes.{GoodSlot, all-good}
+use Rattle.book.specs.Table.{ofSide, slotOf, slotsIn, GoodOrders}
+use Rattle.book.specs.Steps.{other}
+use Rattle.book.proofs.Sides.{names, side-add, side-named, unnamed, other-unlive, left-in, few-side, distinct-side, in-side}
+use Rattle.book.proofs.Slots.{blankOrder, Has}
+use Rattle.book.proofs.Table.{slot-at}
+
+-- ---- the bounds of slots
+
+pub good-slots : (s : Side) (live : List Order) → GoodOrders live → GoodSlots (slotsIn s live)
+good-slots s live g =
+    all-good (slotsIn s live) (omega (arith, few-side s live g, length-map (ofSide s live) (slotOf s))) one
+  where
+    one : (x : Slot) → List·Memᴰ x (slotsIn s live) → GoodSlot x
+    one x m =
+        let (o, n, e) = Memᴰ·of-map (slotOf s) (ofSide s live) m in
+        let inside = in-side s live g n in
+        subst GoodSlot e
+        (record {
+          key-least = key-least s (o .price .0) (g .prices o inside);
+          key-most = key-most s (o .price .0) (g .prices o inside);
+          volume-most = volume-bounds (o .volume .0) (g .volumes o inside) .1;
+        })
+
+-- ---- one order more
+
+module _ (live : List Order) (t : Millis) (id : ℕ) (side : Side) (price : Steps) (volume : Contracts) where
+  -- by whether the order is of the side
+  more-by : (s : Side) (b : Bool) → same s side ≡ b
+      → slotsIn s (apply live (Add t id side price volume))
+      ≡ slotsIn s live ++ (if b then slot id (keyOf s (price .0)) (volume .0) ∷ [] else [])
+  more-by s b e =
+      ap (map (slotOf s)) (side-add s live t id side price volume)
+      ∙ map-append (slotOf s) (ofSide s live) (if same s side then o ∷ [] else [])
+      ∙ ap (λ (b : Bool). slotsIn s live ++ map (slotOf s) (if b then o ∷ [] else [])) e
+      ∙ go b
+    where
+      o : Order
+      o = record { id = id; side = side; price = price; volume = volume }
+
+      go : (b : Bool) → slotsIn s live ++ map (slotOf s) (if b then o ∷ [] else []) ≡ slotsIn s live ++ (if b then slot id (keyOf s (price .0)) (volume .0) ∷ [] else [])
+      go true = refl
+      go false = refl
+
+  its-own : (s : Side) → same s s ≡ true
+  its-own Buy = refl
+  its-own Sell = refl
+
+  not-its : (s : Side) → same (other s) s ≡ false
+  not-its Buy = refl
+  not-its Sell = refl
+
+  pub added : slotsIn side (apply live (Add t id side price volume)) ≡ slotsIn side live ++ (slot id (keyOf side (price .0)) (volume .0) ∷ [])
+  added = more-by side true (its-own side)
+
+  pub added-other : slotsIn (other side) (apply live (Add t id side price volume)) ≡ slotsIn (other side) live
+  added-other = more-by (other side) false (not-its side) ∙ append-nil (slotsIn (other side) live)
+
+-- ---- the order at a place of a side
+
+module _ (live : List Order) (good : GoodOrders live) (s : Side) (k id : ℕ) (h : Has id (ofSide s live) k) where
+  o : Order
+  o = getD (ofSide s live) k blankOrder
+
+  here : List·Memᴰ o (ofSide s live)
+  unfolding o
+  here = getD-in (ofSide s live) k blankOrder (h .inside)
+
+  is-slot : getD (slotsIn s live) k blankSlot ≡ slotOf s o
+  unfolding o
+  is-slot = slot-at s (ofSide s live) k (h .inside)
+
+  some : (x : Order) → List·Memᴰ x (ofSide s live) → 1 ≤ x .volume .0
+  some x m = volume-bounds (x .volume .0) (good .volumes x (in-side s live good m)) .0
+
+  pub inside : k < length (slotsIn s live)
+  inside = omega (arith, h .inside, length-map (ofSide s live) (slotOf s))
+
+  pub left-is : left id live ≡ getD (slotsIn s live) k blankSlot .volume
+  unfolding o
+  left-is =
+      left-in id live (good .distinct) (in-side s live good here) (h .has) ∙ sym (ap (λ (x : Slot). x .volume) is-slot)
+
+  -- the other side stays
+  pub others-stay : (e : Event) → names id e → slotsIn (other s) (apply live e) ≡ slotsIn (other s) live
+  unfolding o
+  others-stay e n =
+      ap (map (slotOf (other s)))
+      (side-named (other s) live id e n
+      ∙ unnamed (ofSide (other s) live) id e n (other-unlive s id live (good .distinct) here (h .has))
+      (λ x m. good .volumes x (in-side (other s) live good m)))
+
+  -- one order of the side set, or away
+  set-slots : (x : Order) → map (slotOf s) (set (ofSide s live) k x) ≡ set (slotsIn s live) k (slotOf s x)
+  set-slots x = map-set (slotOf s) (ofSide s live) k x
+
+  without : map (slotOf s) (take k (ofSide s live) ++ drop (suc k) (ofSide s live)) ≡ take k (slotsIn s live) ++ drop (suc k) (slotsIn s live)
+  without =
+      map-append (slotOf s) (take k (ofSide s live)) (drop (suc k) (ofSide s live))
+      ∙ ap (λ (l : List Slot). l ++ map (slotOf s) (drop (suc k) (ofSide s live))) (map-take (slotOf s) k (ofSide s live))
+      ∙ ap (λ (l : List Slot). take k (slotsIn s live) ++ l) (map-drop (slotOf s) (suc k) (ofSide s live))
+
+  pub amended : (t : Millis) (price : Steps) (volume : Contracts)
+      → slotsIn s (apply live (Amend t id price volume))
+      ≡ set (slotsIn s live) k (slot (getD (slotsIn s live) k blankSlot .id) (keyOf s (price .0)) (volume .0))
+  unfolding o apply
+  amended t price volume =
+      ap (map (slotOf s))
+      (side-named s live id (Amend t id price volume) refl
+      ∙ amend-at id (ofSide s live) k blankOrder (distinct-side s live good) (h .inside) (h .has) price volume)
+      ∙ set-slots (record { id = o .id; side = o .side; price = price; volume = volume })
+      ∙ ap (λ (i : ℕ). set (slotsIn s live) k (slot i (keyOf s (price .0)) (volume .0))) (sym (ap (λ (x : Slot). x .id) is-slot))
+
+  pub cancelled : (t : Millis) → slotsIn s (apply live (Cancel t id)) ≡ take k (slotsIn s live) ++ drop (suc k) (slotsIn s live)
+  unfolding apply
+  cancelled t =
+      ap (map (slotOf s))
+      (side-named s live id (Cancel t id) refl ∙ cancel-at id (ofSide s live) k blankOrder (distinct-side s live good) (h .inside) (h .has))
+      ∙ without
+
+  module _ (t : Millis) (volume : Contracts) where
+    held : left id (ofSide s live) ≡ getD (slotsIn s live) k blankSlot .volume
+    unfolding o
+    held =
+        left-at id (ofSide s live) k blankOrder (distinct-side s live good) (h .inside) (h .has) ∙ sym (ap (λ (x : Slot). x .volume) is-slot)
+
+    pub dealt-some : volume .0 < getD (slotsIn s live) k blankSlot .volume
+        → slotsIn s (apply live (Deal t id volume))
+        ≡ set (slotsIn s live) k
+        (slot (getD (slotsIn s live) k blankSlot .id) (getD (slotsIn s live) k blankSlot .key) (getD (slotsIn s live) k blankSlot .volume - volume .0))
+    unfolding o
+    dealt-some l =
+        ap (map (slotOf s))
+        (side-named s live id (Deal t id volume) refl
+        ∙ deal-some id (ofSide s live) k blankOrder (distinct-side s live good) (h .inside) (h .has) some t volume (omega (arith, held)))
+        ∙ set-slots (record { id = o .id; side = o .side; price = o .price; volume = contracts (o .volume .0 - volume .0) })
+        ∙ ap (λ (x : Slot). set (slotsIn s live) k (slot (x .id) (x .key) (x .volume - volume .0))) (sym is-slot)
+
+    pub dealt-all : volume .0 ≡ getD (slotsIn s live) k blankSlot .volume
+        → slotsIn s (apply live (Deal t id volume)) ≡ take k (slotsIn s live) ++ drop (suc k) (slotsIn s live)
+    dealt-all l =
+        ap (map (slotOf s))
+        (side-named s live id (Deal t id volume) refl
+        ∙ deal-all id (ofSide s live) k blankOrder (distinct-side s live good) (h .inside) (h .has) some t volume (omega (arith, held)))
+        ∙ without

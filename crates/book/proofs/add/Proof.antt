@@ -1,0 +1,175 @@
+-- `book::add` meets its contract. Assumes nothing.
+use Prim.Native.Nat.{ℕ, _+_, _*_, _≤_, _<_}
+use native.Mathlib.Omega.{arith}
+use mathlib.Core.Path.{sym, _∙_, subst}
+use lib.ListN.{length, getD}
+use borrow.Author.Needs.{needs}
+use Rattle.rules.specs.declared.Event.the-variants.{Add}
+use Rattle.rules.specs.Units.{goodPrice, goodVolume}
+use Rattle.rules.proofs.Lists.{both}
+use Rattle.book.proofs.Table.{side-few, part-sized, part-room}
+use Rattle.book.proofs.Causes.{add-known, add-outside, add-full, add-passes}
+use Rattle.book.proofs.Turns.{refuses, turned-add}
+use Rattle.book.proofs.add.Statement.{statement}
+use Rattle.book.proofs.add.Tie as tie
+
+refused-requires : tie.Need-refused-requires
+refused-requires c κs = search needs
+
+returns : tie.Need-returns
+returns c = λ t least live stands at.
+    let a = c .before .before .before .before .args in
+    refuses (Add t (a .id) (a .side) (a .price) (a .volume)) least live (a .table .now) stands 9 (c .refused .result) (c .refused .ensures)
+    (add-known live (stands .good) (a .id) (a .slot) at t (a .side) (a .price) (a .volume) (c .before .if1 .taken))
+
+in-range-requires : tie.Need-in-range-requires
+in-range-requires c κs = search needs
+
+count-requires : tie.Need-count-requires
+count-requires c κs = search needs
+
+refused-requires-2 : tie.Need-refused-requires-2
+refused-requires-2 c κs = search needs
+
+same-length : tie.Need-same-length
+same-length c = search needs
+
+returns-2 : tie.Need-returns-2
+returns-2 c = λ t least live stands at.
+    let a = c .before .before .before .before .before .before .before .before .before .args in
+    refuses (Add t (a .id) (a .side) (a .price) (a .volume)) least live (a .table .now) stands 12 (c .refused2 .result) (c .refused2 .ensures)
+    (add-full live (stands .good) (a .id) (a .slot) at t (a .side) (a .price) (a .volume) (c .before .before .before .before .before .before .if1 .left) (sym (c .before .before .before .before .before .in-range .ensures) ∙ c .before .before .before .before .if2 .taken)
+    (subst (λ (n : ℕ). 64 ≤ n) (c .before .before .count .ensures least live (stands .good) (stands .is)) (c .before .if3 .taken)))
+
+side-number-requires : tie.Need-side-number-requires
+side-number-requires c κs = search needs
+
+mul-note : tie.Need-mul-note
+mul-note c = search needs
+
+mul-note-2 : tie.Need-mul-note-2
+mul-note-2 c = search needs
+
+add-note : tie.Need-add-note
+add-note c = search needs
+
+mul-note-3 : tie.Need-mul-note-3
+mul-note-3 c = search needs
+
+slice-read-note : tie.Need-slice-read-note
+slice-read-note c = search needs
+
+-- at most 64 orders are on a side
+behind : (start : tie.Start) (n : ℕ) → n < 2 → getD (start .args .table .now) (256 * n + 192) 0 ≤ 64
+behind start n h = side-few (start .args .table .now) (start .pre .0 .least) (start .pre .0 .live) (start .pre .0 .stands) n h
+
+cast-note : tie.Need-cast-note
+cast-note c = record { fits = omega (arith, behind (c .before .before .before .before .before .before .before .before .before .before .before) (c .before .before .side-number .result) (c .before .before .side-number .ensures .small)) }
+
+add-note-2 : tie.Need-add-note-2
+add-note-2 c = record { fits = omega (arith, behind (c .before .before .before .before .before .before .before .before .before .before .before) (c .before .before .side-number .result) (c .before .before .side-number .ensures .small)) }
+
+note-requires : tie.Need-note-requires
+note-requires c κs = (c .before .before .before .before .before .before .before .before .before .before .before .pre .1, omega (arith, behind (c .before .before .before .before .before .before .before .before .before .before .before) (c .before .before .side-number .result) (c .before .before .side-number .ensures .small)))
+
+key-of-requires : tie.Need-key-of-requires
+key-of-requires c κs =
+    let a = c .before .before .before .before .before .before .before .before .before .before .before .before .before .before .args in
+    both (goodPrice (a .price .0)) (goodVolume (a .volume .0)) (sym (c .before .before .before .before .before .before .before .before .before .before .in-range .ensures) ∙ c .before .before .before .before .before .before .before .before .before .if2 .taken) .0
+
+mul-add : tie.Need-mul-add
+mul-add c = search needs
+
+mul-add-2 : tie.Need-mul-add-2
+mul-add-2 c = search needs
+
+add-add : tie.Need-add-add
+add-add c = search needs
+
+mul-add-3 : tie.Need-mul-add-3
+mul-add-3 c = search needs
+
+sub-add : tie.Need-sub-add
+sub-add c = search needs
+
+part-add-start : tie.Need-part-add-start
+part-add-start c = search needs
+
+part-add-end : tie.Need-part-add-end
+part-add-end c = search needs
+
+add-requires : tie.Need-add-requires
+add-requires c κs =
+    let start = c .before .before .before .before .before .before .before .before .before .before .before .before .before .before .before .before in
+    let l = start .pre .0 in
+    let table = start .args .table .now in
+    let n = c .before .before .before .before .before .before .before .side-number .result in
+    let small = c .before .before .before .before .before .before .before .side-number .ensures .small in
+    let few : length (l .live) < 64 =
+    subst (λ (m : ℕ). m < 64) (c .before .before .before .before .before .before .before .before .before .count .ensures (l .least) (l .live) (l .stands .good) (l .stands .is)) (c .before .before .before .before .before .before .before .before .if3 .left) in
+    (part-sized table (l .least) (l .live) (l .stands) n small .all, part-room table (l .least) (l .live) (l .stands) n small few)
+
+done-requires : tie.Need-done-requires
+done-requires c κs = search needs
+
+same-length-2 : tie.Need-same-length-2
+same-length-2 c = search needs
+
+same-length-3 : tie.Need-same-length-3
+same-length-3 c = search needs
+
+returns-3 : tie.Need-returns-3
+returns-3 c = λ t least live stands at.
+    let a = c .before .before .before .before .before .before .before .before .before .before .before .before .before .before .before .before .before .before .before .before .args in
+    let few : length live < 64 =
+    subst (λ (m : ℕ). m < 64) (c .before .before .before .before .before .before .before .before .before .before .before .before .before .count .ensures least live (stands .good) (stands .is)) (c .before .before .before .before .before .before .before .before .before .before .before .before .if3 .left) in
+    turned-add t least live (a .table .now) stands (a .id) (a .side) (a .price) (a .volume) (c .before .before .before .before .before .before .before .before .before .before .before .side-number .result) (c .before .before .before .before .before .key-of .result)
+    (c .before .before .before .add .last .0) (c .before .before .before .add .result) (c .done .result)
+    (add-passes live (stands .good) (a .id) (a .slot) at t (a .side) (a .price) (a .volume) (c .before .before .before .before .before .before .before .before .before .before .before .before .before .before .before .before .before .if1 .left)
+    (sym (c .before .before .before .before .before .before .before .before .before .before .before .before .before .before .before .before .in-range .ensures) ∙ c .before .before .before .before .before .before .before .before .before .before .before .before .before .before .before .if2 .taken) few)
+    (c .before .before .before .before .before .before .before .before .before .before .before .side-number .ensures) (c .before .before .before .before .before .key-of .ensures) (c .before .before .before .add .ensures) (c .done .ensures)
+
+refused-requires-3 : tie.Need-refused-requires-3
+refused-requires-3 c κs = search needs
+
+returns-4 : tie.Need-returns-4
+returns-4 c = λ t least live stands at.
+    let a = c .before .before .before .before .before .before .args in
+    refuses (Add t (a .id) (a .side) (a .price) (a .volume)) least live (a .table .now) stands 11 (c .refused3 .result) (c .refused3 .ensures)
+    (add-outside live (stands .good) (a .id) (a .slot) at t (a .side) (a .price) (a .volume) (c .before .before .before .if1 .left) (sym (c .before .before .in-range .ensures) ∙ c .before .if2 .left))
+
+pub add-spec : {M : Type 1} → statement M
+add-spec =
+    tie.close
+    (tie.spec
+    refused-requires
+    returns
+    in-range-requires
+    count-requires
+    refused-requires-2
+    same-length
+    returns-2
+    side-number-requires
+    mul-note
+    mul-note-2
+    add-note
+    mul-note-3
+    slice-read-note
+    cast-note
+    add-note-2
+    note-requires
+    key-of-requires
+    mul-add
+    mul-add-2
+    add-add
+    mul-add-3
+    sub-add
+    part-add-start
+    part-add-end
+    add-requires
+    done-requires
+    same-length-2
+    same-length-3
+    returns-3
+    refused-requires-3
+    returns-4)

@@ -1,0 +1,42 @@
+-- `book::best` meets its contract. Assumes nothing.
+use native.Mathlib.Omega.{arith}
+use mathlib.Core.Path.{_∙_}
+use borrow.Author.Needs.{needs}
+use Rattle.book.proofs.Table.{held-length, held-stands}
+use Rattle.book.proofs.Quotes.{word-most, word-quote}
+use Rattle.book.proofs.best.Statement.{statement}
+use Rattle.book.proofs.best.Tie as tie
+
+side-number-requires : tie.Need-side-number-requires
+side-number-requires c κs = search needs
+
+mul-quote-at : tie.Need-mul-quote-at
+mul-quote-at c = search needs
+
+add-quote-at : tie.Need-add-quote-at
+add-quote-at c = search needs
+
+mul-quote-at-2 : tie.Need-mul-quote-at-2
+mul-quote-at-2 c = search needs
+
+shared-slice-read-quote-at : tie.Need-shared-slice-read-quote-at
+shared-slice-read-quote-at c =
+    let start = c .before .before .before in
+    omega (arith, held-length (start .args .table .now) (start .pre), c .before .side-number .ensures .small)
+
+quote-at-requires : tie.Need-quote-at-requires
+quote-at-requires c κs =
+    let start = c .before .before .before in
+    word-most _ _ _ (held-stands (start .args .table .now) (start .pre)) (c .before .side-number .result) (c .before .side-number .ensures .small)
+
+returns : tie.Need-returns
+returns c least live good is =
+    let number = c .before .before .side-number in
+    c .quote-at .ensures
+    ∙ word-quote (c .before .before .before .before .args .table .now) least live (record { good = good; is = is }) (number .result) (number .ensures .small)
+    (c .before .before .before .before .args .side) (number .ensures .is)
+
+pub best-spec : {M : Type 1} → statement M
+best-spec =
+    tie.close
+    (tie.spec side-number-requires mul-quote-at add-quote-at mul-quote-at-2 shared-slice-read-quote-at quote-at-requires returns)
