@@ -25,7 +25,6 @@ use Rattle.quantum.specs.declared.Clock.{Clock}
 use Rattle.quantum.specs.declared.Stepped.{Stepped}
 use Rattle.quantum.specs.declared.Quantum.{Quantum}
 use Rattle.quantum.specs.Standing.{dutyOf, clockOf, tableAfter, standing, taken, Reached, Answered, Running, Stands, Stepping}
-
 use Rattle.quantum.proofs.Standing.{good-orders}
 
 -- ---- the numbers

@@ -97,7 +97,7 @@ module _ (row : Row) (sp : ℤ) (es : List Event) (clock : Clock) (is : clock �
           0 = (kept-at g (t .0) h
               ∙ ap (keptBelow row sp es) f
               ∙ sym (kept-snoc row sp es e (timeOf e) (le-refl (timeOf e)))
-              ∙ ap (keptBelow row sp (es ++ (e ∷ []))) (sym (present-snoc es e))) i
+              ∙ ap (keptBelow row sp (es ++ (e ∷ []))) (sym (present-snoc es e))) i;
         };
         keeps = (k ∙ ap (λ (l : List Order). one (ordersKeep row sp l)) (sym (live-snoc es e))) i;
       }

@@ -162,7 +162,14 @@ fn refused(clock: Clock, refusal: u32) -> Stepped
 }
 
 // The orders and the best quotes after an event in time, then the clock.
-fn taken(duty: Duty, clock: Clock, table: &mut [u32], hints: &mut [u8], e: Event, t: Millis) -> Stepped
+fn taken(
+    duty: Duty,
+    clock: Clock,
+    table: &mut [u32],
+    hints: &mut [u8],
+    e: Event,
+    t: Millis,
+) -> Stepped
     requires { ⌜ Running duty clock (now table) (now hints) × InTime duty clock e t ⌝ }
     ensures { λ r. ⌜ Stepping duty clock e (now (table .entry)) (now (table .exit)) r ⌝ }
 {

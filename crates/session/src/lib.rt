@@ -92,7 +92,14 @@ fn grow(marks: Marks, from: Millis, to: Millis, keeps: bool, buffer: &mut [u32])
 }
 
 // An event taken, with the pairs that the time up to it adds; or refused.
-fn taken(walk: Walk, e: Event, duty: Duty, table: &mut [u32], hints: &mut [u8], buffer: &mut [u32]) -> Stepped
+fn taken(
+    walk: Walk,
+    e: Event,
+    duty: Duty,
+    table: &mut [u32],
+    hints: &mut [u8],
+    buffer: &mut [u32],
+) -> Stepped
     requires { ⌜ Walking walk duty (now table) (now hints) ⌝ }
     ensures { λ r. ⌜ Advanced walk duty (accepted e) r (now (table .entry)) (now (table .exit)) (now (buffer .entry)) (now (buffer .exit)) ⌝ }
 {
@@ -117,7 +124,14 @@ fn taken(walk: Walk, e: Event, duty: Duty, table: &mut [u32], hints: &mut [u8], 
 }
 
 // A record read, and its event taken; or refused.
-fn step(walk: Walk, bytes: &[u8], duty: Duty, table: &mut [u32], hints: &mut [u8], buffer: &mut [u32]) -> Stepped
+fn step(
+    walk: Walk,
+    bytes: &[u8],
+    duty: Duty,
+    table: &mut [u32],
+    hints: &mut [u8],
+    buffer: &mut [u32],
+) -> Stepped
     requires { ⌜ Walking walk duty (now table) (now hints) ⌝ }
     ensures { λ r. ⌜ Advanced walk duty (readRecord (now (bytes .entry))) r (now (table .entry)) (now (table .exit)) (now (buffer .entry)) (now (buffer .exit)) ⌝ }
 {
@@ -181,7 +195,14 @@ fn walked(limit: u32, row: Row, sp: Steps, records: &[u8], buffer: &mut [u32]) -
                 place,
             };
         }
-        let stepped = step(walk, &records[at..at + 20], duty, &mut table, &mut hints, buffer);
+        let stepped = step(
+            walk,
+            &records[at..at + 20],
+            duty,
+            &mut table,
+            &mut hints,
+            buffer,
+        );
         let n = stepped.refusal;
         if 0 < n {
             return SessionAnswer::Refused {

@@ -47,11 +47,19 @@ mul-full c = omega arith
 -- src/lib.rt:177:5
 loop-holds : tie.Need-loop-holds Inv-loop μ-loop
 loop-holds c =
-    let s = c .before .before .before .before .before in
-    (refl, omega arith, omega arith, omega arith, omega arith, refl, search needs, refl,
-    λ sp is.
-    going-start (s .args .limit) (s .args .row) sp (s .args .records .now) (s .args .buffer .now) (c .begin .result) (c .before .empty .result) (c .begin .ensures (s .args .row) (sp .0))
-    (none-live (s .args .row) (c .before .empty .result) (c .before .empty .ensures (s .args .row .least .0))))
+    let s = c .before .before .before .before .before in (
+      refl,
+      omega arith,
+      omega arith,
+      omega arith,
+      omega arith,
+      refl,
+      search needs,
+      refl,
+      λ sp is.
+          going-start (s .args .limit) (s .args .row) sp (s .args .records .now) (s .args .buffer .now) (c .begin .result) (c .before .empty .result) (c .begin .ensures (s .args .row) (sp .0))
+          (none-live (s .args .row) (c .before .empty .result) (c .before .empty .ensures (s .args .row .least .0))),
+    )
 
 -- src/lib.rt:179:13
 same-length : tie.Need-same-length Inv-loop μ-loop

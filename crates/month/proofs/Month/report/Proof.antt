@@ -29,15 +29,18 @@ kept-so-far-requires c κs = search needs
 
 returns : tie.Need-returns
 returns c =
-    let m = c .before .before .before .before .before .before .before .before .before .args .self in
-    let read = record {
-      time-is = c .before .before .before .before .now .ensures;
-      kept-is = c .kept-so-far .ensures;
-      orders-are = c .before .before .before .live .ensures;
-      bid-is = c .before .before .best-bid .ensures;
-      ask-is = c .before .best-ask .ensures;
-    } in
-    (refl, report-done m _ _ _ _ _ _ _ read (c .before .before .before .before .before .before .failures .ensures) (c .before .before .before .before .before .fee .ensures))
+    let m = c .before .before .before .before .before .before .before .before .before .args .self in (
+      refl,
+      report-done m _ _ _ _ _ _ _
+          (record {
+            time-is = c .before .before .before .before .now .ensures;
+            kept-is = c .kept-so-far .ensures;
+            orders-are = c .before .before .before .live .ensures;
+            bid-is = c .before .before .best-bid .ensures;
+            ask-is = c .before .best-ask .ensures;
+          })
+          (c .before .before .before .before .before .before .failures .ensures) (c .before .before .before .before .before .fee .ensures),
+    )
 
 pub report-spec : {M : Type 1} → statement M
 report-spec =

@@ -7,7 +7,6 @@ use Rattle.quantum.proofs.Quantum.live.Statement.{statement}
 use Rattle.quantum.proofs.Quantum.live.Tie as tie
 use Rattle.quantum.proofs.Quantum.live.Reads as reads
 use Rattle.quantum.proofs.Quantum.live.Lts as lts
-use Rattle.book.proofs.live.Reads as live-reads
 
 -- src/lib.rt:302:20
 slice-aggregate-count : tie.Need-slice-aggregate-count
