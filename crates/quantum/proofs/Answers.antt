@@ -2,7 +2,7 @@
 use Prim.Native.Nat.{ℕ, zero, suc, _≤_, _<_}
 use mathlib.Core.Path.{_≡_, refl, ap, sym, _∙_}
 use mathlib.Core.Bool.{Bool, true, false}
-use mathlib.Core.List.{List, [], _∷_, _++_}
+use mathlib.Core.List.{List, [], _∷_}
 use native.Mathlib.Omega.{arith}
 use borrow.Author.Tests.{ltb-true, ltb-false}
 use lib.Dec.{ltb}
@@ -14,8 +14,7 @@ use Rattle.rules.specs.declared.Event.the-variants.{Add, Amend, Cancel, Deal, T
 use Rattle.rules.specs.declared.Order.{Order}
 use Rattle.rules.specs.declared.Refusal.{Refusal}
 use Rattle.rules.specs.declared.Answer.the-variants.{Accepted, Refused}
-use Rattle.rules.specs.Lists.{if_then_else_}
-use Rattle.rules.specs.Answers.{Outcome, Reply, refused, outcomeBy, done, numberOf, shownAnswer}
+use Rattle.rules.specs.Answers.{Outcome, Reply, refused, outcomeBy, done, numberOf}
 use Rattle.rules.specs.Orders.{live, applyAll}
 use Rattle.rules.specs.Book.{Cause, cause, lowest, traderCauses, eventCauses, eventRefusal}
 use Rattle.rules.specs.Bounds.{EventBounds}
@@ -24,7 +23,7 @@ use Rattle.quantum.specs.declared.Duty.{Duty}
 use Rattle.quantum.specs.declared.Clock.{Clock}
 use Rattle.quantum.specs.declared.Stepped.{Stepped}
 use Rattle.quantum.specs.declared.Quantum.{Quantum}
-use Rattle.quantum.specs.Standing.{dutyOf, clockOf, tableAfter, standing, taken, Reached, Answered, Running, Stands, Stepping}
+use Rattle.quantum.specs.Standing.{dutyOf, clockOf, standing, taken, Reached, Answered, Running, Stands, Stepping}
 use Rattle.quantum.proofs.Standing.{good-orders}
 
 -- ---- the numbers

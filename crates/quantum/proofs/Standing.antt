@@ -1,6 +1,6 @@
 -- From the clock and the table to the accepted events that they stand for, and back. Assumes nothing.
-use Prim.Native.Nat.{ℕ, zero, suc, _+_, _*_, _-_, _≤_, _<_}
-use mathlib.Core.Path.{_≡_, refl, ap, sym, _∙_, subst}
+use Prim.Native.Nat.{ℕ, suc, _+_, _*_, _-_, _≤_, _<_}
+use mathlib.Core.Path.{_≡_, refl, ap, sym, _∙_}
 use mathlib.Core.Bool.{Bool, true, false}
 use mathlib.Core.List.{List, [], _∷_, _++_}
 use native.Mathlib.Omega.{arith}
@@ -12,26 +12,19 @@ use Rattle.rules.specs.declared.Row.{Row}
 use Rattle.rules.specs.declared.Event.{Event}
 use Rattle.rules.specs.declared.Event.the-variants.{Add, Amend, Cancel, Deal, Tick}
 use Rattle.rules.specs.declared.Order.{Order}
-use Rattle.rules.specs.declared.Refusal.{Refusal}
-use Rattle.rules.specs.declared.Answer.the-variants.{Accepted, Refused}
-use Rattle.rules.specs.Lists.{if_then_else_, count, keep}
-use Rattle.rules.specs.Units.{millis}
-use Rattle.rules.specs.Orders.{live, present, timeOf, timeFrom, apply, applyAll}
-use Rattle.rules.specs.Kept.{bestBid, bestAsk, quotesKeep, ordersKeep, keptBelow}
-use Rattle.rules.specs.Quotes.{lead, best}
-use Rattle.rules.specs.Answers.{refused, outcomeBy, done, numberOf}
+use Rattle.rules.specs.Lists.{if_then_else_}
+use Rattle.rules.specs.Orders.{live, present, timeOf, apply}
+use Rattle.rules.specs.Kept.{ordersKeep, keptBelow}
 use Rattle.rules.specs.Book.{lowest, traderCauses, eventCauses, eventRefusal}
 use Rattle.rules.specs.Bounds.{EventBounds}
 use Rattle.rules.proofs.Orders.{live-snoc, present-snoc}
 use Rattle.rules.proofs.Kept.{kept-onward, kept-snoc, kept-le}
-use Rattle.rules.proofs.Refusals.{skip, stop, event-passes}
+use Rattle.rules.proofs.Refusals.{skip, stop}
 use Rattle.quote.specs.Limit.{limitOf}
-use Rattle.book.specs.Table.{tableOf, GoodOrders, Holding, sentTo}
+use Rattle.book.specs.Table.{tableOf, GoodOrders}
 use Rattle.quantum.specs.declared.Duty.{Duty}
 use Rattle.quantum.specs.declared.Clock.{Clock}
-use Rattle.quantum.specs.declared.Stepped.{Stepped}
-use Rattle.quantum.specs.declared.Quantum.{Quantum}
-use Rattle.quantum.specs.Standing.{dutyOf, clockOf, tableAfter, standing, taken, Reached, Answered, Running, Stands, Stepping, Onward, ranOn, InTime, isTick}
+use Rattle.quantum.specs.Standing.{dutyOf, clockOf, tableAfter, taken, Running, Stands, Onward, ranOn, InTime, isTick}
 
 pub good-orders : (row : Row) (es : List Event) → EventBounds row es → GoodOrders (live es)
 good-orders row es g = record { few = g .few; distinct = g .distinct; prices = g .prices; volumes = g .volumes }

@@ -1,7 +1,7 @@
 -- What an event promises of the clock and the table, where it is refused and where it is taken. Assumes nothing.
 use Prim.Native.Nat.{ℕ, zero, suc, _≤_, _<_}
 use mathlib.Core.Path.{_≡_, refl, ap, sym, _∙_, subst}
-use mathlib.Core.Bool.{Bool, true}
+use mathlib.Core.Bool.{true}
 use mathlib.Core.List.{List, [], _∷_, _++_}
 use native.Mathlib.Omega.{arith}
 use lib.IntN.{ℤ}
@@ -12,15 +12,15 @@ use Rattle.rules.specs.declared.Event.{Event}
 use Rattle.rules.specs.declared.Order.{Order}
 use Rattle.rules.specs.Orders.{live, apply}
 use Rattle.rules.specs.Kept.{ordersKeep}
-use Rattle.rules.specs.Book.{lowest, traderCauses, eventRefusal}
+use Rattle.rules.specs.Book.{eventRefusal}
 use Rattle.rules.proofs.Orders.{live-snoc}
 use Rattle.rules.proofs.Bounds.{event-bounds-more}
 use Rattle.book.specs.Table.{tableOf, GoodOrders, Holding, Sends, sentTo}
 use Rattle.quantum.specs.declared.Duty.{Duty}
 use Rattle.quantum.specs.declared.Clock.{Clock}
 use Rattle.quantum.specs.declared.Stepped.{Stepped}
-use Rattle.quantum.specs.Standing.{clockOf, tableAfter, taken, Running, Stands, Stepping, ranOn, InTime, isTick}
-use Rattle.quantum.proofs.Standing.{good-orders, one, stands, keeps-is, least-is, backwards, past-end, in-time, same-clock, same-table, next-clock, next-table, tick-live, tick-causes}
+use Rattle.quantum.specs.Standing.{tableAfter, taken, Running, Stands, Stepping, ranOn, InTime, isTick}
+use Rattle.quantum.proofs.Standing.{good-orders, one, stands, keeps-is, least-is, in-time, same-clock, same-table, next-clock, next-table, tick-live, tick-causes}
 
 module _ {duty : Duty} {clock : Clock} where
   -- the table as the duty's least volume has it

@@ -1,5 +1,5 @@
 -- One event further, and the end: the run so far as the one value for the accepted events. Assumes nothing.
-use Prim.Native.Nat.{ℕ, zero, suc, _≤_, _<_}
+use Prim.Native.Nat.{ℕ, suc, _≤_, _<_}
 use native.Mathlib.Omega.{arith}
 use mathlib.Core.Path.{_≡_, refl, sym, ap, _∙_, subst}
 use mathlib.Core.List.{List, [], _∷_, _++_}
@@ -32,7 +32,7 @@ use Rattle.quantum.specs.Standing.{clockOf, tableAfter, taken, Running, Stands,
 use Rattle.quantum.proofs.Standing.{time-is, keeps-is, onward}
 use Rattle.session.specs.declared.Marks.{Marks}
 use Rattle.session.specs.declared.Walk.{Walk}
-use Rattle.session.specs.Walks.{lastOffset, marksAt, Holds, Growing, Grows, walkAt, pairsOf, refusalBy, followed, Walking, Walked, Advanced}
+use Rattle.session.specs.Walks.{lastOffset, marksAt, Holds, Growing, Grows, walkAt, pairsOf, Walking, Walked, Advanced}
 use Rattle.session.proofs.Pairs.{marks-ext, pairs-are, pairs-few, start-early, last-some}
 
 -- ---- the fields

@@ -1,8 +1,7 @@
 -- A side of the book in 256 words: four columns of 64. The orders stand at the front of the first three, ids, keys and volumes, in the
 -- order in which they were added, with 0 behind them; the last has their number and the best level. So the words are a function of the
 -- orders and the level.
-use Prim.Native.Nat.{ℕ, zero, suc, _+_, _-_, _≤_}
-use mathlib.Core.Path.{_≡_}
+use Prim.Native.Nat.{ℕ, _+_, _-_, _≤_}
 use mathlib.Core.List.{List, [], _∷_, _++_, map, List·Memᴰ}
 use mathlib.Core.Bool.{Bool}
 use lib.Dec.{eqb}

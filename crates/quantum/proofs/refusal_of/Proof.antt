@@ -3,38 +3,28 @@ use Rattle.quantum.proofs.Answers.{fifteen}
 use borrow.Author.Needs.{needs}
 use Rattle.quantum.proofs.refusal_of.Statement.{statement}
 use Rattle.quantum.proofs.refusal_of.Tie as tie
-use Rattle.quantum.proofs.refusal_of.Reads as reads
-use Rattle.quantum.proofs.refusal_of.Lts as lts
 
--- src/lib.rt:187:1
 returns : tie.Need-returns
 returns c = search needs
 
--- src/lib.rt:187:1
 returns-2 : tie.Need-returns-2
 returns-2 c = search needs
 
--- src/lib.rt:187:1
 returns-3 : tie.Need-returns-3
 returns-3 c = search needs
 
--- src/lib.rt:187:1
 returns-4 : tie.Need-returns-4
 returns-4 c = search needs
 
--- src/lib.rt:187:1
 returns-5 : tie.Need-returns-5
 returns-5 c = search needs
 
--- src/lib.rt:187:1
 returns-6 : tie.Need-returns-6
 returns-6 c = search needs
 
--- src/lib.rt:187:1
 returns-7 : tie.Need-returns-7
 returns-7 c = search needs
 
--- src/lib.rt:187:1
 returns-8 : tie.Need-returns-8
 returns-8 c =
     let p = c .before .pre in

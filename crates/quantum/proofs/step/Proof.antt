@@ -5,23 +5,13 @@ use Rattle.quantum.proofs.Steps.{refused-step, tick-step}
 use borrow.Author.Needs.{needs}
 use Rattle.quantum.proofs.step.Statement.{statement}
 use Rattle.quantum.proofs.step.Tie as tie
-use Rattle.quantum.proofs.step.Reads as reads
-use Rattle.quantum.proofs.step.Lts as lts
-use Rattle.quantum.proofs.is_tick.Reads as is-tick-reads
-use Rattle.quantum.proofs.onward.Reads as onward-reads
-use Rattle.quantum.proofs.refused.Reads as refused-reads
-use Rattle.quantum.proofs.taken.Reads as taken-reads
-use Rattle.quantum.proofs.time_of.Reads as time-of-reads
 
--- src/lib.rt:168:9
 time-of-requires : tie.Need-time-of-requires
 time-of-requires c κs = search needs
 
--- src/lib.rt:172:9
 refused-requires : tie.Need-refused-requires
 refused-requires c κs = search needs
 
--- src/lib.rt:172:9
 returns : tie.Need-returns
 returns c =
     let f = c .before in
@@ -31,11 +21,9 @@ returns c =
     (λ row sp es h.
     backwards row sp es (s .args .duty) (s .args .clock) (s .args .table .now) h (s .args .e) (t .time-of .result) (t .time-of .ensures) (f .if1 .taken))
 
--- src/lib.rt:175:9
 refused-requires-2 : tie.Need-refused-requires-2
 refused-requires-2 c κs = search needs
 
--- src/lib.rt:175:9
 returns-2 : tie.Need-returns-2
 returns-2 c =
     let f = c .before in
@@ -46,11 +34,9 @@ returns-2 c =
     (λ row sp es h.
     past-end row sp es (s .args .duty) (s .args .clock) (s .args .table .now) h (s .args .e) (t .time-of .result) (t .time-of .ensures) (l .if1 .left) (f .if2 .taken))
 
--- src/lib.rt:177:8
 is-tick-requires : tie.Need-is-tick-requires
 is-tick-requires c κs = search needs
 
--- src/lib.rt:179:20
 onward-requires : tie.Need-onward-requires
 onward-requires c κs =
     let l = c .before .before .before .before .before in
@@ -59,7 +45,6 @@ onward-requires c κs =
     let r = s .pre in
     onward (r .row) (r .sp) (r .events) (s .args .clock) (r .clock-is) (t .time-of .result) (l .if1 .left)
 
--- src/lib.rt:178:9
 returns-3 : tie.Need-returns-3
 returns-3 c =
     let k = c .before .before in
@@ -70,19 +55,15 @@ returns-3 c =
     tick-step (s .args .duty) (s .args .clock) (s .args .e) (t .time-of .result) (s .args .table .now) (c .onward .result)
     (sym (k .is-tick .ensures) ∙ c .before .if3 .taken) (record { is = t .time-of .ensures; onward = l .if1 .left; inside = e .if2 .left }) (c .onward .ensures)
 
--- src/lib.rt:183:5
 taken-requires : tie.Need-taken-requires
 taken-requires c κs = search needs
 
--- src/lib.rt:164:1
 same-length : tie.Need-same-length
 same-length c = search needs
 
--- src/lib.rt:164:1
 same-length-2 : tie.Need-same-length-2
 same-length-2 c = search needs
 
--- src/lib.rt:164:1
 returns-4 : tie.Need-returns-4
 returns-4 c = search needs
 

@@ -1,31 +1,23 @@
 -- The event by `step`, and the quantum made anew or handed back. Assumes nothing.
-use mathlib.Core.Path.{refl, sym, _∙_}
+use mathlib.Core.Path.{refl}
 use native.Mathlib.Omega.{arith}
 use Rattle.quantum.specs.declared.Quantum.{Quantum}
 use Rattle.quantum.proofs.Answers.{event-numbered, stands-for, running-of, sent-accepted, sent-refused}
 use borrow.Author.Needs.{needs}
 use Rattle.quantum.proofs.stepped_on.Statement.{statement}
 use Rattle.quantum.proofs.stepped_on.Tie as tie
-use Rattle.quantum.proofs.stepped_on.Reads as reads
-use Rattle.quantum.proofs.stepped_on.Lts as lts
-use Rattle.quantum.proofs.refusal_of.Reads as refusal-of-reads
-use Rattle.quantum.proofs.step.Reads as step-reads
 
--- src/lib.rt:212:37
 slice-aggregate-step : tie.Need-slice-aggregate-step
 slice-aggregate-step c = search needs
 
--- src/lib.rt:212:48
 slice-aggregate-step-2 : tie.Need-slice-aggregate-step-2
 slice-aggregate-step-2 c = search needs
 
--- src/lib.rt:212:9
 step-requires : tie.Need-step-requires
 step-requires c κs =
     let s = c .before .before in
     running-of (record { duty = s .args .duty; clock = s .args .clock; table = s .args .table }) _ (s .pre) refl
 
--- src/lib.rt:218:37
 refusal-of-requires : tie.Need-refusal-of-requires
 refusal-of-requires c κs =
     let g = c .before .before .before .before in
@@ -36,7 +28,6 @@ refusal-of-requires c κs =
     let b = event-numbered (p .row) (p .events) (s .args .e) (omega (arith, n, c .if1 .taken)) in
     (omega (arith, n, b .0), omega (arith, n, b .1))
 
--- src/lib.rt:216:9
 returns : tie.Need-returns
 returns c =
     let g = c .before .before .before .before .before in
@@ -44,7 +35,6 @@ returns c =
     sent-refused (record { duty = s .args .duty; clock = s .args .clock; table = s .args .table }) (s .args .e) _ (g .step .result) (g .step .ensures)
     (c .refusal-of .result) (c .before .if1 .taken) (c .refusal-of .ensures)
 
--- src/lib.rt:206:1
 returns-2 : tie.Need-returns-2
 returns-2 c =
     let g = c .before .before .before .before in

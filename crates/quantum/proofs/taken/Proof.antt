@@ -1,5 +1,4 @@
 -- The trader's causes and the orders by the book, then the clock. Assumes nothing.
-use mathlib.Core.Path.{_≡_, sym, ap, _∙_}
 use Rattle.rules.specs.Orders.{live, apply}
 use Rattle.book.proofs.Table.{held-length}
 use Rattle.quantum.proofs.Standing.{stands, limit-is, onward}
@@ -7,30 +6,19 @@ use Rattle.quantum.proofs.Steps.{holding, refused-orders, taken-good, t
 use borrow.Author.Needs.{needs}
 use Rattle.quantum.proofs.taken.Statement.{statement}
 use Rattle.quantum.proofs.taken.Tie as tie
-use Rattle.quantum.proofs.taken.Reads as reads
-use Rattle.quantum.proofs.taken.Lts as lts
-use Rattle.book.proofs.keeps.Reads as keeps-reads
-use Rattle.book.proofs.send.Reads as send-reads
-use Rattle.quantum.proofs.onward.Reads as onward-reads
-use Rattle.quantum.proofs.refused.Reads as refused-reads
 
--- src/lib.rt:153:9
 send-requires : tie.Need-send-requires
 send-requires c κs = holding (c .before .before .before .before .before .pre .0)
 
--- src/lib.rt:155:9
 refused-requires : tie.Need-refused-requires
 refused-requires c κs = search needs
 
--- src/lib.rt:155:9
 same-length : tie.Need-same-length
 same-length c = search needs
 
--- src/lib.rt:155:9
 same-length-2 : tie.Need-same-length-2
 same-length-2 c = search needs
 
--- src/lib.rt:155:9
 returns : tie.Need-returns
 returns c =
     let g = c .before .before .before .before .before .before in
@@ -38,7 +26,6 @@ returns c =
     refused-orders (s .args .duty) (s .args .clock) (s .args .e) (s .args .t) (s .args .table .now) (g .send .last .0) (g .send .result) (s .pre .1)
     (g .send .ensures) (c .refused .result) (c .before .if1 .taken) (c .refused .ensures)
 
--- src/lib.rt:158:33
 keeps-requires : tie.Need-keeps-requires
 keeps-requires c κs =
     let g = c .before .before .before .before .before .before in
@@ -52,22 +39,18 @@ keeps-requires c κs =
       is = taken-table (s .args .duty) (s .args .clock) (s .args .e) (s .args .t) (s .args .table .now) (g .send .last .0) (g .send .result) (s .pre .1) (g .send .ensures) (c .before .if1 .left) (r .row) (r .sp) (r .events) (stands r);
     })
 
--- src/lib.rt:158:16
 onward-requires : tie.Need-onward-requires
 onward-requires c κs =
     let s = c .before .before .before .before .before .before .before .before .before .before .before .before .before in
     let r = s .pre .0 in
     onward (r .row) (r .sp) (r .events) (s .args .clock) (r .clock-is) (s .args .t) (s .pre .1 .onward)
 
--- src/lib.rt:148:1
 same-length-3 : tie.Need-same-length-3
 same-length-3 c = search needs
 
--- src/lib.rt:148:1
 same-length-4 : tie.Need-same-length-4
 same-length-4 c = search needs
 
--- src/lib.rt:148:1
 returns-2 : tie.Need-returns-2
 returns-2 c =
     let k = c .before in

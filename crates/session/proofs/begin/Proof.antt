@@ -3,15 +3,10 @@ use Rattle.session.proofs.Steps.{begins}
 use borrow.Author.Needs.{needs}
 use Rattle.session.proofs.begin.Statement.{statement}
 use Rattle.session.proofs.begin.Tie as tie
-use Rattle.session.proofs.begin.Reads as reads
-use Rattle.session.proofs.begin.Lts as lts
-use Rattle.quantum.proofs.started.Reads as started-reads
 
--- src/lib.rt:156:16
 started-requires : tie.Need-started-requires
 started-requires c κs = search needs
 
--- src/lib.rt:152:1
 returns : tie.Need-returns
 returns c = λ row sp. begins row sp (c .started .result) (c .started .ensures row sp)
 

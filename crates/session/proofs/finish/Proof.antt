@@ -9,38 +9,28 @@ use Rattle.session.proofs.Steps.{clock-is, growing, may-end, ended-is}
 use borrow.Author.Needs.{needs}
 use Rattle.session.proofs.finish.Statement.{statement}
 use Rattle.session.proofs.finish.Tie as tie
-use Rattle.session.proofs.finish.Reads as reads
-use Rattle.session.proofs.finish.Lts as lts
-use Rattle.pay.proofs.weight_of.Reads as weight-of-reads
-use Rattle.quantum.proofs.onward.Reads as onward-reads
-use Rattle.session.proofs.grow.Reads as grow-reads
 
--- src/lib.rt:140:9
 onward-requires : tie.Need-onward-requires
 onward-requires c κs =
     let s = c .before .before .before .before in
     let h = s .pre in
     may-end (s .args .row) (h .sp) (h .events) (s .args .walk) (h .is) (h .bounds)
 
--- src/lib.rt:143:9
 grow-requires : tie.Need-grow-requires
 grow-requires c κs =
     let s = c .before .before .before .before .before .before .before .before .before in
     let h = s .pre in
     growing (s .args .row) (h .sp) (h .events) (s .args .walk) (h .is) (s .args .row .length) (h .bounds .ends) (omega arith) (h .good)
 
--- src/lib.rt:146:17
 weight-of-requires : tie.Need-weight-of-requires
 weight-of-requires c κs =
     let s = c .before .before .before .before .before .before .before .before .before .before .before .before in
     let b = row-bounds paper (s .args .row) (s .pre .good) in
     (omega (arith, b .length-least), b .share-most)
 
--- src/lib.rt:132:1
 same-length : tie.Need-same-length
 same-length c = search needs
 
--- src/lib.rt:132:1
 returns : tie.Need-returns
 returns c = λ sp es base g is h.
     let w = c .before .before .before in

@@ -8,40 +8,28 @@ use Rattle.session.proofs.Loop.{unread}
 use borrow.Author.Needs.{needs}
 use Rattle.session.proofs.step.Statement.{statement}
 use Rattle.session.proofs.step.Tie as tie
-use Rattle.session.proofs.step.Reads as reads
-use Rattle.session.proofs.step.Lts as lts
-use Rattle.record.proofs.read.Reads as read-reads
-use Rattle.session.proofs.taken.Reads as taken-reads
 
--- src/lib.rt:124:9
 read-requires : tie.Need-read-requires
 read-requires c κs = search needs
 
--- src/lib.rt:126:26
 enum-known-read : tie.Need-enum-known-read
 enum-known-read c = search needs
 
--- src/lib.rt:126:32
 taken-requires : tie.Need-taken-requires
 taken-requires c κs = search needs
 
--- src/lib.rt:127:35
 enum-told : tie.Need-enum-told
 enum-told c = search needs
 
--- src/lib.rt:120:1
 same-length : tie.Need-same-length
 same-length c = search needs
 
--- src/lib.rt:120:1
 same-length-2 : tie.Need-same-length-2
 same-length-2 c = search needs
 
--- src/lib.rt:120:1
 same-length-3 : tie.Need-same-length-3
 same-length-3 c = search needs
 
--- src/lib.rt:120:1
 returns : tie.Need-returns
 returns c =
     let t = c .before .before .before .before .before .before in
@@ -53,7 +41,6 @@ returns c =
     Advanced (s .args .walk) (s .args .duty) o (t .taken .result) (s .args .table .now) (t .taken .last .1 .1 .1 .0) (s .args .buffer .now) (t .taken .last .1 .1 .1 .1 .1 .0))
     (ap shownRecord (sym (k .before .read2 .given .1)) ∙ r .read .ensures) (t .taken .ensures)
 
--- src/lib.rt:120:1
 returns-2 : tie.Need-returns-2
 returns-2 c =
     let r = c .before .before in

@@ -4,26 +4,18 @@ use Rattle.session.proofs.Steps.{running, growing-taken, advanced-taken
 use borrow.Author.Needs.{needs}
 use Rattle.session.proofs.taken.Statement.{statement}
 use Rattle.session.proofs.taken.Tie as tie
-use Rattle.session.proofs.taken.Reads as reads
-use Rattle.session.proofs.taken.Lts as lts
-use Rattle.quantum.proofs.step.Reads as step-reads
-use Rattle.session.proofs.grow.Reads as grow-reads
 
--- src/lib.rt:101:9
 step-requires : tie.Need-step-requires
 step-requires c κs =
     let s = c .before .before .before .before .before .before .before in
     running (s .args .walk) (s .args .duty) (s .args .table .now) (s .args .hints .now) (s .pre)
 
--- src/lib.rt:105:9
 same-length : tie.Need-same-length
 same-length c = search needs
 
--- src/lib.rt:105:9
 same-length-2 : tie.Need-same-length-2
 same-length-2 c = search needs
 
--- src/lib.rt:105:9
 returns : tie.Need-returns
 returns c =
     let g = c .before .before .before .before .before .before in
@@ -31,7 +23,6 @@ returns c =
     advanced-refused (s .args .walk) (s .args .duty) (s .args .e) (s .args .table .now) (g .step .last .1 .1 .0) (g .step .result) (g .step .ensures)
     (s .args .buffer .now) _ (c .if1 .taken)
 
--- src/lib.rt:109:9
 grow-requires : tie.Need-grow-requires
 grow-requires c κs =
     let f = c .before .before .before .before in
@@ -40,19 +31,15 @@ grow-requires c κs =
     growing-taken (s .args .walk) (s .args .duty) (s .args .e) (s .args .table .now) (g .step .last .1 .1 .0) (g .step .result) (g .step .ensures) (f .if1 .left)
     (s .args .hints .now) (s .pre)
 
--- src/lib.rt:95:1
 same-length-3 : tie.Need-same-length-3
 same-length-3 c = search needs
 
--- src/lib.rt:95:1
 same-length-4 : tie.Need-same-length-4
 same-length-4 c = search needs
 
--- src/lib.rt:95:1
 same-length-5 : tie.Need-same-length-5
 same-length-5 c = search needs
 
--- src/lib.rt:95:1
 returns-2 : tie.Need-returns-2
 returns-2 c =
     let w = c .before .before in

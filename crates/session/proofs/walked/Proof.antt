@@ -1,25 +1,16 @@
 -- The loop's invariant: some events led to the run so far and its table, the records passed are theirs, and the pairs are in the buffer as
 -- far as they fit. Assumes nothing.
-use Prim.Native.Nat.{ℕ, _+_, _*_, _-_, _/_, _≤_, _<_}
+use Prim.Native.Nat.{_+_, _*_, _-_, _/_, _≤_, _<_}
 use native.Mathlib.Omega.{arith}
-use mathlib.Core.Path.{_≡_, refl, sym, ap, _∙_}
-use mathlib.Core.List.{List, []}
+use mathlib.Core.Path.{_≡_, refl, sym}
 use lib.ListN.{length}
 use borrow.Author.Needs.{needs}
 use Rattle.rules.specs.declared.Steps.{Steps}
 use Rattle.quantum.specs.Standing.{dutyOf}
-use Rattle.session.specs.Walks.{walkAt, Going}
+use Rattle.session.specs.Walks.{Going}
 use Rattle.session.proofs.Loop.{going-start, going-walking, going-ending, going-end, going-past, going-short, going-numbered, going-refused, going-on, part-is, none-live}
 use Rattle.session.proofs.walked.Statement.{statement}
 use Rattle.session.proofs.walked.Tie as tie
-use Rattle.session.proofs.walked.Reads as reads
-use Rattle.session.proofs.walked.Lts as lts
-use Rattle.book.proofs.empty.Reads as empty-reads
-use Rattle.quantum.proofs.duty_of.Reads as duty-of-reads
-use Rattle.quantum.proofs.refusal_of.Reads as refusal-of-reads
-use Rattle.session.proofs.begin.Reads as begin-reads
-use Rattle.session.proofs.finish.Reads as finish-reads
-use Rattle.session.proofs.step.Reads as step-reads
 
 abbrev Inv-loop : tie.InvT-loop
 Inv-loop limit row records buffer₀ duty table₀ hints₀ walk₀ at₀ place₀ full buffer table hints walk at place = (at + 20 ≡ 20 * place) × (at ≤ full) × (full ≤ length records) × (length records < full + 20) × (place ≤ limit + 1) × (length buffer ≡ length buffer₀) × (length table ≡ 512) × (length hints ≡ 1024)
@@ -28,23 +19,18 @@ Inv-loop limit row records buffer₀ duty table₀ hints₀ walk₀ at₀ place�
 abbrev μ-loop : tie.MeasureT-loop
 μ-loop limit row records buffer₀ duty table₀ hints₀ walk₀ at₀ place₀ full buffer table hints walk at place = length records - at
 
--- src/lib.rt:170:9
 duty-of-requires : tie.Need-duty-of-requires Inv-loop μ-loop
 duty-of-requires c κs = c .before .before .pre .1
 
--- src/lib.rt:171:21
 empty-requires : tie.Need-empty-requires Inv-loop μ-loop
 empty-requires c κs = search needs
 
--- src/lib.rt:173:9
 begin-requires : tie.Need-begin-requires Inv-loop μ-loop
 begin-requires c κs = tt
 
--- src/lib.rt:176:16
 mul-full : tie.Need-mul-full Inv-loop μ-loop
 mul-full c = omega arith
 
--- src/lib.rt:177:5
 loop-holds : tie.Need-loop-holds Inv-loop μ-loop
 loop-holds c =
     let s = c .before .before .before .before .before in (
@@ -61,11 +47,9 @@ loop-holds c =
           (none-live (s .args .row) (c .before .empty .result) (c .before .empty .ensures (s .args .row .least .0))),
     )
 
--- src/lib.rt:179:13
 same-length : tie.Need-same-length Inv-loop μ-loop
 same-length c = search needs
 
--- src/lib.rt:179:13
 returns : tie.Need-returns Inv-loop μ-loop
 returns c =
     let l = c .before .before in
@@ -75,31 +59,24 @@ returns c =
     going-past (s .args .limit) (s .args .row) (s .args .sp) (s .args .records .now) (s .args .buffer .now) (l .loop .walk) (l .loop .at) (l .loop .place) (l .loop .table) (l .loop .buffer) g
     (omega (arith, l .loop .inv .2, c .before .loop-test .taken)) (l .loop .buffer) (omega arith)
 
--- src/lib.rt:184:47
 add-step : tie.Need-add-step Inv-loop μ-loop
 add-step c = omega arith
 
--- src/lib.rt:184:34
 sub-step : tie.Need-sub-step Inv-loop μ-loop
 sub-step c = omega arith
 
--- src/lib.rt:184:34
 part-step-start : tie.Need-part-step-start Inv-loop μ-loop
 part-step-start c = omega arith
 
--- src/lib.rt:184:34
 part-step-end : tie.Need-part-step-end Inv-loop μ-loop
 part-step-end c = omega arith
 
--- src/lib.rt:184:63
 slice-aggregate-step : tie.Need-slice-aggregate-step Inv-loop μ-loop
 slice-aggregate-step c = sym (c .before .before .before .before .loop .inv .6)
 
--- src/lib.rt:184:75
 slice-aggregate-step-2 : tie.Need-slice-aggregate-step-2 Inv-loop μ-loop
 slice-aggregate-step-2 c = sym (c .before .before .before .before .before .loop .inv .7)
 
--- src/lib.rt:184:13
 step-requires : tie.Need-step-requires Inv-loop μ-loop
 step-requires c κs =
     let l = c .before .before .before .before .before .before in
@@ -110,7 +87,6 @@ step-requires c κs =
     going-walking (s .args .limit) (s .args .row) (s .args .sp) (s .args .records .now) (s .args .buffer .now) (l .loop .walk) (l .loop .at) (l .loop .place) (l .loop .table) (l .loop .buffer) g
     (d .result) (l .loop .hints) (s .pre .1) (d .ensures) (l .loop .inv .7)
 
--- src/lib.rt:188:26
 refusal-of-requires : tie.Need-refusal-of-requires Inv-loop μ-loop
 refusal-of-requires c κs =
     let k = c .before .before .before .before .before in
@@ -126,11 +102,9 @@ refusal-of-requires c κs =
     going-numbered (s .args .limit) (s .args .row) (s .args .sp) (s .args .records .now) (s .args .buffer .now) (l .loop .walk) (l .loop .at) (l .loop .place) (l .loop .table) (l .loop .buffer) g
     inside few (d .result) (d .ensures) (k .step .result) (k .step .last .1 .1 .1 .0) (k .step .last .1 .1 .1 .1 .1 .0) _ cut (k .step .ensures) (c .if2 .taken)
 
--- src/lib.rt:187:13
 same-length-2 : tie.Need-same-length-2 Inv-loop μ-loop
 same-length-2 c = search needs
 
--- src/lib.rt:187:13
 returns-2 : tie.Need-returns-2 Inv-loop μ-loop
 returns-2 c =
     let k = c .before .before .before .before .before .before in
@@ -146,25 +120,21 @@ returns-2 c =
     going-refused (s .args .limit) (s .args .row) (s .args .sp) (s .args .records .now) (s .args .buffer .now) (l .loop .walk) (l .loop .at) (l .loop .place) (l .loop .table) (l .loop .buffer) g
     inside few (d .result) (d .ensures) (k .step .result) (k .step .last .1 .1 .1 .0) (k .step .last .1 .1 .1 .1 .1 .0) _ cut (k .step .ensures) (c .refusal-of .result) (c .before .if2 .taken) (c .refusal-of .ensures)
 
--- src/lib.rt:193:9
 add-at : tie.Need-add-at Inv-loop μ-loop
 add-at c =
     let l = c .before .before .before .before .before .before .before .before .before .before .before .before .before in
     let s = l .before .before .before .before .before .before in
     omega (arith, l .loop .inv .0, l .loop .inv .4, s .pre .0)
 
--- src/lib.rt:194:9
 add-place : tie.Need-add-place Inv-loop μ-loop
 add-place c =
     let l = c .before .before .before .before .before .before .before .before .before .before .before .before .before in
     let s = l .before .before .before .before .before .before in
     omega (arith, l .loop .inv .4, s .pre .0)
 
--- src/lib.rt:177:5
 loop-less : tie.Need-loop-less Inv-loop μ-loop
 loop-less c = omega arith
 
--- src/lib.rt:177:5
 loop-again : tie.Need-loop-again Inv-loop μ-loop
 loop-again c =
     let k = c .before .before .before .before .before .before in
@@ -183,11 +153,9 @@ loop-again c =
     inside few (d .result) is (k .step .result) (k .step .last .1 .1 .1 .0) (k .step .last .1 .1 .1 .1 .1 .0) _ cut (k .step .ensures) (omega (arith, whole, l .loop .inv .2)) (c .before .if2 .left) in
     (omega (arith, l .loop .inv .0), whole, l .loop .inv .2, l .loop .inv .3, omega (arith, few), next (s .args .sp) (d .ensures) .holds .size, c .before .before .before .before .before .table2 .given, c .before .before .before .before .hints2 .given, next)
 
--- src/lib.rt:197:9
 same-length-3 : tie.Need-same-length-3 Inv-loop μ-loop
 same-length-3 c = search needs
 
--- src/lib.rt:197:9
 returns-3 : tie.Need-returns-3 Inv-loop μ-loop
 returns-3 c =
     let l = c .before .before in
@@ -197,7 +165,6 @@ returns-3 c =
     going-short (s .args .limit) (s .args .row) (s .args .sp) (s .args .records .now) (s .args .buffer .now) (l .loop .walk) (l .loop .at) (l .loop .place) (l .loop .table) (l .loop .buffer) g
     (omega (arith, l .loop .inv .1, c .if3 .taken)) (l .loop .buffer) (omega (arith, l .loop .inv .3, c .before .loop-test .left))
 
--- src/lib.rt:202:5
 finish-requires : tie.Need-finish-requires Inv-loop μ-loop
 finish-requires c κs =
     let l = c .before .before .before in
@@ -206,11 +173,9 @@ finish-requires c κs =
     let g = l .loop .inv .8 (s .args .sp) (b .before .before .duty-of .ensures) in
     going-ending (s .args .limit) (s .args .row) (s .args .sp) (s .args .records .now) (s .args .buffer .now) (l .loop .walk) (l .loop .at) (l .loop .place) (l .loop .table) (l .loop .buffer) g (s .pre .1)
 
--- src/lib.rt:166:1
 same-length-4 : tie.Need-same-length-4 Inv-loop μ-loop
 same-length-4 c = search needs
 
--- src/lib.rt:166:1
 returns-4 : tie.Need-returns-4 Inv-loop μ-loop
 returns-4 c =
     let f = c .before .before in

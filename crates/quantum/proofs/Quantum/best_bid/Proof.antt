@@ -5,21 +5,15 @@ use Rattle.quantum.proofs.Answers.{stands-for, held-in}
 use borrow.Author.Needs.{needs}
 use Rattle.quantum.proofs.Quantum.best_bid.Statement.{statement}
 use Rattle.quantum.proofs.Quantum.best_bid.Tie as tie
-use Rattle.quantum.proofs.Quantum.best_bid.Reads as reads
-use Rattle.quantum.proofs.Quantum.best_bid.Lts as lts
-use Rattle.book.proofs.best.Reads as best-reads
 
--- src/lib.rt:286:20
 slice-aggregate-best : tie.Need-slice-aggregate-best
 slice-aggregate-best c = search needs
 
--- src/lib.rt:286:9
 best-requires : tie.Need-best-requires
 best-requires c κs =
     let s = c .before .before in
     held-in (s .args .self) (s .pre)
 
--- src/lib.rt:281:5
 returns : tie.Need-returns
 returns c = λ row sp es g is.
     let q = c .before .before .before .args .self in

@@ -1,5 +1,5 @@
 -- Time runs on to the end. Assumes nothing.
-use mathlib.Core.Path.{_≡_, ap, sym, _∙_}
+use mathlib.Core.Path.{ap, _∙_}
 use native.Mathlib.Omega.{arith}
 use Rattle.rules.specs.Kept.{keptBelow}
 use Rattle.quantum.specs.declared.Clock.{Clock}
@@ -7,11 +7,7 @@ use Rattle.quantum.proofs.Standing.{time-is, length-is, onward, kept-at
 use Rattle.quantum.proofs.Answers.{stands-for}
 use Rattle.quantum.proofs.Quantum.ended.Statement.{statement}
 use Rattle.quantum.proofs.Quantum.ended.Tie as tie
-use Rattle.quantum.proofs.Quantum.ended.Reads as reads
-use Rattle.quantum.proofs.Quantum.ended.Lts as lts
-use Rattle.quantum.proofs.onward.Reads as onward-reads
 
--- src/lib.rt:262:13
 onward-requires : tie.Need-onward-requires
 onward-requires c κs =
     let s = c .before .before .before in
@@ -26,7 +22,6 @@ onward-requires c κs =
       p .bounds .ends,
     ))
 
--- src/lib.rt:255:5
 returns : tie.Need-returns
 returns c = λ row sp es g is.
     let s = c .before .before .before .before .before in

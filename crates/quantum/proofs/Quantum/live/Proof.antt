@@ -5,20 +5,15 @@ use Rattle.quantum.proofs.Answers.{stands-for, held-in}
 use borrow.Author.Needs.{needs}
 use Rattle.quantum.proofs.Quantum.live.Statement.{statement}
 use Rattle.quantum.proofs.Quantum.live.Tie as tie
-use Rattle.quantum.proofs.Quantum.live.Reads as reads
-use Rattle.quantum.proofs.Quantum.live.Lts as lts
 
--- src/lib.rt:302:20
 slice-aggregate-count : tie.Need-slice-aggregate-count
 slice-aggregate-count c = search needs
 
--- src/lib.rt:302:9
 count-requires : tie.Need-count-requires
 count-requires c κs =
     let s = c .before .before in
     held-in (s .args .self) (s .pre)
 
--- src/lib.rt:297:5
 returns : tie.Need-returns
 returns c = λ row sp es g is.
     let q = c .before .before .before .args .self in

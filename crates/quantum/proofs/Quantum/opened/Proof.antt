@@ -3,25 +3,16 @@ use Rattle.quantum.proofs.Answers.{opened-is}
 use borrow.Author.Needs.{needs}
 use Rattle.quantum.proofs.Quantum.opened.Statement.{statement}
 use Rattle.quantum.proofs.Quantum.opened.Tie as tie
-use Rattle.quantum.proofs.Quantum.opened.Reads as reads
-use Rattle.quantum.proofs.Quantum.opened.Lts as lts
-use Rattle.book.proofs.empty.Reads as empty-reads
-use Rattle.quantum.proofs.duty_of.Reads as duty-of-reads
-use Rattle.quantum.proofs.started.Reads as started-reads
 
--- src/lib.rt:237:13
 duty-of-requires : tie.Need-duty-of-requires
 duty-of-requires c κs = search needs
 
--- src/lib.rt:238:13
 started-requires : tie.Need-started-requires
 started-requires c κs = search needs
 
--- src/lib.rt:239:13
 empty-requires : tie.Need-empty-requires
 empty-requires c κs = search needs
 
--- src/lib.rt:233:5
 returns : tie.Need-returns
 returns c =
     let s = c .before .before .before in
