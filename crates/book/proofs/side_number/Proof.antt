@@ -1,0 +1,30 @@
+-- `book::side_number` meets its contract. Assumes nothing.
+use native.Mathlib.Omega.{arith}
+use mathlib.Core.Path.{_≡_, sym}
+use borrow.Author.Needs.{needs}
+use Rattle.rules.specs.declared.Side.{Side}
+use Rattle.rules.specs.declared.Side.the-variants.{Buy, Sell}
+use Rattle.book.specs.Steps.{Numbers}
+use Rattle.book.proofs.side_number.Statement.{statement}
+use Rattle.book.proofs.side_number.Tie as tie
+
+buys : (side : Side) → side ≡ Buy → Numbers side 0
+buys side e = record { is = sym e; small = omega arith }
+
+sells : (side : Side) → side ≡ Sell → Numbers side 1
+sells side e = record { is = sym e; small = omega arith }
+
+enum-told : tie.Need-enum-told
+enum-told c = search needs
+
+enum-told-2 : tie.Need-enum-told-2
+enum-told-2 c = search needs
+
+returns : tie.Need-returns
+returns c = buys (c .before .before .args .side) (c .enum-told .given .1)
+
+returns-2 : tie.Need-returns-2
+returns-2 c = sells (c .before .before .args .side) (c .enum-told2 .given .1)
+
+pub side-number-spec : {M : Type 1} → statement M
+side-number-spec = tie.close (tie.spec enum-told enum-told-2 returns returns-2)
