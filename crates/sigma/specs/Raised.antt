@@ -1,0 +1,26 @@
+-- How the code holds prices and R: unsigned, each raised by a number that makes it positive. 3R - S is the same for raised R.
+use Prim.Native.Nat.{ℕ, _+_, _-_, _≤_}
+use lib.IntN.{ℤ, pos, negsuc, natAbs, _+ℤ_, _-ℤ_}
+use mathlib.Core.Bool.{_||_}
+use Rattle.rules.specs.Lists.{if_then_else_}
+use Rattle.sigma.specs.declared.Change.{Change}
+use Rattle.sigma.specs.declared.Change.the-variants.{Unusable, By}
+use Rattle.sigma.specs.Changes.{changeOf, isZero, isBeyond}
+
+-- a price, by 2,147,483,648
+unfoldable pub lifted : ℤ → ℕ
+lifted (pos n) = n + 2147483648
+lifted (negsuc n) = 2147483647 - n
+
+-- an R from -1,000,000 to 1,000,000, by 1,000,000; and back
+unfoldable pub raised : ℤ → ℕ
+raised r = natAbs (r +ℤ pos 1000000)
+
+unfoldable pub lowered : ℕ → ℤ
+lowered n = pos n -ℤ pos 1000000
+
+-- what `change` answers: the R, raised, unless it refuses
+unfoldable pub changeShown : ℤ → ℤ → Change
+changeShown previous price =
+    let r = changeOf previous price in
+    if isZero previous || isBeyond r then Unusable else By (raised r)
