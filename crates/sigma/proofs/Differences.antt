@@ -33,7 +33,7 @@ sub-same a b c d e = go (lt-or-ge a b)
         let k : a - b ≡ c - d = omega arith in
         sub-ge a b h ∙ ap pos k ∙ sym (sub-ge c d (omega arith))
 
-neg-pos : (n : ℕ) → negℤ (pos n) ≡ subℕ 0 n
+pub neg-pos : (n : ℕ) → negℤ (pos n) ≡ subℕ 0 n
 neg-pos zero = refl
 neg-pos (suc n) = let k : n ≡ suc n - 1 = omega arith in ap negsuc k ∙ sym (sub-lt 0 (suc n) (omega arith))
 

@@ -1,5 +1,6 @@
 -- How the code holds prices and R: unsigned, each raised by a number that makes it positive. 3R - S is the same for raised R.
-use Prim.Native.Nat.{ℕ, _+_, _-_, _≤_}
+use Prim.Native.Nat.{ℕ, _+_, _-_}
+use lib.Dec.{ltb}
 use lib.IntN.{ℤ, pos, negsuc, natAbs, _+ℤ_, _-ℤ_}
 use mathlib.Core.Bool.{_||_}
 use Rattle.rules.specs.Lists.{if_then_else_}
@@ -19,7 +20,14 @@ raised r = natAbs (r +ℤ pos 1000000)
 unfoldable pub lowered : ℕ → ℤ
 lowered n = pos n -ℤ pos 1000000
 
--- what `change` answers: the R, raised, unless it refuses
+-- an R of that size, upwards and downwards
+unfoldable pub risen : ℕ → Change
+risen size = if ltb 1000000 size then Unusable else By (1000000 + size)
+
+unfoldable pub fallen : ℕ → Change
+fallen size = if ltb 1000000 size then Unusable else By (1000000 - size)
+
+-- what `change_of` answers: the R, raised, unless it refuses
 unfoldable pub changeShown : ℤ → ℤ → Change
 changeShown previous price =
     let r = changeOf previous price in

@@ -1,14 +1,13 @@
 // From prices to sigmas. An R is held raised by 1,000,000, so that all numbers are unsigned.
-use ranges::both;
 use rules::Steps;
 ghost use mathlib.Core.Path.{_≡_};
-ghost use Prim.Native.Nat.{_+_, _*_, _-_, _/_, _≤_, _<_};
+ghost use Prim.Native.Nat.{_*_, _/_, max, _≤_, _<_};
 ghost use lib.Dec.{leb};
-ghost use lib.IntN.{pos, natAbs};
+ghost use lib.IntN.{pos, natAbs, subℕ};
 ghost use lib.ListN.{length, getD};
 ghost use Rattle.rules.specs.Records.{signedOf};
 ghost use Rattle.sigma.specs.Sigmas.{rootOf, sigmaOf};
-ghost use Rattle.sigma.specs.Raised.{lifted, lowered, changeShown};
+ghost use Rattle.sigma.specs.Raised.{lifted, lowered, risen, fallen, changeShown};
 
 // The R of a day, raised; or none where the previous price is zero or R is beyond 1,000,000.
 pub enum Change {
@@ -43,4 +42,101 @@ fn lift(w: u32) -> u64
         return (w as u64) + 2147483648;
     }
     (w as u64) - 2147483648
+}
+
+// The size of R: the difference of the prices, 1,000,000 times, over the previous one's magnitude.
+fn size(difference: u64, previous: u64) -> u64
+    requires { ⌜ (difference < 4294967296) × (0 < previous) ⌝ }
+    ensures { λ r. ⌜ r ≡ difference * 1000000 / previous ⌝ }
+{
+    difference * 1000000 / previous
+}
+
+fn rise(size: u64) -> Change
+    ensures { λ r. ⌜ r ≡ risen size ⌝ }
+{
+    if 1000000 < size {
+        return Change::Unusable;
+    }
+    Change::By(1000000 + (size as u32))
+}
+
+fn fall(size: u64) -> Change
+    ensures { λ r. ⌜ r ≡ fallen size ⌝ }
+{
+    if 1000000 < size {
+        return Change::Unusable;
+    }
+    Change::By(1000000 - (size as u32))
+}
+
+// The R of two successive prices, by their words.
+pub fn change_of(previous: u32, price: u32) -> Change
+    ensures { λ r. ⌜ r ≡ changeShown (signedOf previous) (signedOf price) ⌝ }
+{
+    let over = magnitude(previous);
+    if over == 0 {
+        return Change::Unusable;
+    }
+    let from = lift(previous);
+    let to = lift(price);
+    if from <= to {
+        return rise(size(to - from, over));
+    }
+    fall(size(from - to, over))
+}
+
+// Whether 18 n² is at most the total.
+fn within(n: u32, total: u64) -> bool
+    requires { ⌜ n ≤ 4194304 ⌝ }
+    ensures { λ r. ⌜ r ≡ leb (18 * (n * n)) total ⌝ }
+{
+    let n = n as u64;
+    18 * (n * n) <= total
+}
+
+// The largest n with 18 n² at most the total, between two numbers that close in on it.
+fn root(total: u64) -> u32
+    requires { ⌜ total < 18 * (4194304 * 4194304) ⌝ }
+    ensures { λ r. ⌜ (r ≡ rootOf total) × (r < 4194304) ⌝ }
+{
+    let mut low: u32 = 0;
+    let mut high: u32 = 4194304;
+    while low + 1 < high {
+        let middle = (low + high) / 2;
+        if within(middle, total) {
+            low = middle;
+        } else {
+            high = middle;
+        }
+    }
+    low
+}
+
+// |a - b|
+fn gap(a: u64, b: u64) -> u64
+    ensures { λ r. ⌜ (r ≡ natAbs (subℕ a b)) × (r ≤ max a b) ⌝ }
+{
+    if a < b {
+        return b - a;
+    }
+    a - b
+}
+
+// (3R - S)², which is the same for raised numbers.
+fn square(r: u32, sum: u64) -> u64
+    requires { ⌜ (r ≤ 2000000) × (sum ≤ 6000000) ⌝ }
+    ensures { λ q. ⌜ (q ≡ natAbs (subℕ (3 * r) sum) * natAbs (subℕ (3 * r) sum)) × (q ≤ 36000000000000) ⌝ }
+{
+    let d = gap(3 * (r as u64), sum);
+    d * d
+}
+
+// The sigma of three R, oldest first.
+pub fn sigma(a: u32, b: u32, c: u32) -> u32
+    requires { ⌜ (a ≤ 2000000) × (b ≤ 2000000) × (c ≤ 2000000) ⌝ }
+    ensures { λ r. ⌜ (r ≡ sigmaOf (lowered a) (lowered b) (lowered c)) × (r < 4194304) ⌝ }
+{
+    let sum = (a as u64) + (b as u64) + (c as u64);
+    root(square(a, sum) + square(b, sum) + square(c, sum))
 }
