@@ -1,0 +1,2 @@
+-- Laws about lists and numbers that the crate's proofs cite.
+pub mod Steps
