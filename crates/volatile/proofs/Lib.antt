@@ -1,2 +1,4 @@
 -- Laws about lists and numbers that the crate's proofs cite.
 pub mod Steps
+pub mod Periods
+pub mod Windows
