@@ -2,3 +2,6 @@
 pub mod Steps
 pub mod Periods
 pub mod Windows
+pub mod Phases
+pub mod Stands
+pub mod Answers

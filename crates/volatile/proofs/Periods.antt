@@ -84,7 +84,7 @@ module _ (sigmas : List ℕ) (first : ℕ) where
 
 -- ---- a test of two halves
 
-and-true : (a b : Bool) → (a && b) ≡ true → (a ≡ true) × (b ≡ true)
+pub and-true : (a b : Bool) → (a && b) ≡ true → (a ≡ true) × (b ≡ true)
 and-true true b e = (refl, e)
 and-true false b e = absurd (true≢false (sym e))
 
@@ -131,7 +131,7 @@ over d (p ∷ ps) b e =
         gone true t = absurd (true≢false (sym (both-true (p .first) (p .last) d (b .0) (leb-true d (p .last) t)) ∙ h))
         gone false t = let u : p .last < d = leb-false d (p .last) t in omega arith
 
-any-snoc : {A : Type 0} (p : A → Bool) (xs : List A) (y : A) → any p (xs ++ (y ∷ [])) ≡ (any p xs || p y)
+pub any-snoc : {A : Type 0} (p : A → Bool) (xs : List A) (y : A) → any p (xs ++ (y ∷ [])) ≡ (any p xs || p y)
 unfolding any
 any-snoc p xs y = any-append p xs (y ∷ []) ∙ ap (λ (b : Bool). any p xs || b) (or-last (p y))
   where
@@ -157,6 +157,14 @@ module _ (sigmas : List ℕ) (threshold : ℕ) where
   unfolding periods
   none-yet = tt
 
+  pub none-yet-in : (d : ℕ) → any (isIn d) (periods sigmas threshold 0) ≡ false
+  unfolding periods any
+  none-yet-in d = refl
+
+  pub none-yet-early : any isEarly (periods sigmas threshold 0) ≡ false
+  unfolding periods any
+  none-yet-early = refl
+
   periods-begun : (d : ℕ) → Begun d (periods sigmas threshold d)
   periods-begun zero = none-yet
   periods-begun (suc d) =
@@ -169,7 +177,7 @@ module _ (sigmas : List ℕ) (threshold : ℕ) where
       go false e h = rw (periods-same d e) h
 
   -- a period that began early stays among them
-  early-later : (d k : ℕ) → any isEarly (periods sigmas threshold d) ≡ true → any isEarly (periods sigmas threshold (d + k)) ≡ true
+  pub early-later : (d k : ℕ) → any isEarly (periods sigmas threshold d) ≡ true → any isEarly (periods sigmas threshold (d + k)) ≡ true
   early-later d zero e = let same : d + 0 ≡ d = omega arith in rw same e
   early-later d (suc k) e =
       let same : d + suc k ≡ suc (d + k) = omega arith in

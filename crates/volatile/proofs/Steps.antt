@@ -4,12 +4,10 @@ use mathlib.Core.Path.{_≡_, refl, sym, _∙_}
 use mathlib.Core.Bool.{Bool, true, false, _&&_}
 use borrow.Author.Tests.{lt-ltb, le-ltb}
 use lib.Dec.{leb, ltb}
-use Rattle.sigma.specs.Sigmas.{sigmaOf}
-use Rattle.sigma.specs.Raised.{lowered}
 use Rattle.volatile.specs.declared.Window.{Window}
 use Rattle.volatile.specs.declared.Phase.{Phase}
 use Rattle.volatile.specs.declared.State.{State}
-use Rattle.volatile.specs.Carried.{pushed, phase, ends, phaseAfter, state, judged, turned}
+use Rattle.volatile.specs.Carried.{pushed, phase, ends, phaseAfter, state, sigmaWith, judged, turned}
 
 module _ (p : Phase) (day sigma threshold sum : ℕ) where
   -- the two tests that a period ends by, joined
@@ -41,7 +39,7 @@ module _ (s : State) (i r threshold : ℕ) where
   unfolding turned
   from-third h = simp (le-ltb i 2 h)
 
-  pub judge-is : (sigma : ℕ) (w : Window) (p : Phase) → sigma ≡ sigmaOf (lowered (s .older)) (lowered (s .newer)) (lowered r)
+  pub judge-is : (sigma : ℕ) (w : Window) (p : Phase) → sigma ≡ sigmaWith s r
       → w ≡ pushed (s .window) sigma → p ≡ phaseAfter (s .phase) (s .window .day) sigma threshold (w .sum)
       → state (s .newer) r w p ≡ judged s r threshold
   unfolding judged

@@ -150,3 +150,16 @@ module _ (s : List ℕ) where
       ∙ ap (λ (k : List ℕ). sum (take 30 k))
       (ap (λ (i : ℕ). drop i padded) (sym e ∙ (let split : first ≡ 30 + (first - 30) = omega arith in split))
       ∙ drop-append-add (replicate 30 0) s (first - 30)))
+
+-- no sigma yet
+pub fresh-holds : (s : List ℕ) → Holds s (record { recent = replicate 30 0; day = 0; sum = 0 })
+unfolding sum
+fresh-holds s =
+    record {
+      places = refl;
+      ring = λ j l u.
+        (let small : j % 30 ≡ j = omega arith in ap (λ (i : ℕ). getD (replicate 30 0) i 0) small)
+        ∙ sym (List·getD-append (replicate 30 0) s 0 j u);
+      sum-is = refl;
+      small = λ j l. absurd (omega arith);
+    }

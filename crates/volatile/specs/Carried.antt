@@ -50,10 +50,14 @@ phaseAfter p day sigma threshold sum =
 abbrev pub state : ℕ → ℕ → Window → Phase → State
 state older newer w p = record { older = older; newer = newer; window = w; phase = p }
 
+-- the sigma of them and the next
+abbrev pub sigmaWith : State → ℕ → ℕ
+sigmaWith s r = sigmaOf (lowered (s .older)) (lowered (s .newer)) (lowered r)
+
 -- a day with a sigma
 unfoldable pub judged : State → ℕ → ℕ → State
 judged s r threshold =
-    let sigma = sigmaOf (lowered (s .older)) (lowered (s .newer)) (lowered r) in
+    let sigma = sigmaWith s r in
     let w = pushed (s .window) sigma in
     state (s .newer) r w (phaseAfter (s .phase) (s .window .day) sigma threshold (w .sum))
 

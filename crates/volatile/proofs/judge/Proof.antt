@@ -16,8 +16,11 @@ after-requires c κs = search needs
 returns : tie.Need-returns
 returns c =
     let a = c .before .before .before .before .before .args in
-    judge-is (a .s) 0 (a .r) (a .threshold) (c .before .before .sigma .result) (c .before .push .result) (c .after .result)
-    (c .before .before .sigma .ensures .0) (c .before .push .ensures) (c .after .ensures)
+    let e = c .before .before .sigma .ensures in (
+      judge-is (a .s) 0 (a .r) (a .threshold) (c .before .before .sigma .result) (c .before .push .result) (c .after .result) (e .0)
+      (c .before .push .ensures) (c .after .ensures),
+      rw (e .0) at (e .1),
+    )
 
 pub judge-spec : {M : Type 1} → statement M
 judge-spec = tie.close (tie.spec sigma-requires push-requires after-requires returns)
