@@ -1,7 +1,9 @@
--- Laws about lists and numbers that the crate's proofs cite.
+-- Laws about lists and numbers that the crate's proofs cite, from the step of the code to the answer.
 pub mod Steps
 pub mod Periods
 pub mod Windows
 pub mod Phases
 pub mod Stands
 pub mod Answers
+-- the definitions on small examples
+pub mod Examples

@@ -53,9 +53,9 @@ module _ (sigmas : List ℕ) (threshold : ℕ) where
         let t = and-true (ltb (p .first) d) (leb sigma (p .average)) e in
         record {
           is =
-            sym
-            (ends-after sigmas threshold d (p .first) (phased .current h) has (ltb-true (p .first) d (t .0))
-            (sym (small-is h) ∙ t .1));
+              sym
+              (ends-after sigmas threshold d (p .first) (phased .current h) has (ltb-true (p .first) d (t .0))
+              (sym (small-is h) ∙ t .1));
           current = λ e. absurd (true≢false (sym e));
           average-is = λ e. absurd (true≢false (sym e));
           early-is = same-early (inside-early sigmas threshold d (p .first) (phased .current h) has) not-early;
@@ -64,8 +64,8 @@ module _ (sigmas : List ℕ) (threshold : ℕ) where
     goes-on : p .inside ≡ true → ends p d sigma ≡ false → Phased (suc d) p
     goes-on h e =
         let next =
-            goes-on-after sigmas threshold d (p .first) (phased .current h) has
-            (λ l. sym (small-is h) ∙ and-second (ltb (p .first) d) (leb sigma (p .average)) e (lt-ltb (p .first) d l)) in
+        goes-on-after sigmas threshold d (p .first) (phased .current h) has
+        (λ l. sym (small-is h) ∙ and-second (ltb (p .first) d) (leb sigma (p .average)) e (lt-ltb (p .first) d l)) in
         record {
           is = h ∙ sym (current-in sigmas threshold next);
           current = λ _. next;

@@ -30,6 +30,10 @@ any-next : (p : ℤ → Bool) (xs : List ℤ) (i : ℕ) → i < length xs → an
 any-next p xs i h e f =
     ap (any p) (take-suc xs i (pos 0) h) ∙ any-snoc p (take i xs) (getD xs i (pos 0)) ∙ rw (e, f) refl
 
+pub fresh-early : early (fresh .phase) ≡ false
+unfolding fresh
+fresh-early = refl
+
 module _ (prices : List ℤ) (threshold : ℕ) where
   abbrev rs : List ℤ
   rs = changes prices
@@ -98,7 +102,7 @@ module _ (prices : List ℤ) (threshold : ℕ) where
           let none : suc i - 2 ≡ i - 2 = omega arith in
           record {
             older-is = λ h.
-              stands .newer-is (omega arith) ∙ (let e : i - 1 ≡ suc i - 2 = omega arith in ap (λ (k : ℕ). getD rs k (pos 0)) e);
+                stands .newer-is (omega arith) ∙ (let e : i - 1 ≡ suc i - 2 = omega arith in ap (λ (k : ℕ). getD rs k (pos 0)) e);
             newer-is = λ h. change-is ∙ (let e : i ≡ suc i - 1 = omega arith in ap (λ (k : ℕ). getD rs k (pos 0)) e);
             older-small = stands .newer-small;
             newer-small = told .small;
@@ -134,24 +138,24 @@ module _ (prices : List ℤ) (threshold : ℕ) where
             let d = stands .day-is in
             let has : i - 2 < length list = omega arith in
             let held : Holds list (pushed (s .window) sigma) =
-                pushed-holds list (s .window) (stands .holds) (omega arith) sigma (omega arith)
-                (sigma-at ∙ ap (λ (k : ℕ). getD list k 0) (sym d)) small in
+            pushed-holds list (s .window) (stands .holds) (omega arith) sigma (omega arith)
+            (sigma-at ∙ ap (λ (k : ℕ). getD list k 0) (sym d)) small in
             let next : suc i - 2 ≡ suc (i - 2) = omega arith in
             record {
               older-is = λ h.
-                stands .newer-is (omega arith) ∙ (let e : i - 1 ≡ suc i - 2 = omega arith in ap (λ (k : ℕ). getD rs k (pos 0)) e);
+                  stands .newer-is (omega arith) ∙ (let e : i - 1 ≡ suc i - 2 = omega arith in ap (λ (k : ℕ). getD rs k (pos 0)) e);
               newer-is = λ h. change-is ∙ (let e : i ≡ suc i - 1 = omega arith in ap (λ (k : ℕ). getD rs k (pos 0)) e);
               older-small = stands .newer-small;
               newer-small = told .small;
               holds = held;
               day-is = next-day ∙ sym next;
               phased =
-                subst (λ (k : ℕ). Phased list threshold k (phaseAfter (s .phase) (s .window .day) sigma threshold (pushed (s .window) sigma .sum)))
-                (sym next)
-                (subst (λ (k : ℕ). Phased list threshold (suc (i - 2)) (phaseAfter (s .phase) k sigma threshold (pushed (s .window) sigma .sum)))
-                (sym d)
-                (phase-after list threshold (i - 2) (s .phase) (stands .phased) not-early has sigma (pushed (s .window) sigma .sum) sigma-at
-                (λ t. average-is list (pushed (s .window) sigma) held (suc (i - 2)) (sym next-day) t)));
+                  subst (λ (k : ℕ). Phased list threshold k (phaseAfter (s .phase) (s .window .day) sigma threshold (pushed (s .window) sigma .sum)))
+                  (sym next)
+                  (subst (λ (k : ℕ). Phased list threshold (suc (i - 2)) (phaseAfter (s .phase) k sigma threshold (pushed (s .window) sigma .sum)))
+                  (sym d)
+                  (phase-after list threshold (i - 2) (s .phase) (stands .phased) not-early has sigma (pushed (s .window) sigma .sum) sigma-at
+                  (λ t. average-is list (pushed (s .window) sigma) held (suc (i - 2)) (sym next-day) t)));
               no-zero = no-zero-next;
               no-beyond = no-beyond-next;
             }
@@ -162,3 +166,54 @@ module _ (prices : List ℤ) (threshold : ℕ) where
           go : (i < 2) ⊎ (2 ≤ i) → Stands (suc i) (turned s i r threshold)
           go (inl h) = subst (Stands (suc i)) (first-two s i r threshold h) (without h)
           go (inr h) = subst (Stands (suc i)) (from-third s i r threshold h) (with-sigma h (small h))
+
+  -- ---- the ways out
+
+  in-list : (p : ℤ → Bool) (xs : List ℤ) (i : ℕ) → i < length xs → p (getD xs i (pos 0)) ≡ true → any p xs ≡ true
+  in-list p xs i h e = some-any p (getD-in xs i (pos 0) h) e
+
+  -- a price that refuses
+  pub bad-at : (i : ℕ) → suc i < length prices → (isZero (getD prices i (pos 0)) || isBeyond (changeOf (getD prices i (pos 0)) (getD prices (suc i) (pos 0)))) ≡ true
+      → badPrices prices ≡ true
+  unfolding badPrices
+  bad-at i more e = go (isZero (getD prices i (pos 0))) refl
+    where
+      go : (b : Bool) → isZero (getD prices i (pos 0)) ≡ b → (any isZero (previous prices) || any isBeyond (changes prices)) ≡ true
+      go true h =
+          let n = length-previous prices in
+          rw (in-list isZero (previous prices) i (omega arith) (ap isZero (previous-at prices i more) ∙ h)) refl
+      go false h =
+          let n = length-changes prices in
+          or-second (any isZero (previous prices))
+          (in-list isBeyond (changes prices) i (omega arith) (ap isBeyond (changes-at prices i more) ∙ (rw h at e)))
+
+  -- a period that began early
+  pub early-at : (i : ℕ) (s : State) → Stands i s → i < length prices → early (s .phase) ≡ true
+      → any isEarly (periods list threshold (length list)) ≡ true
+  early-at i s stands more e =
+      let n = list-length in
+      let same : length list ≡ i - 2 + (length list - (i - 2)) = omega arith in
+      ap (λ (d : ℕ). any isEarly (periods list threshold d)) same
+      ∙ early-later list threshold (i - 2) (length list - (i - 2)) (stands .phased .early-is ∙ e)
+
+  -- the prices' end
+  module _ (i : ℕ) (s : State) (stands : Stands i s) (end : i ≡ length prices - 1) where
+    at-end : i - 2 ≡ length list
+    at-end = let n = list-length in omega arith
+
+    pub end-good : badPrices prices ≡ false
+    unfolding badPrices
+    end-good =
+        let n = length-previous prices in
+        let m = length-changes prices in
+        rw (
+          rw (take-all i (previous prices) (omega arith)) at (stands .no-zero),
+          rw (take-all i rs (omega arith)) at (stands .no-beyond),
+        )
+        refl
+
+    pub end-early : early (s .phase) ≡ false → any isEarly (periods list threshold (length list)) ≡ false
+    end-early e = ap (λ (d : ℕ). any isEarly (periods list threshold d)) (sym at-end) ∙ stands .phased .early-is ∙ e
+
+    pub end-inside : s .phase .inside ≡ any (isIn (length list)) (periods list threshold (length list))
+    end-inside = stands .phased .is ∙ ap (λ (d : ℕ). any (isIn d) (periods list threshold d)) at-end

@@ -115,7 +115,7 @@ module _ (s : List ℕ) where
           let n = padded-length in
           let slide = sum-slide padded (w .day) 30 (omega arith) in
           let next : getD padded (w .day + 30) 0 ≡ sigma =
-              (let same : w .day + 30 ≡ 30 + w .day = omega arith in ap (λ (i : ℕ). getD padded i 0) same) ∙ padded-at (w .day) ∙ sym is in
+          (let same : w .day + 30 ≡ 30 + w .day = omega arith in ap (λ (i : ℕ). getD padded i 0) same) ∙ padded-at (w .day) ∙ sym is in
           let o = oldest-is in
           let h = holds .sum-is in
           let one : drop (w .day + 1) padded ≡ drop (suc (w .day)) padded = ap (λ (i : ℕ). drop i padded) (add-one (w .day)) in
@@ -158,8 +158,8 @@ fresh-holds s =
     record {
       places = refl;
       ring = λ j l u.
-        (let small : j % 30 ≡ j = omega arith in ap (λ (i : ℕ). getD (replicate 30 0) i 0) small)
-        ∙ sym (List·getD-append (replicate 30 0) s 0 j u);
+          (let small : j % 30 ≡ j = omega arith in ap (λ (i : ℕ). getD (replicate 30 0) i 0) small)
+          ∙ sym (List·getD-append (replicate 30 0) s 0 j u);
       sum-is = refl;
       small = λ j l. absurd (omega arith);
     }

@@ -18,7 +18,7 @@ returns c =
     let a = c .before .before .before .before .before .args in
     let e = c .before .before .sigma .ensures in (
       judge-is (a .s) 0 (a .r) (a .threshold) (c .before .before .sigma .result) (c .before .push .result) (c .after .result) (e .0)
-      (c .before .push .ensures) (c .after .ensures),
+          (c .before .push .ensures) (c .after .ensures),
       rw (e .0) at (e .1),
     )
 

@@ -16,8 +16,7 @@ judge-requires c κs = search needs
 
 returns-2 : tie.Need-returns-2
 returns-2 c =
-    let a = c .before .before .args in
-    (
+    let a = c .before .before .args in (
       c .judge .ensures .0 ∙ from-third (a .s) (a .i) (a .r) (a .threshold) (c .before .if1 .left),
       λ h. c .judge .ensures .1,
     )
