@@ -2,6 +2,9 @@
 ghost use mathlib.Core.Path.{_≡_};
 ghost use Prim.Native.Nat.{_+_, _*_, _≤_};
 ghost use lib.ListN.{length};
+
+mod days;
+
 use libc::STDIN_FILENO;
 use libc::STDOUT_FILENO;
 use rules::Contracts;
@@ -254,6 +257,9 @@ fn run_case(input: &[u8]) -> bool {
     if kind == 3 {
         record_case(&input[4..]);
         return true;
+    }
+    if days::is_kind(kind) {
+        return days::case(kind, input);
     }
     false
 }

@@ -5,5 +5,6 @@ pub mod Changes
 pub mod Roots
 pub mod Squares
 pub mod Lists
+pub mod Last
 -- the definitions on small examples
 pub mod Examples

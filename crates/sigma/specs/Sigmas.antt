@@ -1,10 +1,14 @@
 -- Request W12: sigma, from three R.
-use Prim.Native.Nat.{ℕ, zero, suc, _+_, _*_}
+use Prim.Native.Nat.{ℕ, zero, suc, _+_, _-_, _*_}
 use mathlib.Core.List.{List, [], _∷_}
-use mathlib.Core.Bool.{Bool}
-use lib.Dec.{leb}
+use mathlib.Core.Bool.{Bool, _||_}
+use lib.Dec.{leb, ltb}
 use lib.IntN.{ℤ, pos, natAbs, _+ℤ_, _-ℤ_, _*ℤ_}
+use lib.ListN.{length, getD, drop}
 use Rattle.rules.specs.Lists.{if_then_else_}
+use Rattle.sigma.specs.declared.SigmaAnswer.{SigmaAnswer}
+use Rattle.sigma.specs.declared.SigmaAnswer.the-variants.{Absent, Of}
+use Rattle.sigma.specs.Changes.{changes, badPrices}
 
 -- the largest whole number up to n that passes; 0 where none from 1 on does
 unfoldable pub largest : (ℕ → Bool) → ℕ → ℕ
@@ -33,3 +37,9 @@ sigmas [] = []
 sigmas (a ∷ []) = []
 sigmas (a ∷ b ∷ []) = []
 sigmas (a ∷ b ∷ c ∷ rs) = sigmaOf a b c ∷ sigmas (b ∷ c ∷ rs)
+
+-- the sigma of the last day of some prices: none under four, or where one of its three R has a cause of 22
+unfoldable pub lastSigma : List ℤ → SigmaAnswer
+lastSigma prices =
+    let four = drop (length prices - 4) prices in
+    if ltb (length prices) 4 || badPrices four then Absent else Of (getD (sigmas (changes four)) 0 0)

@@ -6,8 +6,8 @@ ghost use lib.Dec.{leb};
 ghost use lib.IntN.{pos, natAbs, subℕ};
 ghost use lib.ListN.{length, getD};
 ghost use Rattle.rules.specs.Records.{signedOf};
-ghost use Rattle.sigma.specs.Sigmas.{rootOf, sigmaOf};
-ghost use Rattle.sigma.specs.Raised.{lifted, lowered, risen, fallen, changeShown};
+ghost use Rattle.sigma.specs.Sigmas.{rootOf, sigmaOf, lastSigma};
+ghost use Rattle.sigma.specs.Raised.{lifted, lowered, risen, fallen, changeShown, Usable, sigmaBy};
 
 // The R of a day, raised; or none where the previous price is zero or R is beyond 1,000,000.
 pub enum Change {
@@ -139,4 +139,42 @@ pub fn sigma(a: u32, b: u32, c: u32) -> u32
 {
     let sum = (a as u64) + (b as u64) + (c as u64);
     root(square(a, sum) + square(b, sum) + square(c, sum))
+}
+
+// The sigma of the last of some prices, or none.
+pub enum SigmaAnswer {
+    Absent,
+    Of(u32),
+}
+
+// The sigma of three R; none where one of them refuses.
+fn sigma_by(first: Change, second: Change, third: Change) -> SigmaAnswer
+    requires { ⌜ Usable first × Usable second × Usable third ⌝ }
+    ensures { λ r. ⌜ r ≡ sigmaBy first second third ⌝ }
+{
+    let Change::By(a) = first else {
+        return SigmaAnswer::Absent;
+    };
+    let Change::By(b) = second else {
+        return SigmaAnswer::Absent;
+    };
+    let Change::By(c) = third else {
+        return SigmaAnswer::Absent;
+    };
+    SigmaAnswer::Of(sigma(a, b, c))
+}
+
+// The sigma of the last day of the prices.
+pub fn last_sigma(prices: &[i32]) -> SigmaAnswer
+    ensures { λ r. ⌜ r ≡ lastSigma (now (prices .entry)) ⌝ }
+{
+    let n = prices.len();
+    if n < 4 {
+        return SigmaAnswer::Absent;
+    }
+    let p = price_word(prices, n - 4);
+    let q = price_word(prices, n - 3);
+    let r = price_word(prices, n - 2);
+    let s = price_word(prices, n - 1);
+    sigma_by(change_of(p, q), change_of(q, r), change_of(r, s))
 }

@@ -64,6 +64,7 @@ fn after(p: Phase, day: usize, sigma: u32, threshold: u32, sum: u32) -> Phase
     requires { ⌜ day < 9223372036854775807 ⌝ }
     ensures { λ r. ⌜ r ≡ phaseAfter p day sigma threshold sum ⌝ }
 {
+    let next = day + 1;
     let first = p.first;
     let average = p.average;
     if p.inside {
@@ -79,7 +80,7 @@ fn after(p: Phase, day: usize, sigma: u32, threshold: u32, sum: u32) -> Phase
     if at_most(threshold, sigma) {
         return Phase {
             inside: true,
-            first: day + 1,
+            first: next,
             average: sum / 30,
         };
     }

@@ -5,6 +5,9 @@ use borrow.Author.Needs.{needs}
 use Rattle.volatile.proofs.after.Statement.{statement}
 use Rattle.volatile.proofs.after.Tie as tie
 
+add-next : tie.Need-add-next
+add-next c = search needs
+
 is-before-requires : tie.Need-is-before-requires
 is-before-requires c κs = search needs
 
@@ -29,9 +32,6 @@ returns-2 c =
 at-most-requires-2 : tie.Need-at-most-requires-2
 at-most-requires-2 c κs = search needs
 
-add-t13 : tie.Need-add-t13
-add-t13 c = search needs
-
 returns-3 : tie.Need-returns-3
 returns-3 c =
     let a = c .before .before .before .args in
@@ -46,12 +46,12 @@ pub after-spec : {M : Type 1} → statement M
 after-spec =
     tie.close
     (tie.spec
+    add-next
     is-before-requires
     at-most-requires
     both-requires
     returns
     returns-2
     at-most-requires-2
-    add-t13
     returns-3
     returns-4)
