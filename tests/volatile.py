@@ -45,7 +45,7 @@ SIGHTS = [
     "a period begins, ends and another begins",
     "the last day's sigma is at least the threshold",
     "a last day's sigma is the average itself",
-    "a first day's sigma is at most the average",
+    "a first day's sigma, the last one, is at most the average",
     "a sigma is the threshold itself",
     "thirty sigmas before a first day",
     "twenty-nine sigmas before a first day",
@@ -133,15 +133,13 @@ def period_sights(found, threshold):
             yield "thirty sigmas before a first day"
         if first == len(found):
             yield "a period begins on the asked day"
-        elif found[first] <= average:
-            yield "a first day's sigma is at most the average"
+        elif first == len(found) - 1 and found[first] <= average:
+            yield "a first day's sigma, the last one, is at most the average"
         if last is None:
             if first < len(found):
                 yield "a period lasts to the asked day"
             continue
         if last == len(found) - 1:
-            # that day was the asked one of the list without its last price
-            yield "a period ends on the asked day"
             yield "a period ended on the day before the asked one"
         if found[last] >= threshold:
             yield "the last day's sigma is at least the threshold"
@@ -224,8 +222,11 @@ def walk(rng):
 
 def repeated(rng):
     """A few levels of sigma that come again, so that sigmas meet the average and the threshold."""
-    parts = [cycle([1_000, 1_000 + k, 1_000 + k // 2], rng.randrange(3, 40)) for k in rng.choices([2, 4, 8, 200], k=5)]
-    prices = cycle([1_000, 1_004, 1_002], 36) + [p for part in parts for p in part]
+    base = rng.choice([1_000, 1_000_000])
+    level = lambda k, count: cycle([base, base + k, base + k // 2], count)
+    prices = level(4, 36)
+    for k in rng.choices([2, 4, 5, 8, 20, 200], k=5):
+        prices += level(k, rng.randrange(3, 40))
     found = volatile.sigmas(prices)
     return prices[: rng.randrange(33, len(prices) + 1)], rng.choice(sorted(set(found)))
 
@@ -258,19 +259,36 @@ def wrong_cases():
     yield packed(5, 1, 2**32 - 1)
 
 
+def with_shorter(prices, threshold):
+    """The case of some prices, and of shorter lists of them: up to each period's first day, and, where
+    a period ended on their last day, with that day as the asked one."""
+    shows = list(prices_sights(prices, threshold))
+    yield prices_case(prices, threshold), shows
+    if "a period ended on the day before the asked one" in shows:
+        assert volatile.inside(prices[:-1], threshold)
+        yield prices_case(prices[:-1], threshold), ["a period ends on the asked day"]
+    try:
+        periods = volatile.periods(volatile.sigmas(prices), threshold)
+    except volatile.Refused22:
+        return
+    for first, _ in periods:
+        front = prices[: first + 4]
+        yield prices_case(front, threshold), list(prices_sights(front, threshold))
+
+
 def cases(rng, count):
     """(bytes, what they show)"""
     for data in wrong_cases():
         yield data, ["a list that does not fit its count"]
     for prices, threshold in known_prices():
-        yield prices_case(prices, threshold), list(prices_sights(prices, threshold))
+        yield from with_shorter(prices, threshold)
     for words in ([], [1] * 16, [1, 1, 1_000, 1, 0, 0, 1], [2, 2, 86_400_000, 100_000, 100_000, 1_000_000, 79]):
         yield packed(6, len(words), *words), list(row_sights(words))
     yield prices_case(cycle([1_000, 1_004, 1_002], 4_096), 2**20), []
     for at in range(count):
         make = rng.choice([walk, walk, walk, repeated, repeated, rough])
         prices, threshold = make(rng)
-        yield prices_case(prices, threshold), list(prices_sights(prices, threshold))
+        yield from with_shorter(prices, threshold)
         if at % 40 == 0:
             yield prices_case(prices, threshold, 12), []
         if at % 3 == 0:
