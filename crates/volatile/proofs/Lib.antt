@@ -5,5 +5,7 @@ pub mod Windows
 pub mod Phases
 pub mod Stands
 pub mod Answers
+-- the periods are apart
+pub mod Apart
 -- the definitions on small examples
 pub mod Examples

@@ -69,7 +69,8 @@ module _ (sigmas : List ℕ) (first : ℕ) where
   unfolding lastDay
   last-by d l u e = omega (arith, from-first endsOn (suc first) (length sigmas - suc first) d l (omega arith) e)
 
-  last-after : (d : ℕ) → d < length sigmas → first ≤ d → d ≤ lastDay sigmas first → (first < d → endsOn d ≡ false) → suc d ≤ lastDay sigmas first
+  last-after : (d : ℕ) → d < length sigmas → first ≤ d → d ≤ lastDay sigmas first
+      → (first < d → endsOn d ≡ false) → suc d ≤ lastDay sigmas first
   unfolding lastDay
   last-after d u b l e = go (from-stop endsOn (suc first) (length sigmas - suc first)) (lt-or-ge d (lastDay sigmas first))
     where
@@ -89,7 +90,7 @@ and-true true b e = (refl, e)
 and-true false b e = absurd (true≢false (sym e))
 
 module _ (first last : ℕ) where
-  both-true : (day : ℕ) → first ≤ day → day ≤ last → (leb first day && leb day last) ≡ true
+  pub both-true : (day : ℕ) → first ≤ day → day ≤ last → (leb first day && leb day last) ≡ true
   both-true day h l = rw (le-leb first day h) (le-leb day last l)
 
   both-false : (day : ℕ) → last < day → (leb first day && leb day last) ≡ false
@@ -101,7 +102,7 @@ module _ (first last : ℕ) where
 
 -- ---- periods that have begun, and are over, stay over
 
-abbrev Begun : ℕ → List Period → Type 0
+abbrev pub Begun : ℕ → List Period → Type 0
 Begun d [] = Unit {0}
 Begun d (p ∷ ps) = (p .first ≤ d) × Begun d ps
 
@@ -142,14 +143,14 @@ any-snoc p xs y = any-append p xs (y ∷ []) ∙ ap (λ (b : Bool). any p xs || 
 -- ---- from a day to the next
 
 module _ (sigmas : List ℕ) (threshold : ℕ) where
-  abbrev begins : ℕ → Bool
+  abbrev pub begins : ℕ → Bool
   begins d = leb threshold (sigmaOn sigmas d) && not (any (isIn d) (periods sigmas threshold d))
 
-  periods-same : (d : ℕ) → begins d ≡ false → periods sigmas threshold (suc d) ≡ periods sigmas threshold d
+  pub periods-same : (d : ℕ) → begins d ≡ false → periods sigmas threshold (suc d) ≡ periods sigmas threshold d
   unfolding periods
   periods-same d e = rw e (append-nil (periods sigmas threshold d))
 
-  periods-more : (d : ℕ) → begins d ≡ true → periods sigmas threshold (suc d) ≡ periods sigmas threshold d ++ (periodFrom sigmas (suc d) ∷ [])
+  pub periods-more : (d : ℕ) → begins d ≡ true → periods sigmas threshold (suc d) ≡ periods sigmas threshold d ++ (periodFrom sigmas (suc d) ∷ [])
   unfolding periods
   periods-more d e = rw e refl
 
@@ -165,7 +166,7 @@ module _ (sigmas : List ℕ) (threshold : ℕ) where
   unfolding periods any
   none-yet-early = refl
 
-  periods-begun : (d : ℕ) → Begun d (periods sigmas threshold d)
+  pub periods-begun : (d : ℕ) → Begun d (periods sigmas threshold d)
   periods-begun zero = none-yet
   periods-begun (suc d) =
       go (begins d) refl (begun-later d (periods sigmas threshold d) (periods-begun d))

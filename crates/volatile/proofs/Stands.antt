@@ -26,7 +26,8 @@ use Rattle.volatile.proofs.Phases.{Phased, phased-none, phase-after}
 use Rattle.volatile.proofs.Steps.{first-two, from-third}
 
 -- none of the front, and not the next one
-any-next : (p : ℤ → Bool) (xs : List ℤ) (i : ℕ) → i < length xs → any p (take i xs) ≡ false → p (getD xs i (pos 0)) ≡ false → any p (take (suc i) xs) ≡ false
+any-next : (p : ℤ → Bool) (xs : List ℤ) (i : ℕ) → i < length xs → any p (take i xs) ≡ false
+    → p (getD xs i (pos 0)) ≡ false → any p (take (suc i) xs) ≡ false
 any-next p xs i h e f =
     ap (any p) (take-suc xs i (pos 0) h) ∙ any-snoc p (take i xs) (getD xs i (pos 0)) ∙ rw (e, f) refl
 
@@ -173,7 +174,8 @@ module _ (prices : List ℤ) (threshold : ℕ) where
   in-list p xs i h e = some-any p (getD-in xs i (pos 0) h) e
 
   -- a price that refuses
-  pub bad-at : (i : ℕ) → suc i < length prices → (isZero (getD prices i (pos 0)) || isBeyond (changeOf (getD prices i (pos 0)) (getD prices (suc i) (pos 0)))) ≡ true
+  pub bad-at : (i : ℕ) → suc i < length prices
+      → (isZero (getD prices i (pos 0)) || isBeyond (changeOf (getD prices i (pos 0)) (getD prices (suc i) (pos 0)))) ≡ true
       → badPrices prices ≡ true
   unfolding badPrices
   bad-at i more e = go (isZero (getD prices i (pos 0))) refl

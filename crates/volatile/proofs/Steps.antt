@@ -11,7 +11,8 @@ use Rattle.volatile.specs.Carried.{pushed, phase, ends, phaseAfter, stat
 
 module _ (p : Phase) (day sigma threshold sum : ℕ) where
   -- the two tests that a period ends by, joined
-  pub joined : (b before small t : Bool) → b ≡ before && small → before ≡ ltb (p .first) day → small ≡ leb sigma (p .average) → b ≡ t → ends p day sigma ≡ t
+  pub joined : (b before small t : Bool) → b ≡ before && small → before ≡ ltb (p .first) day
+      → small ≡ leb sigma (p .average) → b ≡ t → ends p day sigma ≡ t
   joined b before small t e f g h = cc
 
   pub ended : p .inside ≡ true → ends p day sigma ≡ true → phase false (p .first) (p .average) ≡ phaseAfter p day sigma threshold sum

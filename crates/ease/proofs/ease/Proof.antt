@@ -50,8 +50,10 @@ same-length c = search needs
 
 returns : tie.Need-returns
 returns c =
-    eased-words (c .before .before .before .before .before .before .before .before .before .before .args .row .now) (c .before .before .before .before .half .result) (c .before .before .twice .result) (c .twice2 .result)
-    (pass (c .before .before .before .before .before .before)) (c .before .before .before .before .half .ensures) (c .before .before .twice .ensures) (c .twice2 .ensures)
+    eased-words (c .before .before .before .before .before .before .before .before .before .before .args .row .now)
+    (c .before .before .before .before .half .result) (c .before .before .twice .result) (c .twice2 .result)
+    (pass (c .before .before .before .before .before .before)) (c .before .before .before .before .half .ensures)
+    (c .before .before .twice .ensures) (c .twice2 .ensures)
 
 same-length-2 : tie.Need-same-length-2
 same-length-2 c = search needs

@@ -54,7 +54,8 @@ returns-2 c =
     c .sigma-by .ensures
     ∙ last-is (a .prices .now) _ _ _ _ (f .before .before .change-of .result) (f .before .change-of2 .result) (f .change-of3 .result)
     (length (a .prices .now)) refl (p .before .before .before .before .before .if1 .left) (p .before .before .before .before .price-word .ensures)
-    (p .before .before .before .price-word2 .ensures) (p .before .before .price-word3 .ensures) (p .before .price-word4 .ensures) (f .before .before .change-of .ensures) (f .before .change-of2 .ensures)
+    (p .before .before .before .price-word2 .ensures) (p .before .before .price-word3 .ensures) (p .before .price-word4 .ensures)
+    (f .before .before .change-of .ensures) (f .before .change-of2 .ensures)
     (f .change-of3 .ensures)
 
 pub last-sigma-spec : {M : Type 1} → statement M

@@ -20,7 +20,9 @@ enum-told-2 : tie.Need-enum-told-2
 enum-told-2 c = search needs
 
 returns-2 : tie.Need-returns-2
-returns-2 c = let a = c .before .before .before .before .before .args in by-second (a .first) (a .second) (a .third) (c .before .before .before .first .given .1) (c .enum-told2 .given .1)
+returns-2 c =
+    let a = c .before .before .before .before .before .args in
+    by-second (a .first) (a .second) (a .third) (c .before .before .before .first .given .1) (c .enum-told2 .given .1)
 
 enum-known-third : tie.Need-enum-known-third
 enum-known-third c = search needs
@@ -29,7 +31,10 @@ enum-told-3 : tie.Need-enum-told-3
 enum-told-3 c = search needs
 
 returns-3 : tie.Need-returns-3
-returns-3 c = let a = c .before .before .before .before .before .before .before .before .args in by-third (a .first) (a .second) (a .third) (c .before .before .before .before .before .before .first .given .1) (c .before .before .before .second .given .1) (c .enum-told3 .given .1)
+returns-3 c =
+    let a = c .before .before .before .before .before .before .before .before .args in
+    by-third (a .first) (a .second) (a .third) (c .before .before .before .before .before .before .first .given .1) (c .before .before .before .second .given .1)
+    (c .enum-told3 .given .1)
 
 sigma-requires : tie.Need-sigma-requires
 sigma-requires c κs =
@@ -42,7 +47,8 @@ sigma-requires c κs =
 returns-4 : tie.Need-returns-4
 returns-4 c =
     let a = c .before .before .before .before .before .before .before .before .before .before .args in
-    by-all (a .first) (a .second) (a .third) (c .before .before .before .before .before .before .before .before .first .given .1) (c .before .before .before .before .before .second .given .1) (c .before .before .third .given .1)
+    by-all (a .first) (a .second) (a .third) (c .before .before .before .before .before .before .before .before .first .given .1)
+    (c .before .before .before .before .before .second .given .1) (c .before .before .third .given .1)
     (c .sigma .ensures .0)
 
 pub sigma-by-spec : {M : Type 1} → statement M

@@ -21,13 +21,15 @@ returns : tie.Need-returns
 returns c =
     let a = c .before .before .before .before .before .args in
     ended (a .p) (a .day) (a .sigma) (a .threshold) (a .sum) (c .before .before .before .before .if1 .taken)
-    (joined (a .p) (a .day) (a .sigma) (a .threshold) (a .sum) _ _ _ _ (c .before .both .ensures) (c .before .before .before .is-before .ensures) (c .before .before .at-most .ensures) (c .if2 .taken))
+    (joined (a .p) (a .day) (a .sigma) (a .threshold) (a .sum) _ _ _ _ (c .before .both .ensures)
+    (c .before .before .before .is-before .ensures) (c .before .before .at-most .ensures) (c .if2 .taken))
 
 returns-2 : tie.Need-returns-2
 returns-2 c =
     let a = c .before .before .before .before .before .args in
     goes-on (a .p) (a .day) (a .sigma) (a .threshold) (a .sum) (c .before .before .before .before .if1 .taken)
-    (joined (a .p) (a .day) (a .sigma) (a .threshold) (a .sum) _ _ _ _ (c .before .both .ensures) (c .before .before .before .is-before .ensures) (c .before .before .at-most .ensures) (c .if2 .left))
+    (joined (a .p) (a .day) (a .sigma) (a .threshold) (a .sum) _ _ _ _ (c .before .both .ensures)
+    (c .before .before .before .is-before .ensures) (c .before .before .at-most .ensures) (c .if2 .left))
 
 at-most-requires-2 : tie.Need-at-most-requires-2
 at-most-requires-2 c κs = search needs

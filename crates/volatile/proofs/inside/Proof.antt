@@ -35,8 +35,11 @@ start-requires c κs = search needs
 loop-holds : tie.Need-loop-holds Inv-loop μ-loop
 loop-holds c =
     let a = c .before .args in
-    let e = c .start .ensures in
-    (omega arith, subst (Stands (a .prices .now) (a .threshold) 0) (sym e) (fresh-stands (a .prices .now) (a .threshold)), ap (λ (s : State). early (s .phase)) e ∙ fresh-early)
+    let e = c .start .ensures in (
+      omega arith,
+      subst (Stands (a .prices .now) (a .threshold) 0) (sym e) (fresh-stands (a .prices .now) (a .threshold)),
+      ap (λ (s : State). early (s .phase)) e ∙ fresh-early,
+    )
 
 add-loop : tie.Need-add-loop Inv-loop μ-loop
 add-loop c = omega (arith, long (c .before .before))
@@ -88,8 +91,10 @@ returns c =
     (sym (c .enum-told .given .1) ∙ change-is (c .before .before))))
 
 told : (c : tie.After-known-told Inv-loop μ-loop)
-    → Told (getD (c .before .before .before .before .before .before .before .before .before .args .prices .now) (c .before .before .before .before .before .before .before .loop .i) (pos 0))
-    (getD (c .before .before .before .before .before .before .before .before .before .args .prices .now) (suc (c .before .before .before .before .before .before .before .loop .i)) (pos 0)) (c .before .change .given .0 .0)
+    → Told (getD (c .before .before .before .before .before .before .before .before .before .args .prices .now)
+    (c .before .before .before .before .before .before .before .loop .i) (pos 0))
+    (getD (c .before .before .before .before .before .before .before .before .before .args .prices .now)
+    (suc (c .before .before .before .before .before .before .before .loop .i)) (pos 0)) (c .before .change .given .0 .0)
 told c =
     by-told _ _ (c .before .change .given .0 .0) (sym (c .before .change .given .1) ∙ change-is (c .before .before .before))
 
@@ -97,13 +102,15 @@ turn-requires : tie.Need-turn-requires Inv-loop μ-loop
 turn-requires c κs =
     let a = c .before .before .before .before .before .before .before .before .before .args in
     let l = c .before .before .before .before .before .before .before .loop in (
-      ready (a .prices .now) (a .threshold) (l .i) (l .state) (l .inv .1) (more (c .before .before .before)) (long (c .before .before .before .before .before .before .before .before .before)),
+      ready (a .prices .now) (a .threshold) (l .i) (l .state) (l .inv .1) (more (c .before .before .before))
+          (long (c .before .before .before .before .before .before .before .before .before)),
       told c .small,
     )
 
 -- the state after the turn stands for one R more
 next : (c : tie.After-turn Inv-loop μ-loop)
-    → Stands (c .before .before .before .before .before .before .before .before .before .before .args .prices .now) (c .before .before .before .before .before .before .before .before .before .before .args .threshold)
+    → Stands (c .before .before .before .before .before .before .before .before .before .before .args .prices .now)
+    (c .before .before .before .before .before .before .before .before .before .before .args .threshold)
     (suc (c .before .before .before .before .before .before .before .before .loop .i)) (c .turn .result)
 next c =
     let a = c .before .before .before .before .before .before .before .before .before .before .args in
@@ -125,7 +132,9 @@ returns-2 c =
     (more (c .before .before .before .before .before .before)) (sym (c .before .is-early .ensures) ∙ c .if1 .taken))
 
 add-i : tie.Need-add-i Inv-loop μ-loop
-add-i c = omega (arith, more (c .before .before .before .before .before .before), long (c .before .before .before .before .before .before .before .before .before .before .before .before))
+add-i c =
+    omega
+    (arith, more (c .before .before .before .before .before .before), long (c .before .before .before .before .before .before .before .before .before .before .before .before))
 
 loop-less : tie.Need-loop-less Inv-loop μ-loop
 loop-less c = omega (arith, more (c .before .before .before .before .before .before))
