@@ -56,8 +56,7 @@ quot-neg (suc x) m = refl
 module _ (p q : ℤ) (fp : mag p < 2147483648) (fq : mag q < 2147483648) where
   change-up : lifted p ≤ lifted q → changeOf p q ≡ pos ((lifted q - lifted p) * 1000000 / natAbs p)
   unfolding changeOf
-  change-up h =
-      ap (λ (d : ℤ). quotZ (d *ℤ pos 1000000) (pos (natAbs p))) (difference p q fp fq ∙ sub-ge (lifted q) (lifted p) h)
+  change-up h = rw (difference p q fp fq ∙ sub-ge (lifted q) (lifted p) h) refl
 
   change-down : lifted q < lifted p → changeOf p q ≡ negℤ (pos ((lifted p - lifted q) * 1000000 / natAbs p))
   unfolding changeOf

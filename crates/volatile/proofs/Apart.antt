@@ -10,7 +10,7 @@ use lib.Dec.{leb}
 use Rattle.rules.specs.Lists.{any}
 use Rattle.rules.proofs.Members.{or-false}
 use Rattle.volatile.specs.Periods.{Period, isIn, sigmaOn, periodFrom, periods}
-use Rattle.volatile.proofs.Periods.{and-true, both-true, Begun, begins, periods-same, periods-more, periods-begun}
+use Rattle.volatile.proofs.Periods.{and-true, in-period, Begun, begins, periods-same, periods-more, periods-begun}
 
 -- every one of them is over before day d
 abbrev Over : ℕ → List Period → Type 0
@@ -45,7 +45,7 @@ none-holds d (p ∷ ps) b e =
     (ended (leb d (p .last)) refl (h .0), none-holds d ps (b .1) (h .1))
   where
     ended : (t : Bool) → leb d (p .last) ≡ t → isIn d p ≡ false → p .last < d
-    ended true t h = absurd (true≢false (sym (both-true (p .first) (p .last) d (b .0) (leb-true d (p .last) t)) ∙ h))
+    ended true t h = absurd (true≢false (sym (in-period p d (b .0) (leb-true d (p .last) t)) ∙ h))
     ended false t h = leb-false d (p .last) t
 
 not-true : (b : Bool) → not b ≡ true → b ≡ false

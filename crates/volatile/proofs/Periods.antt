@@ -89,15 +89,16 @@ pub and-true : (a b : Bool) → (a && b) ≡ true → (a ≡ true) × (b ≡ tru
 and-true true b e = (refl, e)
 and-true false b e = absurd (true≢false (sym e))
 
-module _ (first last : ℕ) where
-  pub both-true : (day : ℕ) → first ≤ day → day ≤ last → (leb first day && leb day last) ≡ true
-  both-true day h l = rw (le-leb first day h) (le-leb day last l)
+-- "That last day still counts"
+module _ (p : Period) where
+  pub in-period : (day : ℕ) → p .first ≤ day → day ≤ p .last → isIn day p ≡ true
+  in-period day h l = rw (le-leb (p .first) day h) (le-leb day (p .last) l)
 
-  both-false : (day : ℕ) → last < day → (leb first day && leb day last) ≡ false
-  both-false day h = go (leb first day)
+  past-period : (day : ℕ) → p .last < day → isIn day p ≡ false
+  past-period day h = go (leb (p .first) day)
     where
-      go : (b : Bool) → (b && leb day last) ≡ false
-      go true = lt-leb day last h
+      go : (b : Bool) → (b && leb day (p .last)) ≡ false
+      go true = lt-leb day (p .last) h
       go false = refl
 
 -- ---- periods that have begun, and are over, stay over
@@ -126,10 +127,10 @@ over d (p ∷ ps) b e =
     rw (one (h .0)) (over d ps (b .1) (h .1))
   where
     one : isIn d p ≡ false → isIn (suc d) p ≡ false
-    one h = both-false (p .first) (p .last) (suc d) (gone (leb d (p .last)) refl)
+    one h = past-period p (suc d) (gone (leb d (p .last)) refl)
       where
         gone : (b : Bool) → leb d (p .last) ≡ b → p .last < suc d
-        gone true t = absurd (true≢false (sym (both-true (p .first) (p .last) d (b .0) (leb-true d (p .last) t)) ∙ h))
+        gone true t = absurd (true≢false (sym (in-period p d (b .0) (leb-true d (p .last) t)) ∙ h))
         gone false t = let u : p .last < d = leb-false d (p .last) t in omega arith
 
 pub any-snoc : {A : Type 0} (p : A → Bool) (xs : List A) (y : A) → any p (xs ++ (y ∷ [])) ≡ (any p xs || p y)
@@ -203,7 +204,7 @@ module _ (sigmas : List ℕ) (threshold : ℕ) where
   pub current-in : {d first : ℕ} → Current d first → any (isIn d) (periods sigmas threshold d) ≡ true
   current-in {d} {first} c =
       ap (any (isIn d)) (c .all) ∙ any-snoc (isIn d) (c .earlier) (periodFrom sigmas first)
-      ∙ rw (c .none) (both-true first (lastDay sigmas first) d (c .begun) (c .going))
+      ∙ rw (c .none) (in-period (periodFrom sigmas first) d (c .begun) (c .going))
 
   pub current-early : {d first : ℕ} → Current d first → ltb first 30 ≡ true → any isEarly (periods sigmas threshold d) ≡ true
   current-early {d} {first} c e =
@@ -277,7 +278,7 @@ module _ (sigmas : List ℕ) (threshold : ℕ) where
         → any (isIn (suc d)) (periods sigmas threshold (suc d)) ≡ false
     ends-after l e =
         ap (any (isIn (suc d))) (inside-same ∙ current .all) ∙ any-snoc (isIn (suc d)) (current .earlier) (periodFrom sigmas first)
-        ∙ rw none-after (both-false first (lastDay sigmas first) (suc d) (last-by sigmas first d l has e))
+        ∙ rw none-after (past-period (periodFrom sigmas first) (suc d) (last-by sigmas first d l has e))
 
     -- it is not
     pub goes-on-after : (first < d → leb (sigmaOn sigmas d) (average sigmas first) ≡ false) → Current (suc d) first
