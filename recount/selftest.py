@@ -6,7 +6,7 @@ whole list of events; millisecond by millisecond in one walk; and from event to 
 
 import random
 
-from recount import game, programs, records, session
+from recount import game, programs, records, session, volatile
 from recount.book import (
     BUY, SELL, Accepted, Add, Amend, Book, Cancel, Cell, Charge, Close, Deal, Look, Open, Order,
     Refused, Report, Row, Tick, Withdraw, best_ask, best_bid, choose, fee, keeps, kept_time,
@@ -244,6 +244,7 @@ def main():
     check_records(rng, 2_000)
     check_reports()
     game.check()
+    volatile.selftest()
     check_counting(rng, 400, 40)
     print("recount: agrees with the paper's checks and with itself")
     return 0

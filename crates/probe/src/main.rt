@@ -2,6 +2,10 @@
 ghost use mathlib.Core.Path.{_≡_};
 ghost use Prim.Native.Nat.{_+_, _*_, _≤_};
 ghost use lib.ListN.{length};
+
+mod days;
+mod safe;
+
 use libc::STDIN_FILENO;
 use libc::STDOUT_FILENO;
 use rules::Contracts;
@@ -11,8 +15,6 @@ use rules::RecordRead;
 use rules::SessionAnswer;
 use rules::Side;
 use rules::Steps;
-
-mod safe; // safe.rt: maker against taker
 
 fn text(bytes: &[u8]) {
     io::write_all(STDOUT_FILENO, bytes);
@@ -259,6 +261,9 @@ fn run_case(input: &[u8]) -> bool {
     }
     if kind == 8 {
         return safe::safe_case(input);
+    }
+    if days::is_kind(kind) {
+        return days::case(kind, input);
     }
     false
 }

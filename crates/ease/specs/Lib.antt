@@ -1,0 +1,2 @@
+-- Request W12, the eased row: read after crate volatile's.
+pub mod Easing

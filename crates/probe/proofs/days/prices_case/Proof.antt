@@ -1,0 +1,79 @@
+-- The prices lie within the input and the array. Assumes nothing.
+use native.Mathlib.Omega.{arith}
+use lib.ListN.{length-take}
+use borrow.Author.Needs.{needs}
+use Rattle.probe.proofs.days.prices_case.Statement.{statement}
+use Rattle.probe.proofs.days.prices_case.Tie as tie
+
+returns : tie.Need-returns
+returns c = search needs
+
+word-at-requires : tie.Need-word-at-requires
+word-at-requires c κs = search needs
+
+word-at-requires-2 : tie.Need-word-at-requires-2
+word-at-requires-2 c κs = search needs
+
+cast-n : tie.Need-cast-n
+cast-n c = search needs
+
+returns-2 : tie.Need-returns-2
+returns-2 c = search needs
+
+mul-if3 : tie.Need-mul-if3
+mul-if3 c = search needs
+
+add-if3 : tie.Need-add-if3
+add-if3 c = search needs
+
+returns-3 : tie.Need-returns-3
+returns-3 c = search needs
+
+read-prices-requires : tie.Need-read-prices-requires
+read-prices-requires c κs = search needs
+
+array-share-prefix-prices : tie.Need-array-share-prefix-prices
+array-share-prefix-prices c = search needs
+
+slice-aggregate-day-lines : tie.Need-slice-aggregate-day-lines
+slice-aggregate-day-lines c = simp length-take (omega arith)
+
+day-lines-requires : tie.Need-day-lines-requires
+day-lines-requires c κs = search needs
+
+returns-4 : tie.Need-returns-4
+returns-4 c = search needs
+
+array-share-prefix-prices-2 : tie.Need-array-share-prefix-prices-2
+array-share-prefix-prices-2 c = search needs
+
+slice-aggregate-inside-line : tie.Need-slice-aggregate-inside-line
+slice-aggregate-inside-line c = simp length-take (omega arith)
+
+inside-line-requires : tie.Need-inside-line-requires
+inside-line-requires c κs = search needs
+
+returns-5 : tie.Need-returns-5
+returns-5 c = search needs
+
+pub prices-case-spec : {M : Type 1} → statement M
+prices-case-spec =
+    tie.close
+    (tie.spec
+    returns
+    word-at-requires
+    word-at-requires-2
+    cast-n
+    returns-2
+    mul-if3
+    add-if3
+    returns-3
+    read-prices-requires
+    array-share-prefix-prices
+    slice-aggregate-day-lines
+    day-lines-requires
+    returns-4
+    array-share-prefix-prices-2
+    slice-aggregate-inside-line
+    inside-line-requires
+    returns-5)

@@ -1,0 +1,133 @@
+// Volatile days, and the row eased on them: cases 5, 6 and 12.
+use super::field;
+use super::number;
+use super::read_words;
+use super::text;
+use super::words_line;
+use sigma::SigmaAnswer;
+use volatile::DayAnswer;
+ghost use mathlib.Core.Path.{_≡_};
+ghost use Prim.Native.Nat.{_+_, _*_, _≤_};
+ghost use lib.ListN.{length};
+
+fn no_prices() -> [i32; 4096]
+    ensures { λ r. ⌜ 4096 ≡ length r ⌝ }
+{
+    [0; 4096]
+}
+
+fn price_at(bytes: &[u8], at: usize) -> i32
+    requires { ⌜ at + 4 ≤ length (now bytes) ⌝ }
+{
+    let price = words::to_steps(words::word_at(bytes, at));
+    price.0
+}
+
+// The prices that start at a byte; zeros behind them.
+fn read_prices(bytes: &[u8], from: usize, count: usize) -> [i32; 4096]
+    requires { ⌜ (count ≤ 4096) × (from + 4 * count ≤ length (now bytes)) ⌝ }
+    ensures { λ r. ⌜ 4096 ≡ length r ⌝ }
+{
+    let mut prices = no_prices();
+    for i in 0..count {
+        let p = price_at(bytes, from + 4 * i);
+        prices[i] = p;
+    }
+    prices
+}
+
+fn answer_text(answer: DayAnswer) {
+    match answer {
+        DayAnswer::Inside => text(b"inside yes"),
+        DayAnswer::Outside => text(b"inside no"),
+        DayAnswer::Refused => text(b"refused 22"),
+    }
+}
+
+fn inside_line(prices: &[i32], threshold: u32) {
+    answer_text(volatile::inside(prices, threshold));
+    text(b"\n");
+}
+
+fn sigma_text(answer: SigmaAnswer) {
+    match answer {
+        SigmaAnswer::Absent => text(b" sigma none"),
+        SigmaAnswer::Of(s) => field(b" sigma ", s),
+    }
+}
+
+fn day_text(day: usize) {
+    text(b"day ");
+    number(day as u64);
+    text(b" ");
+}
+
+// A line for each price's day, and one for the day after the last.
+fn day_lines(prices: &[i32], threshold: u32) {
+    let n = prices.len();
+    for day in 0..n {
+        day_text(day);
+        answer_text(volatile::inside(&prices[..day], threshold));
+        let next = day + 1;
+        sigma_text(sigma::last_sigma(&prices[..next]));
+        text(b"\n");
+    }
+    day_text(n);
+    inside_line(prices, threshold);
+}
+
+// `5 threshold n`, then n prices and nothing else; listed, `12` for the 5. False: no such case.
+fn prices_case(input: &[u8], listed: bool) -> bool {
+    if input.len() < 12 {
+        return false;
+    }
+    let threshold = words::word_at(input, 4);
+    let n = words::word_at(input, 8) as usize;
+    if 4096 < n {
+        return false;
+    }
+    if input.len() != 12 + 4 * n {
+        return false;
+    }
+    let prices = read_prices(input, 12, n);
+    if listed {
+        day_lines(&prices[..n], threshold);
+        return true;
+    }
+    inside_line(&prices[..n], threshold);
+    true
+}
+
+fn eased_line(row: &mut [u32]) {
+    ease::ease(row);
+    words_line(b"row", row);
+}
+
+// `6 m`, then m words of a row and nothing else. False: no such case.
+fn row_case(input: &[u8]) -> bool {
+    if input.len() < 8 {
+        return false;
+    }
+    let m = words::word_at(input, 4) as usize;
+    if 16 < m {
+        return false;
+    }
+    if input.len() != 8 + 4 * m {
+        return false;
+    }
+    let mut row = read_words(input, 8, m);
+    eased_line(&mut row[..m]);
+    true
+}
+
+pub fn is_kind(kind: u32) -> bool {
+    (kind == 5) | (kind == 6) | (kind == 12)
+}
+
+// Whether the input is a case of that kind; where it is, its lines are written.
+pub fn case(kind: u32, input: &[u8]) -> bool {
+    if kind == 6 {
+        return row_case(input);
+    }
+    prices_case(input, kind == 12)
+}

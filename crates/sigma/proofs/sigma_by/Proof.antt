@@ -1,0 +1,68 @@
+-- By the three answers in turn. Assumes nothing.
+use Rattle.sigma.proofs.Last.{by-first, by-second, by-third, by-all, small}
+use borrow.Author.Needs.{needs}
+use Rattle.sigma.proofs.sigma_by.Statement.{statement}
+use Rattle.sigma.proofs.sigma_by.Tie as tie
+
+enum-known-first : tie.Need-enum-known-first
+enum-known-first c = search needs
+
+enum-told : tie.Need-enum-told
+enum-told c = search needs
+
+returns : tie.Need-returns
+returns c = let a = c .before .before .args in by-first (a .first) (a .second) (a .third) (c .enum-told .given .1)
+
+enum-known-second : tie.Need-enum-known-second
+enum-known-second c = search needs
+
+enum-told-2 : tie.Need-enum-told-2
+enum-told-2 c = search needs
+
+returns-2 : tie.Need-returns-2
+returns-2 c =
+    let a = c .before .before .before .before .before .args in
+    by-second (a .first) (a .second) (a .third) (c .before .before .before .first .given .1) (c .enum-told2 .given .1)
+
+enum-known-third : tie.Need-enum-known-third
+enum-known-third c = search needs
+
+enum-told-3 : tie.Need-enum-told-3
+enum-told-3 c = search needs
+
+returns-3 : tie.Need-returns-3
+returns-3 c =
+    let a = c .before .before .before .before .before .before .before .before .args in
+    by-third (a .first) (a .second) (a .third) (c .before .before .before .before .before .before .first .given .1) (c .before .before .before .second .given .1)
+    (c .enum-told3 .given .1)
+
+sigma-requires : tie.Need-sigma-requires
+sigma-requires c κs =
+    let s = c .before .before .before .before .before .before .before .before .before in (
+      small (s .args .first) (c .before .before .before .before .before .before .before .first .given .1) (s .pre .0),
+      small (s .args .second) (c .before .before .before .before .second .given .1) (s .pre .1),
+      small (s .args .third) (c .before .third .given .1) (s .pre .2),
+    )
+
+returns-4 : tie.Need-returns-4
+returns-4 c =
+    let a = c .before .before .before .before .before .before .before .before .before .before .args in
+    by-all (a .first) (a .second) (a .third) (c .before .before .before .before .before .before .before .before .first .given .1)
+    (c .before .before .before .before .before .second .given .1) (c .before .before .third .given .1)
+    (c .sigma .ensures .0)
+
+pub sigma-by-spec : {M : Type 1} → statement M
+sigma-by-spec =
+    tie.close
+    (tie.spec
+    enum-known-first
+    enum-told
+    returns
+    enum-known-second
+    enum-told-2
+    returns-2
+    enum-known-third
+    enum-told-3
+    returns-3
+    sigma-requires
+    returns-4)

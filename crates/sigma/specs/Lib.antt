@@ -1,0 +1,5 @@
+-- Request W12, from prices to sigmas: read from the top. Raised is only how the code holds an R; no public contract of another crate
+-- cites it.
+pub mod Changes
+pub mod Sigmas
+pub mod Raised

@@ -1,0 +1,26 @@
+-- The sigma, pushed and judged. Assumes nothing.
+use Rattle.volatile.proofs.Steps.{judge-is}
+use borrow.Author.Needs.{needs}
+use Rattle.volatile.proofs.judge.Statement.{statement}
+use Rattle.volatile.proofs.judge.Tie as tie
+
+sigma-requires : tie.Need-sigma-requires
+sigma-requires c κs = search needs
+
+push-requires : tie.Need-push-requires
+push-requires c κs = search needs
+
+after-requires : tie.Need-after-requires
+after-requires c κs = search needs
+
+returns : tie.Need-returns
+returns c =
+    let a = c .before .before .before .before .before .args in
+    let e = c .before .before .sigma .ensures in (
+      judge-is (a .s) 0 (a .r) (a .threshold) (c .before .before .sigma .result) (c .before .push .result) (c .after .result) (e .0)
+          (c .before .push .ensures) (c .after .ensures),
+      rw (e .0) at (e .1),
+    )
+
+pub judge-spec : {M : Type 1} → statement M
+judge-spec = tie.close (tie.spec sigma-requires push-requires after-requires returns)

@@ -1,0 +1,12 @@
+-- No day yet. Assumes nothing.
+use mathlib.Core.Path.{refl}
+use Rattle.volatile.specs.Carried.{fresh}
+use Rattle.volatile.proofs.start.Statement.{statement}
+use Rattle.volatile.proofs.start.Tie as tie
+
+returns : tie.Need-returns
+unfolding fresh
+returns c = refl
+
+pub start-spec : {M : Type 1} → statement M
+start-spec = tie.close (tie.spec returns)

@@ -1,0 +1,151 @@
+"""Request W12, recounted by fractions and whole lists: volatile days, and the row eased on them."""
+
+from fractions import Fraction
+from math import floor, isqrt
+
+from recount.book import Row, row_fits
+
+PROBE_PRICES = 4_096
+PROBE_ROW = 16
+MILLION = 1_000_000
+MOST_A, MOST_B = 100_000, 1_000_000
+DAYS = 30  # whose sigmas give the average
+
+
+class Refused22(Exception):
+    """A cause of refusal 22."""
+
+
+# ---------------------------------------------------------------- sigmas
+
+
+def change(previous, price):
+    """R, in millionths."""
+    if previous == 0:
+        raise Refused22("a previous price of zero")
+    r = int(Fraction((price - previous) * MILLION, abs(previous)))  # rounds toward zero
+    if abs(r) > MILLION:
+        raise Refused22("an R beyond 1,000,000")
+    return r
+
+
+def changes(prices):
+    return [change(p, q) for p, q in zip(prices, prices[1:])]
+
+
+def sigma(three):
+    """The sum of (3R - S)² over 18 is the variance of three R, with 2 as its divisor."""
+    mean = Fraction(sum(three), 3)
+    return isqrt(floor(sum((r - mean) ** 2 for r in three) / 2))
+
+
+def sigmas(prices):
+    """Of the days from the fourth price on."""
+    rs = changes(prices)
+    return [sigma(rs[i - 2 : i + 1]) for i in range(2, len(rs))]
+
+
+# ---------------------------------------------------------------- periods
+
+
+def periods(found, threshold):
+    """(first, last) of each period, days counted by the sigmas before them; last is None where it
+    has not come yet."""
+    out, day = [], 0
+    while day < len(found):
+        if found[day] < threshold:
+            day += 1
+            continue
+        first = day + 1
+        if first < DAYS:
+            raise Refused22("fewer than 30 earlier sigmas")
+        average = floor(Fraction(sum(found[first - DAYS : first]), DAYS))
+        later = [e for e in range(first + 1, len(found)) if found[e] <= average]
+        if not later:
+            return [*out, (first, None)]
+        out.append((first, later[0]))
+        day = later[0] + 1
+    return out
+
+
+def inside(prices, threshold):
+    """Whether the day after the last price is inside a period; raises Refused22."""
+    found = sigmas(prices)
+    return any(last is None for _, last in periods(found, threshold))
+
+
+def answer(prices, threshold):
+    try:
+        return "inside yes" if inside(prices, threshold) else "inside no"
+    except Refused22:
+        return "refused 22"
+
+
+# ---------------------------------------------------------------- the row
+
+
+def eased(words):
+    """The row's words inside a period; words that 1 or 2 refuses stay as they are."""
+    if len(words) != 7 or not row_fits(Row(*words)):
+        return list(words)
+    expiry, quantum, length, least, a, b, share = words
+    return [expiry, quantum, length, -(-least // 2), min(2 * a, MOST_A), min(2 * b, MOST_B), share]
+
+
+# ---------------------------------------------------------------- probe
+
+
+def signed(word):
+    return word - (1 << 32) if word >> 31 else word
+
+
+def days(prices, threshold):
+    """A line for each price's day, and one for the day after the last."""
+    for day in range(len(prices) + 1):
+        line = f"day {day} {answer(prices[:day], threshold)}"
+        if day < len(prices):
+            try:
+                own = sigmas(prices[day - 3 : day + 1]) if day >= 3 else []
+            except Refused22:
+                own = []
+            line += f" sigma {own[0]}" if own else " sigma none"
+        yield line
+
+
+def probe(words, data):
+    """`5 threshold n p1 .. pn`, `6 m w1 .. wm` or `12 threshold n p1 .. pn`; None where it is none of them."""
+    if words[0] == 6:
+        if len(words) < 2 or words[1] > PROBE_ROW or len(data) != 4 * (2 + words[1]):
+            return None
+        return [" ".join(["row", *map(str, eased(words[2:]))])]
+    if len(words) < 3 or words[2] > PROBE_PRICES or len(data) != 4 * (3 + words[2]):
+        return None
+    prices = [signed(word) for word in words[3:]]
+    return [answer(prices, words[1])] if words[0] == 5 else list(days(prices, words[1]))
+
+
+# ---------------------------------------------------------------- held against the paper
+
+
+def selftest():
+    # A row eased: M rounded up, a and b at their limits; a row that is refused stays.
+    assert eased([1, 1, 1_000, 501, 60_000, 7, 60]) == [1, 1, 1_000, 251, 100_000, 14, 60]
+    assert eased([1, 1, 1_000, 0, 1, 1, 60]) == [1, 1, 1_000, 0, 1, 1, 60]
+    # R, rounded toward zero either way, and its limits.
+    assert changes([3, 4, 3, -3, -4, -3][:3]) == [333_333, -250_000]
+    assert change(2_000_000, -1) == -MILLION and answer([2_000_000, -2], 1) == "refused 22"
+    assert answer([5, 5, 0], 1) == "inside no" and answer([5, 0, 5], 1) == "refused 22"
+    # Sigma against the paper's own words.
+    for three in ([10, 20, 30], [10, 20, 29], [-MILLION, MILLION, MILLION], [0, 0, 0], [7, -7, 1]):
+        total = sum((3 * r - sum(three)) ** 2 for r in three)
+        n = sigma(three)
+        assert 18 * n * n <= total < 18 * (n + 1) ** 2, three
+    # Periods: begin, end and begin again; the last day's sigma begins none; 30 sigmas and 29.
+    assert periods([1] * 30 + [5, 9, 9, 1, 9], 5) == [(31, 33), (35, None)]
+    assert periods([2] * 30 + [100, 50, 4, 2], 3) == [(31, 32)]
+    assert periods([1] * 29 + [5], 5) == [(30, None)]
+    try:
+        periods([1] * 28 + [5], 5)
+    except Refused22:
+        return
+    raise AssertionError("a period began with 29 sigmas before it")

@@ -1,0 +1,357 @@
+"""Volatile days: `probe` held against the recount, on known and on seeded random cases, and the
+person's command.
+
+    python3 tests/volatile.py             all cases
+    python3 tests/volatile.py --quick     a tenth of the random ones
+
+It fails where an answer differs, or where something that the cases are to show never showed.
+"""
+
+import argparse
+import random
+import struct
+import subprocess
+import sys
+from collections import Counter
+from pathlib import Path
+from xml.etree import ElementTree
+
+ROOT = Path(__file__).resolve().parent.parent
+sys.path.insert(0, str(ROOT))
+
+from recount import programs, volatile
+from tools import volatile as command
+
+PROBE = ROOT / "target" / "bin" / "probe"
+LOW, HIGH = -(2**31), 2**31 - 1
+MILLION = 1_000_000
+
+
+def packed(*numbers):
+    return struct.pack(f"<{len(numbers)}I", *(n % 2**32 for n in numbers))
+
+
+def prices_case(prices, threshold, kind=5):
+    return packed(kind, threshold, len(prices), *prices)
+
+
+# ---------------------------------------------------------------- what the cases are to show
+
+SIGHTS = [
+    "a period begins on the asked day",
+    "a period lasts to the asked day",
+    "a period ends on the asked day",
+    "a period ended on the day before the asked one",
+    "a period begins, ends and another begins",
+    "the last day's sigma is at least the threshold",
+    "a last day's sigma is the average itself",
+    "a first day's sigma, the last one, is at most the average",
+    "a sigma is the threshold itself",
+    "thirty sigmas before a first day",
+    "twenty-nine sigmas before a first day",
+    "no period in more than thirty sigmas",
+    "an R of 1,000,000",
+    "an R of -1,000,000",
+    "an R one past a limit",
+    "a refused R that no sigma needs",
+    "a previous price of zero",
+    "a last price of zero",
+    "a change of sign, accepted",
+    "a difference of 33 bits",
+    "under four prices",
+    "no price",
+    "a threshold of zero",
+    "the greatest threshold",
+    "a list that does not fit its count",
+    "a row eased",
+    "a doubled at its limit",
+    "b doubled at its limit",
+    "an odd M halved",
+    "a row of another length left",
+    "a row with a word out of range left",
+]
+
+
+def prices_sights(prices, threshold):
+    """What a list of prices shows, by the recount."""
+    pairs = list(zip(prices, prices[1:]))
+    if not prices:
+        yield "no price"
+    if len(prices) < 4:
+        yield "under four prices"
+    if threshold == 0:
+        yield "a threshold of zero"
+    if threshold == 2**32 - 1:
+        yield "the greatest threshold"
+    if any(abs(q - p) > HIGH for p, q in pairs):
+        yield "a difference of 33 bits"
+    if prices and prices[-1] == 0 and len(prices) > 1 and 0 not in prices[:-1]:
+        yield "a last price of zero"
+    if 0 in prices[:-1]:
+        yield "a previous price of zero"
+        return
+    rs = [change(p, q) for p, q in pairs]
+    if any(abs(r) == MILLION + 1 for r in rs):
+        yield "an R one past a limit"
+    if any(abs(r) > MILLION for r in rs):
+        if len(prices) < 4:
+            yield "a refused R that no sigma needs"
+        return
+    if MILLION in rs:
+        yield "an R of 1,000,000"
+    if -MILLION in rs:
+        yield "an R of -1,000,000"
+    if any((p < 0) != (q < 0) for p, q in pairs):
+        yield "a change of sign, accepted"
+    found = volatile.sigmas(prices)
+    if threshold in found:
+        yield "a sigma is the threshold itself"
+    yield from period_sights(found, threshold)
+
+
+def change(p, q):
+    """R, refused or not."""
+    size = abs(q - p) * MILLION // abs(p)
+    return size if q >= p else -size
+
+
+def period_sights(found, threshold):
+    try:
+        periods = volatile.periods(found, threshold)
+    except volatile.Refused22:
+        first = next(d for d, s in enumerate(found) if s >= threshold) + 1
+        if first == 29:
+            yield "twenty-nine sigmas before a first day"
+        return
+    if not periods and len(found) > 30:
+        yield "no period in more than thirty sigmas"
+    if len(periods) > 1:
+        yield "a period begins, ends and another begins"
+    for first, last in periods:
+        average = sum(found[first - 30 : first]) // 30
+        if first == 30:
+            yield "thirty sigmas before a first day"
+        if first == len(found):
+            yield "a period begins on the asked day"
+        elif first == len(found) - 1 and found[first] <= average:
+            yield "a first day's sigma, the last one, is at most the average"
+        if last is None:
+            if first < len(found):
+                yield "a period lasts to the asked day"
+            continue
+        if last == len(found) - 1:
+            yield "a period ended on the day before the asked one"
+        if found[last] >= threshold:
+            yield "the last day's sigma is at least the threshold"
+        if found[last] == average:
+            yield "a last day's sigma is the average itself"
+
+
+def row_sights(words):
+    after = volatile.eased(words)
+    if len(words) != 7:
+        yield "a row of another length left"
+    elif after == words and (words[3], words[4], words[5]) != (1, 0, 0):
+        yield "a row with a word out of range left"
+    if after != words:
+        yield "a row eased"
+        if 2 * words[4] > after[4]:
+            yield "a doubled at its limit"
+        if 2 * words[5] > after[5]:
+            yield "b doubled at its limit"
+        if words[3] % 2:
+            yield "an odd M halved"
+
+
+# ---------------------------------------------------------------- cases
+
+
+def cycle(prices, count):
+    """Three prices again and again: every sigma is the same."""
+    return [prices[i % len(prices)] for i in range(count)]
+
+
+def known_prices():
+    """(prices, threshold) at the edges that the request names."""
+    yield from [([], 0), ([5], 1), ([5, 0], 1), ([0, 5], 1), ([5, 5, 0], 1), ([0], 0)]
+    for prices in (
+        [2_000_000, -1], [2_000_000, -2], [-2_000_000, 1], [-2_000_000, 2], [1, 2], [1, 3], [-1, 0],
+        [-1, -2], [-1, -3], [1, 0], [2, 0, 1], [LOW, HIGH], [HIGH, LOW], [LOW, -1], [HIGH, 0],
+        [1_000_000, 2_000_000], [1_000_000, 2_000_001], [1_000_001, -1], [1_000_001, 0],
+        [2**30, LOW], [2**30, HIGH], [-(2**30), HIGH], [LOW, 0, 5], [1, LOW], [1, HIGH],
+    ):
+        for threshold in (0, 1, 2**32 - 1):
+            yield prices, threshold
+            yield [7, 7, 7, *prices], threshold
+            yield [*prices, 7, 7], threshold
+    same = cycle([1_000, 1_100, 1_050], 60)
+    level = volatile.sigmas(same)[0]
+    for count in range(30, 60):
+        for threshold in (level, level + 1):
+            yield same[:count], threshold
+    # Quiet days, a jump so that exactly n sigmas are before the first day, and a while after it.
+    for quiet in range(28, 36):
+        for jump in (1_000, -1_000, 30_000):
+            prices = cycle([100_000, 100_010, 100_005], quiet + 3)
+            prices += [prices[-1] + jump, prices[-1] + 2 * jump, prices[-1], *prices[:12]]
+            for end in range(quiet, len(prices) + 1):
+                for threshold in (100, 5_000):
+                    yield prices[:end], threshold
+
+
+def walk(rng):
+    """Calm and wild days by turns; the threshold is one of the sigmas, or near one."""
+    price = rng.choice([1_000, 100_000, 10**6, -(10**6), 2 * 10**9, -50_000])
+    prices, wild = [price], False
+    for _ in range(rng.randrange(33, 140)):
+        if rng.random() < (0.25 if wild else 0.06):
+            wild = not wild
+        most = abs(price) * (60 if wild else 2) // 1_000 + 1
+        price = max(LOW, min(HIGH, price + rng.randint(-most, most)))
+        prices.append(price)
+    try:
+        found = volatile.sigmas(prices)
+    except volatile.Refused22:
+        return prices, rng.randrange(100_000)
+    later = found[29:] or found
+    threshold = max(0, rng.choice([max(found), rng.choice(later), rng.choice(later)]) + rng.choice([0, 0, 1, -1]))
+    if rng.random() < 0.7:  # nothing before the thirtieth sigma begins a period
+        threshold = max(threshold, max(found[:29], default=0) + 1)
+    return prices[: rng.randrange(max(1, len(prices) - 30), len(prices) + 1)], threshold
+
+
+def repeated(rng):
+    """A few levels of sigma that come again, so that sigmas meet the average and the threshold."""
+    base = rng.choice([1_000, 1_000_000])
+    level = lambda k, count: cycle([base, base + k, base + k // 2], count)
+    prices = level(4, 36)
+    for k in rng.choices([2, 4, 5, 8, 20, 200], k=5):
+        prices += level(k, rng.randrange(3, 40))
+    found = volatile.sigmas(prices)
+    return prices[: rng.randrange(33, len(prices) + 1)], rng.choice(sorted(set(found)))
+
+
+def rough(rng):
+    """Any prices at all, mostly refused."""
+    some = [0, 1, -1, 2, LOW, HIGH, MILLION, -MILLION, rng.randint(LOW, HIGH), rng.randint(-5, 5)]
+    return [rng.choice(some) for _ in range(rng.randrange(8))], rng.choice([0, 1, rng.getrandbits(32)])
+
+
+def any_row(rng):
+    words = [
+        rng.choice([1, 2]), rng.randrange(3), 1_000 * rng.randint(1, 86_400), rng.randint(1, 100_000),
+        rng.choice([0, 125, 49_999, 50_000, 50_001, 100_000, rng.randint(0, 100_000)]),
+        rng.choice([0, 1, 499_999, 500_000, 500_001, 1_000_000, rng.randint(0, 1_000_000)]),
+        rng.randint(1, 79),
+    ]
+    if rng.random() < 0.25:
+        words[rng.randrange(7)] = rng.choice([0, 3, 80, 999, 100_001, 1_000_001, 86_400_001, 2**32 - 1])
+    if rng.random() < 0.15:
+        words = [*words, *[1] * 9][: rng.randrange(17)]
+    return words
+
+
+def wrong_cases():
+    """Cases that do not fit their counts, and are bad."""
+    good = prices_case([5, 5, 5, 5], 1)
+    yield from [packed(5), packed(5, 1), packed(6), packed(12, 0), good[:-1], good + b"\0", good + packed(1)]
+    yield from [packed(5, 1, 4_097, *[1] * 4_097), packed(6, 17, *[1] * 17), packed(6, 7, 1), packed(6, 0, 1)]
+    yield packed(5, 1, 2**32 - 1)
+
+
+def with_shorter(prices, threshold):
+    """The case of some prices, and of shorter lists of them: up to each period's first day, and, where
+    a period ended on their last day, with that day as the asked one."""
+    shows = list(prices_sights(prices, threshold))
+    yield prices_case(prices, threshold), shows
+    if "a period ended on the day before the asked one" in shows:
+        assert volatile.inside(prices[:-1], threshold)
+        yield prices_case(prices[:-1], threshold), ["a period ends on the asked day"]
+    try:
+        periods = volatile.periods(volatile.sigmas(prices), threshold)
+    except volatile.Refused22:
+        return
+    for first, _ in periods:
+        front = prices[: first + 4]
+        yield prices_case(front, threshold), list(prices_sights(front, threshold))
+
+
+def cases(rng, count):
+    """(bytes, what they show)"""
+    for data in wrong_cases():
+        yield data, ["a list that does not fit its count"]
+    for prices, threshold in known_prices():
+        yield from with_shorter(prices, threshold)
+    for words in ([], [1] * 16, [1, 1, 1_000, 1, 0, 0, 1], [2, 2, 86_400_000, 100_000, 100_000, 1_000_000, 79]):
+        yield packed(6, len(words), *words), list(row_sights(words))
+    yield prices_case(cycle([1_000, 1_004, 1_002], 4_096), 2**20), []
+    for at in range(count):
+        make = rng.choice([walk, walk, walk, repeated, repeated, rough])
+        prices, threshold = make(rng)
+        yield from with_shorter(prices, threshold)
+        if at % 40 == 0:
+            yield prices_case(prices, threshold, 12), []
+        if at % 3 == 0:
+            words = any_row(rng)
+            yield packed(6, len(words), *words), list(row_sights(words))
+
+
+def check_cases(count):
+    seen = Counter()
+    for at, (data, shows) in enumerate(cases(random.Random(12), count)):
+        said = subprocess.run([PROBE], input=data, capture_output=True, check=True).stdout.decode()
+        due = programs.probe(data)
+        if said != due:
+            kept = ROOT / "target" / "volatile.case"
+            kept.write_bytes(data)
+            sys.exit(f"case {at} differs, see {kept}:\nprobe   {said}recount {due}")
+        seen.update(shows)
+        seen[due.split("\n")[0] if due.startswith(("inside", "refused")) else "other"] += 1
+    missing = [sight for sight in SIGHTS if not seen[sight]]
+    if missing:
+        sys.exit("never shown: " + "; ".join(missing))
+    print(f"volatile: {at + 1} cases agree, {seen['inside yes']} inside, {seen['inside no']} outside, {seen['refused 22']} refused")
+
+
+# ---------------------------------------------------------------- the person's command
+
+
+def check_command():
+    text = (ROOT / "examples" / "volatile.prices").read_text()
+    days = command.read(text)
+    prices = [price for _, price in days]
+    found = volatile.sigmas(prices)
+    periods = volatile.periods(found, command.EXAMPLE_THRESHOLD)
+    assert len(periods) == 2 and periods[1][1] is None, periods
+    seen = command.judge(prices, command.EXAMPLE_THRESHOLD)
+    assert [s for s in seen.sigmas if s is not None] == found
+    within = [any(f <= d - 3 and (l is None or d - 3 <= l) for f, l in periods) for d in range(len(prices) + 1)]
+    assert seen.inside == within
+    svg = command.picture("volatile", days, command.EXAMPLE_THRESHOLD, seen)
+    ElementTree.fromstring(svg)
+    assert svg == (ROOT / "docs" / "volatile.svg").read_text(), "docs/volatile.svg is old"
+    lines = command.table(days, seen)
+    assert len(lines) == len(prices) + 2 and lines[-1] == "the next day is inside", lines[-1]
+    for bad, at in (("5\n5 5 5\n", 2), ("2026-01-05 12.5\n", 1), ("7\n\nx\n", 3), ("2147483648\n", 1)):
+        try:
+            command.read(bad)
+        except command.TextError as error:
+            assert error.line == at, error
+        else:
+            raise AssertionError(bad)
+    refused = command.judge([5, 0, 5], 1)
+    assert refused.inside is None
+
+
+def main():
+    parser = argparse.ArgumentParser()
+    parser.add_argument("--quick", action="store_true")
+    quick = parser.parse_args().quick
+    if not PROBE.exists():
+        sys.exit("target/bin/probe is not built")
+    check_command()
+    check_cases(200 if quick else 2_000)
+
+
+if __name__ == "__main__":
+    main()
