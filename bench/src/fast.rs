@@ -1,22 +1,31 @@
-//! Meter (b): the fastest that we could write. Each side carries its best quote with the depth at it and before it,
-//! so an event that does not move the quote costs no search, and one that does costs steps from level to level over
-//! flat arrays. A side of at most eight orders is searched whole, without a branch. Orders are found by a hash of
-//! their id.
+//! Meter (b): the fastest that we could write. Each side carries its best key with the depth at it and before it, so an
+//! event that does not move the quote costs no search; one that does costs steps from level to level over flat arrays, or a
+//! bisection of the prices where the quote moves far. A side of at most four orders is sorted and added up without a branch.
+//! Orders are found by a hash of their id.
 
 use crate::session::*;
 
 /// The key of an empty slot, and the best key of a side without a quote.
 const NONE: i32 = i32::MIN;
 
-/// One side. A key is the price, negated for sells, so that the better price has the greater key.
-struct Side {
-    keys: [i32; MAX_ORDERS],
-    volumes: [u32; MAX_ORDERS],
-    used: u64,
-    best: i32,
-    /// Contracts at better keys than the best, and at the best: `before` < M ≤ `before` + `at` while there is one.
+/// The slots of a side that is searched whole.
+const FEW: usize = 4;
+
+/// So many orders of the average volume are gone through by steps; what is farther away is bisected.
+const STEPS: u32 = 4;
+
+/// A side's slots. A key is the price, negated for sells, so that the better price has the greater key.
+type Keys = [i32; MAX_ORDERS];
+type Volumes = [u32; MAX_ORDERS];
+
+/// The best key of a side, the contracts at better keys, at it, and in all: `before` < M ≤ `before` + `at` while there is a
+/// quote. Of a side that is searched whole only the key is kept up.
+#[derive(Clone, Copy)]
+struct Level {
+    key: i32,
     before: u32,
     at: u32,
+    total: u32,
 }
 
 #[inline(always)]
@@ -28,99 +37,148 @@ fn part(counts: bool, volume: u32) -> u32 {
     }
 }
 
-impl Side {
-    fn new() -> Side {
-        Side {
-            keys: [NONE; MAX_ORDERS],
-            volumes: [0; MAX_ORDERS],
-            used: 0,
-            best: NONE,
-            before: 0,
+/// The contracts of the slots whose key counts; the slots come in whole groups of eight.
+#[inline(always)]
+fn sum(keys: &[i32], volumes: &[u32], counts: impl Fn(i32) -> bool) -> u32 {
+    let mut lanes = [0; 8];
+    for (k, v) in keys.chunks_exact(8).zip(volumes.chunks_exact(8)) {
+        for i in 0..8 {
+            lanes[i] += part(counts(k[i]), v[i]);
+        }
+    }
+    lanes.iter().sum()
+}
+
+/// The greatest of the numbers that the keys are turned into.
+#[inline(always)]
+fn greatest(keys: &[i32], turned: impl Fn(i32) -> i32) -> i32 {
+    let mut lanes = [i32::MIN; 8];
+    for k in keys.chunks_exact(8) {
+        for i in 0..8 {
+            lanes[i] = lanes[i].max(turned(k[i]));
+        }
+    }
+    lanes.into_iter().fold(i32::MIN, i32::max)
+}
+
+/// The next better key, which must be there.
+fn above(keys: &[i32], key: i32) -> i32 {
+    !greatest(keys, |k| if k > key { !k } else { i32::MIN })
+}
+
+/// The next worse key, or none.
+fn below(keys: &[i32], key: i32) -> i32 {
+    greatest(keys, |k| if k < key { k } else { NONE })
+}
+
+/// The whole search over four slots: they are sorted, the better key first, and added up.
+#[inline(always)]
+fn whole(keys: &Keys, volumes: &Volumes, least: u32) -> i32 {
+    let pair = |i: usize| (keys[i] as i64) << 32 | volumes[i] as i64;
+    let sorted = |x: i64, y: i64| (x.max(y), x.min(y));
+    let ((a, b), (c, d)) = (sorted(pair(0), pair(1)), sorted(pair(2), pair(3)));
+    let ((a, c), (b, d)) = (sorted(a, c), sorted(b, d));
+    let (b, c) = sorted(b, c);
+    let mut depth = 0;
+    let depths = [a, b, c, d].map(|x| {
+        depth += x as u32;
+        depth
+    });
+    let mut best = (NONE as i64) << 32;
+    for (x, depth) in [d, c, b, a].into_iter().zip(depths.into_iter().rev()) {
+        best = if depth >= least { x } else { best };
+    }
+    (best >> 32) as i32
+}
+
+/// The best level, from one with M or more before it, or fewer than M at it or better.
+#[inline(never)]
+fn settled(keys: &[i32], volumes: &[u32], level: Level, least: u32) -> Level {
+    let Level {
+        mut key,
+        mut before,
+        mut at,
+        total,
+    } = level;
+    if total < least {
+        return Level {
+            key: NONE,
+            before: total,
             at: 0,
-        }
+            total,
+        };
     }
-
-    /// A slot takes another key and volume, and the best key moves to where it then belongs; says
-    /// whether it may have moved.
-    #[inline(always)]
-    fn put(&mut self, slot: usize, key: i32, volume: u32, least: u32) -> bool {
-        let (old, held) = (self.keys[slot], self.volumes[slot]);
-        self.keys[slot] = key;
-        self.volumes[slot] = volume;
-        if self.used < 1 << 4 {
-            self.whole::<4>(least);
-            return true;
-        }
-        if self.used < 1 << 8 {
-            self.whole::<8>(least);
-            return true;
-        }
-        let best = self.best;
-        self.before = self.before + part(key > best, volume) - part(old > best, held);
-        self.at = self.at + part(key == best, volume) - part(old == best, held);
-        if self.before < least && (least <= self.before + self.at || best == NONE) {
-            return false;
-        }
-        self.stepwise(least);
-        true
-    }
-
-    /// The whole search over the first N slots: the depth at each key, and the best that qualifies.
-    #[inline(always)]
-    fn whole<const N: usize>(&mut self, least: u32) {
-        let keys: &[i32; N] = self.keys[..N].try_into().unwrap();
-        let volumes: &[u32; N] = self.volumes[..N].try_into().unwrap();
-        let mut depths = [0; N];
-        for j in 0..N {
-            for i in 0..N {
-                depths[i] += part(keys[j] >= keys[i], volumes[j]);
+    let near = STEPS * total / keys.len() as u32;
+    if before >= least {
+        while before - least < near {
+            key = above(keys, key);
+            at = sum(keys, volumes, |k| k == key);
+            before -= at;
+            if before < least {
+                return Level {
+                    key,
+                    before,
+                    at,
+                    total,
+                };
             }
         }
-        let mut best = NONE;
-        for i in 0..N {
-            best = best.max(if depths[i] >= least { keys[i] } else { NONE });
-        }
-        let (mut before, mut at) = (0, 0);
-        for i in 0..N {
-            before += part(keys[i] > best, volumes[i]);
-            at += part(keys[i] == best, volumes[i]);
-        }
-        (self.best, self.before, self.at) = (best, before, at);
+        let low = if key == NONE {
+            above(keys, NONE)
+        } else {
+            key + 1
+        };
+        return bisected(keys, volumes, low, greatest(keys, |k| k) + 1, level, least);
     }
-
-    /// The slots that can be in use, in whole groups of eight.
-    #[inline(always)]
-    fn slots(&self) -> usize {
-        (64 - self.used.leading_zeros() as usize + 7) & !7
-    }
-
-    fn volume_at(&self, key: i32) -> u32 {
-        let n = self.slots();
-        let both = self.keys[..n].iter().zip(&self.volumes[..n]);
-        both.map(|(&k, &v)| part(k == key, v)).sum()
-    }
-
-    #[inline(never)]
-    fn stepwise(&mut self, least: u32) {
-        let n = self.slots();
-        while self.before >= least {
-            let best = self.best;
-            let next = |m: i32, &k: &i32| m.min(if k > best { k } else { i32::MAX });
-            self.best = self.keys[..n].iter().fold(i32::MAX, next);
-            self.at = self.volume_at(self.best);
-            self.before -= self.at;
+    while least - before - at < near {
+        before += at;
+        key = below(keys, key);
+        at = sum(keys, volumes, |k| k == key);
+        if before + at >= least {
+            return Level {
+                key,
+                before,
+                at,
+                total,
+            };
         }
-        while self.before + self.at < least && self.best != NONE {
-            let best = self.best;
-            let next = |m: i32, &k: &i32| m.max(if k < best { k } else { NONE });
-            self.before += self.at;
-            self.best = self.keys[..n].iter().fold(NONE, next);
-            self.at = self.volume_at(self.best);
-        }
+    }
+    bisected(keys, volumes, above(keys, NONE), key, level, least)
+}
+
+/// The best level, where M or more contracts are at `low` or better, and fewer at `high` or better.
+fn bisected(
+    keys: &[i32],
+    volumes: &[u32],
+    mut low: i32,
+    high: i32,
+    level: Level,
+    least: u32,
+) -> Level {
+    // The best key is `low`, or above it by less than `width`.
+    let mut width = high - low;
+    while width > 1 {
+        let half = width / 2;
+        let enough = sum(keys, volumes, |k| k >= low + half) >= least;
+        low += -(enough as i32) & half;
+        width -= half;
+    }
+    Level {
+        total: level.total,
+        ..measured(keys, volumes, low)
     }
 }
 
-/// Where the live orders stand: a table of open addressing, at most a quarter full.
+fn measured(keys: &[i32], volumes: &[u32], key: i32) -> Level {
+    Level {
+        key,
+        before: sum(keys, volumes, |k| k > key),
+        at: sum(keys, volumes, |k| k == key),
+        total: volumes.iter().sum(),
+    }
+}
+
+/// Where the live orders stand: a table of open addressing, nearly empty.
 struct Index {
     entries: [Entry; Index::SIZE],
 }
@@ -133,11 +191,12 @@ struct Entry {
 }
 
 impl Index {
-    const SIZE: usize = 256;
+    const BITS: u32 = 10;
+    const SIZE: usize = 1 << Index::BITS;
 
     #[inline(always)]
     fn home(id: u32) -> usize {
-        (id.wrapping_mul(0x9E37_79B1) >> 24) as usize
+        (id.wrapping_mul(0x9E37_79B1) >> (32 - Index::BITS)) as usize
     }
 
     /// The entry with the id, or the empty one where it would go.
@@ -154,6 +213,7 @@ impl Index {
     }
 
     /// Empties an entry; those behind it that it held up move up.
+    #[inline(always)]
     fn remove(&mut self, entry: usize) {
         let mut hole = entry;
         let mut i = entry;
@@ -174,22 +234,6 @@ impl Index {
     }
 }
 
-/// By kind: the bits of id, price and volume that must be zero; all, for an unknown kind.
-const UNUSED: [[u32; 3]; 8] = {
-    const ALL: u32 = u32::MAX;
-    let any = [0, 0, 0];
-    [
-        any,
-        any,
-        any,
-        any,
-        [0, ALL, ALL],
-        [0, ALL, 0],
-        [ALL, ALL, ALL],
-        any,
-    ]
-};
-
 #[inline(always)]
 fn word(bytes: &[u8; RECORD], at: usize) -> u32 {
     u32::from_le_bytes(bytes[at..at + 4].try_into().unwrap())
@@ -198,7 +242,11 @@ fn word(bytes: &[u8; RECORD], at: usize) -> u32 {
 struct Meter {
     terms: Terms,
     limit: i64,
-    sides: [Side; 2],
+    keys: [Keys; 2],
+    volumes: [Volumes; 2],
+    /// A bit for each slot in use.
+    used: [u64; 2],
+    levels: [Level; 2],
     index: Index,
     live: usize,
     now: u32,
@@ -213,36 +261,97 @@ impl Meter {
         self.now = t;
     }
 
-    /// A full record: taken, or refused by the number.
+    /// The slots that can be in use, in whole groups of eight.
     #[inline(always)]
-    fn take(&mut self, bytes: &[u8; RECORD]) -> Result<(), u64> {
-        // The kind's word holds the three zero bytes as well.
-        let kind = word(bytes, 0);
-        let (t, id) = (word(bytes, 4), word(bytes, 8));
-        let (price, volume) = (word(bytes, 12), word(bytes, 16));
-        let unused = &UNUSED[kind as usize % 8];
-        if kind.wrapping_sub(1) > 5
-            || (id & unused[0]) | (price & unused[1]) | (volume & unused[2]) != 0
-        {
-            return Err(15);
+    fn slots(&self, s: usize) -> (&[i32], &[u32]) {
+        let n = (64 - self.used[s].leading_zeros() as usize + 7) & !7;
+        (&self.keys[s][..n], &self.volumes[s][..n])
+    }
+
+    /// A slot takes another key and volume, and the best key moves to where it then belongs.
+    #[inline(always)]
+    fn put(&mut self, s: usize, slot: usize, key: i32, volume: u32) {
+        let least = self.terms.least;
+        let (old, held) = (self.keys[s][slot], self.volumes[s][slot]);
+        self.keys[s][slot] = key;
+        self.volumes[s][slot] = volume;
+        if self.used[s] < 1 << FEW {
+            self.levels[s].key = whole(&self.keys[s], &self.volumes[s], least);
+        } else {
+            let level = &mut self.levels[s];
+            let best = level.key;
+            level.before = level.before + part(key > best, volume) - part(old > best, held);
+            level.at = level.at + part(key == best, volume) - part(old == best, held);
+            level.total = level.total + volume - held;
+            if level.before < least && (least <= level.before + level.at || best == NONE) {
+                return;
+            }
+            let level = *level;
+            let (keys, volumes) = self.slots(s);
+            self.levels[s] = settled(keys, volumes, level, least);
         }
+        let (bid, ask) = (self.levels[0].key, self.levels[1].key);
+        self.keeps = (bid != NONE) & (ask != NONE) & (-(ask as i64) - bid as i64 <= self.limit);
+    }
+
+    /// A slot for one order more; the level of a side that is no longer small is measured.
+    #[inline(always)]
+    fn taken(&mut self, s: usize) -> usize {
+        let used = self.used[s];
+        let slot = used.trailing_ones() as usize % MAX_ORDERS;
+        if used < 1 << FEW && slot == FEW {
+            let (keys, volumes) = (&self.keys[s][..8], &self.volumes[s][..8]);
+            self.levels[s] = measured(keys, volumes, self.levels[s].key);
+        }
+        self.used[s] |= 1 << slot;
+        self.live += 1;
+        slot
+    }
+
+    /// Whether a time can be the next one; refused by the number.
+    #[inline(always)]
+    fn in_time(&self, t: u32) -> Result<(), u64> {
         if t < self.now {
             return Err(8);
         }
         if t > self.terms.length {
             return Err(9);
         }
-        let kind = kind as u8;
-        if kind == TICK {
+        Ok(())
+    }
+
+    /// A full record: taken, or refused by the number.
+    #[inline(always)]
+    fn take(&mut self, bytes: &[u8; RECORD]) -> Result<(), u64> {
+        // The kind's word holds the three zero bytes as well.
+        let kind = word(bytes, 0);
+        let (t, id) = (word(bytes, 4), word(bytes, 8));
+        let (price, volume) = (word(bytes, 12) as i32, word(bytes, 16));
+        if kind == TICK as u32 {
+            if id | price as u32 | volume != 0 {
+                return Err(15);
+            }
+            self.in_time(t)?;
             self.run_on(t);
             return Ok(());
         }
-        let price = price as i32;
-        let entry = self.index.find(id);
-        let place = self.index.entries[entry].place;
         // The side, the slot, and what the slot is to hold.
-        let (s, slot, key, volume) = if kind <= ADD_SELL {
-            if place != 0 {
+        let (s, slot, key, volume) = if kind == AMEND as u32 {
+            self.in_time(t)?;
+            let place = self.index.entries[self.index.find(id)].place as usize;
+            if place == 0 {
+                return Err(11);
+            }
+            if !good_price(price) || !good_volume(volume) {
+                return Err(12);
+            }
+            let s = (place - 1) / MAX_ORDERS % 2;
+            let slot = (place - 1) % MAX_ORDERS;
+            (s, slot, if s == 0 { price } else { -price }, volume)
+        } else if kind.wrapping_sub(1) < 2 {
+            self.in_time(t)?;
+            let entry = self.index.find(id);
+            if self.index.entries[entry].place != 0 {
                 return Err(10);
             }
             if !good_price(price) || !good_volume(volume) {
@@ -251,48 +360,43 @@ impl Meter {
             if self.live == MAX_ORDERS {
                 return Err(13);
             }
-            let s = (kind - ADD_BUY) as usize % 2;
-            let slot = self.sides[s].used.trailing_ones() as usize % MAX_ORDERS;
+            let s = (kind as usize - 1) % 2;
+            let slot = self.taken(s);
             let place = (1 + MAX_ORDERS * s + slot) as u32;
-            self.sides[s].used |= 1 << slot;
             self.index.entries[entry] = Entry { id, place };
-            self.live += 1;
             (s, slot, if s == 0 { price } else { -price }, volume)
         } else {
+            let deal = kind == DEAL as u32;
+            if kind.wrapping_sub(4) > 1 || price != 0 || (!deal && volume != 0) {
+                return Err(15);
+            }
+            self.in_time(t)?;
+            let entry = self.index.find(id);
+            let place = self.index.entries[entry].place as usize;
             if place == 0 {
                 return Err(11);
             }
-            let s = (place as usize - 1) / MAX_ORDERS % 2;
-            let slot = (place as usize - 1) % MAX_ORDERS;
-            if kind == AMEND {
-                if !good_price(price) || !good_volume(volume) {
-                    return Err(12);
-                }
-                (s, slot, if s == 0 { price } else { -price }, volume)
+            let s = (place - 1) / MAX_ORDERS % 2;
+            let slot = (place - 1) % MAX_ORDERS;
+            let left = self.volumes[s][slot];
+            let gone = if deal { volume } else { left };
+            if !good_volume(gone) {
+                return Err(12);
+            }
+            if gone > left {
+                return Err(14);
+            }
+            if gone < left {
+                (s, slot, self.keys[s][slot], left - gone)
             } else {
-                let left = self.sides[s].volumes[slot];
-                let gone = if kind == DEAL { volume } else { left };
-                if !good_volume(gone) {
-                    return Err(12);
-                }
-                if gone > left {
-                    return Err(14);
-                }
-                if gone < left {
-                    (s, slot, self.sides[s].keys[slot], left - gone)
-                } else {
-                    self.index.remove(entry);
-                    self.live -= 1;
-                    self.sides[s].used &= !(1 << slot);
-                    (s, slot, NONE, 0)
-                }
+                self.index.remove(entry);
+                self.live -= 1;
+                self.used[s] &= !(1 << slot);
+                (s, slot, NONE, 0)
             }
         };
         self.run_on(t);
-        if self.sides[s].put(slot, key, volume, self.terms.least) {
-            let (bid, ask) = (self.sides[0].best, self.sides[1].best);
-            self.keeps = (bid != NONE) & (ask != NONE) & (-(ask as i64) - bid as i64 <= self.limit);
-        }
+        self.put(s, slot, key, volume);
         Ok(())
     }
 }
@@ -304,10 +408,19 @@ pub fn run(head: &[u8], records: &[u8]) -> u64 {
     };
     // D × 100,000 ≤ a × SP or D ≤ b, as one limit of D.
     let limit = (terms.a as i64 * terms.sp as i64).div_euclid(100_000);
+    let none = Level {
+        key: NONE,
+        before: 0,
+        at: 0,
+        total: 0,
+    };
     let mut meter = Meter {
         terms,
         limit: limit.max(terms.b as i64),
-        sides: [Side::new(), Side::new()],
+        keys: [[NONE; MAX_ORDERS]; 2],
+        volumes: [[0; MAX_ORDERS]; 2],
+        used: [0; 2],
+        levels: [none; 2],
         index: Index {
             entries: [Entry { id: 0, place: 0 }; Index::SIZE],
         },

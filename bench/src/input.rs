@@ -49,6 +49,7 @@ pub fn push(records: &mut Vec<u8>, kind: u8, t: u32, id: u32, price: i32, volume
 }
 
 /// How a session's events are drawn.
+#[derive(Clone, Copy)]
 pub struct Shape {
     /// Live orders that the session starts with, and about which their number moves.
     pub live: usize,
@@ -61,6 +62,10 @@ pub struct Shape {
     pub across: i64,
     pub middle: i64,
     pub volumes: (i64, i64),
+    /// Percent of the events that fall on one of the first two orders, a buy and a sell, and the volumes that those are
+    /// amended to.
+    pub first: u64,
+    pub first_volumes: (i64, i64),
 }
 
 /// Draws valid events, and keeps the live orders for that.
@@ -78,6 +83,16 @@ impl Feed<'_> {
 
     fn volume(&self, rng: &mut Rng) -> u32 {
         rng.within(self.shape.volumes.0, self.shape.volumes.1) as u32
+    }
+
+    /// The order that an event falls on, and the volume that an amendment gives it.
+    fn drawn(&self, rng: &mut Rng) -> (usize, (i64, i64)) {
+        let shape = self.shape;
+        if shape.first > 0 && rng.chance(shape.first) {
+            let two = self.live.len().min(2) as u64;
+            return (rng.below(two) as usize, shape.first_volumes);
+        }
+        (rng.below(self.live.len() as u64) as usize, shape.volumes)
     }
 
     fn add(&mut self, rng: &mut Rng, t: u32, records: &mut Vec<u8>) {
@@ -101,10 +116,10 @@ impl Feed<'_> {
         if self.live.is_empty() {
             return self.add(rng, t, records);
         }
-        let i = rng.below(self.live.len() as u64) as usize;
+        let (i, volumes) = self.drawn(rng);
         let (id, buy, left) = self.live[i];
         if drawn < shape.tick + shape.amend {
-            self.live[i].2 = self.volume(rng);
+            self.live[i].2 = rng.within(volumes.0, volumes.1) as u32;
             let price = self.price(rng, buy);
             push(records, AMEND, t, id, price, self.live[i].2);
         } else if drawn < shape.tick + shape.amend + shape.deal {
@@ -150,7 +165,7 @@ fn records(rng: &mut Rng, shape: &Shape, length: u32, n: usize) -> Vec<u8> {
 pub const LENGTH: u32 = 86_400_000;
 
 /// The measured sessions; M is 500, the spread's limit 0.125% of 20,000 = 25 steps.
-pub const KINDS: [(&str, Shape); 3] = [
+pub const KINDS: [(&str, Shape); 5] = [
     (
         "quiet",
         Shape {
@@ -162,6 +177,8 @@ pub const KINDS: [(&str, Shape); 3] = [
             across: 0,
             middle: 20_000,
             volumes: (100, 400),
+            first: 0,
+            first_volumes: (0, 0),
         },
     ),
     (
@@ -175,6 +192,8 @@ pub const KINDS: [(&str, Shape); 3] = [
             across: 0,
             middle: 20_000,
             volumes: (10, 200),
+            first: 0,
+            first_volumes: (0, 0),
         },
     ),
     (
@@ -188,6 +207,38 @@ pub const KINDS: [(&str, Shape); 3] = [
             across: 0,
             middle: 20_000,
             volumes: (20, 300),
+            first: 0,
+            first_volumes: (0, 0),
+        },
+    ),
+    (
+        "deep",
+        Shape {
+            live: 64,
+            amend: 100,
+            tick: 0,
+            deal: 0,
+            width: 20,
+            across: 45,
+            middle: 20_000,
+            volumes: (1, 34),
+            first: 0,
+            first_volumes: (0, 0),
+        },
+    ),
+    (
+        "jumping",
+        Shape {
+            live: 64,
+            amend: 100,
+            tick: 0,
+            deal: 0,
+            width: 35,
+            across: 40,
+            middle: 20_000,
+            volumes: (1, 20),
+            first: 90,
+            first_volumes: (200, 800),
         },
     ),
 ];
@@ -233,10 +284,24 @@ pub fn small(seed: u64) -> Session {
         across: if rng.chance(30) { rng.within(0, 20) } else { 0 },
         middle,
         volumes: rng.pick(&[(1, 3), (1, 400), (100, 100), (1, 1_000_000)]),
+        first: 0,
+        first_volumes: (0, 0),
     };
-    let most = if rng.chance(20) { 200 } else { 60 };
+    // Some jump, so that the search is met as well.
+    let jumps = rng.chance(10);
+    let shape = if jumps {
+        Shape {
+            live: rng.pick(&[12, 32, 64]),
+            middle,
+            ..KINDS[4].1
+        }
+    } else {
+        shape
+    };
+    let most = if jumps || rng.chance(20) { 200 } else { 60 };
     let n = rng.below(most) as usize;
     let least = rng.pick(&[1, 2, 5, 100, 300, 1_000, 100_000]);
+    let least = if jumps { rng.pick(&[300, 500]) } else { least };
     let a = rng.pick(&[0, 100, 125, 1_000, 100_000]);
     let b = rng.pick(&[0, 0, 1, 10, 30, 1_000_000]);
     let sp = rng.pick(&[

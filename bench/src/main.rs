@@ -1,10 +1,13 @@
-//! The proved meter's C call against two meters in Rust: their answers are compared, and their time measured.
+//! The proved meter's C call against two meters in Rust: their answers are compared, and their time measured. A third one
+//! in Rust counts the searches.
 
+mod counted;
 mod fast;
 mod input;
 mod plain;
 mod session;
 
+use counted::Counts;
 use input::{measured, small, Session};
 use session::{refused, LIMIT};
 use std::hint::black_box;
@@ -65,31 +68,43 @@ fn clock() -> u64 {
     time.seconds as u64 * 1_000_000_000 + time.nanoseconds as u64
 }
 
-/// One run of each meter: the time that each took, and the answer, which must be the same from all.
-fn round(s: &Session, what: &str) -> (Vec<u64>, u64) {
-    let (mut times, mut answers) = (Vec::new(), Vec::new());
-    for (_, run) in METERS {
-        let began = clock();
-        answers.push(run(black_box(&s.head), black_box(&s.records)));
-        times.push(clock() - began);
+/// Stops where an answer is not the same as the others.
+fn compare(answers: &[(&str, u64)], what: &str) {
+    if answers.iter().all(|a| a.1 == answers[0].1) {
+        return;
     }
-    if answers.iter().any(|a| *a != answers[0]) {
-        eprintln!("the answers differ on {what}:");
-        for ((name, _), a) in METERS.iter().zip(&answers) {
-            eprintln!("  {name}: refusal {}, place or K {}", a >> 32, *a as u32);
-        }
-        exit(1);
+    eprintln!("the answers differ on {what}:");
+    for (name, a) in answers {
+        eprintln!("  {name}: refusal {}, place or K {}", a >> 32, *a as u32);
     }
-    (times, answers[0])
+    exit(1);
+}
+
+/// One run of a meter: its answer, and the time that it took.
+fn timed(run: Meter, s: &Session) -> (u64, u64) {
+    let began = clock();
+    let answer = run(black_box(&s.head), black_box(&s.records));
+    (answer, clock() - began)
+}
+
+/// One run of each meter and of the counting twin: the times, the answer, which must be the same from all, and the counts.
+fn round(s: &Session, what: &str) -> (Vec<u64>, u64, Counts) {
+    let runs: Vec<_> = METERS.iter().map(|m| timed(m.1, s)).collect();
+    let (answer, counts) = counted::run(&s.head, &s.records);
+    let mut answers: Vec<_> = METERS.iter().zip(&runs).map(|(m, r)| (m.0, r.0)).collect();
+    answers.push(("counted", answer));
+    compare(&answers, what);
+    (runs.iter().map(|r| r.1).collect(), answer, counts)
 }
 
 /// Compares the meters on document 01's example and on small sessions, and sees that enough of each kind were met.
 fn check(sessions: u64, seed: u64) {
     assert_eq!(round(&input::example(), "document 01's example").1, 6_000);
     let mut met = [0; 17];
-    let mut quoted = 0;
+    let (mut quoted, mut searched) = (0, 0);
     for i in seed..seed + sessions {
-        let (_, answer) = round(&small(i), &format!("the small session of seed {i}"));
+        let (_, answer, counts) = round(&small(i), &format!("the small session of seed {i}"));
+        searched += (counts.searches > 0) as u64;
         met[(answer >> 32) as usize] += 1;
         quoted += (answer >> 32 == 0 && answer > 0) as u64;
     }
@@ -99,32 +114,37 @@ fn check(sessions: u64, seed: u64) {
         .map(|n| format!("{} by {n}", met[*n]))
         .collect();
     println!(
-        "{sessions} small sessions, the same answer from all: {} accepted, {quoted} of them with kept time; refused {}.",
+        "{sessions} small sessions, the same answer from all: {} accepted, {quoted} of them with kept time; refused {}; searches in {searched}.",
         met[0],
         refusals.join(", ")
     );
-    if sessions >= 10_000 && (numbers.iter().any(|n| met[*n] == 0) || quoted * 3 < met[0]) {
-        eprintln!("a refusal was never met, or too few accepted sessions have kept time");
+    if sessions >= 10_000
+        && (numbers.iter().any(|n| met[*n] == 0) || quoted * 3 < met[0] || searched * 50 < sessions)
+    {
+        eprintln!("a refusal was never met, or too few sessions have kept time or a search");
         exit(1);
     }
 }
 
-/// The least time of each meter over several rounds, as many as fit the budget, and the answer.
-fn measure(s: &Session, what: &str) -> (Vec<u64>, u64) {
-    const BUDGET: u64 = 1_000_000_000;
-    const ROUNDS: std::ops::Range<u64> = 2..200;
-    let (mut least, answer) = round(s, what);
-    let mut spent: u64 = least.iter().sum();
-    let mut rounds = 1;
-    while rounds < ROUNDS.start || (spent < BUDGET && rounds < ROUNDS.end) {
-        let (times, _) = round(s, what);
-        for (l, t) in least.iter_mut().zip(&times) {
-            *l = *t.min(l);
-            spent += t;
+/// The least time of each meter over several rounds, the answer and the counts. In a round each meter runs once, in turn;
+/// one that has had its rounds and spent its budget is left out.
+fn measure(s: &Session, what: &str) -> (Vec<u64>, u64, Counts) {
+    const BUDGET: u64 = 500_000_000;
+    const ROUNDS: std::ops::Range<u32> = 2..400;
+    let (mut least, answer, counts) = round(s, what);
+    let mut spent = least.clone();
+    for n in 1..ROUNDS.end {
+        for (i, (name, run)) in METERS.iter().enumerate() {
+            if n >= ROUNDS.start && spent[i] >= BUDGET {
+                continue;
+            }
+            let (again, time) = timed(*run, s);
+            compare(&[("first", answer), (name, again)], what);
+            least[i] = least[i].min(time);
+            spent[i] += time;
         }
-        rounds += 1;
     }
-    (least, answer)
+    (least, answer, counts)
 }
 
 /// What stands behind the colon of the first line that starts so.
@@ -156,7 +176,7 @@ fn main() {
             ("--seed", Some(n)) => seed = n,
             ("--only", None) if value.is_some() => only = value,
             _ => {
-                eprintln!("bench [--most RECORDS] [--check SESSIONS] [--seed N] [--only quiet|busy|mixed]");
+                eprintln!("bench [--most RECORDS] [--check SESSIONS] [--seed N] [--only SHAPE]");
                 exit(2);
             }
         }
@@ -168,12 +188,18 @@ fn main() {
     println!("{model}, {cores} cores, load average {} before.", load());
     println!();
     let names: Vec<_> = METERS.iter().map(|m| m.0).collect();
-    let mut titles: Vec<_> = ["session", "records", "kept %", "stretches"]
-        .map(String::from)
-        .into();
+    let titles = [
+        "session",
+        "records",
+        "kept %",
+        "stretches",
+        "searches %",
+        "sums",
+    ];
+    let mut titles: Vec<_> = titles.map(String::from).into();
     titles.extend(names.iter().map(|n| format!("{n} ns")));
     titles.extend(names[1..].iter().map(|n| format!("{}/{n}", names[0])));
-    println!("Nanoseconds a record, and ratios:");
+    println!("Records in a hundred that made a search, sums that a search made, nanoseconds a record, and ratios:");
     println!();
     row(titles.clone());
     row(titles.iter().map(|_| "--:".to_string()));
@@ -189,7 +215,7 @@ fn main() {
             }
             let mut s = measured(shape, n, seed + 1_000 * kind as u64);
             let what = format!("the {name} session of {n} records");
-            let (times, answer) = measure(&s, &what);
+            let (times, answer, counts) = measure(&s, &what);
             assert!(
                 answer >> 32 == 0,
                 "{what} is refused by {} at {}",
@@ -200,6 +226,9 @@ fn main() {
             let kept = answer as f64 / input::LENGTH as f64 * 100.0;
             let mut cells = vec![name.to_string(), n.to_string(), format!("{kept:.1}")];
             cells.push(STRETCHES.load(Relaxed).to_string());
+            let percent = counts.searches as f64 / n as f64 * 100.0;
+            let sums = counts.sums as f64 / counts.searches.max(1) as f64;
+            cells.extend([format!("{percent:.2}"), format!("{sums:.1}")]);
             cells.extend(pace.iter().map(|p| format!("{p:.1}")));
             cells.extend(pace[1..].iter().map(|p| format!("{:.2}", pace[0] / p)));
             row(cells);
@@ -213,7 +242,7 @@ fn main() {
             }
             if n == LIMIT && kind == 0 {
                 input::push(&mut s.records, session::TICK, input::LENGTH, 0, 0, 0);
-                let (_, answer) = round(&s, "one record past the limit");
+                let (_, answer, _) = round(&s, "one record past the limit");
                 assert_eq!(answer, refused(15, LIMIT + 1));
             }
         }
