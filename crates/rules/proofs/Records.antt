@@ -5,11 +5,11 @@ use native.Mathlib.Omega.{arith}
 use mathlib.Core.Path.{_≡_, refl, sym, ap, _∙_}
 use mathlib.Core.List.{List, [], _∷_, _++_, append-nil}
 use mathlib.Core.Bool.{Bool, true, false, false≢true, _&&_}
-use borrow.Author.Tests.{lt-ltb, le-ltb, leb-true, eqb-true}
+use borrow.Author.Tests.{lt-ltb, le-ltb, ltb-true, ltb-false, le-leb, leb-true, eqb-true}
 use lib.Dec.{leb, ltb, eqb}
 use lib.IntN.{ℤ, pos, negsuc}
-use lib.ListN.{length, getD, drop}
-use lib.Seq.{drop-cons, drop-length}
+use lib.ListN.{length, getD, take, drop, length-take, List·getD-eq-default}
+use lib.Seq.{length-take-le, drop-cons, drop-length, getD-take}
 use Rattle.rules.specs.declared.Side.the-variants.{Buy, Sell}
 use Rattle.rules.specs.declared.Event.{Event}
 use Rattle.rules.specs.declared.Event.the-variants.{Add, Amend, Cancel, Deal, Tick}
@@ -271,7 +271,51 @@ read-written e h =
     rw (good-fields (eventFields e) w (event-kind e) (event-unused e), fields-of-bytes (eventFields e) w, event-of-fields e h) refl
 
 -- a record that is read and written is that record
-pub written-read : (bytes : List ℕ) → Bytes bytes → length bytes ≡ 20 → (e : Event) → readRecord bytes ≡ accepted e → recordOf e ≡ bytes
-written-read bytes all h e r =
+written-whole : (bytes : List ℕ) → Bytes bytes → length bytes ≡ 20 → (e : Event) → readRecord bytes ≡ accepted e → recordOf e ≡ bytes
+written-whole bytes all h e r =
     let g = accepted-good bytes e r in
     ap recordOf (sym (g .1)) ∙ good-back bytes all h (g .0)
+
+bytes-front : (bytes : List ℕ) → Bytes bytes → Bytes (take 20 bytes)
+bytes-front bytes all i = go (ltb i 20) refl
+  where
+    go : (b : Bool) → ltb i 20 ≡ b → getD (take 20 bytes) i 0 < 256
+    go true e = omega (arith, getD-take 20 bytes i 0 (ltb-true i 20 e), all i)
+    go false e =
+        omega (arith, List·getD-eq-default (take 20 bytes) 0 {n = i} (omega (arith, length-take 20 bytes, ltb-false i 20 e)))
+
+-- only the first 20 bytes are looked at
+module _ (bytes : List ℕ) (long : 20 ≤ length bytes) where
+  front-at : (i : ℕ) → i < 20 → getD (take 20 bytes) i 0 ≡ getD bytes i 0
+  front-at i h = getD-take 20 bytes i 0 h
+
+  front-word : (i : ℕ) → i + 3 < 20 → wordAt (take 20 bytes) i ≡ wordAt bytes i
+  front-word i h = λ j.
+      front-at i (omega arith) j + 256 * front-at (i + 1) (omega arith) j + 65536 * front-at (i + 2) (omega arith) j + 16777216 * front-at (i + 3) (omega arith) j
+
+  front-fields : fieldsOf (take 20 bytes) ≡ fieldsOf bytes
+  unfolding fieldsOf
+  front-fields = λ j.
+      fields (front-at 0 (omega arith) j) (front-word 4 (omega arith) j) (front-word 8 (omega arith) j) (front-word 12 (omega arith) j) (front-word 16 (omega arith) j)
+
+  front-length : length (take 20 bytes) ≡ 20
+  front-length = length-take-le 20 bytes long
+
+  front-long : leb 20 (length (take 20 bytes)) ≡ leb 20 (length bytes)
+  front-long = le-leb 20 (length (take 20 bytes)) (omega (arith, front-length)) ∙ sym (le-leb 20 (length bytes) long)
+
+  front-good : goodRecord (take 20 bytes) ≡ goodRecord bytes
+  unfolding goodRecord paddingZero
+  front-good = λ j.
+      front-long j && within 1 6 (front-at 0 (omega arith) j)
+      && (eqb (front-at 1 (omega arith) j) 0 && eqb (front-at 2 (omega arith) j) 0 && eqb (front-at 3 (omega arith) j) 0)
+      && unusedZero (front-fields j)
+
+  front-read : readRecord (take 20 bytes) ≡ readRecord bytes
+  unfolding readRecord
+  front-read = λ j. if front-good j then accepted (eventOf (front-fields j)) else refused 15
+
+-- a record that is read and written is that record, and so are the first 20 bytes of a longer part
+pub written-read : (bytes : List ℕ) → Bytes bytes → 20 ≤ length bytes → (e : Event) → readRecord bytes ≡ accepted e → recordOf e ≡ take 20 bytes
+written-read bytes all h e r =
+    written-whole (take 20 bytes) (bytes-front bytes all) (front-length bytes h) e (front-read bytes h ∙ r)
