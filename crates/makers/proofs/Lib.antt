@@ -1,1 +1,4 @@
 pub mod Deciding
+pub mod Order
+pub mod Placing
+pub mod Seeing

@@ -9,7 +9,7 @@ use Rattle.rules.specs.Lists.{if_then_else_}
 use Rattle.makers.specs.declared.Maker.{Maker}
 use Rattle.makers.specs.declared.Seen.{Seen}
 use Rattle.makers.specs.declared.Plan.{Plan}
-use Rattle.makers.specs.Order.{maker, above}
+use Rattle.makers.specs.Order.{maker, above, isOf}
 use Rattle.makers.specs.Calls.{Call, Join, Change, Leave}
 
 -- ---- looking
@@ -23,9 +23,13 @@ unseen = record { clear = true; present = false; at = 0; above = 0 }
 -- the record r at the place i, where the record m is looked for
 unfoldable pub lookOf : Seen → ℕ → Maker → Maker → Seen
 lookOf s i r m =
-    if eqb (r .number) (m .number) then record { clear = false; present = true; at = i; above = s .above }
-    else if above r m then record { clear = s .clear; present = s .present; at = s .at; above = s .above + 1 }
-    else record { clear = false; present = s .present; at = s .at; above = s .above }
+    let same = isOf (m .number) r in
+    record {
+      clear = if same then false else if above r m then s .clear else false;
+      present = if same then true else s .present;
+      at = if same then i else s .at;
+      above = if same then s .above else if above r m then s .above + 1 else s .above;
+    }
 
 -- the first n records, one after the other
 unfoldable pub seenIn : List Maker → Maker → ℕ → Seen
