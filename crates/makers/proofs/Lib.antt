@@ -2,3 +2,5 @@ pub mod Deciding
 pub mod Order
 pub mod Placing
 pub mod Seeing
+pub mod Shifting
+pub mod Working
