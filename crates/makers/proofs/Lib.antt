@@ -4,3 +4,4 @@ pub mod Placing
 pub mod Seeing
 pub mod Shifting
 pub mod Working
+pub mod Claim

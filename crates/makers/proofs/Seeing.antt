@@ -81,16 +81,16 @@ unfolding every any howMany
 found-next m r xs s i f =
     record {
       clear = look-clear s i r m
-        ∙ found-clear (isOf (m .number) r) (above r m) (s .clear) (every (λ r. above r m) xs) (present (m .number) xs) (f .clear)
-        ∙ sym (rw (every-append (λ r. above r m) xs (r ∷ []), any-append (isOf (m .number)) xs (r ∷ [])) refl);
+          ∙ found-clear (isOf (m .number) r) (above r m) (s .clear) (every (λ r. above r m) xs) (present (m .number) xs) (f .clear)
+          ∙ sym (rw (every-append (λ r. above r m) xs (r ∷ []), any-append (isOf (m .number)) xs (r ∷ [])) refl);
       present = look-present s i r m
-        ∙ found-present (isOf (m .number) r) (s .present)
-        ∙ ap (λ (b : Bool). b || (isOf (m .number) r || false)) (f .present)
-        ∙ sym (any-append (isOf (m .number)) xs (r ∷ []));
+          ∙ found-present (isOf (m .number) r) (s .present)
+          ∙ ap (λ (b : Bool). b || (isOf (m .number) r || false)) (f .present)
+          ∙ sym (any-append (isOf (m .number)) xs (r ∷ []));
       above = look-above s i r m
-        ∙ found-above (isOf (m .number) r) (above r m) (s .above)
-        ∙ ap (λ (n : ℕ). n + ((if not (isOf (m .number) r) && above r m then 1 else 0) + 0)) (f .above)
-        ∙ sym (many-append (λ r. not (isOf (m .number) r) && above r m) xs (r ∷ []));
+          ∙ found-above (isOf (m .number) r) (above r m) (s .above)
+          ∙ ap (λ (n : ℕ). n + ((if not (isOf (m .number) r) && above r m then 1 else 0) + 0)) (f .above)
+          ∙ sym (many-append (λ r. not (isOf (m .number) r) && above r m) xs (r ∷ []));
     }
 
 pub found : (l : List Maker) (m : Maker) (n : ℕ) → n ≤ length l → Found m (take n l) (seenIn l m n)
@@ -151,8 +151,8 @@ module _ (n : ℕ) (xs : List Maker) (r : Maker) where
       record {
         inside = let h = p .inside in omega (arith, length-more);
         taken =
-          let h = p .inside in
-          rw (take-append-le i xs (r ∷ []) (omega arith), drop-append-le (i + 1) xs (r ∷ []) (omega arith), without-more n xs r, t, ← p .taken) (sym (append-assoc (take i xs) (drop (i + 1) xs) (r ∷ [])));
+            let h = p .inside in
+            rw (take-append-le i xs (r ∷ []) (omega arith), drop-append-le (i + 1) xs (r ∷ []) (omega arith), without-more n xs r, t, ← p .taken) (sym (append-assoc (take i xs) (drop (i + 1) xs) (r ∷ [])));
       }
 
 or-right : (a b : Bool) → (a || (b || false)) ≡ true → b ≡ false → a ≡ true

@@ -119,16 +119,17 @@ module _ (l : List Maker) (c : ℕ) (m : Maker) where
         from-there = p .room;
         to-there = let h = p .room in omega (arith, le);
         moves = inserted-append us (drop (c + 1) l) (seen .above) m (omega (arith, long, le))
-          ∙ ap (λ (z : List Maker). z ++ drop (c + 1) l) (ap (λ (n : ℕ). inserted us n m) k ∙ placed-at m us (p .right .in-order));
+            ∙ ap (λ (z : List Maker). z ++ drop (c + 1) l) (ap (λ (n : ℕ). inserted us n m) k ∙ placed-at m us (p .right .in-order));
       }
 
   -- the maker's record is taken out
   taken : (p : OtherPasses s (m .number)) → (seen .at < c) × (removed l (seen .at) ≡ without (m .number) us ++ drop c l)
   taken p =
       let at : Place (m .number) us (seen .at) = place l m c (p .right .within) (p .right .each-once) (p .there) in
-      let h : seen .at < length us = at .inside in
-      (subst (λ (k : ℕ). seen .at < k) (length-used (p .right)) h,
-      ap (λ (z : List Maker). removed z (seen .at)) (sym (take-append-drop c l)) ∙ removed-append us (drop c l) (seen .at) h ∙ ap (λ (z : List Maker). z ++ drop c l) (at .taken))
+      let h : seen .at < length us = at .inside in (
+        subst (λ (k : ℕ). seen .at < k) (length-used (p .right)) h,
+        ap (λ (z : List Maker). removed z (seen .at)) (sym (take-append-drop c l)) ∙ removed-append us (drop c l) (seen .at) h ∙ ap (λ (z : List Maker). z ++ drop c l) (at .taken),
+      )
 
   less : OtherPasses s (m .number) → length (without (m .number) us) + 1 ≡ c
   less p = length-without (m .number) us (p .right .each-once) (p .there) ∙ length-used (p .right)
@@ -145,8 +146,8 @@ module _ (l : List Maker) (c : ℕ) (m : Maker) where
         from-there = let i = t .0 in omega arith;
         to-there = omega (arith, le, n);
         moves = ap (λ (z : List Maker). inserted z (seen .above) m) (t .1)
-          ∙ inserted-append (without (m .number) us) (drop c l) (seen .above) m le
-          ∙ ap (λ (z : List Maker). z ++ drop c l) (ap (λ (j : ℕ). inserted (without (m .number) us) j m) k ∙ placed-at m (without (m .number) us) (sorted-without (m .number) us (p .right .in-order)));
+            ∙ inserted-append (without (m .number) us) (drop c l) (seen .above) m le
+            ∙ ap (λ (z : List Maker). z ++ drop c l) (ap (λ (j : ℕ). inserted (without (m .number) us) j m) k ∙ placed-at m (without (m .number) us) (sorted-without (m .number) us (p .right .in-order)));
       }
 
   leave-moves : m ≡ left (m .number) → OtherPasses s (m .number) → Moved l (seen .at) (c - 1) m (without (m .number) us ++ (left (m .number) ∷ drop c l))
@@ -159,8 +160,8 @@ module _ (l : List Maker) (c : ℕ) (m : Maker) where
         from-there = let i = t .0 in omega arith;
         to-there = omega (arith, n);
         moves = ap (λ (z : List Maker). inserted z (c - 1) m) (t .1)
-          ∙ inserted-between (without (m .number) us) (drop c l) (c - 1) m (omega (arith, n))
-          ∙ ap (λ (x : Maker). without (m .number) us ++ (x ∷ drop c l)) e;
+            ∙ inserted-between (without (m .number) us) (drop c l) (c - 1) m (omega (arith, n))
+            ∙ ap (λ (x : Maker). without (m .number) us ++ (x ∷ drop c l)) e;
       }
 
 -- ---- the plan
