@@ -1,0 +1,31 @@
+// The standing of makers in a lent list of records with a count of those used: join, change and leave. Every function here that takes
+// the records is proved by a walk of its code, by hand; the work on records by value is in `makers`.
+ghost use mathlib.Core.Path.{_≡_};
+ghost use Prim.Native.Nat.{ℕ, _≤_, _<_};
+ghost use lib.ListN.{length};
+ghost use Rattle.makers.specs.Calls.{Join, Change, Leave, standing, step, answerOf};
+ghost use Rattle.makers.specs.Moves.{seenIn, soundIn, shifted, callOf};
+use makers::Answer;
+use makers::Maker;
+use makers::Seen;
+
+// What is found of `m` among the first records. The list is lent as one that may change, and is left as it was: so a caller lends its
+// own again by one rule.
+fn scan(list: &mut [Maker], upto: usize, m: Maker) -> Seen
+    requires { ⌜ upto ≤ length (now list) ⌝ }
+    ensures { λ r. ⌜ (r ≡ seenIn (now (list .entry)) m upto) × (now (list .exit) ≡ now (list .entry)) ⌝ }
+{
+    let mut s = Seen {
+        clear: true,
+        present: false,
+        at: 0,
+        above: 0,
+    };
+    let mut i = 0;
+    while i < upto {
+        let r = list[i];
+        s = makers::look_at(s, i, r, m);
+        i += 1;
+    }
+    s
+}
