@@ -29,3 +29,17 @@ fn scan(list: &mut [Maker], upto: usize, m: Maker) -> Seen
     }
     s
 }
+
+// The record at `from` is taken out, those between move by one place, and `m` stands at `to`.
+fn shift(list: &mut [Maker], from: usize, to: usize, m: Maker)
+    requires { ⌜ (from < length (now list)) × (to < length (now list)) ⌝ }
+    ensures { λ r. ⌜ now (list .exit) ≡ shifted (now (list .entry)) from to m ⌝ }
+{
+    let mut i = from;
+    while i != to {
+        let next = makers::toward(i, to);
+        list[i] = list[next];
+        i = next;
+    }
+    list[to] = m;
+}
