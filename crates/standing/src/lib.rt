@@ -43,3 +43,20 @@ fn shift(list: &mut [Maker], from: usize, to: usize, m: Maker)
     }
     list[to] = m;
 }
+
+// Whether each of the first records stands behind all before it, no maker twice. That cannot be seen from neighbours: each pair is looked
+// at.
+fn sound(list: &mut [Maker], count: usize) -> bool
+    requires { ⌜ count ≤ length (now list) ⌝ }
+    ensures { λ r. ⌜ (r ≡ soundIn (now (list .entry)) count) × (now (list .exit) ≡ now (list .entry)) ⌝ }
+{
+    let mut good = true;
+    let mut j = 0;
+    while j < count {
+        let m = list[j];
+        let seen = scan(&mut *list, j, m);
+        good = makers::both(good, seen.clear);
+        j += 1;
+    }
+    good
+}
