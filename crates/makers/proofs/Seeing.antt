@@ -121,6 +121,12 @@ at-le l m (suc n) = subst (λ (k : ℕ). k ≤ suc n) (sym (look-at (seenIn l m 
     go true k h = omega arith
     go false k h = omega arith
 
+-- a maker who is seen was looked at
+pub some-seen : (l : List Maker) (m : Maker) (n : ℕ) → seenIn l m n .present ≡ true → 0 < n
+unfolding seenIn
+some-seen l m zero e = absurd (true≢false (sym e))
+some-seen l m (suc n) e = omega arith
+
 -- ---- the maker's place
 
 -- what is taken out at the place of the maker, where each maker has one record

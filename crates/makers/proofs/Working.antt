@@ -16,8 +16,9 @@ use Rattle.rules.proofs.Refusals.{passed}
 use Rattle.makers.specs.declared.Maker.{Maker}
 use Rattle.makers.specs.declared.Seen.{Seen}
 use Rattle.makers.specs.declared.Plan.{Plan}
+use Rattle.makers.specs.declared.Answer.{Answer}
 use Rattle.makers.specs.Order.{above, sorted, isOf, present, once}
-use Rattle.makers.specs.Calls.{Standing, standing, used, Call, Join, Change, Leave, wrong, causes, refusalOf, placed, without, left, changed, step}
+use Rattle.makers.specs.Calls.{Standing, standing, used, Call, Join, Change, Leave, wrong, causes, refusalOf, placed, without, left, changed, step, answerOf}
 use Rattle.makers.specs.Moves.{seenIn, soundIn, removed, inserted, shifted, callOf, judged, planned}
 use Rattle.makers.proofs.Placing.{many-keep, many-le, inserted-append, inserted-between, placed-at, without-absent, sorted-without, length-without}
 use Rattle.makers.proofs.Seeing.{Found, found, othersAbove, Place, place, sound-is, above-le}
@@ -201,6 +202,12 @@ pub record Works (l : List Maker) (c : ℕ) (call : Call) (m : Maker) (p : Plan)
   pub count : p .count ≡ step (standing l c) call .count
   pub kept : (p .refusal ≡ 0 → ⊥) → l ≡ step (standing l c) call .records
   pub moved : p .refusal ≡ 0 → Moved l (p .from) (p .to) m (step (standing l c) call .records)
+
+-- its count and refusal are the call's answer
+pub answered : (l : List Maker) (c : ℕ) (call : Call) (m : Maker) (p : Plan) → Works l c call m p
+    → _≡_ {A = Answer} (record { count = p .count; refusal = p .refusal }) (answerOf (standing l c) call)
+unfolding answerOf
+answered l c call m p w = λ i. record { count = w .count i; refusal = w .refusal i }
 
 -- the refusals of records that are wrong
 wrong-refused : (s : Standing) (call : Call) → wrong s ≡ true → refusalOf s call ≡ 23

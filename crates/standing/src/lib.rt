@@ -60,3 +60,29 @@ fn sound(list: &mut [Maker], count: usize) -> bool
     }
     good
 }
+
+// One call of a kind, 1 join, 2 change, any other leave: the used records are looked through, the answer and the move are decided, and
+// where it is not refused the record moves.
+fn apply(list: &mut [Maker], count: usize, kind: u32, m: Maker) -> Answer
+    requires { ⌜ ((kind ≡ 1 → ⊥) → (kind ≡ 2 → ⊥) → m .rating ≡ 0) ⌝ }
+    ensures { λ r. ⌜ (r ≡ answerOf (standing (now (list .entry)) count) (callOf kind m)) × (now (list .exit) ≡ step (standing (now (list .entry)) count) (callOf kind m) .records) ⌝ }
+{
+    let size = list.len();
+    let n = makers::lesser(count, size);
+    let good = sound(&mut *list, n);
+    let seen = scan(&mut *list, n, m);
+    let p = makers::decide(kind, size, count, good, seen);
+    if p.refusal != 0 {
+        return Answer {
+            count: p.count,
+            refusal: p.refusal,
+        };
+    }
+    let from = p.from;
+    let to = p.to;
+    shift(&mut *list, from, to, m);
+    Answer {
+        count: p.count,
+        refusal: p.refusal,
+    }
+}
