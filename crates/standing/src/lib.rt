@@ -86,3 +86,25 @@ fn apply(list: &mut [Maker], count: usize, kind: u32, m: Maker) -> Answer
         refusal: p.refusal,
     }
 }
+
+// A maker joins with a rating.
+pub fn join(list: &mut [Maker], count: usize, m: Maker) -> Answer
+    ensures { λ r. ⌜ (r ≡ answerOf (standing (now (list .entry)) count) (Join m)) × (now (list .exit) ≡ step (standing (now (list .entry)) count) (Join m) .records) ⌝ }
+{
+    apply(&mut *list, count, 1, m)
+}
+
+// A maker's rating becomes another.
+pub fn change(list: &mut [Maker], count: usize, m: Maker) -> Answer
+    ensures { λ r. ⌜ (r ≡ answerOf (standing (now (list .entry)) count) (Change m)) × (now (list .exit) ≡ step (standing (now (list .entry)) count) (Change m) .records) ⌝ }
+{
+    apply(&mut *list, count, 2, m)
+}
+
+// A maker leaves.
+pub fn leave(list: &mut [Maker], count: usize, number: u32) -> Answer
+    ensures { λ r. ⌜ (r ≡ answerOf (standing (now (list .entry)) count) (Leave number)) × (now (list .exit) ≡ step (standing (now (list .entry)) count) (Leave number) .records) ⌝ }
+{
+    let m = Maker { number, rating: 0 };
+    apply(&mut *list, count, 3, m)
+}
