@@ -1,13 +1,42 @@
 // The standing of makers in a lent list of records with a count of those used: join, change and leave. Every function here that takes
 // the records is proved by a walk of its code, by hand; the work on records by value is in `makers`.
 ghost use mathlib.Core.Path.{_≡_};
-ghost use Prim.Native.Nat.{ℕ, _≤_, _<_};
-ghost use lib.ListN.{length};
+ghost use mathlib.Core.Bool.{Bool, true, _&&_};
+ghost use Prim.Native.Nat.{ℕ, _+_, _*_, _≤_, _<_};
+ghost use lib.Dec.{leb};
+ghost use lib.ListN.{length, set};
 ghost use Rattle.makers.specs.Calls.{Join, Change, Leave, standing, step, answerOf};
 ghost use Rattle.makers.specs.Moves.{seenIn, soundIn, shifted, callOf};
+ghost use Rattle.standing.specs.Words.{isCall, measured, askedAt, readyOf};
+ghost use Rattle.standing.specs.Runs.{Runs};
 use makers::Answer;
 use makers::Maker;
 use makers::Seen;
+
+// How many calls a list of words has, and whether it is a list of calls.
+pub struct Measured {
+    pub calls: usize,
+    pub whole: bool,
+}
+
+// What a list of calls hands back: the count, and whether it ran.
+pub struct Ran {
+    pub count: usize,
+    pub fits: bool,
+}
+
+// How many calls run, all or none.
+struct Ready {
+    calls: usize,
+    fits: bool,
+}
+
+// The three words of a call.
+struct Asked {
+    kind: u32,
+    number: u32,
+    rating: u32,
+}
 
 // What is found of `m` among the first records. The list is lent as one that may change, and is left as it was: so a caller lends its
 // own again by one rule.
@@ -107,4 +136,85 @@ pub fn leave(list: &mut [Maker], count: usize, number: u32) -> Answer
 {
     let m = Maker { number, rating: 0 };
     apply(&mut *list, count, 3, m)
+}
+
+// ---- a list of calls, as words
+
+// Whether a kind and a rating are a call's.
+pub fn is_call(kind: u32, rating: u32) -> bool
+    ensures { λ r. ⌜ r ≡ isCall kind rating ⌝ }
+{
+    if kind == 1 {
+        return true;
+    }
+    if kind == 2 {
+        return true;
+    }
+    if kind == 3 {
+        return rating == 0;
+    }
+    false
+}
+
+// The calls from the first on, as far as they are whole: the list is one where nothing is left.
+pub fn measure(words: &[u32]) -> Measured
+    ensures { λ r. ⌜ r ≡ measured (now (words .entry)) ⌝ }
+{
+    let mut calls: usize = 0;
+    let mut at: usize = 0;
+    while at + 3 <= words.len() {
+        if !is_call(words[at], words[at + 2]) {
+            return Measured {
+                calls,
+                whole: false,
+            };
+        }
+        calls += 1;
+        at += 3;
+    }
+    Measured {
+        calls,
+        whole: at == words.len(),
+    }
+}
+
+// Whether a list of calls can run, with a word for each outcome.
+fn make_ready(words: &[u32], room: usize) -> Ready
+    ensures { λ r. ⌜ r ≡ readyOf (now (words .entry)) room ⌝ }
+{
+    let m = measure(words);
+    if !m.whole {
+        return Ready {
+            calls: 0,
+            fits: false,
+        };
+    }
+    if room < m.calls {
+        return Ready {
+            calls: 0,
+            fits: false,
+        };
+    }
+    Ready {
+        calls: m.calls,
+        fits: true,
+    }
+}
+
+fn call_at(words: &[u32], k: usize) -> Asked
+    requires { ⌜ 3 * k + 2 < length (now words) ⌝ }
+    ensures { λ r. ⌜ r ≡ askedAt (now (words .entry)) k ⌝ }
+{
+    Asked {
+        kind: words[3 * k],
+        number: words[3 * k + 1],
+        rating: words[3 * k + 2],
+    }
+}
+
+fn note(outcomes: &mut [u32], k: usize, n: u32)
+    requires { ⌜ k < length (now outcomes) ⌝ }
+    ensures { λ r. ⌜ now (outcomes .exit) ≡ set (now (outcomes .entry)) k n ⌝ }
+{
+    outcomes[k] = n;
 }
