@@ -218,3 +218,29 @@ fn note(outcomes: &mut [u32], k: usize, n: u32)
 {
     outcomes[k] = n;
 }
+
+// Runs a list of calls, each on the records and the count that the one before left, and writes each call's outcome, 0 or the refusal's
+// number. All run, or none where the words are no list of calls or the outcomes do not fit.
+pub fn run(list: &mut [Maker], count: usize, words: &[u32], outcomes: &mut [u32]) -> Ran
+    ensures { λ r. ⌜ Runs (now (words .entry)) (standing (now (list .entry)) count) (now (outcomes .entry)) (now (list .exit)) (now (outcomes .exit)) r ⌝ }
+{
+    let ready = make_ready(words, outcomes.len());
+    let calls = ready.calls;
+    let mut c = count;
+    let mut k = 0;
+    while k < calls {
+        let asked = call_at(words, k);
+        let m = Maker {
+            number: asked.number,
+            rating: asked.rating,
+        };
+        let answer = apply(&mut *list, c, asked.kind, m);
+        note(&mut *outcomes, k, answer.refusal);
+        c = answer.count;
+        k += 1;
+    }
+    Ran {
+        count: c,
+        fits: ready.fits,
+    }
+}
