@@ -476,8 +476,8 @@ module _ {M : Type 1} (𝓤 : URA M) (H : Heap 𝓤) (A : Atoms 𝓤) (W : Given
       move ! (2 ∷ []) $ use1 W (‵ (ShrSlice (named 1) κ₁ u32 .own xw (sw ∷ [])) ⊛ ‵ (ShrSlice (named 1) κ₁ u32 .own xw (sw ∷ []))) (shr-slice-copy 𝓤 H A W (named 1) κ₁ u32 .twice xw (sw ∷ [])) $ split ! $ move ! (4 ∷ 0 ∷ []) $ use2 W (raw (Ready′ 𝓤 H A mem run .pre to-ready)) goes-ready $
       calls-at ! (fmOf 𝓤 H (W .laws) 𝓣) (Ready′ 𝓤 H A mem run) known-ready to-ready (and-then ! (load ! (from ! (stop !)) (look ! 36 refl)) (and-then ! (load ! (from ! (stop !)) (look ! 18 refl)) (no-more !))) (λ w.
       use1 W (later (some (λ (r : Ready). ((‵ (flft κ₁ q₁) ⊛ ‵ ftrue) ⊛ ‵ (Y.the-row .own r (w ∷ []))) ⊛ raw (ensured 𝓤 H A ready.ended (ready.clauses 𝓤 H A mem run) (κ₁, tt) (xw, (length os, tt)) tt r)))) (id⊢ 𝓤 _) $ await ! tt $ pick ! (λ r.
-        split ! $ move ! (1 ∷ []) $ use1 W (raw (fact 𝓤 (r ≡ rd))) (said-ready r) $ heard ! (r ≡ rd) (λ e.
-        split ! $ move ! (1 ∷ []) $ peeks ! Y.the-row (Is Y.the-row) (shows 𝓤 H A Y.the-row) r (w ∷ []) (λ is.
+      split ! $ move ! (1 ∷ []) $ use1 W (raw (fact 𝓤 (r ≡ rd))) (said-ready r) $ heard ! (r ≡ rd) (λ e.
+      split ! $ move ! (1 ∷ []) $ peeks ! Y.the-row (Is Y.the-row) (shows 𝓤 H A Y.the-row) r (w ∷ []) (λ is.
       land ! (from ! (stop !)) (init ! 33 refl (LL.lawful Y.the-type Y′.the-laws 𝓤 H A W .typed r _ is .0)) $ rewrite ! 33 (λ (u : Val). ‵ (fat fullShare readyTy l₅ 0 u)) (ap only (LL.tells Y.the-type Y′.the-laws r _ is)) refl $
       rewrite ! 33 (λ (u : Ready). ‵ (fat fullShare readyTy l₅ 0 (ready-mach u))) e refl $ drop ! $ split ! $ move ! (1 ∷ []) $ drop ! $ move ! (2 ∷ 3 ∷ 1 ∷ 0 ∷ []) $
       assigns ! (of-opd ! (load ! (from ! (fld ! refl (stop !))) (look-in ! 32 (sub ! 0 refl (whole !))))) (from ! (stop !)) (init ! 30 refl (tt, record { fits = rd-fits })) $ rewrite ! 30 (λ (u : ℕ). ‵ (fat fullShare word l₆ 0 (vint w64 u))) calls-are refl $
