@@ -12,6 +12,8 @@ use rules::SessionAnswer;
 use rules::Side;
 use rules::Steps;
 
+mod maker_calls; // maker_calls.rt: standing of makers
+
 fn text(bytes: &[u8]) {
     io::write_all(STDOUT_FILENO, bytes);
 }
@@ -254,6 +256,9 @@ fn run_case(input: &[u8]) -> bool {
     if kind == 3 {
         record_case(&input[4..]);
         return true;
+    }
+    if kind == 7 {
+        return maker_calls::standing_case(input);
     }
     false
 }
