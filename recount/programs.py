@@ -2,7 +2,7 @@
 
 import struct
 
-from recount import records, session
+from recount import records, session, standing
 from recount.book import (
     BUY, SELL, Accepted, Add, Amend, Cancel, CellView, Charge, Close, Deal, Drop, Look, Open,
     Refused, Report, Tick, Withdraw, Book, choose,
@@ -163,6 +163,8 @@ def probe(data):
         out = probe_row(words, data)
     elif words[:1] == [3]:
         out = probe_record(data[4:])
+    elif words[:1] == [7]:
+        out = standing.probe(words, data)
     else:
         out = None
     return lines(["bad case"] if out is None else out)

@@ -6,7 +6,7 @@ whole list of events; millisecond by millisecond in one walk; and from event to 
 
 import random
 
-from recount import programs, records, session
+from recount import programs, records, session, standing
 from recount.book import (
     BUY, SELL, Accepted, Add, Amend, Book, Cancel, Cell, Charge, Close, Deal, Look, Open, Order,
     Refused, Report, Row, Tick, Withdraw, best_ask, best_bid, choose, fee, keeps, kept_time,
@@ -243,6 +243,7 @@ def main():
     check_quotes(rng, 2_000)
     check_records(rng, 2_000)
     check_reports()
+    standing.check()
     check_counting(rng, 400, 40)
     print("recount: agrees with the paper's checks and with itself")
     return 0
