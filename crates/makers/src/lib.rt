@@ -68,7 +68,7 @@ pub fn look_at(s: Seen, i: usize, r: Maker, m: Maker) -> Seen
         };
     }
     Seen {
-        clear: false,
+        clear: false, // out of order
         present: s.present,
         at: s.at,
         above: s.above,
@@ -167,7 +167,7 @@ fn moves(kind: u32, count: usize, s: Seen) -> Plan
     if kind == 2 {
         return Plan {
             from: s.at,
-            to: s.above,
+            to: s.above, // among the other makers
             count,
             refusal: 0,
         };
