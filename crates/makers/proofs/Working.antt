@@ -9,6 +9,7 @@ use lib.ListN.{length, take, drop, take-append-drop, length-append}
 use lib.Seq.{take-append-le, drop-append-le, length-take-le}
 use borrow.Author.Tests.{ltb-true, ltb-false, le-ltb, lt-ltb, leb-false, eqb-true, eqb-false, eq-eqb, ne-eqb, not-false}
 use Rattle.rules.specs.Lists.{if_then_else_, keep, howMany}
+use Rattle.rules.specs.Answers.{outcomeBy}
 use Rattle.rules.specs.Book.{Cause, cause, lowest}
 use Rattle.rules.proofs.Lists.{both}
 use Rattle.rules.proofs.Members.{or-false}
@@ -18,7 +19,7 @@ use Rattle.makers.specs.declared.Seen.{Seen}
 use Rattle.makers.specs.declared.Plan.{Plan}
 use Rattle.makers.specs.declared.Answer.{Answer}
 use Rattle.makers.specs.Order.{above, sorted, isOf, present, once}
-use Rattle.makers.specs.Calls.{Standing, standing, used, Call, Join, Change, Leave, wrong, causes, refusalOf, placed, without, left, changed, step, answerOf}
+use Rattle.makers.specs.Calls.{Standing, standing, used, Call, Join, Change, Leave, wrong, causes, refusalOf, placed, without, left, changed, step, answerOf, shown}
 use Rattle.makers.specs.Moves.{seenIn, soundIn, removed, inserted, shifted, callOf, judged, planned}
 use Rattle.makers.proofs.Placing.{many-keep, many-le, inserted-append, inserted-between, placed-at, without-absent, sorted-without, length-without}
 use Rattle.makers.proofs.Seeing.{Found, found, othersAbove, Place, place, sound-is, above-le}
@@ -208,6 +209,11 @@ pub answered : (l : List Maker) (c : ℕ) (call : Call) (m : Maker) (p : Plan) �
     → _≡_ {A = Answer} (record { count = p .count; refusal = p .refusal }) (answerOf (standing l c) call)
 unfolding answerOf
 answered l c call m p w = λ i. record { count = w .count i; refusal = w .refusal i }
+
+-- the answer shows the new count, or the refusal's number
+pub shown-answer : (s : Standing) (call : Call) → shown (answerOf s call) ≡ outcomeBy (refusalOf s call) (step s call .count)
+unfolding answerOf
+shown-answer s call = refl
 
 -- the refusals of records that are wrong
 wrong-refused : (s : Standing) (call : Call) → wrong s ≡ true → refusalOf s call ≡ 23

@@ -14,9 +14,9 @@ use makers::Maker;
 use makers::Seen;
 
 // How many calls a list of words has, and whether it is a list of calls.
-pub struct Measured {
-    pub calls: usize,
-    pub whole: bool,
+struct Measured {
+    calls: usize,
+    whole: bool,
 }
 
 // What a list of calls hands back: the count, and whether it ran.
@@ -157,7 +157,7 @@ pub fn is_call(kind: u32, rating: u32) -> bool
 }
 
 // The calls from the first on, as far as they are whole: the list is one where nothing is left.
-pub fn measure(words: &[u32]) -> Measured
+fn measure(words: &[u32]) -> Measured
     ensures { λ r. ⌜ r ≡ measured (now (words .entry)) ⌝ }
 {
     let mut calls: usize = 0;
