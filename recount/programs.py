@@ -2,7 +2,7 @@
 
 import struct
 
-from recount import game, records, session, volatile
+from recount import game, records, session, standing, volatile
 from recount.book import (
     BUY, SELL, Accepted, Add, Amend, Cancel, CellView, Charge, Close, Deal, Drop, Look, Open,
     Refused, Report, Tick, Withdraw, Book, choose,
@@ -167,6 +167,8 @@ def probe(data):
         out = game.probe(words, data)
     elif words[:1] in ([5], [6], [12]):
         out = volatile.probe(words, data)
+    elif words[:1] == [7]:
+        out = standing.probe(words, data)
     else:
         out = None
     return lines(["bad case"] if out is None else out)

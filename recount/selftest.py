@@ -6,7 +6,7 @@ whole list of events; millisecond by millisecond in one walk; and from event to 
 
 import random
 
-from recount import game, programs, records, session, volatile
+from recount import game, programs, records, session, standing, volatile
 from recount.book import (
     BUY, SELL, Accepted, Add, Amend, Book, Cancel, Cell, Charge, Close, Deal, Look, Open, Order,
     Refused, Report, Row, Tick, Withdraw, best_ask, best_bid, choose, fee, keeps, kept_time,
@@ -245,6 +245,7 @@ def main():
     check_reports()
     game.check()
     volatile.selftest()
+    standing.check()
     check_counting(rng, 400, 40)
     print("recount: agrees with the paper's checks and with itself")
     return 0

@@ -4,6 +4,7 @@ ghost use Prim.Native.Nat.{_+_, _*_, _≤_};
 ghost use lib.ListN.{length};
 
 mod days;
+mod maker_calls;
 mod safe;
 
 use libc::STDIN_FILENO;
@@ -15,6 +16,7 @@ use rules::RecordRead;
 use rules::SessionAnswer;
 use rules::Side;
 use rules::Steps;
+
 
 fn text(bytes: &[u8]) {
     io::write_all(STDOUT_FILENO, bytes);
@@ -264,6 +266,9 @@ fn run_case(input: &[u8]) -> bool {
     }
     if days::is_kind(kind) {
         return days::case(kind, input);
+    }
+    if kind == 7 {
+        return maker_calls::standing_case(input);
     }
     false
 }

@@ -1,0 +1,20 @@
+-- `makers::toward` meets its contract. Assumes nothing.
+use borrow.Author.Needs.{needs}
+use borrow.Author.Tests.{lt-ltb, le-ltb}
+use Rattle.makers.proofs.toward.Statement.{statement}
+use Rattle.makers.proofs.toward.Tie as tie
+
+add-result : tie.Need-add-result
+add-result c = search needs
+
+returns : tie.Need-returns
+returns c = simp (lt-ltb _ _ (c .if1 .taken))
+
+sub-result : tie.Need-sub-result
+sub-result c = search needs
+
+returns-2 : tie.Need-returns-2
+returns-2 c = simp (le-ltb _ _ (c .if1 .left))
+
+pub toward-spec : {M : Type 1} → statement M
+toward-spec = tie.close (tie.spec add-result returns sub-result returns-2)

@@ -1,0 +1,4 @@
+pub mod Again
+pub mod Reading
+pub mod Running
+pub mod Afresh

@@ -1,0 +1,88 @@
+-- `standing::measure` meets its contract. The loop's invariant: so many calls came before the place, and what is left decides the rest.
+-- Assumes nothing.
+use Prim.Native.Nat.{_-_}
+use native.Mathlib.Omega.{arith}
+use borrow.Author.Needs.{needs}
+use mathlib.Core.Path.{sym, _∙_}
+use lib.ListN.{length}
+use borrow.Author.Tests.{not-true, not-false}
+use Rattle.standing.proofs.Reading.{Upto, upto-start, upto-next, upto-bad, upto-end}
+use Rattle.standing.proofs.measure.Statement.{statement}
+use Rattle.standing.proofs.measure.Tie as tie
+use Rattle.standing.proofs.measure.Reads as reads
+use Rattle.standing.proofs.measure.Lts as lts
+use Rattle.standing.proofs.is_call.Reads as is-call-reads
+
+abbrev Inv-loop : tie.InvT-loop
+Inv-loop words calls₀ at₀ calls at = Upto words calls at
+
+abbrev μ-loop : tie.MeasureT-loop
+μ-loop words calls₀ at₀ calls at = length words - at
+
+loop-holds : tie.Need-loop-holds Inv-loop μ-loop
+loop-holds c = upto-start _
+
+add-loop : tie.Need-add-loop Inv-loop μ-loop
+add-loop c = search needs
+
+mul-is-call : tie.Need-mul-is-call Inv-loop μ-loop
+mul-is-call c = search needs
+
+shared-slice-read-is-call : tie.Need-shared-slice-read-is-call Inv-loop μ-loop
+shared-slice-read-is-call c = search needs
+
+add-is-call : tie.Need-add-is-call Inv-loop μ-loop
+add-is-call c = search needs
+
+mul-is-call-2 : tie.Need-mul-is-call-2 Inv-loop μ-loop
+mul-is-call-2 c = search needs
+
+shared-slice-read-is-call-2 : tie.Need-shared-slice-read-is-call-2 Inv-loop μ-loop
+shared-slice-read-is-call-2 c = search needs
+
+is-call-requires : tie.Need-is-call-requires Inv-loop μ-loop
+is-call-requires c κs = search needs
+
+returns : tie.Need-returns Inv-loop μ-loop
+returns c =
+    upto-bad (c .before .before .before .before .before .before .before .args .words .now) (c .before .before .before .before .before .loop .calls) (c .before .before .before .before .before .loop .at) (c .before .before .before .before .before .loop .inv) (c .before .before .before .before .loop-test .taken)
+    (sym (c .before .is-call .ensures) ∙ not-true (c .before .is-call .result) (c .if1 .taken))
+
+add-calls : tie.Need-add-calls Inv-loop μ-loop
+add-calls c = search needs
+
+add-at : tie.Need-add-at Inv-loop μ-loop
+add-at c = search needs
+
+loop-less : tie.Need-loop-less Inv-loop μ-loop
+loop-less c = search needs
+
+loop-again : tie.Need-loop-again Inv-loop μ-loop
+loop-again c =
+    upto-next (c .before .before .before .before .before .before .before .args .words .now) (c .before .before .before .before .before .loop .calls) (c .before .before .before .before .before .loop .at) (c .before .before .before .before .before .loop .inv) (c .before .before .before .before .loop-test .taken)
+    (sym (c .before .is-call .ensures) ∙ not-false (c .before .is-call .result) (c .if1 .left))
+
+returns-2 : tie.Need-returns-2 Inv-loop μ-loop
+returns-2 c =
+    upto-end (c .before .before .before .args .words .now) (c .before .loop .calls) (c .before .loop .at) (c .before .loop .inv) (c .loop-test .left)
+
+pub measure-spec : {M : Type 1} → statement M
+measure-spec =
+    tie.close
+    (tie.spec
+    Inv-loop
+    μ-loop
+    loop-holds
+    add-loop
+    mul-is-call
+    shared-slice-read-is-call
+    add-is-call
+    mul-is-call-2
+    shared-slice-read-is-call-2
+    is-call-requires
+    returns
+    add-calls
+    add-at
+    loop-less
+    loop-again
+    returns-2)

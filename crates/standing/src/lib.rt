@@ -1,0 +1,246 @@
+// The standing of makers in a lent list of records with a count of those used: join, change and leave. Every function here that takes
+// the records is proved by a walk of its code, by hand; the work on records by value is in `makers`.
+ghost use mathlib.Core.Path.{_≡_};
+ghost use mathlib.Core.Bool.{Bool, true, _&&_};
+ghost use Prim.Native.Nat.{ℕ, _+_, _*_, _≤_, _<_};
+ghost use lib.Dec.{leb};
+ghost use lib.ListN.{length, set};
+ghost use Rattle.makers.specs.Calls.{Join, Change, Leave, standing, step, answerOf};
+ghost use Rattle.makers.specs.Moves.{seenIn, soundIn, shifted, callOf};
+ghost use Rattle.standing.specs.Words.{isCall, measured, askedAt, readyOf};
+ghost use Rattle.standing.specs.Runs.{Runs};
+use makers::Answer;
+use makers::Maker;
+use makers::Seen;
+
+// How many calls a list of words has, and whether it is a list of calls.
+struct Measured {
+    calls: usize,
+    whole: bool,
+}
+
+// What a list of calls hands back: the count, and whether it ran.
+pub struct Ran {
+    pub count: usize,
+    pub fits: bool,
+}
+
+// How many calls run, all or none.
+struct Ready {
+    calls: usize,
+    fits: bool,
+}
+
+// The three words of a call.
+struct Asked {
+    kind: u32,
+    number: u32,
+    rating: u32,
+}
+
+// What is found of `m` among the first records. The list is lent as one that may change, and is left as it was: so a caller lends its
+// own again by one rule.
+fn scan(list: &mut [Maker], upto: usize, m: Maker) -> Seen
+    requires { ⌜ upto ≤ length (now list) ⌝ }
+    ensures { λ r. ⌜ (r ≡ seenIn (now (list .entry)) m upto) × (now (list .exit) ≡ now (list .entry)) ⌝ }
+{
+    let mut s = Seen {
+        clear: true,
+        present: false,
+        at: 0,
+        above: 0,
+    };
+    let mut i = 0;
+    while i < upto {
+        let r = list[i];
+        s = makers::look_at(s, i, r, m);
+        i += 1;
+    }
+    s
+}
+
+// The record at `from` is taken out, those between move by one place, and `m` stands at `to`.
+fn shift(list: &mut [Maker], from: usize, to: usize, m: Maker)
+    requires { ⌜ (from < length (now list)) × (to < length (now list)) ⌝ }
+    ensures { λ r. ⌜ now (list .exit) ≡ shifted (now (list .entry)) from to m ⌝ }
+{
+    let mut i = from;
+    while i != to {
+        let next = makers::toward(i, to);
+        list[i] = list[next];
+        i = next;
+    }
+    list[to] = m;
+}
+
+// Whether each of the first records stands behind all before it, no maker twice. That cannot be seen from neighbours: each pair is looked
+// at.
+fn sound(list: &mut [Maker], count: usize) -> bool
+    requires { ⌜ count ≤ length (now list) ⌝ }
+    ensures { λ r. ⌜ (r ≡ soundIn (now (list .entry)) count) × (now (list .exit) ≡ now (list .entry)) ⌝ }
+{
+    let mut good = true;
+    let mut j = 0;
+    while j < count {
+        let m = list[j];
+        let seen = scan(&mut *list, j, m);
+        good = makers::both(good, seen.clear);
+        j += 1;
+    }
+    good
+}
+
+// One call of a kind, 1 join, 2 change, any other leave: the used records are looked through, the answer and the move are decided, and
+// where it is not refused the record moves.
+fn apply(list: &mut [Maker], count: usize, kind: u32, m: Maker) -> Answer
+    requires { ⌜ ((kind ≡ 1 → ⊥) → (kind ≡ 2 → ⊥) → m .rating ≡ 0) ⌝ }
+    ensures { λ r. ⌜ (r ≡ answerOf (standing (now (list .entry)) count) (callOf kind m)) × (now (list .exit) ≡ step (standing (now (list .entry)) count) (callOf kind m) .records) ⌝ }
+{
+    let size = list.len();
+    let n = makers::lesser(count, size);
+    let good = sound(&mut *list, n);
+    let seen = scan(&mut *list, n, m);
+    let p = makers::decide(kind, size, count, good, seen);
+    if p.refusal != 0 {
+        return Answer {
+            count: p.count,
+            refusal: p.refusal,
+        };
+    }
+    let from = p.from;
+    let to = p.to;
+    shift(&mut *list, from, to, m);
+    Answer {
+        count: p.count,
+        refusal: p.refusal,
+    }
+}
+
+// A maker joins with a rating.
+pub fn join(list: &mut [Maker], count: usize, m: Maker) -> Answer
+    ensures { λ r. ⌜ (r ≡ answerOf (standing (now (list .entry)) count) (Join m)) × (now (list .exit) ≡ step (standing (now (list .entry)) count) (Join m) .records) ⌝ }
+{
+    apply(&mut *list, count, 1, m)
+}
+
+// A maker's rating becomes another.
+pub fn change(list: &mut [Maker], count: usize, m: Maker) -> Answer
+    ensures { λ r. ⌜ (r ≡ answerOf (standing (now (list .entry)) count) (Change m)) × (now (list .exit) ≡ step (standing (now (list .entry)) count) (Change m) .records) ⌝ }
+{
+    apply(&mut *list, count, 2, m)
+}
+
+// A maker leaves.
+pub fn leave(list: &mut [Maker], count: usize, number: u32) -> Answer
+    ensures { λ r. ⌜ (r ≡ answerOf (standing (now (list .entry)) count) (Leave number)) × (now (list .exit) ≡ step (standing (now (list .entry)) count) (Leave number) .records) ⌝ }
+{
+    let m = Maker { number, rating: 0 };
+    apply(&mut *list, count, 3, m)
+}
+
+// ---- a list of calls, as words
+
+// Whether a kind and a rating are a call's.
+pub fn is_call(kind: u32, rating: u32) -> bool
+    ensures { λ r. ⌜ r ≡ isCall kind rating ⌝ }
+{
+    if kind == 1 {
+        return true;
+    }
+    if kind == 2 {
+        return true;
+    }
+    if kind == 3 {
+        return rating == 0;
+    }
+    false
+}
+
+// The calls from the first on, as far as they are whole: the list is one where nothing is left.
+fn measure(words: &[u32]) -> Measured
+    ensures { λ r. ⌜ r ≡ measured (now (words .entry)) ⌝ }
+{
+    let mut calls: usize = 0;
+    let mut at: usize = 0;
+    while at + 3 <= words.len() {
+        if !is_call(words[at], words[at + 2]) {
+            return Measured {
+                calls,
+                whole: false,
+            };
+        }
+        calls += 1;
+        at += 3;
+    }
+    Measured {
+        calls,
+        whole: at == words.len(),
+    }
+}
+
+// Whether a list of calls can run, with a word for each outcome.
+fn make_ready(words: &[u32], room: usize) -> Ready
+    ensures { λ r. ⌜ r ≡ readyOf (now (words .entry)) room ⌝ }
+{
+    let m = measure(words);
+    if !m.whole {
+        return Ready {
+            calls: 0,
+            fits: false,
+        };
+    }
+    if room < m.calls {
+        return Ready {
+            calls: 0,
+            fits: false,
+        };
+    }
+    Ready {
+        calls: m.calls,
+        fits: true,
+    }
+}
+
+fn call_at(words: &[u32], k: usize) -> Asked
+    requires { ⌜ 3 * k + 2 < length (now words) ⌝ }
+    ensures { λ r. ⌜ r ≡ askedAt (now (words .entry)) k ⌝ }
+{
+    Asked {
+        kind: words[3 * k],
+        number: words[3 * k + 1],
+        rating: words[3 * k + 2],
+    }
+}
+
+fn note(outcomes: &mut [u32], k: usize, n: u32)
+    requires { ⌜ k < length (now outcomes) ⌝ }
+    ensures { λ r. ⌜ now (outcomes .exit) ≡ set (now (outcomes .entry)) k n ⌝ }
+{
+    outcomes[k] = n;
+}
+
+// Runs a list of calls, each on the records and the count that the one before left, and writes each call's outcome, 0 or the refusal's
+// number. All run, or none where the words are no list of calls or the outcomes do not fit.
+pub fn run(list: &mut [Maker], count: usize, words: &[u32], outcomes: &mut [u32]) -> Ran
+    ensures { λ r. ⌜ Runs (now (words .entry)) (standing (now (list .entry)) count) (now (outcomes .entry)) (now (list .exit)) (now (outcomes .exit)) r ⌝ }
+{
+    let ready = make_ready(words, outcomes.len());
+    let calls = ready.calls;
+    let mut c = count;
+    let mut k = 0;
+    while k < calls {
+        let asked = call_at(words, k);
+        let m = Maker {
+            number: asked.number,
+            rating: asked.rating,
+        };
+        let answer = apply(&mut *list, c, asked.kind, m);
+        note(&mut *outcomes, k, answer.refusal);
+        c = answer.count;
+        k += 1;
+    }
+    Ran {
+        count: c,
+        fits: ready.fits,
+    }
+}
