@@ -1,5 +1,5 @@
--- Document 01, "Checks on paper": C1 to C12 and the unmarked ones, and those with D = 0 and D = -1 that document 02, W2, joins to them,
--- each with what the definitions give and what the paper prints. That the two agree is proved once, over the list, in proofs/Checks.
+-- Document 01, "Checks on paper": C1 to C12 and the unmarked ones, the one with D = 0 that document 02, W2, joins to them, and one with
+-- D = -1, each with what the definitions give and what the paper prints. That the two agree is proved once, over the list, in proofs/Checks.
 use Prim.Native.Nat.{ℕ, _+_}
 use mathlib.Core.List.{List, [], _∷_, _++_, map}
 use mathlib.Core.Bool.{Bool, true, false}
