@@ -135,15 +135,15 @@ def best_ask(live, least):
 
 
 def within(row, sp, bid, ask):
-    """Both quotes exist, and the spread is at most a share of SP or a number of steps."""
+    """Both quotes exist, and the spread is 1 or more and at most a share of SP or a number of steps."""
     if bid is None or ask is None:
         return False
     gap = ask - bid
-    return gap * 100_000 <= row.a * sp or gap <= row.b
+    return gap >= 1 and (gap * 100_000 <= row.a * sp or gap <= row.b)
 
 
 def widest(row, sp):
-    """The greatest spread that is within, as one number; the rest goes by `within` alone."""
+    """The greatest spread that is within, as one number, 0 where none is; the rest goes by `within`."""
     return max(row.b, row.a * max(sp, 0) // 100_000)
 
 

@@ -49,7 +49,9 @@ def check_paper():
     for sp in (-5, 0, 1_999, 2_000, 2_999, 10**9):
         for wide_row in (row, row._replace(a=0), row._replace(b=0), row._replace(a=100_000)):
             wide = widest(wide_row, sp)
-            assert within(wide_row, sp, 0, wide) and not within(wide_row, sp, 0, wide + 1)
+            assert within(wide_row, sp, 0, wide) == (wide > 0) and not within(wide_row, sp, 0, wide + 1)
+            # Document 02, W2: D = 0 and D = -1 keep nothing, whatever a, b and SP.
+            assert not within(wide_row, sp, 100, 100) and not within(wide_row, sp, 100, 99)
     # C6 to C10: weights with p 60 and L 31,500,000.
     for kept, due in [
         (18_899_999, 0), (18_900_000, 10_000), (22_050_000, 10_312),
@@ -147,7 +149,7 @@ def random_events(rng, book):
     t = 0
     for _ in range(rng.randrange(40)):
         t = min(row.length, t + rng.choice([0, 0, 1, 1, 2, rng.randrange(200)]))
-        id, price = rng.randrange(8), rng.randrange(90, 111)
+        id, price = rng.randrange(8), rng.randrange(98, 103)
         volume = rng.choice([1, 2, 3, 5, 8])
         call = rng.choice([
             Add(t, id, BUY, price - 3, volume), Add(t, id, SELL, price + 3, volume),

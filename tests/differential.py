@@ -8,9 +8,10 @@
     --seconds S        stop making new cases after so long
     --only NAME        replay, sheet, probe or ccall
 
-It fails where an answer differs, where a refusal number was never met or something else that the
-cases are to show never showed, and where fewer than a third of the accepted sessions have kept
-time. A case that differs is made smaller and written to target/differential/.
+It fails where an answer differs, where a refusal number, a locked or a crossed quote was never met
+or something else that the cases are to show never showed, and where fewer than a third of the
+accepted sessions have kept time. A case that differs is made smaller and written to
+target/differential/.
 """
 
 import argparse
@@ -29,7 +30,7 @@ sys.path.insert(0, str(ROOT))
 from recount import book, programs, records
 from recount import session as run
 from recount.book import BUY, SELL, Add, Cancel, Tick
-from tests import generate, known, months
+from tests import crossed, generate, known, months
 from tools import calls as calls_text
 from tools import session as session_text
 
@@ -408,7 +409,7 @@ class Tally:
         self.reached = Counter()  # refusals, by the random cases alone
         self.accepted = self.with_time = 0
 
-    def count(self, program, name, answer):
+    def count(self, program, name, answer, quotes):
         self.cases += 1
         self.generators[name] += 1
         refused = set(program.refusals_in(answer))  # cases that met it
@@ -419,6 +420,8 @@ class Tally:
             sight for sight, pattern in program.sights.items() if re.search(pattern, answer, re.M)
         )
         kept = program.kept_in(answer)
+        if kept and name != "special":
+            self.seen.update(quotes)
         self.accepted += len(kept)
         self.with_time += sum(1 for k in kept if k > 0)
 
@@ -452,11 +455,12 @@ def test(program, seed, count, until):
     for batch in batches(named_cases(program, seed, count), 200 if program.name == "ccall" else 1):
         answers = program.actual_many([data for _, _, data in batch])
         for (label, name, data), actual in zip(batch, answers):
-            expected = program.expected(data)
+            with crossed.noted() as quotes:
+                expected = program.expected(data)
             if actual != expected:
                 write_failure(program, data, label)
                 return None
-            tally.count(program, name, expected)
+            tally.count(program, name, expected, quotes)
         if time.monotonic() > until and name != "special":
             print(f"{program.name}: time is up after {tally.cases} cases")
             break
@@ -474,7 +478,7 @@ def complaints(program, tally, count):
     never = [number for number in program.refusals if not reached[number]]
     if never:
         yield f"{program.name}: never refused by {', '.join(map(str, never))}"
-    for sight in program.sights:
+    for sight in (*program.sights, *crossed.SIGHTS):
         if not tally.seen[sight]:
             yield f"{program.name}: no case with {sight}"
     if 3 * tally.with_time < tally.accepted:

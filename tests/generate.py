@@ -46,6 +46,11 @@ def programme_row(rng):
     return Row(*rng.choice(PROGRAMMES))
 
 
+def keeping_a_step(row):
+    """The row with b 1 or more: it keeps a spread of one step, whatever SP."""
+    return row._replace(b=max(1, row.b))
+
+
 def any_sp(rng):
     if rng.random() < 0.1:
         return rng.choice([0, -5, -2_000, -rng.randrange(200_000)])
@@ -135,8 +140,8 @@ class Scene:
         return clamp(price, -PRICE_LIMIT, PRICE_LIMIT)
 
     def near_price(self, side):
-        """A price that keeps with the other side's best quote, where there is one."""
-        gap = self.rng.randrange(self.wide + 1)
+        """A price that keeps with the other side's best quote, where there is one and any keeps."""
+        gap = self.rng.randrange(1, max(1, self.wide) + 1)
         if side == BUY:
             other = best_ask(self.live, self.row.least)
             price = self.middle if other is None else other - gap
@@ -386,6 +391,24 @@ def becomes_best(head, data):
     return False
 
 
+def feed_gap(rng):
+    """The end of an order is missed: the maker's bid stands at or above his own ask, then parts from it."""
+    row, sp = keeping_a_step(rng.choice([short_row, long_row, programme_row])(rng)), any_sp(rng)
+    s = scene(rng, row, sp, 40)
+    s.quote()
+    for _ in range(rng.randrange(1, 20)):
+        side = rng.choice([BUY, SELL])
+        quote = (best_ask if side == BUY else best_bid)(s.live, row.least)
+        order = s.some(side)
+        if order is None or quote is None:
+            s.mend()
+            continue
+        over = rng.choice([0, 0, 1, -1, -1, rng.randrange(50)])  # 0 locks, above it crosses
+        price = clamp(quote + (over if side == BUY else -over), -PRICE_LIMIT, PRICE_LIMIT)
+        s.send(Amend(s.later(), order.id, price, row.least))
+    return session(row, sp, s.calls)
+
+
 def equal_prices(rng):
     """Few prices, parts that add up to M or to one less."""
     row, sp = short_row(rng), any_sp(rng)
@@ -436,7 +459,7 @@ def at_limits(rng):
 
 def at_verdict(rng):
     """K planned to stand at, or a millisecond beside, the share or a step of the weight."""
-    row = rng.choice([short_row, long_row, programme_row])(rng)
+    row = keeping_a_step(rng.choice([short_row, long_row, programme_row])(rng))
     wanted = rng.choice([
         -(-row.share * row.length // 100),
         -(-row.share * row.length // 100),
@@ -446,7 +469,7 @@ def at_verdict(rng):
     kept = clamp(wanted + rng.choice([0, -1, -1, 1]), 0, row.length)
     start = rng.randrange(row.length - kept + 1)
     events = [
-        Add(start, 1, BUY, 100, row.least), Add(start, 2, SELL, 100, row.least),
+        Add(start, 1, BUY, 100, row.least), Add(start, 2, SELL, 101, row.least),
         Cancel(start + kept, rng.choice([1, 2])),
     ]
     return session(row, any_sp(rng), events)
@@ -454,10 +477,10 @@ def at_verdict(rng):
 
 def many_pairs(rng, count=None):
     """A sell comes and goes: a pair for every two records, joined where it comes back at once."""
-    row = rng.choice([short_row, long_row])(rng)
+    row = keeping_a_step(rng.choice([short_row, long_row])(rng))
     count = rng.choice([10, 50, 200]) if count is None else count
     steps = sorted(rng.sample(range(row.length), min(row.length, count)))
-    here, there = Add(steps[0], 8, SELL, 100, row.least), False
+    here, there = Add(steps[0], 8, SELL, 101, row.least), False
     events = [Add(steps[0], 7, BUY, 100, row.least)]
     for t in steps:
         if not there:
@@ -524,7 +547,7 @@ def noise(rng):
 
 SESSIONS = [
     (quoting, 6), (long_quantum, 4), (programme, 4), (refused_event, 5), (full_table, 2),
-    (far_behind, 5), (equal_prices, 2), (at_limits, 3), (at_verdict, 4), (many_pairs, 2),
+    (far_behind, 5), (equal_prices, 2), (at_limits, 3), (at_verdict, 4), (many_pairs, 2), (feed_gap, 2),
     (bad_head, 2), (damaged, 3), (cut, 2), (noise, 1),
 ]
 

@@ -45,8 +45,9 @@ PAPER_KEPT = [18_899_999, 18_900_000, 22_050_000, 25_199_999, 25_200_000]  # C6 
 
 
 def paper_sessions():
-    """C4 to C10 as sessions, and a long quantum kept for most of its time."""
-    for sp, gap in ((2_000, 2), (2_000, 3), (1_999, 2), (1_999, 1), (-5, 1), (-5, 2)):
+    """C4 to C10 as sessions, a locked and a crossed quote, and a long quantum kept for most of its time."""
+    spreads = (2_000, 2), (2_000, 3), (1_999, 2), (1_999, 1), (-5, 1), (-5, 2), (2_000, 0), (2_000, -1)
+    for sp, gap in spreads:
         yield session(MAIN_ROW, sp, [Add(0, 1, BUY, 99, 500), Add(0, 2, SELL, 99 + gap, 500)])
     for kept in PAPER_KEPT:
         yield session(MAIN_ROW, 2_000, kept_events(0, kept))

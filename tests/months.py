@@ -7,8 +7,8 @@ from recount.book import (
 )
 from recount.session import HEAD
 from tests.generate import (
-    WORD_END, Scene, amount, any_session, any_sp, fill, long_row, programme_row, short_row,
-    wrong_row_words,
+    WORD_END, Scene, amount, any_session, any_sp, fill, keeping_a_step, long_row, programme_row,
+    short_row, wrong_row_words,
 )
 
 
@@ -62,11 +62,12 @@ class Month:
         return self.send(Open(list(row), day, any_sp(self.rng)))
 
     def planned(self, day, row, kept, active, passive):
-        """A whole quantum with that kept time."""
+        """A whole quantum with that kept time, by a row that keeps a spread of one step."""
+        row = keeping_a_step(row)
         start = self.rng.randrange(row.length - kept + 1)
         self.open(row, day)
         self.send(Add(start, 1, BUY, 100, row.least))
-        self.send(Add(start, 2, SELL, 100, row.least))
+        self.send(Add(start, 2, SELL, 101, row.least))
         self.send(Cancel(start + kept, self.rng.choice([1, 2])))
         self.send(Close(active, passive))
 
@@ -138,7 +139,7 @@ def makers_month(rng):
 def failures(rng):
     """A series with 14 to 17 failed cells, then corrections around the fifteenth."""
     m = Month(rng)
-    row = short_row(rng)._replace(a=0, b=0)
+    row = short_row(rng)._replace(a=0, b=1)
     share = -(-row.share * row.length // 100)
     failed = rng.choice([14, 15, 15, 16, 16, 17])
     days = rng.sample(range(1, 32), 31)

@@ -144,7 +144,7 @@ fn key_of(s: usize, price: i32) -> u32 {
 }
 
 impl Meter {
-    /// Both quotes are there, and D × 100,000 ≤ a × SP or D ≤ b.
+    /// Both quotes are there, D is 1 or more, and D × 100,000 ≤ a × SP or D ≤ b.
     fn keeps(&self) -> bool {
         let [bid, ask] = [0, 1].map(|s: usize| self.sides[s].level.key as i64);
         let d = 2_000_000_002 - bid - ask;
@@ -153,7 +153,7 @@ impl Meter {
             self.terms.b as i64,
             self.terms.sp as i64,
         );
-        bid != 0 && ask != 0 && (d * 100_000 <= a * sp || d <= b)
+        bid != 0 && ask != 0 && d >= 1 && (d * 100_000 <= a * sp || d <= b)
     }
 
     fn run_on(&mut self, t: u32) {

@@ -291,7 +291,8 @@ impl Meter {
             self.levels[s] = settled(keys, volumes, level, least);
         }
         let (bid, ask) = (self.levels[0].key, self.levels[1].key);
-        self.keeps = (bid != NONE) & (ask != NONE) & (-(ask as i64) - bid as i64 <= self.limit);
+        let d = -(ask as i64) - bid as i64;
+        self.keeps = (bid != NONE) & (ask != NONE) & (1 <= d) & (d <= self.limit);
     }
 
     /// A slot for one order more; the level of a side that is no longer small is measured.
@@ -406,7 +407,7 @@ pub fn run(head: &[u8], records: &[u8]) -> u64 {
         Ok(terms) => terms,
         Err(number) => return refused(number, 0),
     };
-    // D × 100,000 ≤ a × SP or D ≤ b, as one limit of D.
+    // D × 100,000 ≤ a × SP or D ≤ b, as one limit of D; D is also 1 or more.
     let limit = (terms.a as i64 * terms.sp as i64).div_euclid(100_000);
     let none = Level {
         key: NONE,

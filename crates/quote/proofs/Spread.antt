@@ -34,16 +34,26 @@ negative zero b k =
 negative (suc d) b zero = rw (lt-leb (suc d * 100000) 0 (omega arith)) refl
 negative (suc d) b (suc k) = refl
 
-pub spread-law : (a b : ℕ) (sp d : ℤ) → leZ d (pos (limitOf a b sp)) ≡ spreadKeeps a b sp d
+-- at most the limit: at most a share of SP or a number of steps
+limit-law : (a b : ℕ) (sp d : ℤ) → leZ d (pos (limitOf a b sp)) ≡ leZ (d *ℤ pos 100000) (pos a *ℤ sp) || leZ d (pos b)
 unfolding limitOf
-spread-law a b sp (negsuc d) = sym (or-true (leZ (negsuc d *ℤ pos 100000) (pos a *ℤ sp)))
-spread-law a b (pos sp) (pos d) =
+limit-law a b sp (negsuc d) = sym (or-true (leZ (negsuc d *ℤ pos 100000) (pos a *ℤ sp)))
+limit-law a b (pos sp) (pos d) =
     either d b (a * sp / 100000) (leb (d * 100000) (a * sp))
     (λ e. le-div-iff-mul-le (omega arith) .1 (leb-true (d * 100000) (a * sp) e))
     (λ e. div-lt-iff-lt-mul (omega arith) .1 (leb-false (d * 100000) (a * sp) e))
-spread-law a b (negsuc sp) (pos d) =
+limit-law a b (negsuc sp) (pos d) =
     let only : max b (a * 0 / 100000) ≡ b = omega arith in
     ap (leb d) only ∙ negative d b (a * suc sp)
+
+pub spread-law : (a b : ℕ) (sp d : ℤ) → leZ (pos 1) d && leZ d (pos (limitOf a b sp)) ≡ spreadKeeps a b sp d
+spread-law a b sp d = ap (λ (t : Bool). leZ (pos 1) d && t) (limit-law a b sp d)
+
+-- 1 or more is not 0 or less
+one-or-more : (d : ℤ) → leZ (pos 1) d ≡ not (leZ d (pos 0))
+one-or-more (pos zero) = refl
+one-or-more (pos (suc d)) = le-leb 1 (suc d) (omega arith) ∙ ap not (sym (lt-leb (suc d) 0 (omega arith)))
+one-or-more (negsuc d) = refl
 
 -- ---- by keys
 
@@ -81,16 +91,29 @@ gap-keys (negsuc x) (negsuc y) l h k =
     difference-le (suc x) (suc y) l
     ∙ leb-by (suc x) (suc y + l) 2000000002 (1000000000 - x + (1000000002 + y) + l) (λ i. omega (arith, m, i)) (λ i. omega (arith, m, i))
 
+-- D is 1 or more: both keys come to less than 2,000,000,002
+gap-least : (bid ask : ℤ) → goodPrice bid ≡ true → goodPrice ask ≡ true
+    → leZ (pos 1) (gap bid ask) ≡ leb (keyOf Buy bid + keyOf Sell ask) 2000000001
+gap-least bid ask h k = one-or-more (gap bid ask) ∙ ap not (gap-keys bid ask 0 h k) ∙ go (keyOf Buy bid + keyOf Sell ask)
+  where
+    go : (n : ℕ) → not (leb 2000000002 (n + 0)) ≡ leb n 2000000001
+    go n = turn (leb 2000000002 (n + 0)) refl
+      where
+        turn : (t : Bool) → leb 2000000002 (n + 0) ≡ t → not t ≡ leb n 2000000001
+        turn true e = sym (lt-leb n 2000000001 (omega (arith, leb-true 2000000002 (n + 0) e)))
+        turn false e = sym (le-leb n 2000000001 (omega (arith, leb-false 2000000002 (n + 0) e)))
+
 pub keys-law : (a b : ℕ) (sp : ℤ) (bid ask : Quote) → GoodQuote bid → GoodQuote ask
     → keysKeep (limitOf a b sp) (quoteKey Buy bid) (quoteKey Sell ask) ≡ quotesKeep a b sp bid ask
 unfolding keysKeep quotesKeep
 keys-law a b sp Absent ask h k = refl
 keys-law a b sp (At bid) Absent h k = go (not (eqb (keyOf Buy (bid .0)) 0))
   where
-    go : (t : Bool) → t && false && leb 2000000002 (keyOf Buy (bid .0) + 0 + limitOf a b sp) ≡ false
+    go : (t : Bool) → t && false && leb (keyOf Buy (bid .0) + 0) 2000000001 && leb 2000000002 (keyOf Buy (bid .0) + 0 + limitOf a b sp) ≡ false
     go true = refl
     go false = refl
 keys-law a b sp (At bid) (At ask) h k =
     let there : eqb (keyOf Buy (bid .0)) 0 ≡ false = ne-eqb (keyOf Buy (bid .0)) 0 (λ e. omega (arith, e, key-least Buy (bid .0) h)) in
     let here : eqb (keyOf Sell (ask .0)) 0 ≡ false = ne-eqb (keyOf Sell (ask .0)) 0 (λ e. omega (arith, e, key-least Sell (ask .0) k)) in
-    rw (there, here) (sym (gap-keys (bid .0) (ask .0) (limitOf a b sp) h k) ∙ spread-law a b sp (gap (bid .0) (ask .0)))
+    rw (there, here, sym (gap-least (bid .0) (ask .0) h k), sym (gap-keys (bid .0) (ask .0) (limitOf a b sp) h k))
+    (spread-law a b sp (gap (bid .0) (ask .0)))

@@ -15,6 +15,6 @@ positivePart (negsuc n) = 0
 unfoldable pub limitOf : ℕ → ℕ → ℤ → ℕ
 limitOf a b sp = max b (a * positivePart sp / 100000)
 
--- two best keys of which both are there and whose D, 2,000,000,002 less both, is at most the limit
+-- two best keys of which both are there and whose D, 2,000,000,002 less both, is 1 or more and at most the limit
 unfoldable pub keysKeep : ℕ → ℕ → ℕ → Bool
-keysKeep limit bid ask = not (eqb bid 0) && not (eqb ask 0) && leb 2000000002 (bid + ask + limit)
+keysKeep limit bid ask = not (eqb bid 0) && not (eqb ask 0) && leb (bid + ask) 2000000001 && leb 2000000002 (bid + ask + limit)

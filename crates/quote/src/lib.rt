@@ -179,10 +179,12 @@ pub fn spread_limit(a: u32, b: u32, sp: Steps) -> u32
     part
 }
 
-// Whether two best keys keep the quote, 1 or 0: both are there, and D is at most the limit. D is 2,000,000,002 less both keys.
+// Whether two best keys keep the quote, 1 or 0: both are there, and D is 1 or more and at most the limit. D is 2,000,000,002 less
+// both keys.
 pub fn keys_keep(limit: u32, bid: u32, ask: u32) -> u32
     ensures { λ r. ⌜ r ≡ (if keysKeep limit bid ask then 1 else 0) ⌝ }
 {
     let there = (bid != 0) & (ask != 0);
-    (there & (2000000002 <= bid as u64 + ask as u64 + limit as u64)) as u32
+    let both = bid as u64 + ask as u64;
+    (there & (both <= 2000000001) & (2000000002 <= both + limit as u64)) as u32
 }

@@ -1,16 +1,22 @@
--- Laws of kept time: events at or before a millisecond are all seen at it, a later one is not. Assumes nothing.
-use Prim.Native.Nat.{ℕ, _+_, _-_, _≤_, _<_}
+-- Laws of kept time: events at or before a millisecond are all seen at it, a later one is not; a locked or crossed quote is never
+-- kept. Assumes nothing.
+use Prim.Native.Nat.{ℕ, zero, suc, _+_, _-_, _≤_, _<_}
 use native.Mathlib.Omega.{arith}
 use mathlib.Core.Path.{_≡_, refl, ap, _∙_}
 use mathlib.Core.List.{List, [], _∷_, _++_}
+use mathlib.Core.Bool.{true, false}
 use lib.Dec.{leb}
-use lib.IntN.{ℤ}
-use borrow.Author.Tests.{le-leb, lt-leb}
+use lib.IntN.{ℤ, pos, negsuc}
+use lib.Signed.{ltZ}
+use borrow.Author.Tests.{le-leb, lt-leb, ltb-true}
+use Rattle.rules.specs.declared.Steps.{Steps}
+use Rattle.rules.specs.declared.Quote.{Quote}
+use Rattle.rules.specs.declared.Quote.the-variants.{At}
 use Rattle.rules.specs.declared.Row.{Row}
 use Rattle.rules.specs.declared.Event.{Event}
 use Rattle.rules.specs.Lists.{if_then_else_, keep, count}
 use Rattle.rules.specs.Orders.{live, timeOf, timeFrom, present}
-use Rattle.rules.specs.Kept.{ordersKeep, upTo, keptAt, keptBelow}
+use Rattle.rules.specs.Kept.{gap, spreadKeeps, bestBid, bestAsk, quotesKeep, ordersKeep, upTo, keptAt, keptBelow}
 use Rattle.rules.specs.Bounds.{Ordered}
 use Rattle.rules.proofs.Counting.{count-ext, count-stretch, count-le}
 
@@ -62,6 +68,24 @@ pub upTo-snoc : (m : ℕ) (es : List Event) (e : Event) → m < timeOf e → upT
 unfolding upTo keep
 upTo-snoc m [] e h = rw (lt-leb (timeOf e) m h) refl
 upTo-snoc m (d ∷ es) e h = ap (λ (l : List Event). if leb (timeOf d) m then d ∷ l else l) (upTo-snoc m es e h)
+
+-- ---- locked and crossed quotes
+
+-- a D below 1 keeps nothing, whatever a, b and SP
+pub below-one : (a b : ℕ) (sp d : ℤ) → ltZ d (pos 1) ≡ true → spreadKeeps a b sp d ≡ false
+below-one a b sp (pos zero) h = refl
+below-one a b sp (pos (suc d)) h = absurd (omega (arith, ltb-true (suc d) 1 h))
+below-one a b sp (negsuc d) h = refl
+
+-- a millisecond whose best bid is at its best ask or above it is not kept
+pub crossed-not-kept : (row : Row) (sp : ℤ) (es : List Event) (m : ℕ) (bid ask : Steps)
+    → bestBid row (live (upTo m es)) ≡ At bid → bestAsk row (live (upTo m es)) ≡ At ask
+    → ltZ (gap (bid .0) (ask .0)) (pos 1) ≡ true → keptAt row sp es m ≡ false
+unfolding keptAt ordersKeep quotesKeep
+crossed-not-kept row sp es m bid ask b a h =
+    ap (λ (q : Quote). quotesKeep (row .a) (row .b) sp q (bestAsk row (live (upTo m es)))) b
+    ∙ ap (quotesKeep (row .a) (row .b) sp (At bid)) a
+    ∙ below-one (row .a) (row .b) sp (gap (bid .0) (ask .0)) h
 
 -- ---- kept time
 

@@ -1,5 +1,5 @@
--- Document 01, "Checks on paper": C1 to C12 and the unmarked ones, each with what the definitions give and what the paper prints. That
--- the two agree is proved once, over the list, in proofs/Checks.
+-- Document 01, "Checks on paper": C1 to C12 and the unmarked ones, the one with D = 0 that document 02, W2, joins to them, and one with
+-- D = -1, each with what the definitions give and what the paper prints. That the two agree is proved once, over the list, in proofs/Checks.
 use Prim.Native.Nat.{ℕ, _+_}
 use mathlib.Core.List.{List, [], _∷_, _++_, map}
 use mathlib.Core.Bool.{Bool, true, false}
@@ -24,7 +24,7 @@ use Rattle.rules.specs.Records.{recordOf}
 use Rattle.rules.specs.Session.{Session, session, sheetLimit}
 
 pub data Name : Type 0 where
-  C1 C2 C3 C4 C5 C6 C7 C8 C9 C10 C11 C12 fifteenFailed sixteenFailed eventAtEnd negativePrice : Name
+  C1 C2 C3 C4 C5 C6 C7 C8 C9 C10 C11 C12 fifteenFailed sixteenFailed eventAtEnd negativePrice lockedQuote crossedQuote : Name
 
 pub data Value : Type 0 where
   quote : Quote → Value
@@ -74,6 +74,10 @@ third = add 3 Buy 98 400
 -- C4 and C5: a 100, b 1, a bid of 100 and an ask D above it
 abbrev kept : ℤ → ℕ → Value
 kept sp d = keeps (quotesKeep 100 1 sp (At (steps (pos 100))) (At (steps (pos (100 + d)))))
+
+-- document 02, W2: a 100, SP 2000, b 1, a bid of 100 and an ask at it or a step below
+abbrev keptAsk : ℕ → Value
+keptAsk ask = keeps (quotesKeep 100 1 (pos 2000) (At (steps (pos 100))) (At (steps (pos ask))))
 
 -- C6 to C10: p 60, L 31,500,000
 abbrev weighed : ℕ → Value
@@ -133,6 +137,8 @@ checks =
     ∷ check sixteenFailed (number (fee paper (failing (below 16) (alone paying))) ∷ []) (number 0 ∷ [])
     ∷ check eventAtEnd (keptIn quoting ∷ keptIn quotingToTheEnd ∷ keptIn quotingFromTheEnd ∷ []) (number 1000 ∷ number 1000 ∷ number 0 ∷ [])
     ∷ check negativePrice (kept (negℤ (pos 5)) 1 ∷ kept (negℤ (pos 5)) 2 ∷ []) (keeps true ∷ keeps false ∷ [])
+    ∷ check lockedQuote (keptAsk 100 ∷ []) (keeps false ∷ [])
+    ∷ check crossedQuote (keptAsk 99 ∷ []) (keeps false ∷ [])
     ∷ []
 
 -- the session that "Event records and the session run" prints: its row, its SP and its events

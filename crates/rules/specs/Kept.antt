@@ -1,7 +1,7 @@
--- Document 01, "Best quote and kept time": kept milliseconds and kept time.
+-- Document 01, "Best quote and kept time": kept milliseconds and kept time, with the sentence that document 02, W2, adds.
 use Prim.Native.Nat.{ℕ}
 use mathlib.Core.List.{List}
-use mathlib.Core.Bool.{Bool, false, _||_}
+use mathlib.Core.Bool.{Bool, false, _&&_, _||_}
 use lib.Dec.{leb}
 use lib.IntN.{ℤ, pos, _-ℤ_, _*ℤ_}
 use lib.Signed.{leZ}
@@ -19,9 +19,9 @@ use Rattle.rules.specs.Quotes.{best}
 abbrev pub gap : ℤ → ℤ → ℤ
 gap bid ask = ask -ℤ bid
 
--- "D × 100,000 ≤ a × SP or D ≤ b"
+-- "D × 100,000 ≤ a × SP or D ≤ b"; document 02, W2: "a millisecond is kept only if D is also 1 or more"
 abbrev pub spreadKeeps : ℕ → ℕ → ℤ → ℤ → Bool
-spreadKeeps a b sp d = leZ (d *ℤ pos 100000) (pos a *ℤ sp) || leZ d (pos b)
+spreadKeeps a b sp d = leZ (pos 1) d && (leZ (d *ℤ pos 100000) (pos a *ℤ sp) || leZ d (pos b))
 
 -- "both quotes exist and" their D is so
 unfoldable pub quotesKeep : ℕ → ℕ → ℤ → Quote → Quote → Bool

@@ -12,11 +12,11 @@ as-number : (b : Bool) → boolByte b ≡ (if b then 1 else 0)
 as-number true = refl
 as-number false = refl
 
+add-both : tie.Need-add-both
+add-both c = search needs
+
 add-result : tie.Need-add-result
 add-result c = search needs
-
-add-result-2 : tie.Need-add-result-2
-add-result-2 c = search needs
 
 cast-result : tie.Need-cast-result
 cast-result c = search needs
@@ -26,4 +26,4 @@ unfolding keysKeep
 returns c = as-number (keysKeep (c .args .limit) (c .args .bid) (c .args .ask))
 
 pub keys-keep-spec : {M : Type 1} → statement M
-keys-keep-spec = tie.close (tie.spec add-result add-result-2 cast-result returns)
+keys-keep-spec = tie.close (tie.spec add-both add-result cast-result returns)
