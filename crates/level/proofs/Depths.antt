@@ -3,10 +3,10 @@ use Prim.Native.Nat.{ℕ, _+_, _-_, _*_, _≤_}
 use native.Mathlib.Omega.{arith}
 use mathlib.Core.Path.{_≡_, refl, sym, ap, _∙_}
 use mathlib.Core.List.{List, [], _∷_, List·Memᴰ, List·Memᴰ·head, List·Memᴰ·tail}
-use mathlib.Core.Bool.{Bool, true, false}
+use mathlib.Core.Bool.{Bool}
 use lib.Dec.{leb, ltb, eqb}
-use lib.ListN.{length, getD, length-map}
-use Rattle.rules.specs.Lists.{if_then_else_, sum}
+use lib.ListN.{length, length-map}
+use Rattle.rules.specs.Lists.{sum}
 use Rattle.quote.specs.declared.Level.{Level}
 use Rattle.quote.specs.Levels.{held, levelAt, Columns}
 use Rattle.quote.proofs.Levels.{held-most, level-split}
@@ -72,21 +72,3 @@ pub level-of : (slots : List Slot) (k b a : ℕ) → b ≡ heldIn (ltb k) slots 
     → _≡_ {A = Level} (record { key = k; before = b; at = a }) (levelIn slots k)
 unfolding levelAt
 level-of slots k b a e f = λ i. record { key = k; before = e i; at = f i }
-
--- ---- four volumes
-
-four-sum : (vs : List ℕ) → getD vs 0 0 + getD vs 1 0 + getD vs 2 0 + getD vs 3 0 ≤ sum vs
-unfolding sum
-four-sum [] = omega arith
-four-sum (a ∷ []) = omega arith
-four-sum (a ∷ (b ∷ [])) = omega arith
-four-sum (a ∷ (b ∷ (c ∷ []))) = omega arith
-four-sum (a ∷ (b ∷ (c ∷ (d ∷ vs)))) = omega arith
-
-pub four-small : (ks vs : List ℕ) → Columns ks vs → getD vs 0 0 + getD vs 1 0 + getD vs 2 0 + getD vs 3 0 ≤ 64000000
-four-small ks vs h = omega (arith, four-sum vs, h .small)
-
--- what counts of a volume is at most it
-pub share-most : (b : Bool) (v s : ℕ) → s ≡ (if b then v else 0) → s ≤ v
-share-most true v s e = omega arith
-share-most false v s e = omega arith

@@ -135,26 +135,68 @@ fn near(keys: &[u32], volumes: &[u32], old: Level, least: Contracts) -> Level
     stepped(keys, volumes, next, least)
 }
 
-// The better key of two: the candidate, where it is better than what was found and the contracts at it or better are enough.
-fn tried(keys: &[u32], volumes: &[u32], found: u32, key: u32, least: Contracts) -> u32
-    requires { ⌜ (length (now keys) ≡ 4) × Columns (now keys) (now volumes) ⌝ }
-{
-    let better = found < key;
-    let depth = quote::share(better & (key <= keys[0]), volumes[0])
-        + quote::share(better & (key <= keys[1]), volumes[1])
-        + quote::share(better & (key <= keys[2]), volumes[2])
-        + quote::share(better & (key <= keys[3]), volumes[3]);
-    key_where(better & (least.0 <= depth), key, found)
+// An order as one number, by which orders compare: its key, then its volume.
+fn packed(key: u32, volume: u32) -> u64 {
+    4294967296 * (key as u64) + volume as u64
 }
 
-// The search unrolled over four slots, with masks in place of branches.
+fn better(a: u64, b: u64) -> u64 {
+    if a < b {
+        return b;
+    }
+    a
+}
+
+fn worse(a: u64, b: u64) -> u64 {
+    if a < b {
+        return a;
+    }
+    b
+}
+
+// The depth with one more order's volume, where it was not enough without it.
+fn deeper(depth: u64, order: u64, least: Contracts) -> u64 {
+    if depth < least.0 as u64 {
+        return depth + order % 4294967296;
+    }
+    depth
+}
+
+fn order_where(counts: bool, order: u64, other: u64) -> u64 {
+    if counts {
+        return order;
+    }
+    other
+}
+
+// The key at which the depth of four orders, from the best one down, is first enough; 0 where it never is.
+fn enough_at(first: u64, second: u64, third: u64, last: u64, least: Contracts) -> u32 {
+    let m = least.0 as u64;
+    let one = deeper(0, first, least);
+    let two = deeper(one, second, least);
+    let three = deeper(two, third, least);
+    let four = deeper(three, last, least);
+    let in_four = order_where(m <= four, last, 0);
+    let in_three = order_where(m <= three, third, in_four);
+    let in_two = order_where(m <= two, second, in_three);
+    (order_where(m <= one, first, in_two) / 4294967296) as u32
+}
+
+// The best key of four slots: sorted by five exchanges, the volumes added up from the best one down until they are enough.
 fn of_four(keys: &[u32], volumes: &[u32], least: Contracts) -> u32
     requires { ⌜ (length (now keys) ≡ 4) × Columns (now keys) (now volumes) ⌝ }
 {
-    let a = tried(keys, volumes, 0, keys[0], least);
-    let b = tried(keys, volumes, a, keys[1], least);
-    let c = tried(keys, volumes, b, keys[2], least);
-    tried(keys, volumes, c, keys[3], least)
+    let a = packed(keys[0], volumes[0]);
+    let b = packed(keys[1], volumes[1]);
+    let c = packed(keys[2], volumes[2]);
+    let d = packed(keys[3], volumes[3]);
+    let p = better(a, b);
+    let q = worse(a, b);
+    let r = better(c, d);
+    let s = worse(c, d);
+    let u = worse(p, r);
+    let v = better(q, s);
+    enough_at(better(p, r), better(u, v), worse(u, v), worse(q, s), least)
 }
 
 // The level that a small side has, of its first four slots.
