@@ -1,13 +1,13 @@
 -- From the clock and the table to the accepted events that they stand for, and back. Assumes nothing.
 use Prim.Native.Nat.{ℕ, zero, suc, _+_, _*_, _-_, _≤_, _<_}
 use mathlib.Core.Path.{_≡_, refl, ap, sym, _∙_, subst}
-use mathlib.Core.Bool.{Bool, true, false, _||_}
+use mathlib.Core.Bool.{Bool, true, false, _||_, or-true}
 use lib.Dec.{ltb, eqb}
 use mathlib.Core.List.{List, [], _∷_, _++_}
 use native.Mathlib.Omega.{arith}
 use native.Mathlib.Nat.{le-refl}
 use lib.IntN.{ℤ}
-use borrow.Author.Tests.{lt-ltb, le-ltb, ltb-true, ltb-false}
+use borrow.Author.Tests.{lt-ltb, le-ltb, ltb-true, ltb-false, eq-eqb, ne-eqb}
 use Rattle.rules.specs.declared.Millis.{Millis}
 use Rattle.rules.specs.declared.Row.{Row}
 use Rattle.rules.specs.declared.Event.{Event}
@@ -46,6 +46,54 @@ stands s = record { bounds = s .bounds; duty-is = s .duty-is; clock-is = s .cloc
 -- 1 or 0
 abbrev pub one : Bool → ℕ
 one b = if b then 1 else 0
+
+-- ---- whether a lapse starts, by what the clock holds
+
+module _ (c : Clock) where
+  pub starting-kept : c .keeps ≡ 1 → 0 ≡ startingBy c
+  starting-kept e = rw (eq-eqb (c .keeps) 1 e) refl
+
+  module _ (e : c .keeps ≡ 1 → ⊥) where
+    pub starting-first : c .time .0 ≡ 0 → 1 ≡ startingBy c
+    starting-first f = rw (ne-eqb (c .keeps) 1 e, eq-eqb (c .time .0) 0 f) refl
+
+    pub starting-after : c .last ≡ 1 → 1 ≡ startingBy c
+    starting-after f = rw (ne-eqb (c .keeps) 1 e, eq-eqb (c .last) 1 f, or-true (eqb (c .time .0) 0)) refl
+
+    pub starting-longer : (c .time .0 ≡ 0 → ⊥) → (c .last ≡ 1 → ⊥) → 0 ≡ startingBy c
+    starting-longer f g = rw (ne-eqb (c .keeps) 1 e, ne-eqb (c .time .0) 0 f, ne-eqb (c .last) 1 g) refl
+
+-- ---- whether time passes
+
+module _ (c : Clock) (t : Millis) (keeps : ℕ) where
+  abbrev total : Millis
+  total = millis (c .kept .0 + c .keeps * (t .0 - c .time .0))
+
+  pub ran-later : c .time .0 < t .0 → (n : ℕ) → n ≡ startingBy c
+      → _≡_ {A = Clock} (record { time = t; kept = total; keeps = keeps; lapses = c .lapses + n; last = c .keeps }) (ranOn c t keeps)
+  ran-later h n e =
+      let later = sym (lt-ltb (c .time .0) (t .0) h) in
+      λ i.
+      record {
+        time = t;
+        kept = total;
+        keeps = keeps;
+        lapses = (ap (λ (k : ℕ). c .lapses + k) e ∙ ap (λ (b : Bool). if b then c .lapses + startingBy c else c .lapses) later) i;
+        last = ap (λ (b : Bool). if b then c .keeps else c .last) later i;
+      }
+
+  pub ran-still : t .0 ≤ c .time .0
+      → _≡_ {A = Clock} (record { time = t; kept = total; keeps = keeps; lapses = c .lapses; last = c .last }) (ranOn c t keeps)
+  ran-still h =
+      let still = sym (le-ltb (c .time .0) (t .0) h) in
+      λ i.
+      record {
+        time = t;
+        kept = total;
+        keeps = keeps;
+        lapses = ap (λ (b : Bool). if b then c .lapses + startingBy c else c .lapses) still i;
+        last = ap (λ (b : Bool). if b then c .keeps else c .last) still i;
+      }
 
 -- ---- the fields
 
