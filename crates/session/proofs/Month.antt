@@ -27,7 +27,7 @@ use Rattle.rules.proofs.Refusals.{passes-call, answer-accepted}
 use Rattle.rules.proofs.Bounds.{row-bounds, after-snoc}
 use Rattle.session.specs.Walks.{bookWith, refusalBy, followed}
 use Rattle.session.proofs.Loop.{not-whole}
-use Rattle.session.proofs.Runs.{runs-past, runs-refused, runs-taken, runs-end, step-send, closed-cell, open-accepted, session-begun, cell-inside}
+use Rattle.session.proofs.Runs.{runs-past, runs-refused, runs-taken, runs-end, step-send, closed-cell, closed-weight, open-accepted, session-begun, cell-inside}
 
 -- a record that is no event is refused by 15
 pub unread : (bytes : List ℕ) (n : ℕ) → readRecord bytes ≡ refused n → n ≡ 15
@@ -142,5 +142,5 @@ session-agrees limit words sp bytes k w ss h =
       view = viewOf paper (cellAt (after paper (sessionCalls words sp es) .cells) at);
       shown = answer-accepted paper (after paper (sessionCalls words sp es)) (Look 1 (row .expiry) (row .quantum)) passes;
       kept = ap (λ (c : Cell). c .kept .0) filled ∙ same .0;
-      weight = ap (cellWeight paper) filled ∙ same .1;
+      weight = ap (cellWeight paper) filled ∙ closed-weight limit at row sp es ∙ same .1;
     }

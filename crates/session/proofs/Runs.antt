@@ -21,7 +21,7 @@ use Rattle.rules.specs.Rows.{rowOf, goodRow}
 use Rattle.rules.specs.Cells.{blankCell, blankCells, placeOf, cellAt}
 use Rattle.rules.specs.Kept.{keptBelow}
 use Rattle.rules.specs.Lapses.{noLimit, lapsesBelow, goodLimit, withinLimit}
-use Rattle.rules.specs.Pay.{met, weightBy, weight}
+use Rattle.rules.specs.Pay.{met, weightBy, weight, cellWeight}
 use Rattle.rules.specs.Stretches.{Stretch, keptStretches}
 use Rattle.rules.specs.Answers.{Outcome, accepted, refused, outcomeBy}
 use Rattle.rules.specs.Book.{Open, Send, Close, Book, freshBook, isOpen, Cause, lowest, cause, causes, eventRefusal, readRow, refusalOf, closedCell, changed, step}
@@ -139,15 +139,23 @@ module _ (limit cell : ℕ) (row : Row) (sp : Steps) where
       ap (λ (b : Book). cellAt (b .cells) cell) (step-accepted paper (bookWith cell row sp es) (Close (kopecks 0) (kopecks 0)) (close-passes es))
       ∙ getD-set-same blankCells cell (closedCell row (withoutLimit sp) es (kopecks 0) (kopecks 0)) blankCell (omega (arith, length-replicate 186 blankCell))
 
+  -- the cell's weight is the share's
+  pub closed-weight : (es : List Event)
+      → cellWeight paper (closedCell row (withoutLimit sp) es (kopecks 0) (kopecks 0))
+      ≡ weight paper (keptBelow row (sp .0) es (row .length .0)) (row .length .0) (row .share)
+  unfolding weight
+  closed-weight es =
+      let kept = keptBelow row (sp .0) es (row .length .0) in
+      ap (λ (b : Bool). weightBy paper b kept (row .length .0) (row .share))
+      (no-limit (met paper kept (row .length .0) (row .share)) (lapsesBelow row (sp .0) es (row .length .0)))
+
   pub runs-end : (place : ℕ) (es : List Event) → cell < 186
       → runRecords paper limit cell place (bookWith cell row sp es) []
       ≡ whole (keptBelow row (sp .0) es (row .length .0)) (weight paper (keptBelow row (sp .0) es (row .length .0)) (row .length .0) (row .share)) (keptStretches row (sp .0) es)
-  unfolding runRecords closing weight
+  unfolding runRecords closing
   runs-end place es l =
-      let kept = keptBelow row (sp .0) es (row .length .0) in
       rw (closed-cell es l)
-      (ap (λ (b : Bool). whole kept (weightBy paper b kept (row .length .0) (row .share)) (keptStretches row (sp .0) es))
-      (no-limit (met paper kept (row .length .0) (row .share)) (lapsesBelow row (sp .0) es (row .length .0))))
+      (ap (λ (w : ℕ). whole (keptBelow row (sp .0) es (row .length .0)) w (keptStretches row (sp .0) es)) (closed-weight es))
 
 -- ---- the start
 
