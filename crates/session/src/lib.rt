@@ -155,7 +155,14 @@ fn finish(walk: Walk, row: Row, buffer: &mut [u32]) -> SessionAnswer
     let end = quantum::onward(clock, length, 0);
     let kept = end.kept;
     let from = clock.time;
-    let grown = grow(marks, from, length, clock.keeps == 1, clock.last == 1, buffer);
+    let grown = grow(
+        marks,
+        from,
+        length,
+        clock.keeps == 1,
+        clock.last == 1,
+        buffer,
+    );
     SessionAnswer::Finished {
         kept,
         weight: pay::weight_of(kept, length, share),
@@ -169,10 +176,7 @@ fn begin() -> Walk
 {
     Walk {
         clock: quantum::started(),
-        marks: Marks {
-            pairs: 0,
-            start: 0,
-        },
+        marks: Marks { pairs: 0, start: 0 },
     }
 }
 

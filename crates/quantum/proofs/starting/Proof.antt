@@ -16,10 +16,10 @@ returns-3 c =
 
 returns-4 : tie.Need-returns-4
 returns-4 c = (
-      starting-longer (c .before .before .before .before .before .before .args .clock) (c .before .before .before .before .if1 .left)
-          (c .before .before .if2 .left) (c .if3 .left),
-      omega arith,
-    )
+  starting-longer (c .before .before .before .before .before .before .args .clock) (c .before .before .before .before .if1 .left)
+      (c .before .before .if2 .left) (c .if3 .left),
+  omega arith,
+)
 
 pub starting-spec : {M : Type 1} → statement M
 starting-spec = tie.close (tie.spec returns returns-2 returns-3 returns-4)

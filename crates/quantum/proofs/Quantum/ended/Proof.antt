@@ -38,8 +38,7 @@ returns c = λ row sp es g is.
     let l = length-is row sp es (q .duty) (q .clock) (q .table) h in
     let end = q .duty .length .0 in
     let later : q .clock .time .0 ≤ end = omega (arith, t, l, g .ends) in
-    let o = c .before .onward .ensures in
-    (
+    let o = c .before .onward .ensures in (
       ap (λ (x : Clock). x .kept .0) o ∙ kept-at row sp es (q .clock) (h .clock-is) g end later ∙ ap (keptBelow row sp es) l,
       ap (λ (x : Clock). x .lapses) o ∙ lapses-at row sp es (q .clock) (h .clock-is) g end later ∙ ap (lapsesBelow row sp es) l,
     )
