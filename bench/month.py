@@ -17,7 +17,7 @@ ROW = [1, 0, 86_400_000, 500, 100, 1, 60]
 
 
 def opened(day, row):
-    return [1, 7, *row, day, 2000]
+    return [1, 7, *row, day, 2000, 65535]
 
 
 def filled(count):

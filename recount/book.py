@@ -1,4 +1,5 @@
-"""Document 01's plain book, written from the paper: calls, refusals, quotes, kept time, pay.
+"""The plain book of document 01 and of document 02, W1, written from the papers: calls, refusals,
+quotes, kept time, lapses, pay.
 
 Nothing is carried that the paper does not carry. Quotes, kept time, verdicts, weights, failure
 counts and fee are worked out from the book each time they are asked for.
@@ -15,6 +16,8 @@ VOLUME_LIMIT = 1_000_000
 CHARGE_LIMIT = 1_000_000_000
 DAYS, EXPIRIES, QUANTA = range(1, 32), range(1, 3), range(0, 3)
 LIVE_LIMIT = 64
+MOST_LAPSES = 1_000  # the greatest lapse limit
+NO_LIMIT = 65_535  # says that there is none
 
 # A quantum up to this long is counted millisecond by millisecond, a longer one by stretches.
 SHORT = 20_000
@@ -34,6 +37,10 @@ def charge_fits(charge):
 
 def cell_fits(day, expiry, quantum):
     return day in DAYS and expiry in EXPIRIES and quantum in QUANTA
+
+
+def limit_fits(limit):
+    return 0 <= limit <= MOST_LAPSES or limit == NO_LIMIT
 
 
 # ---------------------------------------------------------------- a row
@@ -65,7 +72,7 @@ def choose(usual, holiday, is_holiday, expiry, quantum):
 
 # ---------------------------------------------------------------- calls and answers
 
-Open = namedtuple("Open", "words day sp")
+Open = namedtuple("Open", "words day sp limit", defaults=[NO_LIMIT])
 Add = namedtuple("Add", "t id side price volume")
 Amend = namedtuple("Amend", "t id price volume")
 Cancel = namedtuple("Cancel", "t id")
@@ -82,8 +89,8 @@ EVENTS = (Add, Amend, Cancel, Deal, Tick)
 
 Accepted = namedtuple("Accepted", "")
 Refused = namedtuple("Refused", "number")
-CellView = namedtuple("CellView", "kept length share active passive met weight")
-ReportView = namedtuple("ReportView", "is_open time orders bid ask kept failed fee")
+CellView = namedtuple("CellView", "kept length share limit lapses active passive met weight")
+ReportView = namedtuple("ReportView", "is_open time orders bid ask kept lapses failed fee")
 
 # ---------------------------------------------------------------- live orders and best quotes
 
@@ -206,9 +213,46 @@ def kept_time(pairs):
     return sum(length for _, length in pairs)
 
 
+# ---------------------------------------------------------------- lapses
+
+
+def lapses_by_milliseconds(row, sp, events, end):
+    """Asks every millisecond below `end` whether it is kept, and counts those that start a lapse."""
+    live, passed, count, kept_before = {}, 0, 0, True
+    for m in range(end):
+        before = passed
+        while passed < len(events) and events[passed].t <= m:
+            pass_event(live, events[passed])
+            passed += 1
+        if m == 0 or passed != before:  # the same orders give the same answer
+            kept_now = keeps(row, sp, live)
+        if kept_before and not kept_now:
+            count += 1
+        kept_before = kept_now
+    return count
+
+
+def lapses_by_stretches(pairs, end):
+    """The gaps that the kept stretches leave below `end`, before, between and behind them."""
+    ends = [0, *(offset + length for offset, length in pairs)]
+    starts = [*(offset for offset, _ in pairs), end]
+    return sum(1 for stop, start in zip(ends, starts) if stop < start)
+
+
+def lapses(row, sp, events, end):
+    if end <= SHORT:
+        return lapses_by_milliseconds(row, sp, events, end)
+    return lapses_by_stretches(stretches(row, sp, events, end), end)
+
+
+def none_too_many(limit, count):
+    """With no limit no count is too many."""
+    return limit == NO_LIMIT or count <= limit
+
+
 # ---------------------------------------------------------------- verdict, weight, fee
 
-Cell = namedtuple("Cell", "kept length share active passive")
+Cell = namedtuple("Cell", "kept length share limit lapses active passive")
 
 
 def met(kept, length, share):
@@ -225,12 +269,20 @@ def weight(kept, length, share):
     return 10_000 + 10_000 * n**5 // d**5
 
 
+def cell_met(cell):
+    return met(cell.kept, cell.length, cell.share) and none_too_many(cell.limit, cell.lapses)
+
+
+def cell_weight(cell):
+    return weight(cell.kept, cell.length, cell.share) if cell_met(cell) else 0
+
+
 def failure_count(cells, expiry, quantum):
     """`cells` maps (day, expiry, quantum) to each filled cell."""
     return sum(
         1
         for (_, e, q), cell in cells.items()
-        if (e, q) == (expiry, quantum) and not met(cell.kept, cell.length, cell.share)
+        if (e, q) == (expiry, quantum) and not cell_met(cell)
     )
 
 
@@ -242,7 +294,7 @@ def fee(cells):
     if any(count > 15 for count in failure_counts(cells)):
         return 0
     whole = sum(
-        (2 * cell.active + 3 * cell.passive) * weight(cell.kept, cell.length, cell.share)
+        (2 * cell.active + 3 * cell.passive) * cell_weight(cell)
         for cell in cells.values()
     )
     return min(whole // 80_000, 120_000_000)
@@ -254,8 +306,8 @@ def fee(cells):
 class Quoting:
     """What the book notes of the open quantum. `live` is what its events leave, carried along."""
 
-    def __init__(self, day, row, sp):
-        self.day, self.row, self.sp = day, row, sp
+    def __init__(self, day, row, sp, limit):
+        self.day, self.row, self.sp, self.limit = day, row, sp, limit
         self.events = []
         self.live = {}
 
@@ -269,6 +321,9 @@ class Quoting:
 
     def pairs(self, end):
         return stretches(self.row, self.sp, self.events, end)
+
+    def lapses(self, end):
+        return lapses(self.row, self.sp, self.events, end)
 
 
 class Book:
@@ -324,6 +379,8 @@ class Book:
             found.append(4)
         if self.quoting is not None:
             found.append(6)
+        if not limit_fits(call.limit):
+            found.append(17)
         return found
 
     def event_causes(self, event):
@@ -357,12 +414,13 @@ class Book:
             self.quoting.events.append(call)
             pass_event(self.quoting.live, call)
         elif kind is Open:
-            self.quoting = Quoting(call.day, Row(*call.words), call.sp)
+            self.quoting = Quoting(call.day, Row(*call.words), call.sp, call.limit)
         elif kind is Close:
             row = self.quoting.row
             kept = kept_time(self.quoting.pairs(row.length))
+            lapsed = self.quoting.lapses(row.length)
             self.cells[self.quoting.cell] = Cell(
-                kept, row.length, row.share, call.active, call.passive
+                kept, row.length, row.share, self.quoting.limit, lapsed, call.active, call.passive
             )
             self.quoting = None
         elif kind is Drop:
@@ -380,13 +438,13 @@ class Book:
 
     def look(self, cell):
         c = self.cells[cell]
-        return CellView(*c, met(c.kept, c.length, c.share), weight(c.kept, c.length, c.share))
+        return CellView(*c, cell_met(c), cell_weight(c))
 
     def report(self):
         failed, due = failure_counts(self.cells), fee(self.cells)
         q = self.quoting
         if q is None:
-            return ReportView(False, 0, 0, None, None, 0, failed, due)
+            return ReportView(False, 0, 0, None, None, 0, 0, failed, due)
         return ReportView(
             True,
             q.time,
@@ -394,6 +452,7 @@ class Book:
             best_bid(q.live, q.row.least),
             best_ask(q.live, q.row.least),
             kept_time(q.pairs(q.time)),
+            q.lapses(q.time),
             failed,
             due,
         )

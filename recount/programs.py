@@ -4,7 +4,7 @@ import struct
 
 from recount import game, records, session, standing, volatile
 from recount.book import (
-    BUY, SELL, Accepted, Add, Amend, Cancel, CellView, Charge, Close, Deal, Drop, Look, Open,
+    BUY, NO_LIMIT, SELL, Accepted, Add, Amend, Cancel, CellView, Charge, Close, Deal, Drop, Look, Open,
     Refused, Report, Tick, Withdraw, Book, choose,
 )
 
@@ -42,11 +42,12 @@ def read_call(words, at):
 
     kind = words[at]
     if kind == 1:
-        if at + 1 == len(words) or at + 2 + words[at + 1] + 2 > len(words):
+        if at + 1 == len(words) or at + 2 + words[at + 1] + 3 > len(words):
             return None
         count = words[at + 1]
-        block = take(count + 3)
-        return Open(block[1 : 1 + count], block[-2], signed(block[-1])), at + count + 4
+        block = take(count + 4)
+        day, sp, limit = block[-3:]
+        return Open(block[1 : 1 + count], day, signed(sp), limit), at + count + 5
     sizes = {2: 5, 3: 4, 4: 2, 5: 3, 6: 1, 7: 4, 8: 0, 9: 7, 10: 3, 11: 3, 12: 0}
     block = take(sizes[kind]) if kind in sizes else None
     if block is None:
@@ -107,14 +108,20 @@ def answer_line(answer):
     if isinstance(answer, CellView):
         return (
             f"cell kept {answer.kept} of {answer.length} share {answer.share}"
+            f" lapses {answer.lapses} limit {limit_text(answer.limit)}"
             f" active {answer.active} passive {answer.passive}"
             f" verdict {verdict_text(answer.met)} weight {answer.weight}"
         )
     return (
         f"report open {'yes' if answer.is_open else 'no'} time {answer.time}"
         f" orders {answer.orders} bid {quote_text(answer.bid)} ask {quote_text(answer.ask)}"
-        f" kept {answer.kept} failed {' '.join(map(str, answer.failed))} fee {answer.fee}"
+        f" kept {answer.kept} lapses {answer.lapses}"
+        f" failed {' '.join(map(str, answer.failed))} fee {answer.fee}"
     )
+
+
+def limit_text(limit):
+    return "none" if limit == NO_LIMIT else str(limit)
 
 
 def verdict_text(is_met):

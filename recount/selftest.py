@@ -1,16 +1,17 @@
 """The recount held against the paper's own checks and against itself.
 
 Kept time is counted in three ways: as the paper's sentence says it, for every millisecond from the
-whole list of events; millisecond by millisecond in one walk; and from event to event.
+whole list of events; millisecond by millisecond in one walk; and from event to event. Lapses are
+counted in two: millisecond by millisecond, and as the gaps that the kept stretches leave.
 """
 
 import random
 
 from recount import game, programs, records, session, standing, volatile
 from recount.book import (
-    BUY, SELL, Accepted, Add, Amend, Book, Cancel, Cell, Charge, Close, Deal, Look, Open, Order,
-    Refused, Report, Row, Tick, Withdraw, best_ask, best_bid, choose, fee, keeps, kept_time,
-    live_after, stretches_by_events, stretches_by_milliseconds, weight, widest,
+    BUY, NO_LIMIT, SELL, Accepted, Add, Amend, Book, Cancel, Cell, Charge, Close, Deal, Look, Open, Order,
+    Refused, Report, Row, Tick, Withdraw, best_ask, best_bid, cell_met, cell_weight, choose,
+    fee, keeps, kept_time, lapses_by_milliseconds, lapses_by_stretches, live_after, stretches_by_events, stretches_by_milliseconds, weight, widest,
     within,
 )
 
@@ -59,12 +60,12 @@ def check_paper():
     ]:
         assert weight(kept, 31_500_000, 60) == due, (kept, due)
     # C11 and C12: the fee.
-    assert fee({(1, 1, 1): Cell(22_050_000, 31_500_000, 60, 10_000, 20_000)}) == 10_312
-    top = Cell(31_500_000, 31_500_000, 60, 10**9, 10**9)
+    assert fee({(1, 1, 1): Cell(22_050_000, 31_500_000, 60, NO_LIMIT, 0, 10_000, 20_000)}) == 10_312
+    top = Cell(31_500_000, 31_500_000, 60, NO_LIMIT, 0, 10**9, 10**9)
     assert fee({(1, 1, 1): top}) == 120_000_000
     # 15 failed cells in a series leave the fee, 16 make it 0.
-    paid = {(31, 1, 1): Cell(22_050_000, 31_500_000, 60, 10_000, 20_000)}
-    failed = Cell(0, 1_000, 60, 5, 5)
+    paid = {(31, 1, 1): Cell(22_050_000, 31_500_000, 60, NO_LIMIT, 0, 10_000, 20_000)}
+    failed = Cell(0, 1_000, 60, NO_LIMIT, 1, 5, 5)
     fifteen = {(day, 1, 1): failed for day in range(1, 16)}
     assert fee({**paid, **fifteen}) == 10_312
     assert fee({**paid, **fifteen, (16, 1, 1): failed}) == 0
@@ -77,13 +78,43 @@ def check_paper():
     assert session.ccall(example_bytes()[:32], example_bytes()[32:]) == 6_000
 
 
+def check_lapses():
+    """Document 02, W1: with no limit no count is too many, with one a count above it is."""
+    for limit, count, is_met in [
+        (NO_LIMIT, 70_000, True), (1_000, 1_000, True), (1_000, 1_001, False),
+        (0, 0, True), (0, 1, False), (NO_LIMIT, 43_200_000, True),
+    ]:
+        cell = Cell(31_500_000, 31_500_000, 60, limit, count, 1_000, 0)
+        assert cell_met(cell) == is_met and cell_weight(cell) == (20_000 if is_met else 0)
+        assert fee({(1, 1, 1): cell}) == (500 if is_met else 0)
+    # One at the start, one between, one at the end; one in a quantum without a quote; none.
+    assert lapses_by_stretches([(200, 300), (700, 100)], 1_000) == 3
+    assert lapses_by_stretches([(0, 300), (700, 300)], 1_000) == 1
+    assert lapses_by_stretches([], 1_000) == 1
+    assert lapses_by_stretches([(0, 1_000)], 1_000) == 0
+    assert lapses_by_stretches([], 0) == 0
+    book = Book()
+    for limit in (1_001, 65_534, 65_536, 2**32 - 1):
+        assert refusal(book, Open(EXAMPLE_ROW, 1, 2_000, limit)) == 17
+        assert refusal(book, Open(EXAMPLE_ROW, 32, 2_000, limit)) == 3
+    for limit in (0, 1_000, NO_LIMIT):
+        assert refusal(book, Open(EXAMPLE_ROW, 1, 2_000, limit)) == 0
+        assert refusal(book, Open(EXAMPLE_ROW, 2, 2_000, 1_001)) == 6
+        book.call(Close(0, 0))
+        view = book.call(Look(1, 1, 1))
+        assert (view.limit, view.lapses) == (limit, 1)
+        book.call(Charge(1, 1, 1, 5, 5))
+        assert book.call(Look(1, 1, 1))[3:5] == (limit, 1)
+        book.call(Withdraw(1, 1, 1))
+
+
 def refusal(book, call):
     answer = book.call(call)
     return answer.number if isinstance(answer, Refused) else 0
 
 
 def check_refusals():
-    """Each number from 1 to 16, and the lowest where several apply."""
+    """Each number from 1 to 16, and the lowest where several apply; 17 is in check_lapses."""
     good = EXAMPLE_ROW
     book = Book()
     assert refusal(book, Open(good[:6], 32, 0)) == 1
@@ -169,13 +200,14 @@ def stretches_as_said(row, sp, events, end):
 
 
 def check_counting(rng, cases, said):
-    with_time = 0
+    with_time = most_lapses = 0
     for case in range(cases):
         row = [1, 0, 1_000 * rng.randrange(1, 4), rng.randrange(1, 6),
                rng.choice([0, 5_000, 10_000]), rng.randrange(6), 60]
         sp = rng.choice([-5, 0, 100, 100])
         book = Book()
-        assert book.call(Open(row, 1, sp)) == Accepted()
+        limit = rng.choice([0, 1, 2, 3, NO_LIMIT])
+        assert book.call(Open(row, 1, sp, limit)) == Accepted()
         for _ in random_events(rng, book):
             q = book.quoting
             assert q.live == live_after(q.events)
@@ -185,11 +217,17 @@ def check_counting(rng, cases, said):
             assert walked == stretches_by_events(row, sp, events, end), (row, sp, events, end)
             if case < said:
                 assert walked == stretches_as_said(row, sp, events, end), (row, sp, events, end)
+            gaps = lapses_by_stretches(walked, end)
+            assert gaps == lapses_by_milliseconds(row, sp, events, end), (row, sp, events, end)
             if end == quoting.time:
-                assert book.report().kept == kept_time(walked)
+                shown = book.report()
+                assert (shown.kept, shown.lapses) == (kept_time(walked), gaps)
         assert book.call(Close(1, 2)) == Accepted()
-        assert book.call(Look(1, 1, 0)).kept == kept_time(walked)
+        view = book.call(Look(1, 1, 0))
+        assert (view.kept, view.limit, view.lapses) == (kept_time(walked), limit, gaps)
         with_time += bool(walked)
+        most_lapses = max(most_lapses, gaps)
+    assert most_lapses >= 3, "too few lapses in the cases"
     assert 3 * with_time >= cases, "too few of the cases have kept time"
 
 
@@ -230,7 +268,10 @@ def check_records(rng, cases):
 
 def check_reports():
     """A report with none open, and a replay that stops."""
-    none = "report open no time 0 orders 0 bid absent ask absent kept 0 failed 0 0 0 0 0 0 fee 0\n"
+    none = (
+        "report open no time 0 orders 0 bid absent ask absent kept 0 lapses 0"
+        " failed 0 0 0 0 0 0 fee 0\n"
+    )
     twelve, eight = (12).to_bytes(4, "little"), (8).to_bytes(4, "little")
     assert programs.replay(twelve) == none
     assert programs.replay(twelve + eight + b"\1") == none + "refused 7\nstopped at word 3\n"
@@ -240,6 +281,7 @@ def check_reports():
 def main():
     rng = random.Random(1)
     check_paper()
+    check_lapses()
     check_refusals()
     check_rows()
     check_quotes(rng, 2_000)

@@ -105,7 +105,7 @@ class Program:
 class Replay(Program):
     name = "replay"
     cases = 2_500
-    refusals = range(1, 15)
+    refusals = [*range(1, 15), 17]
     sights = {
         "15 failed cells and a fee": r"failed (\d+ )*15 .*fee [1-9]",
         "16 failed cells and no fee": r"failed (\d+ )*16 .*fee 0$",
@@ -113,20 +113,26 @@ class Replay(Program):
         "64 live orders": r"orders 64 ",
         "a price at each limit": r"bid 1000000000 ask -1000000000 ",
         "charges at their limit": r"active 1000000000 passive 1000000000 ",
+        "as many lapses as the limit": r"lapses ([1-9]\d*) limit \1 active .* verdict met",
+        "a lapse too many": r"^cell kept 8\d{7} .* lapses 3 limit 2 .* verdict failed weight 0$",
+        "1001 lapses, limit 1000": r"lapses 1001 limit 1000 .* verdict failed weight 0$",
+        "1001 lapses, no limit": r"lapses 1001 limit none .* verdict met weight 20000$",
+        "lapses of an open quantum": r"^report open yes .* lapses [1-9]\d* failed",
     }
 
     def special(self):
-        for calls in (known.paper_calls, known.every_refusal, known.edge_calls):
+        for calls in (known.paper_calls, known.every_refusal, known.edge_calls, known.lapse_calls):
             yield calls_text.calls_bytes(calls())
         for path in sorted((ROOT / "examples").glob("*.calls")):
             yield calls_text.to_bytes(path.read_text())
-        report, wrong_open = words(12), words(1, 6, 1, 1, 10_000, 500, 100, 1, 1, 2_000)
-        good_open = words(1, 7, 1, 1, 10_000, 500, 100, 1, 60, 1, 2_000)
+        report, wrong_open = words(12), words(1, 6, 1, 1, 10_000, 500, 100, 1, 1, 2_000, 5)
+        good_open = words(1, 7, 1, 1, 10_000, 500, 100, 1, 60, 1, 2_000, 5)
         yield from [b"", b"\1", report + b"\0\0\0", report * 3]
         yield from [words(0), words(13), words(2**32 - 1)]
-        yield from [wrong_open, words(1), words(1, 0), words(1, 0, 1), words(1, 0, 1, 0) + report]
+        yield from [wrong_open, words(1), words(1, 0), words(1, 0, 1), words(1, 0, 1, 0),
+                    words(1, 0, 1, 0, 0) + report]
         yield words(1, 2**32 - 1, 1, 2)
-        yield words(1, 16, *range(16), 1, 0)
+        yield words(1, 16, *range(16), 1, 0, 0)
         for side in (0, 1, 2, 3, 2**32 - 1):
             yield good_open + words(2, 0, 1, side, 100, 500) + report
         sizes = {2: 5, 3: 4, 4: 2, 5: 3, 6: 1, 7: 4, 9: 7, 10: 3, 11: 3}

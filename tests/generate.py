@@ -9,8 +9,8 @@ from pathlib import Path
 
 from recount import records
 from recount.book import (
-    BUY, LIVE_LIMIT, PRICE_LIMIT, SELL, VOLUME_LIMIT, Add, Amend, Book, Cancel, Deal, Open, Row,
-    Tick, best_ask, best_bid, keeps, pass_event, widest,
+    BUY, LIVE_LIMIT, MOST_LAPSES, NO_LIMIT, PRICE_LIMIT, SELL, VOLUME_LIMIT, Add, Amend, Book,
+    Cancel, Deal, Open, Row, Tick, best_ask, best_bid, keeps, pass_event, widest,
 )
 from recount.session import HEAD
 from tools import session as session_text
@@ -55,6 +55,15 @@ def any_sp(rng):
     if rng.random() < 0.1:
         return rng.choice([0, -5, -2_000, -rng.randrange(200_000)])
     return rng.choice([2_000, 8_452, 24_050, 1_999, rng.randrange(1, 200_000)])
+
+
+def any_limit(rng):
+    """A lapse limit: few, the most or none."""
+    return rng.choice([*range(6), MOST_LAPSES, NO_LIMIT, NO_LIMIT])
+
+
+def wrong_limit(rng):
+    return rng.choice([MOST_LAPSES + 1, NO_LIMIT - 1, NO_LIMIT + 1, 40_000, WORD_END - 1])
 
 
 def wrong_row_words(rng):

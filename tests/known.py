@@ -2,8 +2,8 @@
 
 from recount import records
 from recount.book import (
-    BUY, CHARGE_LIMIT, PRICE_LIMIT, SELL, VOLUME_LIMIT, Add, Amend, Cancel, Charge, Close, Deal,
-    Drop, Look, Open, Report, Row, Tick, Withdraw,
+    BUY, CHARGE_LIMIT, MOST_LAPSES, NO_LIMIT, PRICE_LIMIT, SELL, VOLUME_LIMIT, Add, Amend, Cancel,
+    Charge, Close, Deal, Drop, Look, Open, Report, Row, Tick, Withdraw,
 )
 from tests.generate import LONGEST, WORD_END, session
 
@@ -132,15 +132,15 @@ def paper_calls():
 
 
 def every_refusal():
-    """A list of calls that meets each number from 1 to 14, mostly with higher causes beside it."""
+    """A list of calls that meets each number from 1 to 14 and 17, mostly with higher causes beside it."""
     row, id = list(Row(1, 1, 10_000, 500, 100, 1, 60)), 65
     calls = [
         Open(row[:6], 32, 0), Open(row[:6] + [80], 32, 0), Open(row, 32, 0), Open(row, 0, 0),
-        Open(row, 1, PRICE_LIMIT + 1), Open(row, 1, -PRICE_LIMIT - 1),
+        Open(row, 1, PRICE_LIMIT + 1), Open(row, 1, -PRICE_LIMIT - 1, 1_001), Open(row, 1, 0, 1_001),
         Close(CHARGE_LIMIT + 1, 0), Close(0, CHARGE_LIMIT + 1), Close(0, 0), Drop(), Tick(0),
         Look(1, 1, 1), Charge(1, 1, 1, 0, 0), Withdraw(1, 1, 1), Look(0, 1, 1), Look(1, 3, 1),
         Withdraw(1, 1, 3), Charge(1, 1, 1, CHARGE_LIMIT + 1, 0),
-        Open(row, 1, 2_000), Open(row, 2, 2_000), Open(row[:6], 2, 2_000),
+        Open(row, 1, 2_000), Open(row, 2, 2_000, 1_001), Open(row[:6], 2, 2_000, 1_001),
     ]
     calls += [Add(5, n, BUY, 100, 500) for n in range(1, 65)]
     calls += [
@@ -148,7 +148,7 @@ def every_refusal():
         Add(5, 1, BUY, 100, 0), Amend(5, id, 100, 0), Cancel(5, id), Deal(5, id, 0),
         Add(5, id, BUY, 100, 0), Add(5, id, BUY, PRICE_LIMIT + 1, 1), Add(5, id, BUY, 100, 1),
         Deal(5, 1, 501), Deal(5, 1, VOLUME_LIMIT + 1), Report(), Deal(5, 1, 500), Report(),
-        Close(0, 0), Open(row, 1, 2_000), Open(row, 32, 2_000), Look(1, 1, 1), Report(),
+        Close(0, 0), Open(row, 1, 2_000, 1_001), Open(row, 32, 2_000, 1_001), Look(1, 1, 1), Report(),
     ]
     return calls
 
@@ -163,6 +163,10 @@ def edge_calls():
         calls += [Open(row, day, 0), Drop()]
     for sp in PRICE_EDGES:
         calls += [Open(row, 1, sp), Drop()]
+    for limit in (
+        0, 1, MOST_LAPSES, MOST_LAPSES + 1, NO_LIMIT - 1, NO_LIMIT, NO_LIMIT + 1, WORD_END - 1,
+    ):
+        calls += [Open(row, 1, 0, limit), Drop()]
     for charge in (0, CHARGE_LIMIT, CHARGE_LIMIT + 1, WORD_END, 2**64 - 1):
         for charges in ((charge, 0), (0, charge)):
             calls += [Open(row, 1, 2_000), Close(*charges), Look(1, 1, 1), Withdraw(1, 1, 1)]
@@ -182,3 +186,24 @@ def edge_calls():
         calls += [Deal(6, 1, volume)]
     calls += [Tick(t) for t in (10_000, 9_999, 10_001, WORD_END - 1)]
     return calls + [Report(), Close(CHARGE_LIMIT, CHARGE_LIMIT), Look(1, 1, 1), Report()]
+
+
+def lapse_calls():
+    """Quanta with 0, 1, 2, 3, 1,000 and 1,001 lapses, at their start and end among them, by limits."""
+    row, calls = list(Row(1, 1, 86_400_000, 500, 100, 1, 60)), []
+    for day, (limit, count, from_start) in enumerate([
+        (0, 0, False), (0, 1, True), (1, 1, True), (0, 1, False), (2, 2, True), (2, 3, True),
+        (MOST_LAPSES, 1_000, False), (MOST_LAPSES, 1_001, True), (NO_LIMIT, 1_001, False),
+    ], start=1):
+        t = 10 if from_start else 0
+        calls += [Open(row, day, 2_000, limit), Report(), Add(t, 1, BUY, 100, 500)]
+        calls += [Add(t, 2, SELL, 101, 500), Report()]
+        to_end = count == 3
+        for _ in range(count - from_start - to_end):
+            calls += [Amend(t + 10, 2, 200, 500), Amend(t + 15, 2, 101, 500)]
+            t += 15
+        if to_end:
+            calls += [Cancel(86_399_990, 2)]
+        calls += [Report(), Close(10, 10), Look(day, 1, 1), Charge(day, 1, 1, 1, 1)]
+        calls += [Look(day, 1, 1), Report()]
+    return calls

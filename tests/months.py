@@ -7,8 +7,8 @@ from recount.book import (
 )
 from recount.session import HEAD
 from tests.generate import (
-    WORD_END, Scene, amount, any_session, any_sp, fill, keeping_a_step, long_row, programme_row,
-    short_row, wrong_row_words,
+    WORD_END, Scene, amount, any_limit, any_session, any_sp, fill, keeping_a_step, long_row,
+    programme_row, short_row, wrong_limit, wrong_row_words,
 )
 
 
@@ -59,13 +59,13 @@ class Month:
                 self.send(Report())
 
     def open(self, row, day):
-        return self.send(Open(list(row), day, any_sp(self.rng)))
+        return self.send(Open(list(row), day, any_sp(self.rng), any_limit(self.rng)))
 
     def planned(self, day, row, kept, active, passive):
         """A whole quantum with that kept time, by a row that keeps a spread of one step."""
         row = keeping_a_step(row)
         start = self.rng.randrange(row.length - kept + 1)
-        self.open(row, day)
+        self.send(Open(list(row), day, any_sp(self.rng)))
         self.send(Add(start, 1, BUY, 100, row.least))
         self.send(Add(start, 2, SELL, 101, row.least))
         self.send(Cancel(start + kept, self.rng.choice([1, 2])))
@@ -91,7 +91,9 @@ def soup(rng):
                 m.send(Open(wrong_row_words(rng), rng.choice([1, 32]), any_sp(rng)))
             elif rng.random() < 0.15:
                 m.send(Open(list(short_row(rng)), rng.choice([0, 1, 32, WORD_END - 1]),
-                            rng.choice([PRICE_LIMIT + 1, -PRICE_LIMIT - 1, 0])))
+                            rng.choice([PRICE_LIMIT + 1, -PRICE_LIMIT - 1, 0]), wrong_limit(rng)))
+            elif rng.random() < 0.1:
+                m.send(Open(list(short_row(rng)), m.cell()[0], any_sp(rng), wrong_limit(rng)))
             else:
                 row = rng.choice([short_row, short_row, long_row, programme_row])(rng)
                 m.open(row, m.cell()[0])
@@ -230,13 +232,41 @@ def crowded(rng):
     return m.calls
 
 
+def lapsing(rng):
+    """Quanta of one row that break off and on, with as many lapses as the limit, one less or more."""
+    m = Month(rng)
+    row = short_row(rng)._replace(length=rng.choice([20_000, 31_500_000]))
+    for day in range(1, rng.randrange(3, 8)):
+        limit = any_limit(rng)
+        due = min(max(0, limit + rng.choice([-1, 0, 1])), rng.choice([7, 40]))
+        at_start, at_end = rng.random() < 0.5, rng.random() < 0.5
+        m.send(Open(list(row), day, any_sp(rng), limit))
+        t = rng.randrange(1, 20) if at_start and due else 0
+        m.send(Add(t, 1, BUY, 100, row.least))
+        m.send(Add(t, 2, SELL, 100, row.least))
+        for _ in range(max(0, due - (at_start and due > 0) - (at_end and due > 1))):
+            t += rng.randrange(1, 20)
+            m.send(Amend(t, 2, 100_000_000, row.least))
+            t += rng.randrange(1, 20)
+            m.send(Amend(t, 2, 100, row.least))
+            if rng.random() < 0.2:
+                m.send(Report())
+        if at_end and due > 1:
+            m.send(Cancel(rng.randrange(row.length * 4 // 5, row.length), 2))
+        m.send(Report())
+        m.send(Close(m.charge(), m.charge()))
+        m.send(Report())
+    m.look_round()
+    return m.calls
+
+
 def reported_session(rng):
     """Any of the sessions as a month's calls, with reports among its events: the quotes show."""
     _, head, data = any_session(rng)
     while len(head) < HEAD.size:
         _, head, data = any_session(rng)
     *words, sp = HEAD.unpack(head)
-    calls = [Open(words, rng.randrange(1, 32), sp)]
+    calls = [Open(words, rng.randrange(1, 32), sp, any_limit(rng))]
     for event in filter(None, map(records.read, records.split(data[:2_000]))):
         calls.append(event)
         if rng.random() < 0.4:
@@ -247,7 +277,7 @@ def reported_session(rng):
 
 CALLS = [
     (soup, 8), (reported_session, 8), (makers_month, 3), (failures, 2), (whole_month, 1),
-    (fee_limits, 2), (crowded, 2),
+    (fee_limits, 2), (crowded, 2), (lapsing, 3),
 ]
 
 

@@ -22,6 +22,8 @@ def check_examples():
             data = tool.to_bytes(path.read_text())
             assert tool.to_bytes(tool.to_text(data)) == data, path.name
     example = (ROOT / "examples" / "document01.session").read_text()
+    for line in ("lapses none", "lapses 65535", ""):
+        assert calls.to_bytes(f"open row 1 day 1 sp 1 {line}")[-4:] == b"\xff\xff\0\0", line
     printed = "kept 6000 of 10000\npair 0 6000\nverdict met\nweight 10000\n"
     assert programs.sheet(session.to_bytes(example)) == printed
 
@@ -31,8 +33,19 @@ def check_pictures():
     for path in sorted((ROOT / "examples").glob("*.session")):
         svg = picture.picture(path.stem, session.to_bytes(path.read_text()))
         ElementTree.fromstring(svg)
+        for limit in (0, 1_000):
+            ElementTree.fromstring(picture.picture(path.stem, session.to_bytes(path.read_text()), limit))
         if path.stem == "brent":
             assert svg == (ROOT / "docs" / "session.svg").read_text(), "docs/session.svg is old"
+
+
+def check_picture_limit():
+    """The count against the limit, and the verdict by it; none without a limit."""
+    data = session.to_bytes((ROOT / "examples" / "document01.session").read_text())
+    assert "lapses" not in picture.picture("one", data)
+    for limit, said in ((0, "one: failed, weight 0<"), (1, "one: met, weight 10000<")):
+        svg = picture.picture("one", data, limit)
+        assert f"lapses 1, at most {limit}<" in svg and said in svg, limit
 
 
 def check_rows():
@@ -67,6 +80,8 @@ ERRORS = [
     (session, "row 1 1 10000 500 100 1 60", None, "there is no sp"),
     (session, "# nothing", None, "there is no row"),
     (calls, "report\nopen 1 1 day 1 sp 1", 2, "open is written"),
+    (calls, "open row 1 1 day 1 sp 1 lapses", 1, "open is written"),
+    (calls, "open row 1 1 day 1 sp 1 lapses some", 1, "lapses: 'some' is not a number"),
     (calls, "report 1", 1, "report takes nothing"),
     (calls, "close 1", 1, "close takes active passive"),
     (calls, "close 1 18446744073709551616", 1, "passive: 18446744073709551616"),
@@ -89,6 +104,7 @@ def check_errors():
 def main():
     check_examples()
     check_pictures()
+    check_picture_limit()
     check_rows()
     check_any_bytes(random.Random(1))
     check_errors()

@@ -6,7 +6,9 @@
 
 The text, one call a line, # for comments:
 
-    open row EXPIRY QUANTUM L M A B P day DAY sp SP     (a row may have any number of words)
+    open row EXPIRY QUANTUM L M A B P day DAY sp SP lapses LIMIT|none
+                                              (a row may have any number of words; `lapses`, the
+                                              lapse limit, may be left out for none)
     add T ID buy|sell PRICE VOLUME
     amend T ID PRICE VOLUME
     cancel T ID
@@ -33,7 +35,7 @@ sys.path.insert(0, str(Path(__file__).resolve().parent.parent))
 
 from recount import programs
 from recount.book import (
-    EVENTS, Add, Amend, Cancel, Charge, Close, Deal, Drop, Look, Open, Report, Tick, Withdraw,
+    EVENTS, NO_LIMIT, Add, Amend, Cancel, Charge, Close, Deal, Drop, Look, Open, Report, Tick, Withdraw,
 )
 from tools import text
 
@@ -48,7 +50,12 @@ OTHER_COLUMNS = {
 
 
 def open_call(words):
-    shape = "open is written: open row WORDS.. day DAY sp SP"
+    shape = "open is written: open row WORDS.. day DAY sp SP lapses LIMIT|none"
+    limit = NO_LIMIT
+    if words[-2:-1] == ["lapses"]:
+        if words[-1] != "none":
+            limit = text.number(words[-1], text.WORD, "lapses")
+        words = words[:-2]
     if len(words) < 5 or (words[0], words[-4], words[-2]) != ("row", "day", "sp"):
         raise text.TextError(shape)
     row = [
@@ -56,7 +63,7 @@ def open_call(words):
         for at, word in enumerate(words[1:-4])
     ]
     day = text.number(words[-3], text.WORD, "day")
-    return Open(row, day, text.number(words[-1], text.SIGNED, "SP"))
+    return Open(row, day, text.number(words[-1], text.SIGNED, "SP"), limit)
 
 
 def read_call(name, words):
@@ -85,7 +92,7 @@ def call_words(call):
     """The block of one call."""
     kind = type(call)
     if kind is Open:
-        return [1, len(call.words), *call.words, call.day, call.sp & 0xFFFFFFFF]
+        return [1, len(call.words), *call.words, call.day, call.sp & 0xFFFFFFFF, call.limit]
     if kind is Add:
         return [2, call.t, call.id, call.side, call.price & 0xFFFFFFFF, call.volume]
     if kind is Amend:
@@ -108,7 +115,8 @@ def calls_bytes(calls):
 
 def call_line(call):
     if isinstance(call, Open):
-        return " ".join(["open row", *map(str, call.words), f"day {call.day} sp {call.sp}"])
+        told = f"day {call.day} sp {call.sp} lapses {programs.limit_text(call.limit)}"
+        return " ".join(["open row", *map(str, call.words), told])
     if isinstance(call, EVENTS):
         return text.event_line(call)
     return " ".join([type(call).__name__.lower(), *map(str, call)])

@@ -1,10 +1,13 @@
 """A picture (SVG) of a session's quantum.
 
-    python3 tools/picture.py FILE.session > picture.svg
+    python3 tools/picture.py FILE.session [LIMIT] > picture.svg
 
 Best bid and ask over time, the kept stretches shaded, and below them the share of the quantum that
 was kept beside the share that is required. Verdict and weight are in the title. The quotes are the
 recount's; the rest is what `sheet` prints, the recount's sheet where the program is not built.
+
+A session run has no lapse limit. With a LIMIT, 0 to 1,000, the lapses are counted against it, each
+is marked below the plot, and verdict and weight are those of a month's quantum with that limit.
 """
 
 import subprocess
@@ -16,7 +19,10 @@ from xml.sax.saxutils import escape
 sys.path.insert(0, str(Path(__file__).resolve().parent.parent))
 
 from recount import programs, records, session
-from recount.book import Row, best_ask, best_bid, pass_event, widest
+from recount.book import (
+    MOST_LAPSES, NO_LIMIT, Row, best_ask, best_bid, lapses_by_stretches, none_too_many, pass_event,
+    widest,
+)
 from tools import session as session_text
 from tools import text
 
@@ -177,18 +183,39 @@ def draw_shares(d, row, done):
         d.text(x + side, BAR_TOP + BAR_HEIGHT + 18, label, anchor, 12)
 
 
+def draw_lapses(d, row, done, limit):
+    """Each lapse as a mark below the plot, and their count against the limit."""
+    ends = [0, *(offset + length for offset, length in done.pairs)]
+    starts = [*(offset for offset, _ in done.pairs), row.length]
+    count = lapses_by_stretches(done.pairs, row.length)
+    colour = INK if none_too_many(limit, count) else ASK
+    for stop, start in zip(ends, starts):
+        if stop < start:
+            d.rect(d.x(stop), BOTTOM + 1, max(1, d.x(start) - d.x(stop)), 4, colour)
+    words = f"lapses {count}, at most {limit}"
+    d.text(RIGHT, BAR_TOP - 7, words, "end", colour=colour, more=' font-weight="bold"')
+
+
 def percent(kept, length):
     """Rounded down to hundredths, so that a failed quantum never shows its share as reached."""
     hundredths = 10_000 * kept // length
     return f"{hundredths // 100}.{hundredths % 100:02}%"
 
 
-def picture(name, data):
+def judged(done, row, limit):
+    """The sheet with a month's verdict: failed and of no weight with more lapses than the limit."""
+    if none_too_many(limit, lapses_by_stretches(done.pairs, row.length)):
+        return done
+    return done._replace(met=False, weight=0)
+
+
+def picture(name, data, limit=NO_LIMIT):
     """The SVG of a session's bytes; a refused session raises a TextError."""
     words, sp = session.read_head(data[: session.HEAD.size]) or ([], 0)
     rest = data[session.HEAD.size :]
     done = sheet(data)
     row = Row(*words)
+    done = judged(done, row, limit)
     shown = quotes(row, [records.read(record) for record in records.split(rest)])
     prices = [price for _, bid, ask in shown for price in (bid, ask) if price is not None] or [sp]
     margin = max(1, (max(prices) - min(prices)) // 12)
@@ -209,16 +236,20 @@ def picture(name, data):
     d.steps([(t, bid) for t, bid, _ in shown], BID)
     draw_legend(d)
     draw_shares(d, row, done)
+    if limit != NO_LIMIT:
+        draw_lapses(d, row, done, limit)
     return d.svg()
 
 
 def main(words):
-    if len(words) != 1:
+    if len(words) not in (1, 2):
         sys.stderr.write(__doc__)
         return 2
     path = Path(words[0])
     try:
-        sys.stdout.write(picture(path.stem, session_text.to_bytes(text.decoded(path.read_bytes()))))
+        limit = text.number(words[1], (0, MOST_LAPSES), "LIMIT") if words[1:] else NO_LIMIT
+        data = session_text.to_bytes(text.decoded(path.read_bytes()))
+        sys.stdout.write(picture(path.stem, data, limit))
     except text.TextError as error:
         sys.stderr.write(f"{text.shown(words[0], error)}\n")
         return 1

@@ -8,7 +8,7 @@ use borrow.Author.Tests.{eq-eqb, eqb-true, not-false}
 use lib.IntN.{ℤ, pos}
 use lib.ListN.{length, set}
 use Rattle.rules.specs.declared.Millis.{Millis}
-use Rattle.rules.specs.declared.Steps.{Steps}
+use Rattle.rules.specs.declared.Opening.{Opening}
 use Rattle.rules.specs.declared.Kopecks.{Kopecks}
 use Rattle.rules.specs.declared.Row.{Row}
 use Rattle.rules.specs.declared.Cell.{Cell}
@@ -25,9 +25,11 @@ use Rattle.rules.specs.Cells.{goodCell, placeOf, cellAt, blankCell}
 use Rattle.rules.specs.Orders.{live, applyAll, present, timeFrom}
 use Rattle.rules.specs.Quotes.{best, lead}
 use Rattle.rules.specs.Kept.{bestBid, bestAsk, keptBelow}
+use Rattle.rules.specs.Stretches.{stretches}
+use Rattle.rules.specs.Lapses.{lapses as lapsesOf, lapsesBelow, goodLimit}
 use Rattle.rules.specs.Pay.{viewOf, allFailures, fee}
 use Rattle.rules.specs.Answers.{accepted, refused, outcomeBy, done, cell, report, numberOf, shownAnswer}
-use Rattle.rules.specs.Book.{Open, Send, Close, Drop, Charge, Withdraw, Look, Running, Idle, Quoting, Book, isOpen, Cause, lowest, rowCauses, readRow, goodCharges, sendCauses, eventRefusal, causes, refusalOf, noted, closed, closedCell, charged, changed, timeIn, ordersIn, bidIn, askIn, keptIn, reportOf}
+use Rattle.rules.specs.Book.{Open, Send, Close, Drop, Charge, Withdraw, Look, Running, Idle, Quoting, Book, isOpen, Cause, lowest, rowCauses, readRow, goodCharges, sendCauses, eventRefusal, causes, refusalOf, noted, closed, closedCell, charged, changed, timeIn, ordersIn, bidIn, askIn, keptIn, lapsesIn, reportOf}
 use Rattle.rules.specs.Book as B
 use Rattle.rules.specs.Bounds.{EventBounds, RunningBounds}
 use Rattle.rules.proofs.Answers.{refused-by, accepted-by}
@@ -35,6 +37,7 @@ use Rattle.rules.proofs.Refusals.{skip, stop, clear, passed}
 use Rattle.rules.proofs.Bounds.{event-bounds-none}
 use Rattle.quantum.specs.declared.Quantum.{Quantum}
 use Rattle.quantum.specs.declared.Sent.{Sent}
+use Rattle.quantum.specs.declared.Totals.{Totals}
 use Rattle.quantum.specs.Standing as S
 use Rattle.quantum.specs.Standing.{clockOf, standing, taken}
 use Rattle.quantum.proofs.Answers.{whole-is}
@@ -45,9 +48,9 @@ use Rattle.month.proofs.Answers.{stopped, stopped-by, went}
 use Rattle.month.proofs.Fields.{running-is, quantum-is, cells-are, closed-is, open-is, Opened, opened}
 
 -- months with the same fields are the same
-same-month : (m n : Month) → m .running ≡ n .running → m .place ≡ n .place → m .share ≡ n .share → m .quantum ≡ n .quantum
-    → m .cells ≡ n .cells → m ≡ n
-same-month m n p q r s t = λ i. record { running = p i; place = q i; share = r i; quantum = s i; cells = t i }
+same-month : (m n : Month) → m .running ≡ n .running → m .place ≡ n .place → m .share ≡ n .share → m .limit ≡ n .limit
+    → m .quantum ≡ n .quantum → m .cells ≡ n .cells → m ≡ n
+same-month m n p q r l s t = λ i. record { running = p i; place = q i; share = r i; limit = l i; quantum = s i; cells = t i }
 
 -- ---- open
 
@@ -62,12 +65,12 @@ lowest-first (c ∷ cs) ds j e = go (c .applies) e (lowest-first cs ds j)
     go false e r = r e
 
 -- the words were read as a row, or refused
-pub open-unread : (m : Month) (words : List ℕ) (day : ℕ) (sp : Steps) (k : ℕ) → refused k ≡ readRow paper words → Answered m (Open words day sp) m (refused k)
+pub open-unread : (m : Month) (words : List ℕ) (day : ℕ) (told : Opening) (k : ℕ) → refused k ≡ readRow paper words → Answered m (Open words day told) m (refused k)
 unfolding readRow refusalOf causes
-open-unread m words day sp k e =
+open-unread m words day told k e =
     let (j, n, f) = refused-by (lowest (rowCauses paper words)) k (rowOf words) e in
-    subst (λ (x : ℕ). Answered m (Open words day sp) m (refused x)) (sym f)
-    (stopped m (Open words day sp) j (λ b g is. lowest-first (rowCauses paper words) _ j n))
+    subst (λ (x : ℕ). Answered m (Open words day told) m (refused x)) (sym f)
+    (stopped m (Open words day told) j (λ b g is. lowest-first (rowCauses paper words) _ j n))
 
 pub record ReadAs (words : List ℕ) (row : Row) : Type 0 where
   pub seven : length words ≡ 7
@@ -86,7 +89,7 @@ read-as words row e =
       good = ap (goodRow paper) f ∙ not-false _ (two .0);
     }
 
-module _ (m : Month) (words : List ℕ) (row : Row) (read : ReadAs words row) (day : ℕ) (sp : Steps) where
+module _ (m : Month) (words : List ℕ) (row : Row) (read : ReadAs words row) (day : ℕ) (told : Opening) where
   row-passes : (rest : List Cause) → lowest (rowCauses paper words ++ rest) ≡ lowest rest
   row-passes rest =
       skip _ _ (ap not (eq-eqb _ _ (read .seven))) (skip _ _ (ap not (ap (goodRow paper) (read .is) ∙ read .good)) refl)
@@ -101,44 +104,55 @@ module _ (m : Month) (words : List ℕ) (row : Row) (read : ReadAs words row) (d
   named : (b : Book) → m ≡ monthOf b → cellAt (b .cells) (placeOf day (rowOf words .expiry) (rowOf words .quantum)) ≡ cellAt (m .cells) spot
   named b is = ap (cellAt (b .cells)) spot-is ∙ ap (λ (cs : List Cell). cellAt cs spot) (sym (cells-are m b is))
 
-  pub open-range : (within 1 31 day && goodPrice (sp .0)) ≡ false → Answered m (Open words day sp) m (refused 3)
+  pub open-range : (within 1 31 day && goodPrice (told .sp .0)) ≡ false → Answered m (Open words day told) m (refused 3)
   unfolding refusalOf causes
-  open-range h = stopped m (Open words day sp) 2 (λ b g is. row-passes _ ∙ stop _ _ (ap not h))
+  open-range h = stopped m (Open words day told) 2 (λ b g is. row-passes _ ∙ stop _ _ (ap not h))
 
-  module _ (h : (within 1 31 day && goodPrice (sp .0)) ≡ true) where
-    pub open-filled : cellAt (m .cells) spot .filled ≡ true → Answered m (Open words day sp) m (refused 4)
+  module _ (h : (within 1 31 day && goodPrice (told .sp .0)) ≡ true) where
+    pub open-filled : cellAt (m .cells) spot .filled ≡ true → Answered m (Open words day told) m (refused 4)
     unfolding refusalOf causes
     open-filled k =
-        stopped m (Open words day sp) 3
+        stopped m (Open words day told) 3
         (λ b g is. row-passes _ ∙ skip _ _ (ap not h) (stop _ _ (ap (λ (c : Cell). c .filled) (named b is) ∙ k)))
 
     module _ (k : cellAt (m .cells) spot .filled ≡ false) where
-      pub open-running : m .running ≡ true → Answered m (Open words day sp) m (refused 6)
+      pub open-running : m .running ≡ true → Answered m (Open words day told) m (refused 6)
       unfolding refusalOf causes
       open-running l =
-          stopped m (Open words day sp) 5
+          stopped m (Open words day told) 5
           (λ b g is.
           row-passes _ ∙ skip _ _ (ap not h) (skip _ _ (ap (λ (c : Cell). c .filled) (named b is) ∙ k) (stop _ _ (open-is m b is l))))
 
-      pub open-done : m .running ≡ false → (q : Quantum) (place : ℕ) → q ≡ standing row (sp .0) [] → place ≡ spot
-          → Answered m (Open words day sp) (record { running = true; place = place; share = row .share; quantum = q; cells = m .cells }) (accepted done)
-      unfolding refusalOf causes changed monthOf
-      open-done l q place e f =
-          went m _ (Open words day sp) done
-          (λ b g is. (
+      module _ (l : m .running ≡ false) where
+        pub open-limit : goodLimit (told .limit) ≡ false → Answered m (Open words day told) m (refused 17)
+        unfolding refusalOf causes
+        open-limit n =
+            stopped m (Open words day told) 16
+            (λ b g is.
             row-passes _
-                ∙ skip _ _ (ap not h) (skip _ _ (ap (λ (c : Cell). c .filled) (named b is) ∙ k) (skip _ _ (closed-is m b is l) clear)),
-            same-month _ _ refl (f ∙ sym spot-is) (ap (λ (r : Row). r .share) (sym (read .is)))
-                (e ∙ ap (λ (r : Row). standing r (sp .0) []) (sym (read .is))) (cells-are m b is),
-            refl,
-          ))
+            ∙ skip _ _ (ap not h) (skip _ _ (ap (λ (c : Cell). c .filled) (named b is) ∙ k) (skip _ _ (closed-is m b is l) (stop _ _ (ap not n)))))
+
+        pub open-done : goodLimit (told .limit) ≡ true → (q : Quantum) (place : ℕ) → q ≡ standing row (told .sp .0) [] → place ≡ spot
+            → Answered m (Open words day told)
+            (record { running = true; place = place; share = row .share; limit = told .limit; quantum = q; cells = m .cells }) (accepted done)
+        unfolding refusalOf causes changed monthOf
+        open-done n q place e f =
+            went m _ (Open words day told) done
+            (λ b g is. (
+              row-passes _
+                  ∙ skip _ _ (ap not h)
+                  (skip _ _ (ap (λ (c : Cell). c .filled) (named b is) ∙ k) (skip _ _ (closed-is m b is l) (skip _ _ (ap not n) clear))),
+              same-month _ _ refl (f ∙ sym spot-is) (ap (λ (r : Row). r .share) (sym (read .is))) refl
+                  (e ∙ ap (λ (r : Row). standing r (told .sp .0) []) (sym (read .is))) (cells-are m b is),
+              refl,
+            ))
 
 -- ---- events
 
 -- with none open
 idle-send : (r : Running) (e : Event) → isOpen r ≡ false → lowest (sendCauses r e) ≡ 7
 idle-send Idle e h = stop _ _ refl
-idle-send (Quoting place row sp events) e h = let z : _≡_ {A = ℕ} 0 1 = cc in absurd (omega arith)
+idle-send (Quoting place row told events) e h = let z : _≡_ {A = ℕ} 0 1 = cc in absurd (omega arith)
 
 pub send-idle : (m : Month) (e : Event) → m .running ≡ false → Answered m (Send e) m (refused 7)
 unfolding refusalOf causes
@@ -156,23 +170,23 @@ module _ (m : Month) (e : Event) (sent : Sent) (h : m .running ≡ true) (a : S.
       (λ b g is.
       let o = opened m b g is h in
       ap shownAnswer (sym k)
-      ∙ a .answer (o .row) (o .sp .0) (o .events) (o .bounds .events-good) (o .quantum)
+      ∙ a .answer (o .row) (o .told .sp .0) (o .events) (o .bounds .events-good) (o .quantum)
       ∙ ap (λ (n : ℕ). outcomeBy n done) (sym (send-refusal m b e o)))
 
   pub send-done : sent .answer ≡ Accepted
-      → Answered m (Send e) (record { running = m .running; place = m .place; share = m .share; quantum = sent .quantum; cells = m .cells }) (accepted done)
+      → Answered m (Send e) (record { running = m .running; place = m .place; share = m .share; limit = m .limit; quantum = sent .quantum; cells = m .cells }) (accepted done)
   unfolding changed monthOf
   send-done k =
       went m _ (Send e) done
       (λ b g is.
       let o = opened m b g is h in
       let zero : eventRefusal (o .row) (o .events) e ≡ 0 =
-      accepted-by _ done done (ap shownAnswer (sym k) ∙ a .answer (o .row) (o .sp .0) (o .events) (o .bounds .events-good) (o .quantum)) .0 in
-      let next : sent .quantum ≡ standing (o .row) (o .sp .0) (o .events ++ (e ∷ [])) =
-      a .quantum (o .row) (o .sp .0) (o .events) (o .bounds .events-good) (o .quantum)
-      ∙ ap (λ (n : ℕ). standing (o .row) (o .sp .0) (taken n (o .events) e)) zero in (
+      accepted-by _ done done (ap shownAnswer (sym k) ∙ a .answer (o .row) (o .told .sp .0) (o .events) (o .bounds .events-good) (o .quantum)) .0 in
+      let next : sent .quantum ≡ standing (o .row) (o .told .sp .0) (o .events ++ (e ∷ [])) =
+      a .quantum (o .row) (o .told .sp .0) (o .events) (o .bounds .events-good) (o .quantum)
+      ∙ ap (λ (n : ℕ). standing (o .row) (o .told .sp .0) (taken n (o .events) e)) zero in (
         send-refusal m b e o ∙ zero,
-        same-month _ _ h (o .at) (o .share) next (cells-are m b is)
+        same-month _ _ h (o .at) (o .share) (o .limit) next (cells-are m b is)
             ∙ ap (λ (r : Running). monthOf (record { running = noted r e; cells = b .cells })) (sym (o .running)),
         refl,
       ))
@@ -188,30 +202,47 @@ module _ (m : Month) (active passive : Kopecks) where
   unfolding refusalOf causes
   close-idle h k = stopped m (Close active passive) 6 (λ b g is. skip _ _ (ap not h) (stop _ _ (ap not (closed-is m b is k))))
 
-  pub close-done : goodCharges paper active passive ≡ true → m .running ≡ true → (kept length : Millis)
-      → ((row : Row) (sp : ℤ) (events : List Event) → EventBounds row events → m .quantum ≡ standing row sp events → kept .0 ≡ keptBelow row sp events (row .length .0))
+  abbrev filledBy : Totals → Millis → Cell
+  filledBy totals length =
+      record {
+        filled = true;
+        kept = totals .kept;
+        length = length;
+        share = m .share;
+        limit = m .limit;
+        lapses = totals .lapses;
+        active = active;
+        passive = passive;
+      }
+
+  pub close-done : goodCharges paper active passive ≡ true → m .running ≡ true → (totals : Totals) (length : Millis)
+      → ((row : Row) (sp : ℤ) (events : List Event) → EventBounds row events → m .quantum ≡ standing row sp events
+      → (totals .kept .0 ≡ keptBelow row sp events (row .length .0)) × (totals .lapses ≡ lapsesBelow row sp events (row .length .0)))
       → length ≡ m .quantum .duty .length
       → Answered m (Close active passive)
-      (withoutQuantum (withCell m (m .place) (record { filled = true; kept = kept; length = length; share = m .share; active = active; passive = passive })))
+      (withoutQuantum (withCell m (m .place) (filledBy totals length)))
       (accepted done)
   unfolding refusalOf causes changed monthOf
-  close-done h k kept length l w =
+  close-done h k totals length l w =
       went m _ (Close active passive) done
       (λ b g is.
       let o = opened m b g is k in
-      let cell : _≡_ {A = Cell} (record { filled = true; kept = kept; length = length; share = m .share; active = active; passive = passive })
-      (closedCell (o .row) (o .sp) (o .events) active passive) =
+      let ends = l (o .row) (o .told .sp .0) (o .events) (o .bounds .events-good) (o .quantum) in
+      let cell : _≡_ {A = Cell} (filledBy totals length)
+      (closedCell (o .row) (o .told) (o .events) active passive) =
       λ i.
       record {
         filled = true;
-        kept = millis (l (o .row) (o .sp .0) (o .events) (o .bounds .events-good) (o .quantum) i);
-        length = (w ∙ whole-is (o .row) (o .sp .0) (o .events) (m .quantum) (o .quantum)) i;
+        kept = millis (ends .0 i);
+        length = (w ∙ whole-is (o .row) (o .told .sp .0) (o .events) (m .quantum) (o .quantum)) i;
         share = o .share i;
+        limit = o .limit i;
+        lapses = ends .1 i;
         active = active;
         passive = passive;
       } in (
         skip _ _ (ap not h) (skip _ _ (ap not (open-is m b is k)) clear),
-        same-month _ _ refl refl refl refl
+        same-month _ _ refl refl refl refl refl
             ((λ i. set (cells-are m b is i) (o .at i) (cell i))
             ∙ ap (λ (r : Running). closed r active passive (b .cells)) (sym (o .running))),
         refl,
@@ -225,7 +256,7 @@ pub drop-done : (m : Month) → m .running ≡ true → Answered m Drop (without
 unfolding refusalOf causes changed monthOf
 drop-done m k =
     went m _ Drop done
-    (λ b g is. (skip _ _ (ap not (open-is m b is k)) clear, same-month _ _ refl refl refl refl (cells-are m b is), refl))
+    (λ b g is. (skip _ _ (ap not (open-is m b is k)) clear, same-month _ _ refl refl refl refl refl (cells-are m b is), refl))
 
 -- ---- charge, withdraw and look: a named cell
 
@@ -305,50 +336,54 @@ module _ (m : Month) (day expiry quantum : ℕ) where
 -- ---- report
 
 -- what is read off a quantum
-pub record ReadOff (q : Quantum) (time kept : Millis) (orders : ℕ) (bid ask : Quote) : Type 0 where
+pub record ReadOff (q : Quantum) (time kept : Millis) (lapses orders : ℕ) (bid ask : Quote) : Type 0 where
   pub time-is : time ≡ q .clock .time
   pub kept-is : kept ≡ q .clock .kept
+  pub lapses-are : lapses ≡ q .clock .lapses
   pub orders-are : (row : Row) (sp : ℤ) (events : List Event) → EventBounds row events → q ≡ standing row sp events → orders ≡ length (live events)
   pub bid-is : (row : Row) (sp : ℤ) (events : List Event) → EventBounds row events → q ≡ standing row sp events → bid ≡ bestBid row (live events)
   pub ask-is : (row : Row) (sp : ℤ) (events : List Event) → EventBounds row events → q ≡ standing row sp events → ask ≡ bestAsk row (live events)
 
 -- it is what the book's report says, also where none is open
-record Shows (r : Running) (time kept : Millis) (orders : ℕ) (bid ask : Quote) : Type 0 where
+record Shows (r : Running) (time kept : Millis) (lapses orders : ℕ) (bid ask : Quote) : Type 0 where
   time-shown : time ≡ millis (timeIn r)
   kept-shown : kept ≡ millis (keptIn r)
+  lapses-shown : lapses ≡ lapsesIn r
   orders-shown : orders ≡ ordersIn r
   bid-shown : bid ≡ bidIn r
   ask-shown : ask ≡ askIn r
 
-shows : (r : Running) (q : Quantum) (time kept : Millis) (orders : ℕ) (bid ask : Quote) → RunningBounds paper r → q ≡ quantumIn r
-    → ReadOff q time kept orders bid ask → Shows r time kept orders bid ask
-unfolding standing clockOf present timeFrom live applyAll keptBelow count best lead keep
-shows Idle q time kept orders bid ask g is h =
+shows : (r : Running) (q : Quantum) (time kept : Millis) (lapses orders : ℕ) (bid ask : Quote) → RunningBounds paper r → q ≡ quantumIn r
+    → ReadOff q time kept lapses orders bid ask → Shows r time kept lapses orders bid ask
+unfolding standing clockOf present timeFrom live applyAll keptBelow count best lead keep lapsesBelow lapsesOf stretches
+shows Idle q time kept lapses orders bid ask g is h =
     record {
       time-shown = h .time-is ∙ ap (λ (x : Quantum). x .clock .time) is;
       kept-shown = h .kept-is ∙ ap (λ (x : Quantum). x .clock .kept) is;
+      lapses-shown = h .lapses-are ∙ ap (λ (x : Quantum). x .clock .lapses) is;
       orders-shown = h .orders-are idleRow (pos 0) [] (event-bounds-none idleRow) is;
       bid-shown = h .bid-is idleRow (pos 0) [] (event-bounds-none idleRow) is;
       ask-shown = h .ask-is idleRow (pos 0) [] (event-bounds-none idleRow) is;
     }
-shows (Quoting place row sp events) q time kept orders bid ask g is h =
+shows (Quoting place row told events) q time kept lapses orders bid ask g is h =
     record {
       time-shown = h .time-is ∙ ap (λ (x : Quantum). x .clock .time) is;
       kept-shown = h .kept-is ∙ ap (λ (x : Quantum). x .clock .kept) is;
-      orders-shown = h .orders-are row (sp .0) events (g .events-good) is;
-      bid-shown = h .bid-is row (sp .0) events (g .events-good) is;
-      ask-shown = h .ask-is row (sp .0) events (g .events-good) is;
+      lapses-shown = h .lapses-are ∙ ap (λ (x : Quantum). x .clock .lapses) is;
+      orders-shown = h .orders-are row (told .sp .0) events (g .events-good) is;
+      bid-shown = h .bid-is row (told .sp .0) events (g .events-good) is;
+      ask-shown = h .ask-is row (told .sp .0) events (g .events-good) is;
     }
 
-pub report-done : (m : Month) (time kept : Millis) (orders : ℕ) (bid ask : Quote) (failures : List ℕ) (charge : Kopecks)
-    → ReadOff (m .quantum) time kept orders bid ask → failures ≡ allFailures paper (m .cells) → charge ≡ kopecks (fee paper (m .cells))
+pub report-done : (m : Month) (time kept : Millis) (lapses orders : ℕ) (bid ask : Quote) (failures : List ℕ) (charge : Kopecks)
+    → ReadOff (m .quantum) time kept lapses orders bid ask → failures ≡ allFailures paper (m .cells) → charge ≡ kopecks (fee paper (m .cells))
     → Answered m B.Report m
-    (accepted (report (record { running = m .running; time = time; orders = orders; bid = bid; ask = ask; kept = kept; failures = failures; fee = charge })))
+    (accepted (report (record { running = m .running; time = time; orders = orders; bid = bid; ask = ask; kept = kept; lapses = lapses; failures = failures; fee = charge })))
 unfolding refusalOf causes changed reportOf
-report-done m time kept orders bid ask failures charge h f c =
+report-done m time kept lapses orders bid ask failures charge h f c =
     went m m B.Report (report _)
     (λ b g is.
-    let s = shows (b .running) (m .quantum) time kept orders bid ask (g .running) (quantum-is m b is) h in (
+    let s = shows (b .running) (m .quantum) time kept lapses orders bid ask (g .running) (quantum-is m b is) h in (
       clear,
       is,
       λ i.
@@ -360,6 +395,7 @@ report-done m time kept orders bid ask failures charge h f c =
             bid = s .bid-shown i;
             ask = s .ask-shown i;
             kept = s .kept-shown i;
+            lapses = s .lapses-shown i;
             failures = (f ∙ ap (allFailures paper) (cells-are m b is)) i;
             fee = (c ∙ ap (λ (cells : List Cell). kopecks (fee paper cells)) (cells-are m b is)) i;
           }),

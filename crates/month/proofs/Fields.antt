@@ -9,7 +9,7 @@ use lib.Dec.{leb}
 use lib.IntN.{pos}
 use lib.ListN.{length}
 use Rattle.rules.specs.declared.Row.{Row}
-use Rattle.rules.specs.declared.Steps.{Steps}
+use Rattle.rules.specs.declared.Opening.{Opening}
 use Rattle.rules.specs.declared.Cell.{Cell}
 use Rattle.rules.specs.declared.Event.{Event}
 use Rattle.rules.specs.Lists.{within}
@@ -26,7 +26,7 @@ use Rattle.quantum.specs.declared.Quantum.{Quantum}
 use Rattle.quantum.specs.Standing as S
 use Rattle.quantum.specs.Standing.{standing}
 use Rattle.month.specs.declared.Month.{Month}
-use Rattle.month.specs.Represents.{idleRow, quantumIn, placeIn, shareIn, monthOf, Reached}
+use Rattle.month.specs.Represents.{idleRow, quantumIn, placeIn, shareIn, limitIn, monthOf, Reached}
 
 module _ (m : Month) (b : Book) (is : m ≡ monthOf b) where
   pub running-is : m .running ≡ isOpen (b .running)
@@ -45,6 +45,10 @@ module _ (m : Month) (b : Book) (is : m ≡ monthOf b) where
   unfolding monthOf
   share-is = ap (λ (x : Month). x .share) is
 
+  pub limit-is : m .limit ≡ limitIn (b .running)
+  unfolding monthOf
+  limit-is = ap (λ (x : Month). x .limit) is
+
   pub cells-are : m .cells ≡ b .cells
   unfolding monthOf
   cells-are = ap (λ (x : Month). x .cells) is
@@ -59,39 +63,41 @@ module _ (m : Month) (b : Book) (is : m ≡ monthOf b) where
 pub record Opened (m : Month) (b : Book) : Type 0 where
   pub place : ℕ
   pub row : Row
-  pub sp : Steps
+  pub told : Opening
   pub events : List Event
-  pub running : b .running ≡ Quoting place row sp events
-  pub bounds : OpenBounds paper place row sp events
-  pub quantum : m .quantum ≡ standing row (sp .0) events
+  pub running : b .running ≡ Quoting place row told events
+  pub bounds : OpenBounds paper place row told events
+  pub quantum : m .quantum ≡ standing row (told .sp .0) events
   pub at : m .place ≡ place
   pub share : m .share ≡ row .share
+  pub limit : m .limit ≡ told .limit
 
 pub opened : (m : Month) (b : Book) → BookBounds paper b → m ≡ monthOf b → m .running ≡ true → Opened m b
 opened m b g is h = go (b .running) refl (g .running)
   where
     go : (r : Running) → b .running ≡ r → RunningBounds paper r → Opened m b
     go Idle e s = absurd (false≢true (sym (ap isOpen e) ∙ open-is m b is h))
-    go (Quoting place row sp events) e s =
+    go (Quoting place row told events) e s =
         record {
           place = place;
           row = row;
-          sp = sp;
+          told = told;
           events = events;
           running = e;
           bounds = s;
           quantum = quantum-is m b is ∙ ap quantumIn e;
           at = place-is m b is ∙ ap placeIn e;
           share = share-is m b is ∙ ap shareIn e;
+          limit = limit-is m b is ∙ ap limitIn e;
         }
 
 -- the quantum in the month is one that its calls handed back, also where none is open
 in-running : (q : Quantum) (r : Running) → q ≡ quantumIn r → RunningBounds paper r → S.Reached q
 in-running q Idle e s = record { row = idleRow; sp = pos 0; events = []; some = omega arith; bounds = event-bounds-none idleRow; is = e }
-in-running q (Quoting place row sp events) e s =
+in-running q (Quoting place row told events) e s =
     record {
       row = row;
-      sp = sp .0;
+      sp = told .sp .0;
       events = events;
       some = row-bounds paper row (s .row-good) .least-least;
       bounds = s .events-good;
@@ -108,7 +114,7 @@ all-cells m r = ap length (cells-are m (after paper (r .calls)) (r .is)) ∙ bou
 
 place-small : (r : Running) → RunningBounds paper r → placeIn r < 186
 place-small Idle s = omega arith
-place-small (Quoting place row sp events) s = s .inside
+place-small (Quoting place row told events) s = s .inside
 
 pub place-inside : (m : Month) → Reached m → m .place < 186
 place-inside m r =
@@ -151,9 +157,9 @@ cell-good m r place h c e f =
 
 -- the fresh month
 pub fresh-is : (q : Quantum) (cells : List Cell) → q ≡ quantumIn Idle → cells ≡ blankCells
-    → _≡_ {A = Month} (record { running = false; place = 0; share = 0; quantum = q; cells = cells }) (monthOf (after paper []))
+    → _≡_ {A = Month} (record { running = false; place = 0; share = 0; limit = 0; quantum = q; cells = cells }) (monthOf (after paper []))
 unfolding monthOf after run freshBook
-fresh-is q cells e f = λ i. record { running = false; place = 0; share = 0; quantum = e i; cells = f i }
+fresh-is q cells e f = λ i. record { running = false; place = 0; share = 0; limit = 0; quantum = e i; cells = f i }
 
 -- a good row and a day name a cell
 pub row-names : (row : Row) (day : ℕ) → goodRow paper row ≡ true → within 1 31 day ≡ true → goodCell day (row .expiry) (row .quantum) ≡ true

@@ -19,13 +19,14 @@ withCell m place cell =
       running = m .running;
       place = m .place;
       share = m .share;
+      limit = m .limit;
       quantum = m .quantum;
       cells = set (m .cells) place cell;
     }
 
 -- the month with no quantum open
 abbrev pub withoutQuantum : Month → Month
-withoutQuantum m = record { running = false; place = 0; share = 0; quantum = quantumIn Idle; cells = m .cells }
+withoutQuantum m = record { running = false; place = 0; share = 0; limit = 0; quantum = quantumIn Idle; cells = m .cells }
 
 -- the cell that a day, an expiry and a quantum name: none, a blank one, or a filled one and its place
 abbrev pub namedIn : List Cell → ℕ → ℕ → ℕ → Named

@@ -27,15 +27,19 @@ idleRow =
 
 abbrev pub quantumIn : Running → Quantum
 quantumIn Idle = standing idleRow (pos 0) []
-quantumIn (Quoting place row sp events) = standing row (sp .0) events
+quantumIn (Quoting place row told events) = standing row (told .sp .0) events
 
 abbrev pub placeIn : Running → ℕ
 placeIn Idle = 0
-placeIn (Quoting place row sp events) = place
+placeIn (Quoting place row told events) = place
 
 abbrev pub shareIn : Running → ℕ
 shareIn Idle = 0
-shareIn (Quoting place row sp events) = row .share
+shareIn (Quoting place row told events) = row .share
+
+abbrev pub limitIn : Running → ℕ
+limitIn Idle = 0
+limitIn (Quoting place row told events) = told .limit
 
 unfoldable pub monthOf : Book → Month
 monthOf b =
@@ -43,6 +47,7 @@ monthOf b =
       running = isOpen (b .running);
       place = placeIn (b .running);
       share = shareIn (b .running);
+      limit = limitIn (b .running);
       quantum = quantumIn (b .running);
       cells = b .cells;
     }

@@ -23,6 +23,7 @@ use rules::Event;
 use rules::Kopecks;
 use rules::Looked;
 use rules::Millis;
+use rules::Opening;
 use rules::Refusal;
 use rules::Report;
 use rules::Row;
@@ -34,6 +35,7 @@ pub struct Month {
     running: bool,
     place: usize,
     share: u32,
+    limit: u32,
     quantum: Quantum,
     cells: [Cell; 186],
 }
@@ -91,6 +93,8 @@ fn blank_cell() -> Cell
         kept: Millis(0),
         length: Millis(0),
         share: 0,
+        limit: 0,
+        lapses: 0,
         active: Kopecks(0),
         passive: Kopecks(0),
     }
@@ -148,6 +152,7 @@ impl Month {
             running: false,
             place: 0,
             share: 0,
+            limit: 0,
             quantum,
             cells,
         }
@@ -182,16 +187,18 @@ impl Month {
             running: false,
             place: 0,
             share: 0,
+            limit: 0,
             quantum,
             cells,
         }
     }
 
     // A row that was read: the other causes of open, then the quantum opens.
-    fn open_row(self, row: Row, day: u32, sp: Steps) -> Turned
+    fn open_row(self, row: Row, day: u32, told: Opening) -> Turned
         requires { ⌜ Reached self × (goodRow paper row ≡ true) ⌝ }
-        ensures { λ r. ⌜ ((words : List ℕ) → length words ≡ 7 → rowOf words ≡ row → Answered self (B.Open words day sp) (r .month) (shownAnswer (r .answer))) ⌝ }
+        ensures { λ r. ⌜ ((words : List ℕ) → length words ≡ 7 → rowOf words ≡ row → Answered self (B.Open words day told) (r .month) (shownAnswer (r .answer))) ⌝ }
     {
+        let sp = told.sp;
         if !both(ranges::between(1, 31, day), ranges::price(sp)) {
             return refused(self, Refusal::ArgumentOutOfRange);
         }
@@ -203,25 +210,29 @@ impl Month {
         if self.running {
             return refused(self, Refusal::QuantumOpen);
         }
+        if !ranges::lapse_limit(told.limit) {
+            return refused(self, Refusal::LapseLimitOutOfRange);
+        }
         let quantum = Quantum::opened(row, sp);
         let cells = self.cells;
         accepted(Month {
             running: true,
             place,
             share: row.share,
+            limit: told.limit,
             quantum,
             cells,
         })
     }
 
     // The named cell's quantum opens with no orders, at time 0.
-    pub fn open(self, words: &[u32], day: u32, sp: Steps) -> Turned
+    pub fn open(self, words: &[u32], day: u32, told: Opening) -> Turned
         requires { ⌜ Reached self ⌝ }
-        ensures { λ r. ⌜ Answered self (B.Open (now (words .entry)) day sp) (r .month) (shownAnswer (r .answer)) ⌝ }
+        ensures { λ r. ⌜ Answered self (B.Open (now (words .entry)) day told) (r .month) (shownAnswer (r .answer)) ⌝ }
     {
         let read = row::read(words);
         match read {
-            RowRead::Read(row) => self.open_row(row, day, sp),
+            RowRead::Read(row) => self.open_row(row, day, told),
             RowRead::Refused(r) => refused(self, r),
         }
     }
@@ -296,7 +307,7 @@ impl Month {
         self.send(Event::Tick { t })
     }
 
-    // Time runs on to L, and the cell is filled with kept time, L, p, A and P.
+    // Time runs on to L, and the cell is filled with kept time, L, p, the lapse limit, the lapses, A and P.
     pub fn close(self, active: Kopecks, passive: Kopecks) -> Turned
         requires { ⌜ Reached self ⌝ }
         ensures { λ r. ⌜ Answered self (B.Close active passive) (r .month) (shownAnswer (r .answer)) ⌝ }
@@ -308,11 +319,15 @@ impl Month {
             return refused(self, Refusal::NoQuantumOpen);
         }
         let q = self.quantum;
+        let totals = q.ended();
+        let kept = totals.kept;
         let cell = Cell {
             filled: true,
-            kept: q.ended(),
+            kept,
             length: q.whole(),
             share: self.share,
+            limit: self.limit,
+            lapses: totals.lapses,
             active,
             passive,
         };
@@ -406,7 +421,7 @@ impl Month {
         }
     }
 
-    // Open or not, time, live orders, best quotes and kept time of the open quantum; the failure counts and the fee.
+    // Open or not, time, live orders, best quotes, kept time and lapses of the open quantum; the failure counts and the fee.
     pub fn report(self) -> Reported
         requires { ⌜ Reached self ⌝ }
         ensures { λ r. ⌜ (r .month ≡ self) × Answered self B.Report (r .month) (shownReport (r .answer)) ⌝ }
@@ -420,6 +435,7 @@ impl Month {
         let bid = q.best_bid();
         let ask = q.best_ask();
         let kept = q.kept_so_far();
+        let lapses = q.lapses_so_far();
         Reported {
             month: self,
             answer: Report {
@@ -429,6 +445,7 @@ impl Month {
                 bid,
                 ask,
                 kept,
+                lapses,
                 failures,
                 fee,
             },

@@ -3,12 +3,12 @@ use Prim.Native.Nat.{ℕ, _+_, _-_, _*_, _/_, _^_, _≤_, _<_}
 use native.Mathlib.Nat.{mul-assoc, mul-comm, one-mul, mul-le-mul, mul-le-mul-left, pow-le-pow-left, pow-suc, pow-zero, one-le-pow, div-le-of-le-mul, le-div-iff-mul-le}
 use native.Mathlib.Omega.{arith}
 use mathlib.Core.Path.{_≡_, refl}
-use mathlib.Core.Bool.{Bool, true, false}
+use mathlib.Core.Bool.{Bool, true, false, _&&_, and-true, and-false}
 use borrow.Author.Tests.{leb-true, leb-false, le-leb, lt-leb}
 use lib.Dec.{leb}
 use Rattle.rules.specs.Lists.{if_then_else_}
 use Rattle.rules.specs.Terms.{paper}
-use Rattle.rules.specs.Pay.{thousandths, met, weightMet, weight}
+use Rattle.rules.specs.Pay.{thousandths, met, weightMet, weightBy, weight}
 
 -- two 32-bit numbers
 pub product-fits : (a b : ℕ) → a ≤ 4294967295 → b ≤ 4294967295 → a * b ≤ 18446744065119617025
@@ -87,13 +87,18 @@ module _ (kept length share : ℕ) where
   unfolding weight
   weight-failed h = rw h refl
 
-pub weight-most : (kept length share : ℕ) → share ≤ 79 → weight paper kept length share ≤ 20000
-unfolding weight
-weight-most kept length share h = go (met paper kept length share)
-  where
-    go : (b : Bool) → (if b then weightMet paper (thousandths kept length) share else 0) ≤ 20000
-    go true = weightMet-most (thousandths kept length) share h
-    go false = omega arith
+-- whatever the verdict
+pub weightBy-most : (verdict : Bool) (kept length share : ℕ) → share ≤ 79 → weightBy paper verdict kept length share ≤ 20000
+weightBy-most true kept length share h = weightMet-most (thousandths kept length) share h
+weightBy-most false kept length share h = omega arith
+
+-- the lapses: none too many leave the weight as the share has it, too many leave none
+module _ (verdict within : Bool) (kept length share : ℕ) where
+  pub weight-within : within ≡ true → weightBy paper verdict kept length share ≡ weightBy paper (verdict && within) kept length share
+  weight-within h = rw (h, and-true verdict) refl
+
+  pub weight-past : within ≡ false → 0 ≡ weightBy paper (verdict && within) kept length share
+  weight-past h = rw (h, and-false verdict) refl
 
 -- what is met is at least 10p thousandths
 pub met-least : (kept length share : ℕ) → 1 ≤ length → met paper kept length share ≡ true → 10 * share ≤ thousandths kept length

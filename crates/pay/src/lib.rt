@@ -11,6 +11,7 @@ ghost use Rattle.rules.specs.Terms.{paper};
 ghost use Rattle.rules.specs.Bounds.{CellBounds};
 ghost use Rattle.rules.specs.Pay.{cellMet, cellWeight, cellFailed, viewOf, allFailures};
 ghost use Rattle.rules.specs.Pay as P;
+ghost use Rattle.rules.specs.Lapses.{withinLimit};
 use rules::Cell;
 use rules::CellView;
 use rules::Kopecks;
@@ -27,14 +28,26 @@ fn reaches(kept: Millis, length: Millis, share: u32) -> bool
     needed <= held
 }
 
-// The verdict on a cell.
+// Whether a count of lapses is none too many. 65,535 is no number here: it says that there is no limit.
+fn within_limit(limit: u32, lapses: u32) -> bool
+    ensures { λ r. ⌜ r ≡ withinLimit limit lapses ⌝ }
+{
+    if limit == 65535 {
+        return true;
+    }
+    lapses <= limit
+}
+
+// The verdict on a cell: its share and its lapses.
 pub fn met(cell: Cell) -> bool
     ensures { λ r. ⌜ r ≡ cellMet paper cell ⌝ }
 {
     let kept = cell.kept;
     let length = cell.length;
-    let share = cell.share;
-    reaches(kept, length, share)
+    if reaches(kept, length, cell.share) {
+        return within_limit(cell.limit, cell.lapses);
+    }
+    false
 }
 
 // The kept share f, in thousandths.
@@ -71,7 +84,7 @@ fn weight_met(f: u64, share: u32) -> u32
     10000 + (10000 * top / bottom) as u32
 }
 
-// The weight of a kept time K in a length L with a required share p.
+// The weight of a kept time K in a length L with a required share p, with no lapse limit.
 pub fn weight_of(kept: Millis, length: Millis, share: u32) -> u32
     requires { ⌜ (1 ≤ length .0) × (share ≤ 79) ⌝ }
     ensures { λ r. ⌜ r ≡ P.weight paper (kept .0) (length .0) share ⌝ }
@@ -83,15 +96,17 @@ pub fn weight_of(kept: Millis, length: Millis, share: u32) -> u32
     }
 }
 
-// The weight of a filled cell.
+// The weight of a filled cell: 0 with too many lapses.
 pub fn weight(cell: Cell) -> u32
     requires { ⌜ CellBounds paper cell ⌝ }
     ensures { λ r. ⌜ r ≡ cellWeight paper cell ⌝ }
 {
     let kept = cell.kept;
     let length = cell.length;
-    let share = cell.share;
-    weight_of(kept, length, share)
+    if within_limit(cell.limit, cell.lapses) {
+        return weight_of(kept, length, cell.share);
+    }
+    0
 }
 
 // A filled cell with its verdict and weight.

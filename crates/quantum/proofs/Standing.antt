@@ -1,30 +1,35 @@
 -- From the clock and the table to the accepted events that they stand for, and back. Assumes nothing.
 use Prim.Native.Nat.{ℕ, suc, _+_, _*_, _-_, _≤_, _<_}
 use mathlib.Core.Path.{_≡_, refl, ap, sym, _∙_}
-use mathlib.Core.Bool.{Bool, true, false}
+use mathlib.Core.Bool.{Bool, true, false, _||_, or-true}
+use lib.Dec.{ltb, eqb}
 use mathlib.Core.List.{List, [], _∷_, _++_}
 use native.Mathlib.Omega.{arith}
 use native.Mathlib.Nat.{le-refl}
 use lib.IntN.{ℤ}
-use borrow.Author.Tests.{lt-ltb, le-ltb}
+use borrow.Author.Tests.{lt-ltb, le-ltb, ltb-true, ltb-false, eq-eqb, ne-eqb}
 use Rattle.rules.specs.declared.Millis.{Millis}
 use Rattle.rules.specs.declared.Row.{Row}
 use Rattle.rules.specs.declared.Event.{Event}
 use Rattle.rules.specs.declared.Event.the-variants.{Add, Amend, Cancel, Deal, Tick}
 use Rattle.rules.specs.declared.Order.{Order}
 use Rattle.rules.specs.Lists.{if_then_else_}
+use Rattle.rules.specs.Units.{millis}
 use Rattle.rules.specs.Orders.{live, present, timeOf, apply}
-use Rattle.rules.specs.Kept.{ordersKeep, keptBelow}
+use Rattle.rules.specs.Kept.{ordersKeep, keptAt, keptBelow}
+use Rattle.rules.specs.Runs.{before}
+use Rattle.rules.specs.Lapses.{lapsesBelow, begins}
 use Rattle.rules.specs.Book.{lowest, traderCauses, eventCauses, eventRefusal}
 use Rattle.rules.specs.Bounds.{EventBounds}
 use Rattle.rules.proofs.Orders.{live-snoc, present-snoc}
 use Rattle.rules.proofs.Kept.{kept-onward, kept-snoc, kept-le}
+use Rattle.rules.proofs.Lapses.{lapsesBelow-le, lapses-onward, before-onward, lapses-snoc, before-snoc}
 use Rattle.rules.proofs.Refusals.{skip, stop}
 use Rattle.quote.specs.Limit.{limitOf}
 use Rattle.book.specs.Table.{tableOf, GoodOrders}
 use Rattle.quantum.specs.declared.Duty.{Duty}
 use Rattle.quantum.specs.declared.Clock.{Clock}
-use Rattle.quantum.specs.Standing.{dutyOf, clockOf, tableAfter, taken, Running, Stands, Onward, ranOn, InTime, isTick}
+use Rattle.quantum.specs.Standing.{dutyOf, clockOf, tableAfter, taken, Running, Stands, Onward, startingBy, ranOn, InTime, isTick}
 
 pub good-orders : (row : Row) (es : List Event) → EventBounds row es → GoodOrders (live es)
 good-orders row es g = record { few = g .few; distinct = g .distinct; prices = g .prices; volumes = g .volumes }
@@ -35,6 +40,54 @@ stands s = record { bounds = s .bounds; duty-is = s .duty-is; clock-is = s .cloc
 -- 1 or 0
 abbrev pub one : Bool → ℕ
 one b = if b then 1 else 0
+
+-- ---- whether a lapse starts, by what the clock holds
+
+module _ (c : Clock) where
+  pub starting-kept : c .keeps ≡ 1 → 0 ≡ startingBy c
+  starting-kept e = rw (eq-eqb (c .keeps) 1 e) refl
+
+  module _ (e : c .keeps ≡ 1 → ⊥) where
+    pub starting-first : c .time .0 ≡ 0 → 1 ≡ startingBy c
+    starting-first f = rw (ne-eqb (c .keeps) 1 e, eq-eqb (c .time .0) 0 f) refl
+
+    pub starting-after : c .last ≡ 1 → 1 ≡ startingBy c
+    starting-after f = rw (ne-eqb (c .keeps) 1 e, eq-eqb (c .last) 1 f, or-true (eqb (c .time .0) 0)) refl
+
+    pub starting-longer : (c .time .0 ≡ 0 → ⊥) → (c .last ≡ 1 → ⊥) → 0 ≡ startingBy c
+    starting-longer f g = rw (ne-eqb (c .keeps) 1 e, ne-eqb (c .time .0) 0 f, ne-eqb (c .last) 1 g) refl
+
+-- ---- whether time passes
+
+module _ (c : Clock) (t : Millis) (keeps : ℕ) where
+  abbrev total : Millis
+  total = millis (c .kept .0 + c .keeps * (t .0 - c .time .0))
+
+  pub ran-later : c .time .0 < t .0 → (n : ℕ) → n ≡ startingBy c
+      → _≡_ {A = Clock} (record { time = t; kept = total; keeps = keeps; lapses = c .lapses + n; last = c .keeps }) (ranOn c t keeps)
+  ran-later h n e =
+      let later = sym (lt-ltb (c .time .0) (t .0) h) in
+      λ i.
+      record {
+        time = t;
+        kept = total;
+        keeps = keeps;
+        lapses = (ap (λ (k : ℕ). c .lapses + k) e ∙ ap (λ (b : Bool). if b then c .lapses + startingBy c else c .lapses) later) i;
+        last = ap (λ (b : Bool). if b then c .keeps else c .last) later i;
+      }
+
+  pub ran-still : t .0 ≤ c .time .0
+      → _≡_ {A = Clock} (record { time = t; kept = total; keeps = keeps; lapses = c .lapses; last = c .last }) (ranOn c t keeps)
+  ran-still h =
+      let still = sym (le-ltb (c .time .0) (t .0) h) in
+      λ i.
+      record {
+        time = t;
+        kept = total;
+        keeps = keeps;
+        lapses = ap (λ (b : Bool). if b then c .lapses + startingBy c else c .lapses) still i;
+        last = ap (λ (b : Bool). if b then c .keeps else c .last) still i;
+      }
 
 -- ---- the fields
 
@@ -51,6 +104,14 @@ module _ (row : Row) (sp : ℤ) (es : List Event) (clock : Clock) (is : clock �
   unfolding clockOf
   keeps-is = ap (λ (x : Clock). x .keeps) is
 
+  lapses-is : clock .lapses ≡ lapsesBelow row sp es (present es)
+  unfolding clockOf
+  lapses-is = ap (λ (x : Clock). x .lapses) is
+
+  pub last-is : clock .last ≡ one (before (keptAt row sp es) (present es))
+  unfolding clockOf
+  last-is = ap (λ (x : Clock). x .last) is
+
   -- ---- time runs on
 
   keeps-small : (b : Bool) → one b ≤ 1
@@ -63,6 +124,7 @@ module _ (row : Row) (sp : ℤ) (es : List Event) (clock : Clock) (is : clock �
         kept-most = omega (arith, kept-is, time-is, kept-le row sp es (present es));
         onward = h;
         keeps-most = omega (arith, keeps-is, keeps-small (ordersKeep row sp (live es)));
+        lapses-most = omega (arith, lapses-is, time-is, lapsesBelow-le row sp es (present es));
       }
 
   times : (b : Bool) (n : ℕ) → one b * n ≡ (if b then n else 0)
@@ -79,6 +141,44 @@ module _ (row : Row) (sp : ℤ) (es : List Event) (clock : Clock) (is : clock �
       ∙ times (ordersKeep row sp (live es)) (t - present es) in
       omega (arith, kept-onward row sp es (g .ordered) t later, more, kept-is)
 
+  is-one : (b : Bool) → eqb (one b) 1 ≡ b
+  is-one true = refl
+  is-one false = refl
+
+  -- a lapse starts or not
+  starting-is : startingBy clock ≡ (if ordersKeep row sp (live es) then 0 else (if begins (keptAt row sp es) (present es) then 1 else 0))
+  starting-is =
+      ap (λ (n : ℕ). if eqb n 1 then 0 else (if eqb (clock .time .0) 0 || eqb (clock .last) 1 then 1 else 0)) keeps-is
+      ∙ ap (λ (b : Bool). if b then 0 else (if eqb (clock .time .0) 0 || eqb (clock .last) 1 then 1 else 0)) (is-one (ordersKeep row sp (live es)))
+      ∙ ap (λ (n : ℕ). if ordersKeep row sp (live es) then 0 else (if eqb n 0 || eqb (clock .last) 1 then 1 else 0)) time-is
+      ∙ ap (λ (n : ℕ). if ordersKeep row sp (live es) then 0 else (if eqb (present es) 0 || eqb n 1 then 1 else 0)) last-is
+      ∙ ap (λ (b : Bool). if ordersKeep row sp (live es) then 0 else (if eqb (present es) 0 || b then 1 else 0))
+      (is-one (before (keptAt row sp es) (present es)))
+
+  pub lapses-at : EventBounds row es → (t : ℕ) → clock .time .0 ≤ t
+      → (if ltb (clock .time .0) t then clock .lapses + startingBy clock else clock .lapses) ≡ lapsesBelow row sp es t
+  lapses-at g t h = go (ltb (clock .time .0) t) refl
+    where
+      go : (b : Bool) → ltb (clock .time .0) t ≡ b → (if b then clock .lapses + startingBy clock else clock .lapses) ≡ lapsesBelow row sp es t
+      go true e =
+          let later : present es < t = omega (arith, ltb-true (clock .time .0) t e, time-is) in
+          omega (arith, lapses-is, starting-is, lapses-onward row sp es (g .ordered) t later)
+      go false e =
+          let same : present es ≡ t = omega (arith, h, ltb-false (clock .time .0) t e, time-is) in
+          lapses-is ∙ ap (lapsesBelow row sp es) same
+
+  pub last-at : EventBounds row es → (t : ℕ) → clock .time .0 ≤ t
+      → (if ltb (clock .time .0) t then clock .keeps else clock .last) ≡ one (before (keptAt row sp es) t)
+  last-at g t h = go (ltb (clock .time .0) t) refl
+    where
+      go : (b : Bool) → ltb (clock .time .0) t ≡ b → (if b then clock .keeps else clock .last) ≡ one (before (keptAt row sp es) t)
+      go true e =
+          let later : present es < t = omega (arith, ltb-true (clock .time .0) t e, time-is) in
+          keeps-is ∙ ap one (sym (before-onward row sp es (g .ordered) t later))
+      go false e =
+          let same : present es ≡ t = omega (arith, h, ltb-false (clock .time .0) t e, time-is) in
+          last-is ∙ ap (λ (n : ℕ). one (before (keptAt row sp es) n)) same
+
   -- at an accepted event
   pub clock-event : EventBounds row es → (e : Event) (t : Millis) (keeps : ℕ) → t .0 ≡ timeOf e → clock .time .0 ≤ t .0
       → keeps ≡ one (ordersKeep row sp (apply (live es) e)) → ranOn clock t keeps ≡ clockOf row sp (es ++ (e ∷ []))
@@ -93,6 +193,14 @@ module _ (row : Row) (sp : ℤ) (es : List Event) (clock : Clock) (is : clock �
               ∙ ap (keptBelow row sp (es ++ (e ∷ []))) (sym (present-snoc es e))) i;
         };
         keeps = (k ∙ ap (λ (l : List Order). one (ordersKeep row sp l)) (sym (live-snoc es e))) i;
+        lapses = (lapses-at g (t .0) h
+            ∙ ap (lapsesBelow row sp es) f
+            ∙ sym (lapses-snoc row sp es e (timeOf e) (le-refl (timeOf e)))
+            ∙ ap (lapsesBelow row sp (es ++ (e ∷ []))) (sym (present-snoc es e))) i;
+        last = (last-at g (t .0) h
+            ∙ ap (λ (n : ℕ). one (before (keptAt row sp es) n)) f
+            ∙ ap one (sym (before-snoc row sp es e (timeOf e) (le-refl (timeOf e))))
+            ∙ ap (λ (n : ℕ). one (before (keptAt row sp (es ++ (e ∷ []))) n)) (sym (present-snoc es e))) i;
       }
 
 -- a tick changes no order

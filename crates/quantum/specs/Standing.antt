@@ -2,7 +2,8 @@
 use Prim.Native.Nat.{ℕ, zero, suc, _+_, _*_, _-_, _≤_}
 use mathlib.Core.Path.{_≡_}
 use mathlib.Core.List.{List, [], _∷_, _++_}
-use mathlib.Core.Bool.{Bool, true, false}
+use mathlib.Core.Bool.{Bool, true, false, _||_}
+use lib.Dec.{ltb, eqb}
 use lib.IntN.{ℤ}
 use lib.ListN.{length}
 use Rattle.rules.specs.declared.Millis.{Millis}
@@ -12,7 +13,9 @@ use Rattle.rules.specs.declared.Event.the-variants.{Add, Amend, Cancel, Deal, T
 use Rattle.rules.specs.Lists.{if_then_else_}
 use Rattle.rules.specs.Units.{millis}
 use Rattle.rules.specs.Orders.{live, present, timeOf}
-use Rattle.rules.specs.Kept.{ordersKeep, keptBelow}
+use Rattle.rules.specs.Kept.{ordersKeep, keptAt, keptBelow}
+use Rattle.rules.specs.Runs.{before}
+use Rattle.rules.specs.Lapses.{lapsesBelow}
 use Rattle.rules.specs.Answers.{outcomeBy, done, shownAnswer}
 use Rattle.rules.specs.Book.{eventRefusal}
 use Rattle.rules.specs.Bounds.{EventBounds}
@@ -28,13 +31,16 @@ use Rattle.quantum.specs.declared.Sent.{Sent}
 unfoldable pub dutyOf : Row → ℤ → Duty
 dutyOf row sp = record { length = row .length; least = row .least; limit = limitOf (row .a) (row .b) sp }
 
--- after these accepted events: the time, kept time, and whether the live orders keep the quote from now on
+-- after these accepted events: the time, kept time, whether the live orders keep the quote from now on, the lapses, and whether the
+-- millisecond before the present is kept
 unfoldable pub clockOf : Row → ℤ → List Event → Clock
 clockOf row sp events =
     record {
       time = millis (present events);
       kept = millis (keptBelow row sp events (present events));
       keeps = if ordersKeep row sp (live events) then 1 else 0;
+      lapses = lapsesBelow row sp events (present events);
+      last = if before (keptAt row sp events) (present events) then 1 else 0;
     }
 
 -- the table of the live orders
@@ -101,10 +107,22 @@ pub record Onward (c : Clock) (t : Millis) : Type 0 where
   pub kept-most : c .kept .0 ≤ c .time .0
   pub onward : c .time .0 ≤ t .0
   pub keeps-most : c .keeps ≤ 1
+  pub lapses-most : c .lapses ≤ c .time .0
 
--- the quotes of before count up to t
+-- 1 where the time that follows starts a lapse
+abbrev pub startingBy : Clock → ℕ
+startingBy c = if eqb (c .keeps) 1 then 0 else (if eqb (c .time .0) 0 || eqb (c .last) 1 then 1 else 0)
+
+-- the quotes of before count up to t; where no time passes, no lapse starts and the millisecond before the present is the same
 abbrev pub ranOn : Clock → Millis → ℕ → Clock
-ranOn c t keeps = record { time = t; kept = millis (c .kept .0 + c .keeps * (t .0 - c .time .0)); keeps = keeps }
+ranOn c t keeps =
+    record {
+      time = t;
+      kept = millis (c .kept .0 + c .keeps * (t .0 - c .time .0));
+      keeps = keeps;
+      lapses = if ltb (c .time .0) (t .0) then c .lapses + startingBy c else c .lapses;
+      last = if ltb (c .time .0) (t .0) then c .keeps else c .last;
+    }
 
 abbrev pub isTick : Event → Bool
 isTick (Add t id side price volume) = false

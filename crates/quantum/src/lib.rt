@@ -1,4 +1,4 @@
-// An open quantum: its duty, its clock (time, kept time, whether the quote is kept now) and the table of its live orders. `step` takes an
+// An open quantum: its duty, its clock (time, kept time, lapses, whether the quote is kept now) and the table of its live orders. `step` takes an
 // event on a lent table, for a run over many; a Quantum holds all three by value, for the month.
 ghost use mathlib.Core.Path.{_≡_};
 ghost use mathlib.Core.List.{List, []};
@@ -13,9 +13,10 @@ ghost use Rattle.rules.specs.Terms.{paper};
 ghost use Rattle.rules.specs.Rows.{goodRow};
 ghost use Rattle.rules.specs.Orders.{live as liveOrders, timeOf};
 ghost use Rattle.rules.specs.Kept.{bestBid, bestAsk, keptBelow};
+ghost use Rattle.rules.specs.Lapses.{lapsesBelow};
 ghost use Rattle.rules.specs.Answers.{numberOf};
 ghost use Rattle.rules.specs.Bounds.{EventBounds};
-ghost use Rattle.quantum.specs.Standing.{dutyOf, clockOf, standing, Reached, Answered, Running, Stepping, Onward, ranOn, InTime, isTick};
+ghost use Rattle.quantum.specs.Standing.{dutyOf, clockOf, standing, Reached, Answered, Running, Stepping, Onward, startingBy, ranOn, InTime, isTick};
 use rules::Answer;
 use rules::Contracts;
 use rules::Event;
@@ -33,11 +34,20 @@ pub struct Duty {
     pub limit: u32,
 }
 
-// The time, the kept time, and whether the live orders keep the quote from now on (1) or not (0).
+// The time, the kept time, whether the live orders keep the quote from now on (1) or not (0), the number of lapses, and whether the
+// millisecond before the present is kept (1) or not (0; also at time 0).
 pub struct Clock {
     pub time: Millis,
     pub kept: Millis,
     pub keeps: u32,
+    pub lapses: u32,
+    pub last: u32,
+}
+
+// Kept time and lapses of a whole quantum.
+pub struct Totals {
+    pub kept: Millis,
+    pub lapses: u32,
 }
 
 // What an event hands back: the clock after it, and the refusal's number or 0.
@@ -73,7 +83,7 @@ pub fn duty_of(row: Row, sp: Steps) -> Duty
     }
 }
 
-// Time 0, nothing kept, no quote.
+// Time 0, nothing kept, no quote, no lapse yet.
 pub fn started() -> Clock
     ensures { λ r. ⌜ ((row : Row) (sp : ℤ) → r ≡ clockOf row sp []) ⌝ }
 {
@@ -81,12 +91,27 @@ pub fn started() -> Clock
         time: Millis(0),
         kept: Millis(0),
         keeps: 0,
+        lapses: 0,
+        last: 0,
     }
 }
 
 // ---- an event
 
-// Time runs on to t: the quotes of before count up to there.
+// 1 where the time that follows starts a lapse: the quote is not kept, at the quantum's start or after a kept millisecond.
+fn starting(clock: Clock) -> u32
+    ensures { λ r. ⌜ (r ≡ startingBy clock) × (r ≤ 1) ⌝ }
+{
+    if clock.keeps == 1 {
+        return 0;
+    }
+    if clock.time.0 == 0 {
+        return 1;
+    }
+    if clock.last == 1 { 1 } else { 0 }
+}
+
+// Time runs on to t: the quotes of before count up to there, as kept time or as a lapse.
 pub fn onward(clock: Clock, t: Millis, keeps: u32) -> Clock
     requires { ⌜ Onward clock t ⌝ }
     ensures { λ r. ⌜ r ≡ ranOn clock t keeps ⌝ }
@@ -94,10 +119,23 @@ pub fn onward(clock: Clock, t: Millis, keeps: u32) -> Clock
     let time = clock.time;
     let kept = clock.kept;
     let more = clock.keeps * (t.0 - time.0);
+    let total = Millis(kept.0 + more);
+    if time.0 < t.0 {
+        let lapses = clock.lapses + starting(clock);
+        return Clock {
+            time: t,
+            kept: total,
+            keeps,
+            lapses,
+            last: clock.keeps,
+        };
+    }
     Clock {
         time: t,
-        kept: Millis(kept.0 + more),
+        kept: total,
         keeps,
+        lapses: clock.lapses,
+        last: clock.last,
     }
 }
 
@@ -275,16 +313,20 @@ impl Quantum {
         stepped_on(duty, clock, table, e)
     }
 
-    // Kept time at the quantum's end.
-    pub fn ended(self) -> Millis
+    // Kept time and lapses at the quantum's end.
+    pub fn ended(self) -> Totals
         requires { ⌜ Reached self ⌝ }
-        ensures { λ r. ⌜ ((row : Row) (sp : ℤ) (events : List Event) → EventBounds row events → self ≡ standing row sp events → r .0 ≡ keptBelow row sp events (row .length .0)) ⌝ }
+        ensures { λ r. ⌜ ((row : Row) (sp : ℤ) (events : List Event) → EventBounds row events → self ≡ standing row sp events → (r .kept .0 ≡ keptBelow row sp events (row .length .0)) × (r .lapses ≡ lapsesBelow row sp events (row .length .0))) ⌝ }
     {
         let duty = self.duty;
         let clock = self.clock;
         let last = duty.length;
         let end = onward(clock, last, 0);
-        end.kept
+        let kept = end.kept;
+        Totals {
+            kept,
+            lapses: end.lapses,
+        }
     }
 
     pub fn whole(self) -> Millis
@@ -307,6 +349,13 @@ impl Quantum {
     {
         let clock = self.clock;
         clock.kept
+    }
+
+    pub fn lapses_so_far(self) -> u32
+        ensures { λ r. ⌜ r ≡ self .clock .lapses ⌝ }
+    {
+        let clock = self.clock;
+        clock.lapses
     }
 
     pub fn best_bid(self) -> Quote

@@ -7,6 +7,7 @@ ghost use Rattle.rules.specs.Lists.{within};
 ghost use Rattle.rules.specs.Terms.{paper};
 ghost use Rattle.rules.specs.Units.{goodPrice, goodVolume, goodCharge};
 ghost use Rattle.rules.specs.Cells.{goodCell};
+ghost use Rattle.rules.specs.Lapses.{goodLimit};
 use rules::Contracts;
 use rules::Kopecks;
 use rules::Steps;
@@ -57,6 +58,16 @@ pub fn charge(k: Kopecks) -> bool
     ensures { λ r. ⌜ r ≡ goodCharge paper (k .0) ⌝ }
 {
     k.0 <= 1000000000
+}
+
+// A lapse limit: 0 to 1,000, or 65,535 for none.
+pub fn lapse_limit(n: u32) -> bool
+    ensures { λ r. ⌜ r ≡ goodLimit n ⌝ }
+{
+    if at_most(n, 1000) {
+        return true;
+    }
+    n == 65535
 }
 
 // A day, an expiry and a quantum that name a cell.

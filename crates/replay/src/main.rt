@@ -57,6 +57,14 @@ fn choice(is_first: bool, first: &[u8], second: &[u8]) {
     }
 }
 
+fn limit(n: u32) {
+    if n == 65535 {
+        put(b" limit none");
+    } else {
+        field(b" limit ", n);
+    }
+}
+
 fn cell_line(view: CellView) {
     let cell = view.cell;
     let kept = cell.kept;
@@ -64,6 +72,8 @@ fn cell_line(view: CellView) {
     field(b"cell kept ", kept.0);
     field(b" of ", length.0);
     field(b" share ", cell.share);
+    field(b" lapses ", cell.lapses);
+    limit(cell.limit);
     amount(b" active ", cell.active);
     amount(b" passive ", cell.passive);
     choice(view.met, b" verdict met", b" verdict failed");
@@ -94,6 +104,7 @@ fn report_line(report: Report) {
     put(b" ask ");
     quote(ask);
     field(b" kept ", kept.0);
+    field(b" lapses ", report.lapses);
     failed(failures);
     amount(b" fee ", report.fee);
     put(b"\n");

@@ -8,6 +8,7 @@ use mathlib.Core.Bool.{true, false≢true}
 use lib.Dec.{leb, eqb}
 use lib.ListN.{length, set, length-set, length-replicate}
 use borrow.Author.Tests.{leb-true, le-leb, eqb-true}
+use Rattle.rules.specs.declared.Opening.{Opening}
 use Rattle.rules.specs.declared.Steps.{Steps}
 use Rattle.rules.specs.declared.Contracts.{Contracts}
 use Rattle.rules.specs.declared.Kopecks.{Kopecks}
@@ -188,16 +189,16 @@ module _ (terms : Terms) where
   filled-blank : Filled blankCell
   filled-blank e = absurd (false≢true e)
 
-  filled-closed : (row : Row) (sp : Steps) (events : List Event) (active passive : Kopecks) → goodRow terms row ≡ true
-      → goodCharge terms (active .0) ≡ true → goodCharge terms (passive .0) ≡ true → Filled (closedCell row sp events active passive)
-  filled-closed row sp events active passive good a p e =
+  filled-closed : (row : Row) (told : Opening) (events : List Event) (active passive : Kopecks) → goodRow terms row ≡ true
+      → goodCharge terms (active .0) ≡ true → goodCharge terms (passive .0) ≡ true → Filled (closedCell row told events active passive)
+  filled-closed row told events active passive good a p e =
       let r = row-bounds terms row good in
       record {
         length-least = r .length-least;
         length-most = r .length-most;
         share-least = r .share-least;
         share-most = r .share-most;
-        kept-most = kept-le row (sp .0) events (row .length .0);
+        kept-most = kept-le row (told .sp .0) events (row .length .0);
         active-most = charge-bound terms (active .0) a;
         passive-most = charge-bound terms (passive .0) p;
       }
@@ -215,40 +216,40 @@ module _ (terms : Terms) where
         passive-most = charge-bound terms (passive .0) p;
       }
 
-  opened : (words : List ℕ) (day : ℕ) (sp : Steps) → goodRow terms (rowOf words) ≡ true → within 1 31 day ≡ true → goodPrice (sp .0) ≡ true
-      → OpenBounds terms (placeOf day (rowOf words .expiry) (rowOf words .quantum)) (rowOf words) sp []
-  opened words day sp good d p =
+  opened : (words : List ℕ) (day : ℕ) (told : Opening) → goodRow terms (rowOf words) ≡ true → within 1 31 day ≡ true → goodPrice (told .sp .0) ≡ true
+      → OpenBounds terms (placeOf day (rowOf words .expiry) (rowOf words .quantum)) (rowOf words) told []
+  opened words day told good d p =
       let r = row-bounds terms (rowOf words) good in
       record {
         inside = place-small day (rowOf words .expiry) (rowOf words .quantum) (within-parts 1 31 day d .1) (r .expiry-most) (r .quantum-most);
         row-good = good;
         price-good = p;
         events-good = event-bounds-none (rowOf words);
-        kept = kept-le (rowOf words) (sp .0) [] (present []);
+        kept = kept-le (rowOf words) (told .sp .0) [] (present []);
       }
 
   noted-bounds : (r : Running) (e : Event) → RunningBounds terms r → SendPasses r e → RunningBounds terms (noted r e)
   noted-bounds Idle e g p = tt
-  noted-bounds (Quoting place row sp events) e g p =
+  noted-bounds (Quoting place row told events) e g p =
       record {
         inside = g .inside;
         row-good = g .row-good;
         price-good = g .price-good;
         events-good = event-bounds-passed row events e (g .events-good) p;
-        kept = kept-le row (sp .0) (events ++ (e ∷ [])) (present (events ++ (e ∷ [])));
+        kept = kept-le row (told .sp .0) (events ++ (e ∷ [])) (present (events ++ (e ∷ [])));
       }
 
   closed-length : (r : Running) (active passive : Kopecks) (cells : List Cell) → length (closed r active passive cells) ≡ length cells
   closed-length Idle active passive cells = refl
-  closed-length (Quoting place row sp events) active passive cells = length-set cells place (closedCell row sp events active passive)
+  closed-length (Quoting place row told events) active passive cells = length-set cells place (closedCell row told events active passive)
 
   closed-filled : (r : Running) (active passive : Kopecks) (cells : List Cell) → RunningBounds terms r
       → goodCharge terms (active .0) ≡ true → goodCharge terms (passive .0) ≡ true
       → ((c : Cell) → List·Memᴰ c cells → c .filled ≡ true → CellBounds terms c)
       → (c : Cell) → List·Memᴰ c (closed r active passive cells) → c .filled ≡ true → CellBounds terms c
   closed-filled Idle active passive cells g a p old = old
-  closed-filled (Quoting place row sp events) active passive cells g a p old =
-      filled-set cells place (closedCell row sp events active passive) old (filled-closed row sp events active passive (g .row-good) a p)
+  closed-filled (Quoting place row told events) active passive cells g a p old =
+      filled-set cells place (closedCell row told events active passive) old (filled-closed row told events active passive (g .row-good) a p)
 
   -- the named cell is one of the book's
   cell-in : (b : Book) (day expiry quantum : ℕ) → BookBounds terms b → goodCell day expiry quantum ≡ true
@@ -258,11 +259,11 @@ module _ (terms : Terms) where
 
   bounds-changed : (b : Book) (c : Call) → BookBounds terms b → CallPasses terms b c → BookBounds terms (changed b c)
   unfolding changed
-  bounds-changed b (Open words day sp) g p =
+  bounds-changed b (Open words day told) g p =
       record {
         all-cells = g .all-cells;
         filled = g .filled;
-        running = opened words day sp (p .row-good) (p .day-good) (p .price-good);
+        running = opened words day told (p .row-good) (p .day-good) (p .price-good);
       }
   bounds-changed b (Send e) g p =
       record { all-cells = g .all-cells; filled = g .filled; running = noted-bounds (b .running) e (g .running) p }

@@ -25,7 +25,7 @@ use Rattle.rules.proofs.Stretches.{holds-in, stretches-run, stretches-f
 -- ---- as many stretches as starts
 
 -- a number that passes while the one right before it does not
-abbrev starts : (ℕ → Bool) → ℕ → Bool
+abbrev pub starts : (ℕ → Bool) → ℕ → Bool
 starts p m = p m && not (before p m)
 
 module _ (p : ℕ → Bool) (n : ℕ) where

@@ -10,6 +10,7 @@ pub mod Answers
 pub mod Members
 pub mod Orders
 pub mod Kept
+pub mod Lapses
 pub mod Refusals
 pub mod Bounds
 pub mod Choosing

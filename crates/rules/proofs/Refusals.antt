@@ -9,6 +9,7 @@ use lib.Dec.{leb, eqb}
 use lib.ListN.{length}
 use borrow.Author.Tests.{ltb-false, le-ltb, leb-true, leb-false, lt-leb, eqb-true, eq-eqb, not-false}
 use Rattle.rules.specs.declared.Steps.{Steps}
+use Rattle.rules.specs.declared.Opening.{Opening}
 use Rattle.rules.specs.declared.Contracts.{Contracts}
 use Rattle.rules.specs.declared.Kopecks.{Kopecks}
 use Rattle.rules.specs.declared.Order.{Order}
@@ -20,6 +21,7 @@ use Rattle.rules.specs.Terms.{Terms}
 use Rattle.rules.specs.Units.{goodPrice, goodVolume, goodCharge}
 use Rattle.rules.specs.Rows.{rowOf, goodRow}
 use Rattle.rules.specs.Cells.{goodCell, placeOf, cellAt}
+use Rattle.rules.specs.Lapses.{goodLimit}
 use Rattle.rules.specs.Orders.{isLive, left, live, timeOf, present}
 use Rattle.rules.specs.Answers.{accepted, refused, outcomeBy}
 use Rattle.rules.specs.Book.{Call, Open, Send, Close, Drop, Charge, Withdraw, Look, Report, Running, Idle, Quoting, Book, isOpen, Cause, cause, lowest, traderCauses, eventCauses, eventRefusal, sendCauses, goodCharges, causes, refusalOf, changed, replyOf, answerOf, stepBy, step}
@@ -146,17 +148,18 @@ passes-event row events e p =
 
 -- ---- what an accepted call has passed
 
-pub record OpenPasses (terms : Terms) (b : Book) (words : List ℕ) (day : ℕ) (sp : Steps) : Type 0 where
+pub record OpenPasses (terms : Terms) (b : Book) (words : List ℕ) (day : ℕ) (told : Opening) : Type 0 where
   pub seven : length words ≡ 7
   pub row-good : goodRow terms (rowOf words) ≡ true
   pub day-good : within 1 31 day ≡ true
-  pub price-good : goodPrice (sp .0) ≡ true
+  pub price-good : goodPrice (told .sp .0) ≡ true
   pub blank : cellAt (b .cells) (placeOf day (rowOf words .expiry) (rowOf words .quantum)) .filled ≡ false
   pub idle : isOpen (b .running) ≡ false
+  pub limit-good : goodLimit (told .limit) ≡ true
 
 abbrev pub SendPasses : Running → Event → Type 0
 SendPasses Idle e = ⊥
-SendPasses (Quoting place row sp events) e = EventPasses row events e
+SendPasses (Quoting place row told events) e = EventPasses row events e
 
 pub record ClosePasses (terms : Terms) (b : Book) (active passive : Kopecks) : Type 0 where
   pub active-good : goodCharge terms (active .0) ≡ true
@@ -180,16 +183,16 @@ pub record ChargePasses (terms : Terms) (b : Book) (day expiry quantum : ℕ) (a
 send-passes : (r : Running) (e : Event) → lowest (sendCauses r e) ≡ 0 → SendPasses r e
 unfolding eventRefusal
 send-passes Idle e h = absurd (true≢false (passed 6 true [] h .0))
-send-passes (Quoting place row sp events) e h = event-passes row events e h
+send-passes (Quoting place row told events) e h = event-passes row events e h
 
 passes-send : (r : Running) (e : Event) → SendPasses r e → lowest (sendCauses r e) ≡ 0
 unfolding eventRefusal
 passes-send Idle e p = absurd p
-passes-send (Quoting place row sp events) e p = passes-event row events e p
+passes-send (Quoting place row told events) e p = passes-event row events e p
 
 module _ (terms : Terms) where
   abbrev pub CallPasses : Book → Call → Type 0
-  CallPasses b (Open words day sp) = OpenPasses terms b words day sp
+  CallPasses b (Open words day told) = OpenPasses terms b words day told
   CallPasses b (Send e) = SendPasses (b .running) e
   CallPasses b (Close active passive) = ClosePasses terms b active passive
   CallPasses b Drop = DropPasses b
@@ -200,13 +203,14 @@ module _ (terms : Terms) where
 
   pub call-passes : (b : Book) (c : Call) → refusalOf terms b c ≡ 0 → CallPasses b c
   unfolding refusalOf causes
-  call-passes b (Open words day sp) h =
+  call-passes b (Open words day told) h =
       let a1 = passed 0 _ _ h in
       let a2 = passed 1 _ _ (a1 .1) in
       let a3 = passed 2 _ _ (a2 .1) in
       let a4 = passed 3 _ _ (a3 .1) in
       let a6 = passed 5 _ _ (a4 .1) in
-      let (d, p) = not-both (within 1 31 day) (goodPrice (sp .0)) (a3 .0) in
+      let a17 = passed 16 _ _ (a6 .1) in
+      let (d, p) = not-both (within 1 31 day) (goodPrice (told .sp .0)) (a3 .0) in
       record {
         seven = eqb-true (length words) 7 (not-false (eqb (length words) 7) (a1 .0));
         row-good = not-false (goodRow terms (rowOf words)) (a2 .0);
@@ -214,6 +218,7 @@ module _ (terms : Terms) where
         price-good = p;
         blank = a4 .0;
         idle = a6 .0;
+        limit-good = not-false (goodLimit (told .limit)) (a17 .0);
       }
   call-passes b (Send e) h = send-passes (b .running) e h
   call-passes b (Close active passive) h =
@@ -251,9 +256,9 @@ module _ (terms : Terms) where
 
   pub passes-call : (b : Book) (c : Call) → CallPasses b c → refusalOf terms b c ≡ 0
   unfolding refusalOf causes
-  passes-call b (Open words day sp) p =
+  passes-call b (Open words day told) p =
       skip _ _ (ap not (eq-eqb (length words) 7 (p .seven)))
-      (skip _ _ (ap not (p .row-good)) (skip _ _ (both-not (p .day-good) (p .price-good)) (skip _ _ (p .blank) (skip _ _ (p .idle) clear))))
+      (skip _ _ (ap not (p .row-good)) (skip _ _ (both-not (p .day-good) (p .price-good)) (skip _ _ (p .blank) (skip _ _ (p .idle) (skip _ _ (ap not (p .limit-good)) clear)))))
   passes-call b (Send e) p = passes-send (b .running) e p
   passes-call b (Close active passive) p =
       skip _ _ (both-not (p .active-good) (p .passive-good)) (skip _ _ (ap not (p .quoting)) clear)

@@ -20,7 +20,7 @@ use Rattle.rules.specs.Stretches.{Stretch, keptStretches, pairWords}
 use Rattle.rules.specs.Answers.{Outcome, accepted, refused, Ran, finished, stopped}
 use Rattle.rules.specs.Book.{Open, Send, Running, Quoting, Book, freshBook, noted, refusalOf, changed, step}
 use Rattle.rules.specs.Records.{goodRecord, eventOf, fieldsOf, readRecord}
-use Rattle.rules.specs.Session.{Session, whole, halted, recordsOf, stretchesIn, unless, readRefusal, recordRefusal, readStep, closing, runRecords, session, isShort, ran, front, bufferAfter}
+use Rattle.rules.specs.Session.{Session, whole, halted, recordsOf, stretchesIn, withoutLimit, unless, readRefusal, recordRefusal, readStep, closing, runRecords, session, isShort, ran, front, bufferAfter}
 use Rattle.rules.specs.Fewest.{FewestKept, pairsIn, FewestWritten}
 use Rattle.rules.proofs.Refusals.{step-accepted}
 use Rattle.rules.proofs.Stretches.{pairWords-length}
@@ -50,8 +50,8 @@ record KeptPairs (row : Row) (sp : Steps) (events : List Event) (rs : List (List
 
 module _ (terms : Terms) (limit cell : ℕ) (row : Row) (sp : Steps) (k w : ℕ) (ss : List Stretch) where
   -- an accepted event goes to the end of the list
-  sent : (place : ℕ) (events : List Event) (e : Event) (b : Book) → b .running ≡ Quoting place row sp events → refusalOf terms b (Send e) ≡ 0
-      → step terms b (Send e) .running ≡ Quoting place row sp (events ++ (e ∷ []))
+  sent : (place : ℕ) (events : List Event) (e : Event) (b : Book) → b .running ≡ Quoting place row (withoutLimit sp) events → refusalOf terms b (Send e) ≡ 0
+      → step terms b (Send e) .running ≡ Quoting place row (withoutLimit sp) (events ++ (e ∷ []))
   unfolding changed
   sent place events e b h z = ap (λ (c : Book). c .running) (step-accepted terms b (Send e) z) ∙ ap (λ (r : Running). noted r e) h
 
@@ -63,7 +63,7 @@ module _ (terms : Terms) (limit cell : ℕ) (row : Row) (sp : Steps) (k w : ℕ)
   not-past true n e = absurd (omega arith)
   not-past false n e = e
 
-  runs-kept : (rs : List (List ℕ)) (place at : ℕ) (b : Book) (events : List Event) → b .running ≡ Quoting at row sp events
+  runs-kept : (rs : List (List ℕ)) (place at : ℕ) (b : Book) (events : List Event) → b .running ≡ Quoting at row (withoutLimit sp) events
       → runRecords terms limit cell place b rs ≡ whole k w ss → KeptPairs row sp events rs ss
   unfolding runRecords recordRefusal
   runs-kept [] place at b events h e =
@@ -78,7 +78,7 @@ module _ (terms : Terms) (limit cell : ℕ) (row : Row) (sp : Steps) (k w : ℕ)
       (λ b′ more h′ e′. runs-kept rs (suc place) at b′ more h′ e′)
     where
       go : (o : Outcome Event) → readRecord r ≡ o → readRefusal terms o b ≡ 0 → runRecords terms limit cell (suc place) (readStep terms o b) rs ≡ whole k w ss
-          → ((b′ : Book) (more : List Event) → b′ .running ≡ Quoting at row sp more → runRecords terms limit cell (suc place) b′ rs ≡ whole k w ss → KeptPairs row sp more rs ss)
+          → ((b′ : Book) (more : List Event) → b′ .running ≡ Quoting at row (withoutLimit sp) more → runRecords terms limit cell (suc place) b′ rs ≡ whole k w ss → KeptPairs row sp more rs ss)
           → KeptPairs row sp events (r ∷ rs) ss
       go (refused n) o z next on = absurd (let f = unread r n o in omega arith)
       go (accepted x) o z next on =
@@ -90,17 +90,17 @@ module _ (terms : Terms) (limit cell : ℕ) (row : Row) (sp : Steps) (k w : ℕ)
           }
 
 module _ (terms : Terms) (limit : ℕ) (words : List ℕ) (sp : Steps) (bytes : List ℕ) where
-  opened : refusalOf terms freshBook (Open words 1 sp) ≡ 0
-      → step terms freshBook (Open words 1 sp) .running ≡ Quoting (placeOf 1 (rowOf words .expiry) (rowOf words .quantum)) (rowOf words) sp []
+  opened : refusalOf terms freshBook (Open words 1 (withoutLimit sp)) ≡ 0
+      → step terms freshBook (Open words 1 (withoutLimit sp)) .running ≡ Quoting (placeOf 1 (rowOf words .expiry) (rowOf words .quantum)) (rowOf words) (withoutLimit sp) []
   unfolding changed
-  opened z = ap (λ (c : Book). c .running) (step-accepted terms freshBook (Open words 1 sp) z)
+  opened z = ap (λ (c : Book). c .running) (step-accepted terms freshBook (Open words 1 (withoutLimit sp)) z)
 
   session-kept : (k w : ℕ) (ss : List Stretch) → session terms limit words sp bytes ≡ whole k w ss → KeptPairs (rowOf words) sp [] (recordsOf bytes) ss
   unfolding session
   session-kept k w ss e =
       let cell = placeOf 1 (rowOf words .expiry) (rowOf words .quantum) in
-      let (none, next) = unless-whole (refusalOf terms freshBook (Open words 1 sp)) 0 _ k w ss e in
-      runs-kept terms limit cell (rowOf words) sp k w ss (recordsOf bytes) 1 cell (step terms freshBook (Open words 1 sp)) [] (opened none) next
+      let (none, next) = unless-whole (refusalOf terms freshBook (Open words 1 (withoutLimit sp))) 0 _ k w ss e in
+      runs-kept terms limit cell (rowOf words) sp k w ss (recordsOf bytes) 1 cell (step terms freshBook (Open words 1 (withoutLimit sp))) [] (opened none) next
 
 -- ---- the pairs as words
 

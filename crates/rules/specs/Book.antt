@@ -4,7 +4,7 @@ use mathlib.Core.List.{List, [], _∷_, _++_}
 use mathlib.Core.Bool.{Bool, true, false, not, _&&_}
 use lib.Dec.{leb, ltb, eqb}
 use lib.ListN.{length, set}
-use Rattle.rules.specs.declared.Steps.{Steps}
+use Rattle.rules.specs.declared.Opening.{Opening}
 use Rattle.rules.specs.declared.Kopecks.{Kopecks}
 use Rattle.rules.specs.declared.Quote.{Quote}
 use Rattle.rules.specs.declared.Quote.the-variants.{Absent}
@@ -21,13 +21,14 @@ use Rattle.rules.specs.Rows.{rowOf, goodRow}
 use Rattle.rules.specs.Cells.{blankCells, blankCell, goodCell, placeOf, cellAt}
 use Rattle.rules.specs.Orders.{isLive, left, live, timeOf, present}
 use Rattle.rules.specs.Kept.{bestBid, bestAsk, keptBelow}
+use Rattle.rules.specs.Lapses.{lapsesBelow, goodLimit}
 use Rattle.rules.specs.Pay.{viewOf, allFailures, fee}
 use Rattle.rules.specs.Answers.{Outcome, outcomeBy, Reply, done, cell, report}
 
 -- The calls, "each by its name and its arguments other than the month". Send is add, amend, cancel, deal or tick: an event.
 pub data Call : Type 0 where
-  -- the row's words, the day, SP
-  Open : List ℕ → ℕ → Steps → Call
+  -- the row's words, the day, and what else open is told: SP and, by document 02, W1, the lapse limit
+  Open : List ℕ → ℕ → Opening → Call
   Send : Event → Call
   -- A, P
   Close : Kopecks → Kopecks → Call
@@ -39,10 +40,11 @@ pub data Call : Type 0 where
   Look : ℕ → ℕ → ℕ → Call
   Report : Call
 
--- "Open notes cell, row and SP, with an empty list of events": no quantum, or the open one's cell, row, SP and accepted events
+-- "Open notes cell, row and SP, with an empty list of events": no quantum, or the open one's cell, row, what else open was told, and the
+-- accepted events
 pub data Running : Type 0 where
   Idle : Running
-  Quoting : ℕ → Row → Steps → List Event → Running
+  Quoting : ℕ → Row → Opening → List Event → Running
 
 pub record Book : Type 0 where
   pub running : Running
@@ -54,7 +56,7 @@ freshBook = record { running = Idle; cells = blankCells }
 
 abbrev pub isOpen : Running → Bool
 isOpen Idle = false
-isOpen (Quoting place row sp events) = true
+isOpen (Quoting place row told events) = true
 
 -- ---- the causes
 
@@ -99,7 +101,7 @@ eventRefusal row events e = lowest (eventCauses row events e)
 
 abbrev pub sendCauses : Running → Event → List Cause
 sendCauses Idle e = cause 7 true ∷ []
-sendCauses (Quoting place row sp events) e = eventCauses row events e
+sendCauses (Quoting place row told events) e = eventCauses row events e
 
 module _ (terms : Terms) where
   -- 1 row not seven words; 2 a word outside its range
@@ -114,13 +116,15 @@ module _ (terms : Terms) where
   goodCharges active passive = goodCharge terms (active .0) && goodCharge terms (passive .0)
 
   -- 3 day, expiry, quantum, SP, A or P outside its range; 4 open on a filled cell; 5 charge, withdraw or look on a blank cell;
-  -- 6 open while a quantum is open; 7 an event, close or drop with none open
+  -- 6 open while a quantum is open; 7 an event, close or drop with none open; document 02, W1: "17, lapse limit outside its values, at
+  -- open"
   unfoldable pub causes : Book → Call → List Cause
-  causes b (Open words day sp) =
+  causes b (Open words day told) =
       rowCauses words
-      ++ (cause 3 (not (within 1 31 day && goodPrice (sp .0)))
+      ++ (cause 3 (not (within 1 31 day && goodPrice (told .sp .0)))
       ∷ cause 4 (cellAt (b .cells) (placeOf day (rowOf words .expiry) (rowOf words .quantum)) .filled)
       ∷ cause 6 (isOpen (b .running))
+      ∷ cause 17 (not (goodLimit (told .limit)))
       ∷ [])
   causes b (Send e) = sendCauses (b .running) e
   causes b (Close active passive) = cause 3 (not (goodCharges active passive)) ∷ cause 7 (not (isOpen (b .running))) ∷ []
@@ -144,23 +148,26 @@ module _ (terms : Terms) where
 -- an event "goes to the end of that list"
 abbrev pub noted : Running → Event → Running
 noted Idle e = Idle
-noted (Quoting place row sp events) e = Quoting place row sp (events ++ (e ∷ []))
+noted (Quoting place row told events) e = Quoting place row told (events ++ (e ∷ []))
 
--- "Close counts K over that list, millisecond by millisecond below L, puts K, L, p, A and P into the cell"
-abbrev pub closedCell : Row → Steps → List Event → Kopecks → Kopecks → Cell
-closedCell row sp events active passive =
+-- "Close counts K over that list, millisecond by millisecond below L, puts K, L, p, A and P into the cell"; document 02, W1: the quantum "and
+-- each cell carry limit and lapse count"
+abbrev pub closedCell : Row → Opening → List Event → Kopecks → Kopecks → Cell
+closedCell row told events active passive =
     record {
       filled = true;
-      kept = millis (keptBelow row (sp .0) events (row .length .0));
+      kept = millis (keptBelow row (told .sp .0) events (row .length .0));
       length = row .length;
       share = row .share;
+      limit = told .limit;
+      lapses = lapsesBelow row (told .sp .0) events (row .length .0);
       active = active;
       passive = passive;
     }
 
 abbrev pub closed : Running → Kopecks → Kopecks → List Cell → List Cell
 closed Idle active passive cells = cells
-closed (Quoting place row sp events) active passive cells = set cells place (closedCell row sp events active passive)
+closed (Quoting place row told events) active passive cells = set cells place (closedCell row told events active passive)
 
 -- "new charges in place of a filled cell's old ones"
 abbrev pub charged : Kopecks → Kopecks → Cell → Cell
@@ -170,13 +177,15 @@ charged active passive c =
       kept = c .kept;
       length = c .length;
       share = c .share;
+      limit = c .limit;
+      lapses = c .lapses;
       active = active;
       passive = passive;
     }
 
 unfoldable pub changed : Book → Call → Book
-changed b (Open words day sp) =
-    record { running = Quoting (placeOf day (rowOf words .expiry) (rowOf words .quantum)) (rowOf words) sp []; cells = b .cells }
+changed b (Open words day told) =
+    record { running = Quoting (placeOf day (rowOf words .expiry) (rowOf words .quantum)) (rowOf words) told []; cells = b .cells }
 changed b (Send e) = record { running = noted (b .running) e; cells = b .cells }
 changed b (Close active passive) = record { running = Idle; cells = closed (b .running) active passive (b .cells) }
 changed b Drop = record { running = Idle; cells = b .cells }
@@ -193,23 +202,28 @@ changed b Report = b
 
 abbrev pub timeIn : Running → ℕ
 timeIn Idle = 0
-timeIn (Quoting place row sp events) = present events
+timeIn (Quoting place row told events) = present events
 
 abbrev pub ordersIn : Running → ℕ
 ordersIn Idle = 0
-ordersIn (Quoting place row sp events) = length (live events)
+ordersIn (Quoting place row told events) = length (live events)
 
 abbrev pub bidIn : Running → Quote
 bidIn Idle = Absent
-bidIn (Quoting place row sp events) = bestBid row (live events)
+bidIn (Quoting place row told events) = bestBid row (live events)
 
 abbrev pub askIn : Running → Quote
 askIn Idle = Absent
-askIn (Quoting place row sp events) = bestAsk row (live events)
+askIn (Quoting place row told events) = bestAsk row (live events)
 
 abbrev pub keptIn : Running → ℕ
 keptIn Idle = 0
-keptIn (Quoting place row sp events) = keptBelow row (sp .0) events (present events)
+keptIn (Quoting place row told events) = keptBelow row (told .sp .0) events (present events)
+
+-- document 02, W1: "look and report show the count, 0 with none open"
+abbrev pub lapsesIn : Running → ℕ
+lapsesIn Idle = 0
+lapsesIn (Quoting place row told events) = lapsesBelow row (told .sp .0) events (present events)
 
 module _ (terms : Terms) where
   unfoldable pub reportOf : Book → ReportValues
@@ -221,6 +235,7 @@ module _ (terms : Terms) where
         bid = bidIn (b .running);
         ask = askIn (b .running);
         kept = millis (keptIn (b .running));
+        lapses = lapsesIn (b .running);
         failures = allFailures terms (b .cells);
         fee = kopecks (fee terms (b .cells));
       }
@@ -229,7 +244,7 @@ module _ (terms : Terms) where
 
   -- what an accepted call shows: look "the cell with verdict and weight", report its values, the others nothing
   abbrev pub replyOf : Book → Call → Reply
-  replyOf b (Open words day sp) = done
+  replyOf b (Open words day told) = done
   replyOf b (Send e) = done
   replyOf b (Close active passive) = done
   replyOf b Drop = done

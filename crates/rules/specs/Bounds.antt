@@ -4,7 +4,7 @@ use mathlib.Core.Path.{_≡_}
 use mathlib.Core.List.{List, [], _∷_, List·Memᴰ}
 use mathlib.Core.Bool.{true, false}
 use lib.ListN.{length}
-use Rattle.rules.specs.declared.Steps.{Steps}
+use Rattle.rules.specs.declared.Opening.{Opening}
 use Rattle.rules.specs.declared.Order.{Order}
 use Rattle.rules.specs.declared.Row.{Row}
 use Rattle.rules.specs.declared.Cell.{Cell}
@@ -35,16 +35,16 @@ pub record EventBounds (row : Row) (events : List Event) : Type 0 where
   pub ordered : Ordered 0 events
   pub ends : present events ≤ row .length .0
 
-pub record OpenBounds (terms : Terms) (place : ℕ) (row : Row) (sp : Steps) (events : List Event) : Type 0 where
+pub record OpenBounds (terms : Terms) (place : ℕ) (row : Row) (told : Opening) (events : List Event) : Type 0 where
   pub inside : place < 186
   pub row-good : goodRow terms row ≡ true
-  pub price-good : goodPrice (sp .0) ≡ true
+  pub price-good : goodPrice (told .sp .0) ≡ true
   pub events-good : EventBounds row events
-  pub kept : keptBelow row (sp .0) events (present events) ≤ present events
+  pub kept : keptBelow row (told .sp .0) events (present events) ≤ present events
 
 abbrev pub RunningBounds : Terms → Running → Type 0
 RunningBounds terms Idle = Unit
-RunningBounds terms (Quoting place row sp events) = OpenBounds terms place row sp events
+RunningBounds terms (Quoting place row told events) = OpenBounds terms place row told events
 
 -- a filled cell
 pub record CellBounds (terms : Terms) (c : Cell) : Type 0 where

@@ -15,6 +15,8 @@ blankCell =
       kept = millis 0;
       length = millis 0;
       share = 0;
+      limit = 0;
+      lapses = 0;
       active = kopecks 0;
       passive = kopecks 0;
     }

@@ -1,5 +1,6 @@
 -- Document 01, "Checks on paper": C1 to C12 and the unmarked ones, the one with D = 0 that document 02, W2, joins to them, and one with
 -- D = -1, each with what the definitions give and what the paper prints. That the two agree is proved once, over the list, in proofs/Checks.
+-- After them, two checks on document 02, W1.
 use Prim.Native.Nat.{ℕ, _+_}
 use mathlib.Core.List.{List, [], _∷_, _++_, map}
 use mathlib.Core.Bool.{Bool, true, false}
@@ -19,12 +20,13 @@ use Rattle.rules.specs.Units.{millis, steps, contracts, kopecks}
 use Rattle.rules.specs.Cells.{blankCells, placeOf}
 use Rattle.rules.specs.Orders.{live}
 use Rattle.rules.specs.Kept.{quotesKeep, bestBid, keptBelow}
-use Rattle.rules.specs.Pay.{weight, fee}
+use Rattle.rules.specs.Lapses.{noLimit, lapsesBelow}
+use Rattle.rules.specs.Pay.{weight, cellMet, cellWeight, fee}
 use Rattle.rules.specs.Records.{recordOf}
 use Rattle.rules.specs.Session.{Session, session, sheetLimit}
 
 pub data Name : Type 0 where
-  C1 C2 C3 C4 C5 C6 C7 C8 C9 C10 C11 C12 fifteenFailed sixteenFailed eventAtEnd negativePrice lockedQuote crossedQuote : Name
+  C1 C2 C3 C4 C5 C6 C7 C8 C9 C10 C11 C12 fifteenFailed sixteenFailed eventAtEnd negativePrice lockedQuote crossedQuote manyLapses lapsesAtEnds : Name
 
 pub data Value : Type 0 where
   quote : Quote → Value
@@ -84,16 +86,21 @@ abbrev weighed : ℕ → Value
 weighed k = number (weight paper k 31500000 60)
 
 -- C11 and C12: one filled cell alone
-abbrev filled : ℕ → ℕ → ℕ → Cell
-filled k active passive =
+abbrev lapsed : ℕ → ℕ → ℕ → ℕ → ℕ → Cell
+lapsed limit lapses k active passive =
     record {
       filled = true;
       kept = millis k;
       length = millis 31500000;
       share = 60;
+      limit = limit;
+      lapses = lapses;
       active = kopecks active;
       passive = kopecks passive;
     }
+
+abbrev filled : ℕ → ℕ → ℕ → Cell
+filled k active passive = lapsed noLimit 0 k active passive
 
 abbrev paying : Cell
 paying = filled 22050000 10000 20000
@@ -115,6 +122,26 @@ quotingToTheEnd = add 1 Buy 99 500 ∷ add 2 Sell 101 500 ∷ Cancel (millis 100
 
 abbrev quotingFromTheEnd : List Event
 quotingFromTheEnd = add 1 Buy 99 500 ∷ Add (millis 1000) 2 Sell (steps (pos 101)) (contracts 500) ∷ []
+
+-- document 02, W1: a quantum that keeps its share, by its lapse limit and its lapses, with verdict and weight
+abbrev verdict : ℕ → ℕ → Value
+verdict limit lapses = keeps (cellMet paper (lapsed limit lapses 25200000 0 0))
+
+abbrev weighs : ℕ → ℕ → Value
+weighs limit lapses = number (cellWeight paper (lapsed limit lapses 25200000 0 0))
+
+-- the lapses of a quote that is there from 200 to 500 and from 700 to 800 of a second, one of a quote throughout, and of none
+abbrev quotingTwice : List Event
+quotingTwice =
+    add 1 Buy 99 500
+    ∷ Add (millis 200) 2 Sell (steps (pos 101)) (contracts 500)
+    ∷ Cancel (millis 500) 2
+    ∷ Add (millis 700) 3 Sell (steps (pos 101)) (contracts 500)
+    ∷ Cancel (millis 800) 3
+    ∷ []
+
+abbrev lapsesOf : List Event → Value
+lapsesOf events = number (lapsesBelow row (pos 2000) events 1000)
 
 abbrev keptIn : List Event → Value
 keptIn events = number (keptBelow row (pos 2000) events 1000)
@@ -139,6 +166,10 @@ checks =
     ∷ check negativePrice (kept (negℤ (pos 5)) 1 ∷ kept (negℤ (pos 5)) 2 ∷ []) (keeps true ∷ keeps false ∷ [])
     ∷ check lockedQuote (keptAsk 100 ∷ []) (keeps false ∷ [])
     ∷ check crossedQuote (keptAsk 99 ∷ []) (keeps false ∷ [])
+    ∷ check manyLapses
+    (verdict noLimit 70000 ∷ verdict 1000 1000 ∷ verdict 1000 1001 ∷ weighs noLimit 70000 ∷ weighs 1000 1001 ∷ [])
+    (keeps true ∷ keeps true ∷ keeps false ∷ number 20000 ∷ number 0 ∷ [])
+    ∷ check lapsesAtEnds (lapsesOf quotingTwice ∷ lapsesOf quoting ∷ lapsesOf [] ∷ []) (number 3 ∷ number 0 ∷ number 1 ∷ [])
     ∷ []
 
 -- the session that "Event records and the session run" prints: its row, its SP and its events

@@ -13,6 +13,8 @@ pub mod Search
 pub mod Kept
 pub mod Stretches
 pub mod Runs
+-- document 02, W1: lapses
+pub mod Lapses
 -- "Verdict, weight, fee"
 pub mod Pay
 -- "Refused calls" and "Afresh"

@@ -8,6 +8,7 @@ use Rattle.rules.specs.declared.CellView.{CellView}
 use Rattle.rules.specs.Lists.{if_then_else_, sum, any, howMany}
 use Rattle.rules.specs.Terms.{Terms}
 use Rattle.rules.specs.Cells.{series}
+use Rattle.rules.specs.Lapses.{withinLimit}
 
 -- f: "1000 × K / L rounded down"
 abbrev pub thousandths : ℕ → ℕ → ℕ
@@ -29,14 +30,19 @@ module _ (terms : Terms) where
       if leb 800 f then 20000 else 10000 + (10000 * (f - required share) ^ 5) / (800 - required share) ^ 5
 
   -- "Weight w: 0 if failed."
-  unfoldable pub weight : ℕ → ℕ → ℕ → ℕ
-  weight kept length share = if met kept length share then weightMet (thousandths kept length) share else 0
+  abbrev pub weightBy : Bool → ℕ → ℕ → ℕ → ℕ
+  weightBy verdict kept length share = if verdict then weightMet (thousandths kept length) share else 0
 
+  -- by the share alone, with no lapse limit
+  unfoldable pub weight : ℕ → ℕ → ℕ → ℕ
+  weight kept length share = weightBy (met kept length share) kept length share
+
+  -- document 02, W1: "A quantum with more lapses than its limit is failed, with weight 0."
   abbrev pub cellMet : Cell → Bool
-  cellMet c = met (c .kept .0) (c .length .0) (c .share)
+  cellMet c = met (c .kept .0) (c .length .0) (c .share) && withinLimit (c .limit) (c .lapses)
 
   abbrev pub cellWeight : Cell → ℕ
-  cellWeight c = weight (c .kept .0) (c .length .0) (c .share)
+  cellWeight c = weightBy (cellMet c) (c .kept .0) (c .length .0) (c .share)
 
   -- the cell with verdict and weight
   unfoldable pub viewOf : Cell → CellView

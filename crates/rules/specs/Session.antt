@@ -5,6 +5,7 @@ use mathlib.Core.Bool.{Bool}
 use lib.Dec.{ltb, eqb}
 use lib.ListN.{length, take, drop}
 use Rattle.rules.specs.declared.Steps.{Steps}
+use Rattle.rules.specs.declared.Opening.{Opening}
 use Rattle.rules.specs.declared.Event.{Event}
 use Rattle.rules.specs.Lists.{if_then_else_, below}
 use Rattle.rules.specs.Terms.{Terms}
@@ -12,6 +13,7 @@ use Rattle.rules.specs.Units.{steps, kopecks}
 use Rattle.rules.specs.Rows.{rowOf}
 use Rattle.rules.specs.Cells.{placeOf, cellAt}
 use Rattle.rules.specs.Stretches.{Stretch, keptStretches, pairWords}
+use Rattle.rules.specs.Lapses.{noLimit}
 use Rattle.rules.specs.Pay.{cellWeight}
 use Rattle.rules.specs.Answers.{Outcome, accepted, refused, Ran, finished, stopped}
 use Rattle.rules.specs.Book.{Open, Send, Close, Running, Idle, Quoting, Book, freshBook, refusalOf, step}
@@ -43,12 +45,16 @@ pub data Session : Type 0 where
 -- the stretches that the open quantum has kept below L
 abbrev pub stretchesIn : Running → List Stretch
 stretchesIn Idle = []
-stretchesIn (Quoting place row sp events) = keptStretches row (sp .0) events
+stretchesIn (Quoting place row told events) = keptStretches row (told .sp .0) events
 
 -- as stopped by a refusal at a place, or going on where there is none
 abbrev pub unless : ℕ → ℕ → Session → Session
 unless zero place next = next
 unless (suc n) place next = halted (suc n) place
+
+-- document 02, W1: "Session runs use 65,535."
+abbrev pub withoutLimit : Steps → Opening
+withoutLimit sp = record { sp = sp; limit = noLimit }
 
 module _ (terms : Terms) where
   -- "A record with cause 15 is no event, so 15 is its only cause."
@@ -81,9 +87,9 @@ module _ (terms : Terms) where
   unfoldable pub session : ℕ → List ℕ → Steps → List ℕ → Session
   session limit words sp bytes =
       let next =
-      runRecords limit (placeOf 1 (rowOf words .expiry) (rowOf words .quantum)) 1 (step terms freshBook (Open words 1 sp))
+      runRecords limit (placeOf 1 (rowOf words .expiry) (rowOf words .quantum)) 1 (step terms freshBook (Open words 1 (withoutLimit sp)))
       (recordsOf bytes) in
-      unless (refusalOf terms freshBook (Open words 1 sp)) 0 next
+      unless (refusalOf terms freshBook (Open words 1 (withoutLimit sp))) 0 next
 
   unfoldable pub sessionBytes : ℕ → List ℕ → List ℕ → Session
   sessionBytes limit head bytes =

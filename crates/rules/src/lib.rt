@@ -41,12 +41,20 @@ pub struct Row {
     pub share: u32,
 }
 
-// A cell of the month: kept is K, length L, share p, active A, passive P.
+// What open is told besides the row and the day: SP and the lapse limit.
+pub struct Opening {
+    pub sp: Steps,
+    pub limit: u32,
+}
+
+// A cell of the month: kept is K, length L, share p, limit the lapse limit, lapses their count, active A, passive P.
 pub struct Cell {
     pub filled: bool,
     pub kept: Millis,
     pub length: Millis,
     pub share: u32,
+    pub limit: u32,
+    pub lapses: u32,
     pub active: Kopecks,
     pub passive: Kopecks,
 }
@@ -79,7 +87,7 @@ pub enum Event {
     },
 }
 
-// Why a call is refused, in the order of the numbers 1 to 16.
+// Why a call is refused, in the order of the numbers 1 to 17.
 pub enum Refusal {
     RowNotSevenWords,
     RowWordOutOfRange,
@@ -97,6 +105,7 @@ pub enum Refusal {
     DealAboveLeft,
     BadRecord,
     BufferShort,
+    LapseLimitOutOfRange,
 }
 
 // The answer of a call that shows nothing when it is accepted.
@@ -126,6 +135,7 @@ pub struct Report {
     pub bid: Quote,
     pub ask: Quote,
     pub kept: Millis,
+    pub lapses: u32,
     pub failures: [u32; 6],
     pub fee: Kopecks,
 }
@@ -176,5 +186,6 @@ pub fn number(refusal: Refusal) -> u32
         Refusal::DealAboveLeft => 14,
         Refusal::BadRecord => 15,
         Refusal::BufferShort => 16,
+        Refusal::LapseLimitOutOfRange => 17,
     }
 }

@@ -15,7 +15,7 @@ use Rattle.rules.specs.Records.{unsignedOf}
 use Rattle.rules.specs.Widths.{Word, Fits}
 use Rattle.rules.specs.Book.{Call, Open, Send, Close, Drop, Charge, Withdraw, Look, Report}
 use Rattle.rules.proofs.Records.{signed-unsigned, unsigned-fits}
-use Rattle.script.specs.Words.{fixedDue, addDue, due, dueAt, blockSize, callOf, callsOf, wordsRead, sideWord, eventWords, low, high, wordsOf, scriptOf, Words, Wide, CallFits, AllFit}
+use Rattle.script.specs.Words.{fixedDue, addDue, due, dueAt, blockSize, callOf, callsOf, wordsRead, sideWord, eventWords, low, high, openingWords, wordsOf, scriptOf, Words, Wide, CallFits, AllFit}
 use Rattle.script.proofs.Reading.{whole, short, calls-none, calls-more, words-none, words-more}
 
 -- ---- the size
@@ -31,7 +31,7 @@ event-due (Tick t) rest = refl
 
 call-due : (c : Call) (rest : List ℕ) → dueAt (wordsOf c ++ rest) ≡ length (wordsOf c)
 unfolding wordsOf due fixedDue
-call-due (Open words day sp) rest = rw (length-append words (day ∷ unsignedOf (sp .0) ∷ [])) (omega arith)
+call-due (Open words day told) rest = rw (length-append words (day ∷ openingWords told)) (omega arith)
 call-due (Send e) rest = event-due e rest
 call-due (Close active passive) rest = refl
 call-due Drop rest = refl
@@ -55,7 +55,7 @@ event-some (Tick t) = omega arith
 
 call-some : (c : Call) → 0 < length (wordsOf c)
 unfolding wordsOf
-call-some (Open words day sp) = omega arith
+call-some (Open words day told) = omega arith
 call-some (Send e) = event-some e
 call-some (Close active passive) = omega arith
 call-some Drop = omega arith
@@ -78,33 +78,45 @@ event-back (Cancel t id) h rest = refl
 event-back (Deal t id volume) h rest = refl
 event-back (Tick t) h rest = refl
 
--- the words of an open: the row's, the day, SP
-module _ (words : List ℕ) (day sp : ℕ) (rest : List ℕ) where
+-- the words of an open: the row's, the day, SP, the lapse limit
+module _ (words : List ℕ) (day sp limit : ℕ) (rest : List ℕ) where
   abbrev behind : List ℕ
-  behind = (words ++ (day ∷ sp ∷ [])) ++ rest
+  behind = (words ++ (day ∷ sp ∷ limit ∷ [])) ++ rest
 
-  behind-is : behind ≡ words ++ (day ∷ sp ∷ rest)
-  behind-is = append-assoc words (day ∷ sp ∷ []) rest
+  behind-is : behind ≡ words ++ (day ∷ sp ∷ limit ∷ rest)
+  behind-is = append-assoc words (day ∷ sp ∷ limit ∷ []) rest
 
   row-words : take (length words) behind ≡ words
-  row-words = rw behind-is (take-at words (day ∷ sp ∷ rest) (length words) refl)
+  row-words = rw behind-is (take-at words (day ∷ sp ∷ limit ∷ rest) (length words) refl)
 
   day-word : (n : ℕ) → getD (1 ∷ n ∷ behind) (2 + length words) 0 ≡ day
   day-word n =
       let e : 2 + length words ≡ suc (suc (length words + 0)) = omega arith in
-      rw (e, behind-is) (getD-append-add words (day ∷ sp ∷ rest) 0 0)
+      rw (e, behind-is) (getD-append-add words (day ∷ sp ∷ limit ∷ rest) 0 0)
 
   sp-word : (n : ℕ) → getD (1 ∷ n ∷ behind) (3 + length words) 0 ≡ sp
   sp-word n =
       let e : 3 + length words ≡ suc (suc (length words + 1)) = omega arith in
-      rw (e, behind-is) (getD-append-add words (day ∷ sp ∷ rest) 1 0)
+      rw (e, behind-is) (getD-append-add words (day ∷ sp ∷ limit ∷ rest) 1 0)
+
+  limit-word : (n : ℕ) → getD (1 ∷ n ∷ behind) (3 + length words + 1) 0 ≡ limit
+  limit-word n =
+      let e : 3 + length words + 1 ≡ suc (suc (length words + 2)) = omega arith in
+      rw (e, behind-is) (getD-append-add words (day ∷ sp ∷ limit ∷ rest) 2 0)
 
 pub call-back : (c : Call) → CallFits c → (rest : List ℕ) → callOf (wordsOf c ++ rest) ≡ c
 unfolding wordsOf callOf
-call-back (Open words day sp) h rest =
+call-back (Open words day told) h rest =
     let n = length words in
-    rw
-    (row-words words day (unsignedOf (sp .0)) rest, day-word words day (unsignedOf (sp .0)) rest n, sp-word words day (unsignedOf (sp .0)) rest n, signed-unsigned (sp .0) (h .3))
+    let sp = unsignedOf (told .sp .0) in
+    let limit = told .limit in
+    rw (
+      row-words words day sp limit rest,
+      day-word words day sp limit rest n,
+      sp-word words day sp limit rest n,
+      limit-word words day sp limit rest n,
+      signed-unsigned (told .sp .0) (h .3),
+    )
     refl
 call-back (Send e) h rest = event-back e h rest
 call-back (Close active passive) h rest = rw (charge-back active, charge-back passive) refl
@@ -184,8 +196,9 @@ event-fits (Tick t) h = put (omega arith) (put h none)
 
 call-fits : (c : Call) → CallFits c → Fine (wordsOf c)
 unfolding wordsOf
-call-fits (Open words day sp) h =
-    put (omega arith) (put (h .0) (joined words (day ∷ unsignedOf (sp .0) ∷ []) (h .1) (put (h .2) (put (unsigned-fits (sp .0) (h .3)) none))))
+call-fits (Open words day told) h =
+    put (omega arith)
+    (put (h .0) (joined words (day ∷ openingWords told) (h .1) (put (h .2) (put (unsigned-fits (told .sp .0) (h .3)) (put (h .4) none)))))
 call-fits (Send e) h = event-fits e h
 call-fits (Close active passive) h = put (omega arith) (charge-words (h .0) (charge-words (h .1) none))
 call-fits Drop h = put (omega arith) none

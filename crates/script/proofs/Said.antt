@@ -10,12 +10,13 @@ use lib.ListN.{length, getD, take, drop}
 use Rattle.rules.specs.declared.Side.{Side}
 use Rattle.rules.specs.declared.Side.the-variants.{Buy, Sell}
 use Rattle.rules.specs.declared.Steps.{Steps}
+use Rattle.rules.specs.declared.Opening.{Opening}
 use Rattle.rules.specs.declared.Kopecks.{Kopecks}
 use Rattle.rules.specs.declared.Event.the-variants.{Add, Amend, Cancel, Deal, Tick}
 use Rattle.rules.specs.Lists.{if_then_else_}
 use Rattle.rules.specs.Units.{millis, contracts, kopecks}
 use Rattle.rules.specs.Book.{Open, Send, Close, Drop, Charge, Withdraw, Look, Report}
-use Rattle.script.specs.Words.{due, dueAt, blockSize, stepsAt, chargeAt, sideOf, callOf}
+use Rattle.script.specs.Words.{due, dueAt, blockSize, stepsAt, openingAt, chargeAt, sideOf, callOf}
 use Rattle.script.proofs.Sizes.{other-kind, other-due}
 
 -- ---- a block of some size
@@ -55,12 +56,12 @@ known-kind ws s =
     let side = getD ws 3 0 in
     (from-one k n side (leb 1 k) refl d, to-twelve k n side (leb k 12) refl d)
 
-open-is-due : (k n side : ℕ) → k ≡ 1 → due k n side ≡ 4 + n
+open-is-due : (k n side : ℕ) → k ≡ 1 → due k n side ≡ 5 + n
 unfolding due
 open-is-due k n side e = rw e refl
 
 -- .. and an open has its row's words, the day and SP
-pub whole-open : (ws : List ℕ) → (blockSize ws ≡ 0 → ⊥) → getD ws 0 0 ≡ 1 → 4 + getD ws 1 0 ≤ length ws
+pub whole-open : (ws : List ℕ) → (blockSize ws ≡ 0 → ⊥) → getD ws 0 0 ≡ 1 → 5 + getD ws 1 0 ≤ length ws
 whole-open ws s e =
     let d = some-due ws s .0 in
     omega (arith, open-is-due (getD ws 0 0) (getD ws 1 0) (getD ws 3 0) e)
@@ -80,15 +81,15 @@ charge-is ws i a b l h = λ j. kopecks ((l ∙ a) j + 4294967296 * (h ∙ b) j)
 -- ---- the call of each kind
 
 module _ (ws : List ℕ) where
-  pub open-is : (end : ℕ) {row : List ℕ} {day : ℕ} {sp : Steps} → getD ws 0 0 ≡ 1 → end ≡ 2 + getD ws 1 0 → row ≡ take (end - 2) (drop 2 ws)
-      → day ≡ getD ws end 0 → sp ≡ stepsAt ws (end + 1) → Open row day sp ≡ callOf ws
+  pub open-is : (end : ℕ) {row : List ℕ} {day : ℕ} {told : Opening} → getD ws 0 0 ≡ 1 → end ≡ 2 + getD ws 1 0 → row ≡ take (end - 2) (drop 2 ws)
+      → day ≡ getD ws end 0 → told ≡ openingAt ws (end + 1) → Open row day told ≡ callOf ws
   unfolding callOf
-  open-is end {row} {day} {sp} k e r d s =
+  open-is end {row} {day} {told} k e r d s =
       let n : end - 2 ≡ getD ws 1 0 = omega arith in
       let m : end + 1 ≡ 3 + getD ws 1 0 = omega arith in
       let r′ : row ≡ take (getD ws 1 0) (drop 2 ws) = r ∙ ap (λ (j : ℕ). take j (drop 2 ws)) n in
       let d′ : day ≡ getD ws (2 + getD ws 1 0) 0 = d ∙ ap (λ (j : ℕ). getD ws j 0) e in
-      let s′ : sp ≡ stepsAt ws (3 + getD ws 1 0) = s ∙ ap (stepsAt ws) m in
+      let s′ : told ≡ openingAt ws (3 + getD ws 1 0) = s ∙ ap (openingAt ws) m in
       (λ i. Open (r′ i) (d′ i) (s′ i)) ∙ rw k refl
 
   pub add-is : {t id volume : ℕ} {side : Side} {price : Steps} → getD ws 0 0 ≡ 2 → t ≡ getD ws 1 0 → id ≡ getD ws 2 0

@@ -38,7 +38,7 @@ other-kind kind a b c d e f g h i j =
     )
     refl
 
-pub open-due : (kind n side r : ℕ) → kind ≡ 1 → r ≡ n → 4 + r ≡ due kind n side
+pub open-due : (kind n side r : ℕ) → kind ≡ 1 → r ≡ n → 5 + r ≡ due kind n side
 unfolding due
 open-due kind n side r e f = rw (e, f) refl
 

@@ -29,6 +29,7 @@ blankReport =
       bid = Absent;
       ask = Absent;
       kept = millis 0;
+      lapses = 0;
       failures = 0 ∷ 0 ∷ 0 ∷ 0 ∷ 0 ∷ 0 ∷ [];
       fee = kopecks 0;
     }

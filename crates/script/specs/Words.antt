@@ -8,6 +8,7 @@ use lib.ListN.{length, getD, take, drop}
 use Rattle.rules.specs.declared.Side.{Side}
 use Rattle.rules.specs.declared.Side.the-variants.{Buy, Sell}
 use Rattle.rules.specs.declared.Steps.{Steps}
+use Rattle.rules.specs.declared.Opening.{Opening}
 use Rattle.rules.specs.declared.Kopecks.{Kopecks}
 use Rattle.rules.specs.declared.Event.{Event}
 use Rattle.rules.specs.declared.Event.the-variants.{Add, Amend, Cancel, Deal, Tick}
@@ -45,9 +46,9 @@ fixedDue kind =
 unfoldable pub addDue : ℕ → ℕ
 addDue side = if eqb side 1 || eqb side 2 then 6 else 0
 
--- `1 n w1..wn day SP` open with n row words, an add, or one of the others
+-- `1 n w1..wn day SP limit` open with n row words, an add, or one of the others
 unfoldable pub due : ℕ → ℕ → ℕ → ℕ
-due kind n side = if eqb kind 1 then 4 + n else if eqb kind 2 then addDue side else fixedDue kind
+due kind n side = if eqb kind 1 then 5 + n else if eqb kind 2 then addDue side else fixedDue kind
 
 -- The kind is the block's first word.
 abbrev pub dueAt : List ℕ → ℕ
@@ -61,6 +62,10 @@ blockSize ws = if leb (dueAt ws) (length ws) then dueAt ws else 0
 -- SP and prices are two's complement
 abbrev pub stepsAt : List ℕ → ℕ → Steps
 stepsAt ws i = steps (signedOf (word ws i))
+
+-- what open is told besides the row and the day: SP, then the lapse limit
+abbrev pub openingAt : List ℕ → ℕ → Opening
+openingAt ws i = record { sp = stepsAt ws i; limit = word ws (i + 1) }
 
 -- each charge is two words, the low one first
 abbrev pub chargeAt : List ℕ → ℕ → Kopecks
@@ -76,7 +81,7 @@ callOf ws =
     let n = word ws 1 in
     let t = millis n in
     let id = word ws 2 in
-    if eqb kind 1 then Open (take n (drop 2 ws)) (word ws (2 + n)) (stepsAt ws (3 + n))
+    if eqb kind 1 then Open (take n (drop 2 ws)) (word ws (2 + n)) (openingAt ws (3 + n))
     else if eqb kind 2 then Send (Add t id (sideOf (word ws 3)) (stepsAt ws 4) (contracts (word ws 5)))
     else if eqb kind 3 then Send (Amend t id (stepsAt ws 3) (contracts (word ws 4)))
     else if eqb kind 4 then Send (Cancel t id)
@@ -139,8 +144,11 @@ low k = k .0 % 4294967296
 abbrev pub high : Kopecks → ℕ
 high k = k .0 / 4294967296
 
+abbrev pub openingWords : Opening → List ℕ
+openingWords told = unsignedOf (told .sp .0) ∷ told .limit ∷ []
+
 unfoldable pub wordsOf : Call → List ℕ
-wordsOf (Open words day sp) = 1 ∷ length words ∷ (words ++ (day ∷ unsignedOf (sp .0) ∷ []))
+wordsOf (Open words day told) = 1 ∷ length words ∷ (words ++ (day ∷ openingWords told))
 wordsOf (Send e) = eventWords e
 wordsOf (Close active passive) = 7 ∷ low active ∷ high active ∷ low passive ∷ high passive ∷ []
 wordsOf Drop = 8 ∷ []
@@ -164,7 +172,7 @@ Wide k = k .0 < 18446744073709551616
 
 -- each number of the call fits its type, and the number of an open's row words fits its word
 abbrev pub CallFits : Call → Type 0
-CallFits (Open words day sp) = Word (length words) × Words words × Word day × SignedWord (sp .0)
+CallFits (Open words day told) = Word (length words) × Words words × Word day × SignedWord (told .sp .0) × Word (told .limit)
 CallFits (Send e) = Fits e
 CallFits (Close active passive) = Wide active × Wide passive
 CallFits Drop = Unit {0}

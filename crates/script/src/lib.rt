@@ -4,7 +4,7 @@ ghost use Prim.Native.Nat.{_+_, _≤_, _<_};
 ghost use lib.ListN.{length, getD, drop};
 ghost use Rattle.rules.specs.Answers.{shownAnswer, shownLooked};
 ghost use Rattle.month.specs.Represents.{Reached, Answered};
-ghost use Rattle.script.specs.Words.{fixedDue, addDue, due, blockSize, stepsAt, chargeAt, sideOf, callOf};
+ghost use Rattle.script.specs.Words.{fixedDue, addDue, due, blockSize, stepsAt, openingAt, chargeAt, sideOf, callOf};
 ghost use Rattle.script.specs.Measures.{Measures};
 ghost use Rattle.script.specs.Blocks.{blankReport, showing, shownOf, outcomeNumber, Performed, Stepped};
 ghost use Rattle.script.specs.Runs.{Runs};
@@ -16,6 +16,7 @@ use rules::Contracts;
 use rules::Kopecks;
 use rules::Looked;
 use rules::Millis;
+use rules::Opening;
 use rules::Quote;
 use rules::Report;
 use rules::Side;
@@ -133,7 +134,7 @@ fn due_words(kind: u32, n: u32, side: u32) -> usize
     ensures { λ r. ⌜ r ≡ due kind n side ⌝ }
 {
     if kind == 1 {
-        return 4 + wide(n);
+        return 5 + wide(n);
     }
     if kind == 2 {
         return add_due(side);
@@ -189,6 +190,7 @@ fn blank_report() -> Report
         bid: Quote::Absent,
         ask: Quote::Absent,
         kept: Millis(0),
+        lapses: 0,
         failures,
         fee: Kopecks(0),
     }
@@ -239,6 +241,16 @@ fn steps_at(words: &[u32], i: usize) -> Steps
     words::to_steps(word(words, i))
 }
 
+// SP and the lapse limit, which stand one behind the other.
+fn opening_at(words: &[u32], i: usize) -> Opening
+    requires { ⌜ i < length (now words) ⌝ }
+    ensures { λ r. ⌜ r ≡ openingAt (now (words .entry)) i ⌝ }
+{
+    let sp = steps_at(words, i);
+    let limit = word(words, i + 1);
+    Opening { sp, limit }
+}
+
 fn wide_word(w: u32) -> u64
     ensures { λ r. ⌜ (r ≡ w) × (r < 4294967296) ⌝ }
 {
@@ -268,12 +280,12 @@ fn side_of(w: u32) -> Side
 
 // Kind 1.
 fn open_block(month: Month, words: &[u32]) -> Turned
-    requires { ⌜ Reached month × (getD (now words) 0 0 ≡ 1) × (4 + getD (now words) 1 0 ≤ length (now words)) ⌝ }
+    requires { ⌜ Reached month × (getD (now words) 0 0 ≡ 1) × (5 + getD (now words) 1 0 ≤ length (now words)) ⌝ }
     ensures { λ r. ⌜ Answered month (callOf (now (words .entry))) (r .month) (shownAnswer (r .answer)) ⌝ }
 {
     let end = 2 + wide(word(words, 1));
     let row = &words[2..end];
-    month.open(row, word(words, end), steps_at(words, end + 1))
+    month.open(row, word(words, end), opening_at(words, end + 1))
 }
 
 // Kinds 2 to 6.

@@ -21,13 +21,13 @@ use Rattle.rules.specs.Stretches.{Stretch}
 use Rattle.rules.specs.Answers.{Outcome, accepted, refused, cell}
 use Rattle.rules.specs.Book.{Call, Open, Send, Close, Look, Book, eventRefusal, closedCell, answerOf, step, run, after}
 use Rattle.rules.specs.Records.{goodRecord, eventOf, fieldsOf, readRecord}
-use Rattle.rules.specs.Session.{whole, recordsOf, runRecords, session}
+use Rattle.rules.specs.Session.{whole, recordsOf, withoutLimit, runRecords, session}
 use Rattle.rules.proofs.Lists.{and}
 use Rattle.rules.proofs.Refusals.{passes-call, answer-accepted}
 use Rattle.rules.proofs.Bounds.{row-bounds, after-snoc}
 use Rattle.session.specs.Walks.{bookWith, refusalBy, followed}
 use Rattle.session.proofs.Loop.{not-whole}
-use Rattle.session.proofs.Runs.{runs-past, runs-refused, runs-taken, runs-end, step-send, closed-cell, open-accepted, session-begun, cell-inside}
+use Rattle.session.proofs.Runs.{runs-past, runs-refused, runs-taken, runs-end, step-send, closed-cell, closed-weight, open-accepted, session-begun, cell-inside}
 
 -- a record that is no event is refused by 15
 pub unread : (bytes : List ℕ) (n : ℕ) → readRecord bytes ≡ refused n → n ≡ 15
@@ -98,7 +98,7 @@ module _ (limit place₀ : ℕ) (row : Row) (sp : Steps) where
 
 -- the calls that a session stands for: open (day 1), the events, close (A and P 0)
 abbrev pub sessionCalls : List ℕ → Steps → List Event → List Call
-sessionCalls words sp es = Open words 1 sp ∷ (map Send es ++ (Close (kopecks 0) (kopecks 0) ∷ []))
+sessionCalls words sp es = Open words 1 (withoutLimit sp) ∷ (map Send es ++ (Close (kopecks 0) (kopecks 0) ∷ []))
 
 good-cell : (row : Row) → goodRow paper row ≡ true → goodCell 1 (row .expiry) (row .quantum) ≡ true
 good-cell row g =
@@ -129,10 +129,10 @@ session-agrees limit words sp bytes k w ss h =
     let t = takes limit at row sp [] (recordsOf bytes) 1 k w ss runs in
     let es = t .events in
     let opened = open-accepted limit words sp bytes seven good price in
-    let before : after paper (Open words 1 sp ∷ map Send es) ≡ bookWith at row sp es = ap (λ (b : Book). run paper b (map Send es)) opened ∙ t .runs in
+    let before : after paper (Open words 1 (withoutLimit sp) ∷ map Send es) ≡ bookWith at row sp es = ap (λ (b : Book). run paper b (map Send es)) opened ∙ t .runs in
     let done : after paper (sessionCalls words sp es) ≡ step paper (bookWith at row sp es) (Close (kopecks 0) (kopecks 0)) =
-    after-snoc paper (Open words 1 sp ∷ map Send es) (Close (kopecks 0) (kopecks 0)) ∙ ap (λ (b : Book). step paper b (Close (kopecks 0) (kopecks 0))) before in
-    let filled : cellAt (after paper (sessionCalls words sp es) .cells) at ≡ closedCell row sp es (kopecks 0) (kopecks 0) =
+    after-snoc paper (Open words 1 (withoutLimit sp) ∷ map Send es) (Close (kopecks 0) (kopecks 0)) ∙ ap (λ (b : Book). step paper b (Close (kopecks 0) (kopecks 0))) before in
+    let filled : cellAt (after paper (sessionCalls words sp es) .cells) at ≡ closedCell row (withoutLimit sp) es (kopecks 0) (kopecks 0) =
     ap (λ (b : Book). cellAt (b .cells) at) done ∙ closed-cell limit at row sp es inside in
     let passes = passes-call paper (after paper (sessionCalls words sp es)) (Look 1 (row .expiry) (row .quantum)) (record { cell-good = good-cell row good; filled = ap (λ (c : Cell). c .filled) filled }) in
     let same = whole-parts _ _ k w _ ss (sym (runs-end limit at row sp (t .last) es inside) ∙ t .ends) in
@@ -142,5 +142,5 @@ session-agrees limit words sp bytes k w ss h =
       view = viewOf paper (cellAt (after paper (sessionCalls words sp es) .cells) at);
       shown = answer-accepted paper (after paper (sessionCalls words sp es)) (Look 1 (row .expiry) (row .quantum)) passes;
       kept = ap (λ (c : Cell). c .kept .0) filled ∙ same .0;
-      weight = ap (cellWeight paper) filled ∙ same .1;
+      weight = ap (cellWeight paper) filled ∙ closed-weight limit at row sp es ∙ same .1;
     }

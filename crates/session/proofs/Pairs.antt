@@ -4,10 +4,10 @@ use native.Mathlib.Omega.{arith}
 use mathlib.Core.Path.{_≡_, refl, sym, ap, _∙_, subst}
 use mathlib.Core.List.{List, [], _∷_, _++_, append-assoc}
 use mathlib.Core.Bool.{Bool, true, false, false≢true}
-use lib.Dec.{leb, eqb}
+use lib.Dec.{leb}
 use lib.ListN.{length, take, drop, set, length-append, length-set}
 use lib.Seq.{sets-eq, take-at, drop-at, drop-drop, drop-append-add}
-use borrow.Author.Tests.{leb-false, le-leb, lt-leb, leb-true, eq-eqb, ne-eqb, eqb-true}
+use borrow.Author.Tests.{leb-false, le-leb, lt-leb, leb-true}
 use Rattle.rules.specs.Lists.{if_then_else_}
 use Rattle.rules.specs.Stretches.{Stretch, stretch, stretches, pairWords}
 use Rattle.rules.specs.Runs.{before, endsAt, Inside}
@@ -42,23 +42,14 @@ pub before-ext : (p q : ℕ → Bool) (n : ℕ) → ((m : ℕ) → m < n → p m
 before-ext p q zero h = refl
 before-ext p q (suc n) h = h n (omega arith)
 
--- 1 or 0
-abbrev one : Bool → ℕ
-one b = if b then 1 else 0
-
-one-test : (b : Bool) → eqb (one b) 1 ≡ b
-one-test true = refl
-one-test false = refl
-
-marks-path : {a b c d e f : ℕ} → a ≡ b → c ≡ d → e ≡ f
-    → _≡_ {A = Marks} (record { pairs = a; start = c; last = e }) (record { pairs = b; start = d; last = f })
-marks-path x y z = λ i. record { pairs = x i; start = y i; last = z i }
+marks-path : {a b c d : ℕ} → a ≡ b → c ≡ d → _≡_ {A = Marks} (record { pairs = a; start = c }) (record { pairs = b; start = d })
+marks-path x y = λ i. record { pairs = x i; start = y i }
 
 pub marks-ext : (p q : ℕ → Bool) (n : ℕ) → ((m : ℕ) → m < n → p m ≡ q m) → marksAt p n ≡ marksAt q n
 unfolding marksAt
 marks-ext p q n h =
     let same = stretches-ext p q n h in
-    marks-path (ap length same) (ap lastOffset same) (ap one (before-ext p q n h))
+    marks-path (ap length same) (ap lastOffset same)
 
 module _ (p : ℕ → Bool) (n : ℕ) (m : Marks) (is : m ≡ marksAt p n) where
   pub pairs-are : m .pairs ≡ length (stretches p n)
@@ -69,10 +60,6 @@ module _ (p : ℕ → Bool) (n : ℕ) (m : Marks) (is : m ≡ marksAt p n) where
   unfolding marksAt
   start-is = ap (λ (x : Marks). x .start) is
 
-  pub last-is : eqb (m .last) 1 ≡ before p n
-  unfolding marksAt
-  last-is = ap (λ (x : Marks). eqb (x .last) 1) is ∙ one-test (before p n)
-
   pub pairs-few : m .pairs ≤ n + 1
   pairs-few = omega (arith, pairs-are, stretches-few p n)
 
@@ -80,9 +67,9 @@ module _ (p : ℕ → Bool) (n : ℕ) (m : Marks) (is : m ≡ marksAt p n) where
   start-early = omega (arith, start-is, last-inside n (stretches p n) (stretches-run p n .inside))
 
   -- a pair that reaches n is one
-  pub last-some : m .last ≡ 1 → 1 ≤ m .pairs
+  pub last-some : before p n ≡ true → 1 ≤ m .pairs
   unfolding endsAt
-  last-some e = go (stretches p n) (pairs-are) (stretches-ends p n ∙ sym last-is ∙ eq-eqb (m .last) 1 e)
+  last-some e = go (stretches p n) (pairs-are) (stretches-ends p n ∙ e)
     where
       go : (ss : List Stretch) → m .pairs ≡ length ss → endsAt n ss ≡ true → 1 ≤ m .pairs
       go [] k x = absurd (false≢true x)
@@ -178,22 +165,23 @@ module _ (p : ℕ → Bool) (a b : ℕ) (m : Marks) (is : m ≡ marksAt p a) (ba
   grows-still e = (is ∙ ap (marksAt p) e, subst (λ (n : ℕ). Holds base (stretches p n) entry) e h)
 
   pub grows-none : a < b → ((k : ℕ) → a ≤ k → k < b → p k ≡ false)
-      → _≡_ {A = Marks} (record { pairs = m .pairs; start = m .start; last = 0 }) (marksAt p b) × Holds base (stretches p b) entry
+      → (m ≡ marksAt p b) × Holds base (stretches p b) entry
   unfolding marksAt
   grows-none l f =
       let to : a + (b - a) ≡ b = omega arith in
       let same : stretches p b ≡ stretches p a =
       ap (stretches p) (sym to) ∙ stretches-false p a (b - a) (λ k x y. f k x (omega arith)) in (
-        marks-path (pairs-are p a m is ∙ ap length (sym same)) (start-is p a m is ∙ ap lastOffset (sym same)) (ap one (sym (before-in p a b false l f))),
+        marks-path (pairs-are p a m is ∙ ap length (sym same)) (start-is p a m is ∙ ap lastOffset (sym same)),
         subst (λ (ss : List Stretch). Holds base ss entry) (sym same) h,
       )
 
   -- what the marks and the words become, when all of it passes
-  abbrev Goal : Type 0
-  Goal =
-      (begunAt m a ≡ marksAt p b) × Holds base (stretches p b) (putPair entry (begunAt m a .pairs - 1) (begunAt m a .start) (b - begunAt m a .start))
+  abbrev Goal : Bool → Type 0
+  Goal reaches =
+      (begunAt m a reaches ≡ marksAt p b)
+      × Holds base (stretches p b) (putPair entry (begunAt m a reaches .pairs - 1) (begunAt m a reaches .start) (b - begunAt m a reaches .start))
 
-  begins : a < b → ((k : ℕ) → a ≤ k → k < b → p k ≡ true) → before p a ≡ false → Goal
+  begins : a < b → ((k : ℕ) → a ≤ k → k < b → p k ≡ true) → before p a ≡ false → Goal false
   unfolding marksAt begunAt
   begins l f e =
       let to : a + (b - a) ≡ b = omega arith in
@@ -202,12 +190,11 @@ module _ (p : ℕ → Bool) (a b : ℕ) (m : Marks) (is : m ≡ marksAt p a) (ba
       ap (stretches p) (sym to) ∙ stretches-new p a (b - a) d (λ k x y. f k x (omega arith)) e in
       let n : m .pairs + 1 ≡ length (stretches p b) = ap (λ (k : ℕ). k + 1) (pairs-are p a m is) ∙ sym (length-snoc (stretches p a) (stretch a (b - a))) ∙ ap length (sym more) in
       let s : a ≡ lastOffset (stretches p b) = sym (ap lastOffset more ∙ last-snoc (stretches p a) (stretch a (b - a))) in
-      let t : 1 ≡ one (before p b) = ap one (sym (before-in p a b true l f)) in
       let at : m .pairs + 1 - 1 ≡ length (stretches p a) = omega (arith, pairs-are p a m is) in
       let held = holds-new base (stretches p a) a (b - a) entry h in
-      rw (last-is p a m is, e) (marks-path n s t, rw (more, at) held)
+      (marks-path n s, rw (more, at) held)
 
-  goes-on : a < b → ((k : ℕ) → a ≤ k → k < b → p k ≡ true) → before p a ≡ true → Goal
+  goes-on : a < b → ((k : ℕ) → a ≤ k → k < b → p k ≡ true) → before p a ≡ true → Goal true
   unfolding marksAt begunAt
   goes-on l f e =
       let to : a + (b - a) ≡ b = omega arith in
@@ -218,54 +205,44 @@ module _ (p : ℕ → Bool) (a b : ℕ) (m : Marks) (is : m ≡ marksAt p a) (ba
       ap length old ∙ length-snoc ss s ∙ sym (ap length more ∙ length-snoc ss (stretch (s .offset) (s .length + (b - a)))) in
       let o : lastOffset (stretches p a) ≡ lastOffset (stretches p b) =
       ap lastOffset old ∙ last-snoc ss s ∙ sym (ap lastOffset more ∙ last-snoc ss (stretch (s .offset) (s .length + (b - a)))) in
-      let t : m .last ≡ one (before p b) = eqb-true (m .last) 1 (last-is p a m is ∙ e) ∙ ap one (sym (before-in p a b true l f)) in
       let at : m .pairs - 1 ≡ length ss = omega (arith, pairs-are p a m is, ap length old, length-snoc ss s) in
       let from : m .start ≡ s .offset = start-is p a m is ∙ ap lastOffset old ∙ last-snoc ss s in
       let long : b - s .offset ≡ s .length + (b - a) = omega arith in
       let held = holds-longer base ss s (s .offset) (s .length + (b - a)) entry (subst (λ (l : List Stretch). Holds base l entry) old h) in
-      rw (last-is p a m is, e) (marks-path (pairs-are p a m is ∙ n) (start-is p a m is ∙ o) t, rw (more, at, from, long) held)
+      (marks-path (pairs-are p a m is ∙ n) (start-is p a m is ∙ o), rw (more, at, from, long) held)
 
-  pub grows-some : a < b → ((k : ℕ) → a ≤ k → k < b → p k ≡ true) → Goal
-  grows-some l f = go (before p a) refl
-    where
-      go : (c : Bool) → before p a ≡ c → Goal
-      go true e = goes-on l f e
-      go false e = begins l f e
+  grows-some : a < b → ((k : ℕ) → a ≤ k → k < b → p k ≡ true) → (reaches : Bool) → before p a ≡ reaches → Goal reaches
+  grows-some l f true e = goes-on l f e
+  grows-some l f false e = begins l f e
 
-  pub grows-by : a < b → ((k : ℕ) → a ≤ k → k < b → p k ≡ true) → (next : Marks) → next ≡ begunAt m a → (exit : List ℕ)
-      → exit ≡ putPair entry (next .pairs - 1) (next .start) (b - next .start) → (next ≡ marksAt p b) × Holds base (stretches p b) exit
-  grows-by l f next e exit x =
-      let g = grows-some l f in
+  pub grows-by : a < b → ((k : ℕ) → a ≤ k → k < b → p k ≡ true) → (reaches : Bool) → reaches ≡ before p a → (next : Marks)
+      → next ≡ begunAt m a reaches → (exit : List ℕ) → exit ≡ putPair entry (next .pairs - 1) (next .start) (b - next .start) → (next ≡ marksAt p b) × Holds base (stretches p b) exit
+  grows-by l f reaches r next e exit x =
+      let g = grows-some l f reaches (sym r) in
       let same = x ∙ ap (λ (n : Marks). putPair entry (n .pairs - 1) (n .start) (b - n .start)) e in
       (e ∙ g .0, subst (Holds base (stretches p b)) (sym same) (g .1))
 
 -- ---- the marks when what passes goes on
 
-module _ (m : Marks) (a : ℕ) where
-  pub begun-last : m .last ≡ 1 → m ≡ begunAt m a
+module _ (m : Marks) (a : ℕ) (reaches : Bool) where
+  pub begun-last : reaches ≡ true → m ≡ begunAt m a reaches
   unfolding begunAt
-  begun-last e = sym (ap (λ (b : Bool). if b then m else record { pairs = m .pairs + 1; start = a; last = 1 }) (eq-eqb (m .last) 1 e))
+  begun-last e = rw e refl
 
-  pub begun-new : (m .last ≡ 1 → ⊥) → _≡_ {A = Marks} (record { pairs = m .pairs + 1; start = a; last = 1 }) (begunAt m a)
+  pub begun-new : reaches ≡ false → _≡_ {A = Marks} (record { pairs = m .pairs + 1; start = a }) (begunAt m a reaches)
   unfolding begunAt
-  begun-new e = rw (ne-eqb (m .last) 1 e) refl
+  begun-new e = rw e refl
 
-  bounds : m .start ≤ a → m .pairs ≤ a + 1 → (m .last ≡ 1 → 1 ≤ m .pairs)
-      → (1 ≤ begunAt m a .pairs) × (begunAt m a .pairs ≤ a + 2) × (begunAt m a .start ≤ a)
-  unfolding begunAt
-  bounds s f o = go (eqb (m .last) 1) refl
-    where
-      go : (b : Bool) → eqb (m .last) 1 ≡ b
-          → (1 ≤ (if b then m else record { pairs = m .pairs + 1; start = a; last = 1 }) .pairs)
-          × ((if b then m else record { pairs = m .pairs + 1; start = a; last = 1 }) .pairs ≤ a + 2)
-          × ((if b then m else record { pairs = m .pairs + 1; start = a; last = 1 }) .start ≤ a)
-      go true e = (o (eqb-true (m .last) 1 e), omega arith, s)
-      go false e = (omega arith, omega arith, omega arith)
+bounds : (m : Marks) (a : ℕ) (reaches : Bool) → m .start ≤ a → m .pairs ≤ a + 1 → (reaches ≡ true → 1 ≤ m .pairs)
+    → (1 ≤ begunAt m a reaches .pairs) × (begunAt m a reaches .pairs ≤ a + 2) × (begunAt m a reaches .start ≤ a)
+unfolding begunAt
+bounds m a true s f o = (o refl, omega arith, s)
+bounds m a false s f o = (omega arith, omega arith, omega arith)
 
-  pub begun-bounds : (next : Marks) → next ≡ begunAt m a → m .start ≤ a → m .pairs ≤ a + 1 → (m .last ≡ 1 → 1 ≤ m .pairs)
-      → (1 ≤ next .pairs) × (next .pairs ≤ a + 2) × (next .start ≤ a)
-  begun-bounds next e s f o =
-      let b = bounds s f o in
-      let n = ap (λ (x : Marks). x .pairs) e in
-      let t = ap (λ (x : Marks). x .start) e in
-      (omega (arith, b .0), omega (arith, b .1), omega (arith, b .2))
+pub begun-bounds : (m : Marks) (a : ℕ) (reaches : Bool) (next : Marks) → next ≡ begunAt m a reaches → m .start ≤ a → m .pairs ≤ a + 1
+    → (reaches ≡ true → 1 ≤ m .pairs) → (1 ≤ next .pairs) × (next .pairs ≤ a + 2) × (next .start ≤ a)
+begun-bounds m a reaches next e s f o =
+    let b = bounds m a reaches s f o in
+    let n = ap (λ (x : Marks). x .pairs) e in
+    let t = ap (λ (x : Marks). x .start) e in
+    (omega (arith, b .0), omega (arith, b .1), omega (arith, b .2))

@@ -5,7 +5,7 @@ use native.Mathlib.Omega.{arith}
 use native.Mathlib.Nat.{div-eq-of-lt, add-div-left}
 use mathlib.Core.Path.{_≡_, refl, sym, ap, _∙_}
 use mathlib.Core.List.{List, [], _∷_, _++_, map}
-use mathlib.Core.Bool.{Bool, true, false, not}
+use mathlib.Core.Bool.{Bool, true, false, not, _&&_, and-true}
 use lib.Dec.{leb, eqb}
 use lib.ListN.{length, take, drop, length-drop, length-replicate, getD-replicate}
 use lib.Seq.{drop-drop, getD-set-same}
@@ -20,12 +20,13 @@ use Rattle.rules.specs.Units.{kopecks, goodPrice, goodCharge}
 use Rattle.rules.specs.Rows.{rowOf, goodRow}
 use Rattle.rules.specs.Cells.{blankCell, blankCells, placeOf, cellAt}
 use Rattle.rules.specs.Kept.{keptBelow}
-use Rattle.rules.specs.Pay.{weight}
+use Rattle.rules.specs.Lapses.{noLimit, lapsesBelow, goodLimit, withinLimit}
+use Rattle.rules.specs.Pay.{met, weightBy, weight, cellWeight}
 use Rattle.rules.specs.Stretches.{Stretch, keptStretches}
 use Rattle.rules.specs.Answers.{Outcome, accepted, refused, outcomeBy}
 use Rattle.rules.specs.Book.{Open, Send, Close, Book, freshBook, isOpen, Cause, lowest, cause, causes, eventRefusal, readRow, refusalOf, closedCell, changed, step}
 use Rattle.rules.specs.Records.{readRecord}
-use Rattle.rules.specs.Session.{Session, whole, halted, unless, recordsOf, readRefusal, recordRefusal, readStep, closing, runRecords, session}
+use Rattle.rules.specs.Session.{Session, whole, halted, withoutLimit, unless, recordsOf, readRefusal, recordRefusal, readStep, closing, runRecords, session}
 use Rattle.rules.proofs.Refusals.{stop, call-passes, passes-call, step-accepted, OpenPasses}
 use Rattle.rules.proofs.Bounds.{row-bounds, place-small}
 use Rattle.session.specs.Walks.{bookWith, refusalBy, followed}
@@ -78,6 +79,11 @@ records-some bytes l =
     ∙ ap (λ (l : List (List ℕ)). take 20 bytes ∷ l) (map-map f (below ((length bytes - 20 + 19) / 20)) g same)
     ∙ ap (λ (n : ℕ). take 20 bytes ∷ map g (below ((n + 19) / 20))) (sym (length-drop 20 bytes))
 
+-- with no limit the share alone decides
+no-limit : (b : Bool) (lapses : ℕ) → b && withinLimit noLimit lapses ≡ b
+unfolding withinLimit
+no-limit b lapses = and-true b
+
 -- ---- a record
 
 module _ (limit cell : ℕ) (row : Row) (sp : Steps) where
@@ -127,17 +133,29 @@ module _ (limit cell : ℕ) (row : Row) (sp : Steps) where
   close-passes es = refl
 
   pub closed-cell : (es : List Event) → cell < 186
-      → cellAt (step paper (bookWith cell row sp es) (Close (kopecks 0) (kopecks 0)) .cells) cell ≡ closedCell row sp es (kopecks 0) (kopecks 0)
+      → cellAt (step paper (bookWith cell row sp es) (Close (kopecks 0) (kopecks 0)) .cells) cell ≡ closedCell row (withoutLimit sp) es (kopecks 0) (kopecks 0)
   unfolding changed
   closed-cell es l =
       ap (λ (b : Book). cellAt (b .cells) cell) (step-accepted paper (bookWith cell row sp es) (Close (kopecks 0) (kopecks 0)) (close-passes es))
-      ∙ getD-set-same blankCells cell (closedCell row sp es (kopecks 0) (kopecks 0)) blankCell (omega (arith, length-replicate 186 blankCell))
+      ∙ getD-set-same blankCells cell (closedCell row (withoutLimit sp) es (kopecks 0) (kopecks 0)) blankCell (omega (arith, length-replicate 186 blankCell))
+
+  -- the cell's weight is the share's
+  pub closed-weight : (es : List Event)
+      → cellWeight paper (closedCell row (withoutLimit sp) es (kopecks 0) (kopecks 0))
+      ≡ weight paper (keptBelow row (sp .0) es (row .length .0)) (row .length .0) (row .share)
+  unfolding weight
+  closed-weight es =
+      let kept = keptBelow row (sp .0) es (row .length .0) in
+      ap (λ (b : Bool). weightBy paper b kept (row .length .0) (row .share))
+      (no-limit (met paper kept (row .length .0) (row .share)) (lapsesBelow row (sp .0) es (row .length .0)))
 
   pub runs-end : (place : ℕ) (es : List Event) → cell < 186
       → runRecords paper limit cell place (bookWith cell row sp es) []
       ≡ whole (keptBelow row (sp .0) es (row .length .0)) (weight paper (keptBelow row (sp .0) es (row .length .0)) (row .length .0) (row .share)) (keptStretches row (sp .0) es)
   unfolding runRecords closing
-  runs-end place es l = rw (closed-cell es l) refl
+  runs-end place es l =
+      rw (closed-cell es l)
+      (ap (λ (w : ℕ). whole (keptBelow row (sp .0) es (row .length .0)) w (keptStretches row (sp .0) es)) (closed-weight es))
 
 -- ---- the start
 
@@ -157,7 +175,7 @@ first-accepted true false rest row r e = let z : _≡_ {A = ℕ} 0 1 = cc in abs
 first-accepted true true rest row r e = (refl, refl, cc, refl)
 
 module _ (limit : ℕ) (words : List ℕ) (sp : Steps) (bytes : List ℕ) where
-  session-stops : (n : ℕ) → refusalOf paper freshBook (Open words 1 sp) ≡ suc n → session paper limit words sp bytes ≡ halted (suc n) 0
+  session-stops : (n : ℕ) → refusalOf paper freshBook (Open words 1 (withoutLimit sp)) ≡ suc n → session paper limit words sp bytes ≡ halted (suc n) 0
   unfolding session
   session-stops n e = rw e refl
 
@@ -181,10 +199,14 @@ module _ (limit : ℕ) (words : List ℕ) (sp : Steps) (bytes : List ℕ) where
   unfolding freshBook
   idle = refl
 
+  none-good : goodLimit noLimit ≡ true
+  unfolding goodLimit
+  none-good = refl
+
   abbrev cellOf : ℕ
   cellOf = placeOf 1 (rowOf words .expiry) (rowOf words .quantum)
 
-  open-passes : length words ≡ 7 → goodRow paper (rowOf words) ≡ true → goodPrice (sp .0) ≡ true → OpenPasses paper freshBook words 1 sp
+  open-passes : length words ≡ 7 → goodRow paper (rowOf words) ≡ true → goodPrice (sp .0) ≡ true → OpenPasses paper freshBook words 1 (withoutLimit sp)
   open-passes l g f =
       let r = row-bounds paper (rowOf words) g in
       record {
@@ -194,22 +216,23 @@ module _ (limit : ℕ) (words : List ℕ) (sp : Steps) (bytes : List ℕ) where
         price-good = f;
         blank = blank-cell cellOf (place-small 1 (rowOf words .expiry) (rowOf words .quantum) (omega arith) (r .expiry-most) (r .quantum-most));
         idle = idle;
+        limit-good = none-good;
       }
 
-  opened : step paper freshBook (Open words 1 sp) ≡ bookWith cellOf (rowOf words) sp []
-      → refusalOf paper freshBook (Open words 1 sp) ≡ 0
+  opened : step paper freshBook (Open words 1 (withoutLimit sp)) ≡ bookWith cellOf (rowOf words) sp []
+      → refusalOf paper freshBook (Open words 1 (withoutLimit sp)) ≡ 0
       → session paper limit words sp bytes ≡ runRecords paper limit cellOf 1 (bookWith cellOf (rowOf words) sp []) (recordsOf bytes)
   unfolding session
   opened e f = rw (f, e) refl
 
-  pub changed-open : changed freshBook (Open words 1 sp) ≡ bookWith cellOf (rowOf words) sp []
+  pub changed-open : changed freshBook (Open words 1 (withoutLimit sp)) ≡ bookWith cellOf (rowOf words) sp []
   unfolding changed freshBook
   changed-open = refl
 
   pub open-accepted : length words ≡ 7 → goodRow paper (rowOf words) ≡ true → goodPrice (sp .0) ≡ true
-      → step paper freshBook (Open words 1 sp) ≡ bookWith cellOf (rowOf words) sp []
+      → step paper freshBook (Open words 1 (withoutLimit sp)) ≡ bookWith cellOf (rowOf words) sp []
   open-accepted l g f =
-      step-accepted paper freshBook (Open words 1 sp) (passes-call paper freshBook (Open words 1 sp) (open-passes l g f)) ∙ changed-open
+      step-accepted paper freshBook (Open words 1 (withoutLimit sp)) (passes-call paper freshBook (Open words 1 (withoutLimit sp)) (open-passes l g f)) ∙ changed-open
 
   pub session-opens : (row : Row) → accepted row ≡ readRow paper words → goodPrice (sp .0) ≡ true
       → (row ≡ rowOf words) × (goodRow paper (rowOf words) ≡ true)
@@ -217,8 +240,8 @@ module _ (limit : ℕ) (words : List ℕ) (sp : Steps) (bytes : List ℕ) where
   unfolding readRow
   session-opens row e f =
       let (a, b, is, by) = first-accepted (eqb (length words) 7) (goodRow paper (rowOf words)) [] (rowOf words) row e in
-      let zero = passes-call paper freshBook (Open words 1 sp) (open-passes (eqb-true (length words) 7 a) b f) in
-      (is, b, opened (step-accepted paper freshBook (Open words 1 sp) zero ∙ changed-open) zero)
+      let zero = passes-call paper freshBook (Open words 1 (withoutLimit sp)) (open-passes (eqb-true (length words) 7 a) b f) in
+      (is, b, opened (step-accepted paper freshBook (Open words 1 (withoutLimit sp)) zero ∙ changed-open) zero)
 
   pub cell-inside : goodRow paper (rowOf words) ≡ true → cellOf < 186
   cell-inside g =
@@ -235,7 +258,7 @@ module _ (limit : ℕ) (words : List ℕ) (sp : Steps) (bytes : List ℕ) where
       × (runRecords paper limit cellOf 1 (bookWith cellOf (rowOf words) sp []) (recordsOf bytes) ≡ whole k w ss)
   unfolding session
   session-begun k w ss e =
-      let (none, next) = unless-whole (refusalOf paper freshBook (Open words 1 sp)) 0 _ k w ss e in
-      let p = call-passes paper freshBook (Open words 1 sp) none in
+      let (none, next) = unless-whole (refusalOf paper freshBook (Open words 1 (withoutLimit sp))) 0 _ k w ss e in
+      let p = call-passes paper freshBook (Open words 1 (withoutLimit sp)) none in
       let book = open-accepted (p .seven) (p .row-good) (p .price-good) in
       (p .seven, p .row-good, p .price-good, ap (λ (b : Book). runRecords paper limit cellOf 1 b (recordsOf bytes)) (sym book) ∙ next)

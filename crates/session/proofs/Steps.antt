@@ -29,7 +29,8 @@ use Rattle.quantum.specs.declared.Duty.{Duty}
 use Rattle.quantum.specs.declared.Clock.{Clock}
 use Rattle.quantum.specs.declared.Stepped.{Stepped as SteppedOn}
 use Rattle.quantum.specs.Standing.{clockOf, tableAfter, taken, Running, Stands, Stepping, Onward}
-use Rattle.quantum.proofs.Standing.{time-is, keeps-is, onward}
+use Rattle.rules.specs.Runs.{before}
+use Rattle.quantum.proofs.Standing.{time-is, keeps-is, last-is, onward}
 use Rattle.session.specs.declared.Marks.{Marks}
 use Rattle.session.specs.declared.Walk.{Walk}
 use Rattle.session.specs.Walks.{lastOffset, marksAt, Holds, Growing, Grows, walkAt, pairsOf, Walking, Walked, Advanced}
@@ -60,7 +61,15 @@ module _ (row : Row) (sp : ℤ) (es : List Event) (w : Walk) (is : w ≡ walkAt 
   keep-test : eqb (w .clock .keeps) 1 ≡ ordersKeep row sp (live es)
   keep-test = ap (λ (n : ℕ). eqb n 1) (keeps-is row sp es (w .clock) clock-is) ∙ one-test (ordersKeep row sp (live es))
 
-  pub growing : (to : Millis) → present es ≤ to .0 → to .0 ≤ row .length .0 → goodRow paper row ≡ true → Growing (w .marks) (w .clock .time) to
+  -- and whether the millisecond before the present is kept
+  last-test : eqb (w .clock .last) 1 ≡ before (keptAt row sp es) (w .clock .time .0)
+  last-test =
+      ap (λ (n : ℕ). eqb n 1) (last-is row sp es (w .clock) clock-is)
+      ∙ one-test (before (keptAt row sp es) (present es))
+      ∙ ap (before (keptAt row sp es)) (sym from-is)
+
+  pub growing : (to : Millis) → present es ≤ to .0 → to .0 ≤ row .length .0 → goodRow paper row ≡ true
+      → Growing (w .marks) (w .clock .time) to (eqb (w .clock .last) 1)
   growing to h l good =
       let r = row-bounds paper row good in
       let p = keptAt row sp es in
@@ -69,15 +78,15 @@ module _ (row : Row) (sp : ℤ) (es : List Event) (w : Walk) (is : w ≡ walkAt 
         small = omega (arith, r .length-most);
         started = start-early p (w .clock .time .0) (w .marks) marks-from;
         few = pairs-few p (w .clock .time .0) (w .marks) marks-from;
-        some = last-some p (w .clock .time .0) (w .marks) marks-from;
+        some = λ e. last-some p (w .clock .time .0) (w .marks) marks-from (sym last-test ∙ e);
       }
 
   -- time has run on to a time
   pub grown-to : EventBounds row es → (to : Millis) (keeps : Bool) (r : Marks) (entry exit base : List ℕ) → keeps ≡ eqb (w .clock .keeps) 1
-      → Grows (w .marks) (w .clock .time) to keeps r entry exit → Holds base (pairsOf row sp es) entry
+      → Grows (w .marks) (w .clock .time) to keeps (eqb (w .clock .last) 1) r entry exit → Holds base (pairsOf row sp es) entry
       → (r ≡ marksAt (keptAt row sp es) (to .0)) × Holds base (stretches (keptAt row sp es) (to .0)) exit
   grown-to g to keeps r entry exit base k grows h =
-      grows (keptAt row sp es) base marks-from
+      grows (keptAt row sp es) base marks-from last-test
       (λ m a b. keptAt-now row sp es (g .ordered) m (omega (arith, from-is)) ∙ sym (k ∙ keep-test))
       (subst (λ (n : ℕ). Holds base (stretches (keptAt row sp es) n) entry) (sym from-is) h)
 
@@ -86,7 +95,7 @@ module _ (row : Row) (sp : ℤ) (es : List Event) (w : Walk) (is : w ≡ walkAt 
     to-is : next .time .0 ≡ timeOf e
     to-is = time-is row sp (es ++ (e ∷ [])) next next-is ∙ present-snoc es e
 
-    pub growing-event : goodRow paper row ≡ true → Growing (w .marks) (w .clock .time) (next .time)
+    pub growing-event : goodRow paper row ≡ true → Growing (w .marks) (w .clock .time) (next .time) (eqb (w .clock .last) 1)
     growing-event good =
         let p = event-passes row es e passes in
         growing (next .time) (omega (arith, to-is, p .onward)) (omega (arith, to-is, p .inside)) good
@@ -104,7 +113,7 @@ module _ (row : Row) (sp : ℤ) (es : List Event) (w : Walk) (is : w ≡ walkAt 
         (λ m l. sym (keptAt-snoc row sp es e m (omega (arith, present-snoc es e))))
 
     pub took : (keeps : Bool) (r : Marks) (entry exit base : List ℕ) → keeps ≡ eqb (w .clock .keeps) 1
-        → Grows (w .marks) (w .clock .time) (next .time) keeps r entry exit → Holds base (pairsOf row sp es) entry
+        → Grows (w .marks) (w .clock .time) (next .time) keeps (eqb (w .clock .last) 1) r entry exit → Holds base (pairsOf row sp es) entry
         → _≡_ {A = Walk} (record { clock = next; marks = r }) (walkAt row sp (es ++ (e ∷ []))) × Holds base (pairsOf row sp (es ++ (e ∷ []))) exit
     unfolding walkAt
     took keeps r entry exit base k grows h =
@@ -114,9 +123,9 @@ module _ (row : Row) (sp : ℤ) (es : List Event) (w : Walk) (is : w ≡ walkAt 
 -- ---- opening
 
 pub begins : (row : Row) (sp : ℤ) (clock : Clock) → clock ≡ clockOf row sp []
-    → _≡_ {A = Walk} (record { clock = clock; marks = record { pairs = 0; start = 0; last = 0 } }) (walkAt row sp [])
+    → _≡_ {A = Walk} (record { clock = clock; marks = record { pairs = 0; start = 0 } }) (walkAt row sp [])
 unfolding walkAt marksAt present timeFrom stretches lastOffset
-begins row sp clock is = ap (λ (x : Clock). record { clock = x; marks = record { pairs = 0; start = 0; last = 0 } }) is
+begins row sp clock is = ap (λ (x : Clock). record { clock = x; marks = record { pairs = 0; start = 0 } }) is
 
 -- ---- what the functions promise
 
@@ -162,14 +171,14 @@ module _ (w : Walk) (duty : Duty) (e : Event) (table next : List ℕ) (stepped :
     next-is row sp es h =
         steps .clock-after row sp es (stands row sp es w duty table h) ∙ ap (λ (n : ℕ). clockOf row sp (taken n es e)) (passes row sp es h)
 
-    pub growing-taken : (hints : List ℕ) → Walking w duty table hints → Growing (w .marks) (w .clock .time) (stepped .clock .time)
+    pub growing-taken : (hints : List ℕ) → Walking w duty table hints → Growing (w .marks) (w .clock .time) (stepped .clock .time) (eqb (w .clock .last) 1)
     growing-taken hints h =
         let k = walked w duty table hints h in
         growing-event (h .row) (h .sp) (h .events) w (h .is) (h .bounds) e (passes (h .row) (h .sp) (h .events) k) (stepped .clock)
         (next-is (h .row) (h .sp) (h .events) k) (h .good)
 
     pub advanced-taken : (keeps : Bool) (r : Marks) (entry exit : List ℕ) → keeps ≡ eqb (w .clock .keeps) 1
-        → Grows (w .marks) (w .clock .time) (stepped .clock .time) keeps r entry exit
+        → Grows (w .marks) (w .clock .time) (stepped .clock .time) keeps (eqb (w .clock .last) 1) r entry exit
         → Advanced w duty (accepted e) (record { walk = record { clock = stepped .clock; marks = r }; refusal = 0 }) table next entry exit
     advanced-taken keeps r entry exit k grows =
         record {
@@ -197,7 +206,7 @@ module _ (row : Row) (sp : ℤ) (es : List Event) (w : Walk) (is : w ≡ walkAt 
       onward row sp es (w .clock) (clock-is row sp es w is) (row .length) (omega (arith, from-is row sp es w is, g .ends))
 
   pub ended-is : (keeps : Bool) (r : Marks) (entry exit base : List ℕ) → keeps ≡ eqb (w .clock .keeps) 1
-      → Grows (w .marks) (w .clock .time) (row .length) keeps r entry exit → Holds base (pairsOf row sp es) entry
+      → Grows (w .marks) (w .clock .time) (row .length) keeps (eqb (w .clock .last) 1) r entry exit → Holds base (pairsOf row sp es) entry
       → (kept : ℕ) (worth : ℕ) → kept ≡ keptBelow row sp es (row .length .0) → worth ≡ weight paper kept (row .length .0) (row .share)
       → (finished kept worth (r .pairs) ≡ finished (keptBelow row sp es (row .length .0)) (weight paper (keptBelow row sp es (row .length .0)) (row .length .0) (row .share)) (length (keptStretches row sp es)))
       × Holds base (keptStretches row sp es) exit

@@ -25,7 +25,7 @@ use Rattle.rules.specs.Pay.{weight}
 use Rattle.rules.specs.Answers.{Outcome, accepted, refused, Ran, finished, stopped, shownSession}
 use Rattle.rules.specs.Book.{Quoting, Book, eventRefusal}
 use Rattle.rules.specs.Bounds.{EventBounds}
-use Rattle.rules.specs.Session.{Session, whole, halted, recordsOf, runRecords}
+use Rattle.rules.specs.Session.{Session, whole, halted, recordsOf, withoutLimit, runRecords}
 use Rattle.quantum.specs.declared.Duty.{Duty}
 use Rattle.quantum.specs.Standing.{dutyOf, clockOf, tableAfter}
 use Rattle.session.specs.declared.Marks.{Marks}
@@ -42,7 +42,7 @@ lastOffset (s ∷ t ∷ ss) = lastOffset (t ∷ ss)
 
 -- the pairs of what passes below n
 unfoldable pub marksAt : (ℕ → Bool) → ℕ → Marks
-marksAt p n = record { pairs = length (stretches p n); start = lastOffset (stretches p n); last = if before p n then 1 else 0 }
+marksAt p n = record { pairs = length (stretches p n); start = lastOffset (stretches p n) }
 
 -- a buffer that was base at first and has the pairs at its front, where they fit
 pub record Holds (base : List ℕ) (ss : List Stretch) (buffer : List ℕ) : Type 0 where
@@ -54,21 +54,21 @@ unfoldable pub putPair : List ℕ → ℕ → ℕ → ℕ → List ℕ
 putPair buffer n x y = if leb (2 * n + 2) (length buffer) then set (set buffer (2 * n) x) (2 * n + 1) y else buffer
 
 -- the marks when what passes goes on from a
-unfoldable pub begunAt : Marks → ℕ → Marks
-begunAt m a = if eqb (m .last) 1 then m else record { pairs = m .pairs + 1; start = a; last = 1 }
+unfoldable pub begunAt : Marks → ℕ → Bool → Marks
+begunAt m a reaches = if reaches then m else record { pairs = m .pairs + 1; start = a }
 
 -- what lets the marks grow to a time
-pub record Growing (m : Marks) (from to : Millis) : Type 0 where
+pub record Growing (m : Marks) (from to : Millis) (reaches : Bool) : Type 0 where
   pub onward : from .0 ≤ to .0
   pub small : to .0 ≤ 86400000
   pub started : m .start ≤ from .0
   pub few : m .pairs ≤ from .0 + 1
-  pub some : m .last ≡ 1 → 1 ≤ m .pairs
+  pub some : reaches ≡ true → 1 ≤ m .pairs
 
 -- the marks and the buffer when time has run on, and all of it passed or none
-abbrev pub Grows : Marks → Millis → Millis → Bool → Marks → List ℕ → List ℕ → Type 0
-Grows m from to keeps r entry exit =
-    (p : ℕ → Bool) (base : List ℕ) → m ≡ marksAt p (from .0) → ((k : ℕ) → from .0 ≤ k → k < to .0 → p k ≡ keeps)
+abbrev pub Grows : Marks → Millis → Millis → Bool → Bool → Marks → List ℕ → List ℕ → Type 0
+Grows m from to keeps reaches r entry exit =
+    (p : ℕ → Bool) (base : List ℕ) → m ≡ marksAt p (from .0) → reaches ≡ before p (from .0) → ((k : ℕ) → from .0 ≤ k → k < to .0 → p k ≡ keeps)
     → Holds base (stretches p (from .0)) entry → (r ≡ marksAt p (to .0)) × Holds base (stretches p (to .0)) exit
 
 -- ---- a run so far
@@ -133,7 +133,7 @@ Ends w row r entry exit =
 
 -- the book with an open quantum of a fresh month
 abbrev pub bookWith : ℕ → Row → Steps → List Event → Book
-bookWith cell row sp es = record { running = Quoting cell row sp es; cells = blankCells }
+bookWith cell row sp es = record { running = Quoting cell row (withoutLimit sp) es; cells = blankCells }
 
 -- K, w and the number of pairs, or the refusal and its place, whatever the buffer
 unfoldable pub counted : Session → Ran

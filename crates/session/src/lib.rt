@@ -23,11 +23,10 @@ use rules::RowRead;
 use rules::SessionAnswer;
 use rules::Steps;
 
-// The pairs so far: how many, where the last one starts, and whether it reaches the present (1) or not (0).
+// The pairs so far: how many, and where the last one starts. The clock says whether it reaches the present.
 struct Marks {
     pairs: u32,
     start: u32,
-    last: u32,
 }
 
 // A run so far.
@@ -55,40 +54,42 @@ fn put(buffer: &mut [u32], n: usize, start: u32, length: u32)
 }
 
 // The marks when what is kept goes on from a time: in the last pair where it reaches it, else in a new one.
-fn begun(marks: Marks, from: Millis) -> Marks
+fn begun(marks: Marks, from: Millis, reaches: bool) -> Marks
     requires { ⌜ marks .pairs ≤ 100000000 ⌝ }
-    ensures { λ r. ⌜ r ≡ begunAt marks (from .0) ⌝ }
+    ensures { λ r. ⌜ r ≡ begunAt marks (from .0) reaches ⌝ }
 {
-    if marks.last == 1 {
+    if reaches {
         return marks;
     }
     Marks {
         pairs: marks.pairs + 1,
         start: from.0,
-        last: 1,
     }
 }
 
-// Time runs on, and all of it is kept or none.
-fn grow(marks: Marks, from: Millis, to: Millis, keeps: bool, buffer: &mut [u32]) -> Marks
-    requires { ⌜ Growing marks from to ⌝ }
-    ensures { λ r. ⌜ Grows marks from to keeps r (now (buffer .entry)) (now (buffer .exit)) ⌝ }
+// Time runs on, and all of it is kept or none. The last pair reaches the time that it runs on from, or not.
+fn grow(
+    marks: Marks,
+    from: Millis,
+    to: Millis,
+    keeps: bool,
+    reaches: bool,
+    buffer: &mut [u32],
+) -> Marks
+    requires { ⌜ Growing marks from to reaches ⌝ }
+    ensures { λ r. ⌜ Grows marks from to keeps reaches r (now (buffer .entry)) (now (buffer .exit)) ⌝ }
 {
     if to.0 <= from.0 {
         return marks;
     }
     if keeps {
-        let next = begun(marks, from);
+        let next = begun(marks, from, reaches);
         let n = next.pairs - 1;
         let start = next.start;
         put(buffer, n as usize, start, to.0 - start);
         return next;
     }
-    Marks {
-        pairs: marks.pairs,
-        start: marks.start,
-        last: 0,
-    }
+    marks
 }
 
 // An event taken, with the pairs that the time up to it adds; or refused.
@@ -113,7 +114,7 @@ fn taken(
     }
     let from = clock.time;
     let to = next.time;
-    let grown = grow(marks, from, to, clock.keeps == 1, buffer);
+    let grown = grow(marks, from, to, clock.keeps == 1, clock.last == 1, buffer);
     Stepped {
         walk: Walk {
             clock: next,
@@ -154,7 +155,14 @@ fn finish(walk: Walk, row: Row, buffer: &mut [u32]) -> SessionAnswer
     let end = quantum::onward(clock, length, 0);
     let kept = end.kept;
     let from = clock.time;
-    let grown = grow(marks, from, length, clock.keeps == 1, buffer);
+    let grown = grow(
+        marks,
+        from,
+        length,
+        clock.keeps == 1,
+        clock.last == 1,
+        buffer,
+    );
     SessionAnswer::Finished {
         kept,
         weight: pay::weight_of(kept, length, share),
@@ -168,11 +176,7 @@ fn begin() -> Walk
 {
     Walk {
         clock: quantum::started(),
-        marks: Marks {
-            pairs: 0,
-            start: 0,
-            last: 0,
-        },
+        marks: Marks { pairs: 0, start: 0 },
     }
 }
 

@@ -4,8 +4,8 @@ use native.Mathlib.Omega.{arith}
 use Rattle.rules.specs.declared.Cell.{Cell}
 use Rattle.rules.specs.Terms.{paper}
 use Rattle.rules.specs.Bounds.{CellBounds}
-use Rattle.rules.specs.Pay.{earned}
-use Rattle.pay.proofs.Weights.{weight-most, earned-most}
+use Rattle.rules.specs.Pay.{cellMet, earned}
+use Rattle.pay.proofs.Weights.{weightBy-most, earned-most}
 use borrow.Author.Needs.{needs}
 use Rattle.pay.proofs.earned.Statement.{statement}
 use Rattle.pay.proofs.earned.Tie as tie
@@ -37,7 +37,7 @@ cell c = c .before .before .before .before .before .before .args .cell
 most : (c : tie.After-weight) → (2 * cell c .active .0 + 3 * cell c .passive .0) * c .weight .result ≤ 100000000000000
 most c =
     let b = bounds (c .before) in
-    let w = weight-most (cell c .kept .0) (cell c .length .0) (cell c .share) (b .share-most) in
+    let w = weightBy-most (cellMet paper (cell c)) (cell c .kept .0) (cell c .length .0) (cell c .share) (b .share-most) in
     earned-most (cell c .active .0) (cell c .passive .0) (c .weight .result) (b .active-most) (b .passive-most)
     (omega (arith, c .weight .ensures))
 

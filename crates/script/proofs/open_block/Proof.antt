@@ -28,11 +28,11 @@ part-row-end c = search needs
 word-requires-2 : tie.Need-word-requires-2
 word-requires-2 c κs = search needs
 
-add-steps-at : tie.Need-add-steps-at
-add-steps-at c = search needs
+add-opening-at : tie.Need-add-opening-at
+add-opening-at c = search needs
 
-steps-at-requires : tie.Need-steps-at-requires
-steps-at-requires c κs = search needs
+opening-at-requires : tie.Need-opening-at-requires
+opening-at-requires c κs = search needs
 
 open-requires : tie.Need-open-requires
 open-requires c κs = search needs
@@ -42,7 +42,7 @@ returns c =
     let ws = c .before .before .before .before .before .before .before .args .words .now in
     renamed
     (open-is ws (2 + c .before .before .before .before .wide .result) (c .before .before .before .before .before .before .before .pre .1) (ap (λ (n : ℕ). 2 + n) (c .before .before .before .before .wide .ensures ∙ c .before .before .before .before .before .word .ensures)) refl
-    (c .before .before .word2 .ensures) (c .before .steps-at .ensures))
+    (c .before .before .word2 .ensures) (c .before .opening-at .ensures))
     (c .«open» .ensures)
 
 pub open-block-spec : {M : Type 1} → statement M
@@ -56,7 +56,7 @@ open-block-spec =
     part-row-start
     part-row-end
     word-requires-2
-    add-steps-at
-    steps-at-requires
+    add-opening-at
+    opening-at-requires
     open-requires
     returns)

@@ -5,13 +5,13 @@ use Rattle.session.proofs.begun.Statement.{statement}
 use Rattle.session.proofs.begun.Tie as tie
 
 returns : tie.Need-returns
-returns c = begun-last (c .before .before .args .marks) (c .before .before .args .from .0) (c .if1 .taken)
+returns c = let a = c .before .args in begun-last (a .marks) (a .from .0) (a .reaches) (c .if1 .taken)
 
-add-t4 : tie.Need-add-t4
-add-t4 c = search needs
+add-t5 : tie.Need-add-t5
+add-t5 c = search needs
 
 returns-2 : tie.Need-returns-2
-returns-2 c = begun-new (c .before .before .before .args .marks) (c .before .before .before .args .from .0) (c .before .if1 .left)
+returns-2 c = let a = c .before .before .args in begun-new (a .marks) (a .from .0) (a .reaches) (c .before .if1 .left)
 
 pub begun-spec : {M : Type 1} → statement M
-begun-spec = tie.close (tie.spec returns add-t4 returns-2)
+begun-spec = tie.close (tie.spec returns add-t5 returns-2)

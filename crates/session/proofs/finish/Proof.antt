@@ -18,13 +18,13 @@ onward-requires c κs =
 
 grow-requires : tie.Need-grow-requires
 grow-requires c κs =
-    let s = c .before .before .before .before .before .before .before .before .before in
+    let s = c .before .before .before .before .before .before .before .before .before .before in
     let h = s .pre in
     growing (s .args .row) (h .sp) (h .events) (s .args .walk) (h .is) (s .args .row .length) (h .bounds .ends) (omega arith) (h .good)
 
 weight-of-requires : tie.Need-weight-of-requires
 weight-of-requires c κs =
-    let s = c .before .before .before .before .before .before .before .before .before .before .before .before in
+    let s = c .before .before .before .before .before .before .before .before .before .before .before .before .before in
     let b = row-bounds paper (s .args .row) (s .pre .good) in
     (omega (arith, b .length-least), b .share-most)
 
@@ -34,7 +34,7 @@ same-length c = search needs
 returns : tie.Need-returns
 returns c = λ sp es base g is h.
     let w = c .before .before .before in
-    let o = w .before .before .before .before .before in
+    let o = w .before .before .before .before .before .before in
     let s = o .before .before .before .before .before in
     let row = s .args .row in
     let k = s .args .walk .clock in

@@ -7,7 +7,7 @@ use Rattle.session.proofs.grow.Statement.{statement}
 use Rattle.session.proofs.grow.Tie as tie
 
 returns : tie.Need-returns
-returns c = λ p base is f h.
+returns c = λ p base is j f h.
     let s = c .before .before .before .before in
     grows-still p (s .args .from .0) (s .args .to .0) (s .args .marks) is base (s .args .buffer .now) h (omega arith)
 
@@ -19,7 +19,7 @@ sub-n c =
     let g = c .before in
     let s = g .before .before .before .before .before .before in
     let q = s .pre in
-    let b = begun-bounds (s .args .marks) (s .args .from .0) (g .begun .result) (g .begun .ensures) (q .started) (q .few) (q .some) in
+    let b = begun-bounds (s .args .marks) (s .args .from .0) (s .args .reaches) (g .begun .result) (g .begun .ensures) (q .started) (q .few) (q .some) in
     b .0
 
 cast-put : tie.Need-cast-put
@@ -30,7 +30,7 @@ sub-put c =
     let g = c .before .before .before in
     let s = g .before .before .before .before .before .before in
     let q = s .pre in
-    let b = begun-bounds (s .args .marks) (s .args .from .0) (g .begun .result) (g .begun .ensures) (q .started) (q .few) (q .some) in
+    let b = begun-bounds (s .args .marks) (s .args .from .0) (s .args .reaches) (g .begun .result) (g .begun .ensures) (q .started) (q .few) (q .some) in
     omega (arith, b .2)
 
 put-requires : tie.Need-put-requires
@@ -38,21 +38,21 @@ put-requires c κs =
     let g = c .before .before .before in
     let s = g .before .before .before .before .before .before in
     let q = s .pre in
-    let b = begun-bounds (s .args .marks) (s .args .from .0) (g .begun .result) (g .begun .ensures) (q .started) (q .few) (q .some) in
+    let b = begun-bounds (s .args .marks) (s .args .from .0) (s .args .reaches) (g .begun .result) (g .begun .ensures) (q .started) (q .few) (q .some) in
     omega (arith, b .1)
 
 same-length : tie.Need-same-length
 same-length c = search needs
 
 returns-2 : tie.Need-returns-2
-returns-2 c = λ p base is f h.
+returns-2 c = λ p base is j f h.
     let g = c .before .before .before .before .before .before in
     let s = g .before .before .before .before .before .before in
     grows-by p (s .args .from .0) (s .args .to .0) (s .args .marks) is base (s .args .buffer .now) h (omega arith)
-    (λ k a b. f k a b ∙ g .before .if2 .taken) (g .begun .result) (g .begun .ensures) (c .before .before .put .last .0) (c .before .before .put .ensures)
+    (λ k a b. f k a b ∙ g .before .if2 .taken) (s .args .reaches) j (g .begun .result) (g .begun .ensures) (c .before .before .put .last .0) (c .before .before .put .ensures)
 
 returns-3 : tie.Need-returns-3
-returns-3 c = λ p base is f h.
+returns-3 c = λ p base is j f h.
     let s = c .before .before .before .before .before in
     grows-none p (s .args .from .0) (s .args .to .0) (s .args .marks) is base (s .args .buffer .now) h (omega arith)
     (λ k a b. f k a b ∙ c .if2 .left)

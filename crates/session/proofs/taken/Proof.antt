@@ -25,7 +25,7 @@ returns c =
 
 grow-requires : tie.Need-grow-requires
 grow-requires c κs =
-    let f = c .before .before .before .before in
+    let f = c .before .before .before .before .before in
     let g = f .before .before .before .before .before .before in
     let s = g .before .before .before .before .before .before .before .before in
     growing-taken (s .args .walk) (s .args .duty) (s .args .e) (s .args .table .now) (g .step .last .1 .1 .0) (g .step .result) (g .step .ensures) (f .if1 .left)
@@ -43,7 +43,7 @@ same-length-5 c = search needs
 returns-2 : tie.Need-returns-2
 returns-2 c =
     let w = c .before .before in
-    let f = w .before .before .before .before .before in
+    let f = w .before .before .before .before .before .before in
     let g = f .before .before .before .before .before .before in
     let s = g .before .before .before .before .before .before .before .before in
     advanced-taken (s .args .walk) (s .args .duty) (s .args .e) (s .args .table .now) (g .step .last .1 .1 .0) (g .step .result) (g .step .ensures) (f .if1 .left)

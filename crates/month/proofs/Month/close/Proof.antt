@@ -48,7 +48,7 @@ whole-requires : tie.Need-whole-requires
 whole-requires c κs = search needs
 
 with-cell-requires : tie.Need-with-cell-requires
-with-cell-requires c κs = let s = c .before .before .before .before .before .before .before in place-inside (s .args .self) (s .pre)
+with-cell-requires c κs = let s = c .before .before .before .before .before .before .before .before in place-inside (s .args .self) (s .pre)
 
 without-quantum-requires : tie.Need-without-quantum-requires
 without-quantum-requires c κs = search needs
@@ -58,13 +58,15 @@ accepted-requires c κs = search needs
 
 returns-3 : tie.Need-returns-3
 returns-3 c =
-    let a = c .before .before .before .before .before .before .before .before .before .before .args in
+    let e = c .before .before .before .before .before in
+    let k = e .before .before in
+    let a = k .before .before .before .before .args in
     let m = a .self in
     handed m (Close (a .active) (a .passive)) (c .accepted .result) _ Accepted (c .accepted .ensures)
     (subst (λ (n : Month). Answered m (Close (a .active) (a .passive)) n (accepted done))
     (sym (c .before .without-quantum .ensures ∙ ap withoutQuantum (c .before .before .with-cell .ensures)))
-    (close-done m (a .active) (a .passive) (good (c .before .before .before .before .before .before .before .before)) (not-false _ (c .before .before .before .before .before .before .if2 .left)) (c .before .before .before .before .ended .result) (c .before .before .before .whole .result)
-    (c .before .before .before .before .ended .ensures) (c .before .before .before .whole .ensures)))
+    (close-done m (a .active) (a .passive) (good (k .before .before)) (not-false _ (k .if2 .left)) (e .ended .result) (c .before .before .before .whole .result)
+    (e .ended .ensures) (c .before .before .before .whole .ensures)))
 
 pub close-spec : {M : Type 1} → statement M
 close-spec =

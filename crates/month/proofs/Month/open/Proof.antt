@@ -35,8 +35,8 @@ returns c =
 returns-2 : tie.Need-returns-2
 returns-2 c =
     let a = c .before .before .before .before .before .before .args in
-    handed (a .self) (Open (now (a .words)) (a .day) (a .sp)) (c .refused .result) (a .self) _ (c .refused .ensures)
-    (open-unread (a .self) (now (a .words)) (a .day) (a .sp) _ (ap shownRow (sym (c .before .before .read3 .given .1)) ∙ c .before .before .before .before .read .ensures))
+    handed (a .self) (Open (now (a .words)) (a .day) (a .told)) (c .refused .result) (a .self) _ (c .refused .ensures)
+    (open-unread (a .self) (now (a .words)) (a .day) (a .told) _ (ap shownRow (sym (c .before .before .read3 .given .1)) ∙ c .before .before .before .before .read .ensures))
 
 pub open-spec : {M : Type 1} → statement M
 open-spec =

@@ -27,19 +27,23 @@ best-ask-requires c κs = let s = c .before .before .before .before .before .bef
 kept-so-far-requires : tie.Need-kept-so-far-requires
 kept-so-far-requires c κs = search needs
 
+lapses-so-far-requires : tie.Need-lapses-so-far-requires
+lapses-so-far-requires c κs = search needs
+
 returns : tie.Need-returns
 returns c =
-    let m = c .before .before .before .before .before .before .before .before .before .args .self in (
+    let m = c .before .before .before .before .before .before .before .before .before .before .args .self in (
       refl,
-      report-done m _ _ _ _ _ _ _
+      report-done m _ _ _ _ _ _ _ _
           (record {
-            time-is = c .before .before .before .before .now .ensures;
-            kept-is = c .kept-so-far .ensures;
-            orders-are = c .before .before .before .live .ensures;
-            bid-is = c .before .before .best-bid .ensures;
-            ask-is = c .before .best-ask .ensures;
+            time-is = c .before .before .before .before .before .now .ensures;
+            kept-is = c .before .kept-so-far .ensures;
+            lapses-are = c .lapses-so-far .ensures;
+            orders-are = c .before .before .before .before .live .ensures;
+            bid-is = c .before .before .before .best-bid .ensures;
+            ask-is = c .before .before .best-ask .ensures;
           })
-          (c .before .before .before .before .before .before .failures .ensures) (c .before .before .before .before .before .fee .ensures),
+          (c .before .before .before .before .before .before .before .failures .ensures) (c .before .before .before .before .before .before .fee .ensures),
     )
 
 pub report-spec : {M : Type 1} → statement M
@@ -53,4 +57,5 @@ report-spec =
     best-bid-requires
     best-ask-requires
     kept-so-far-requires
+    lapses-so-far-requires
     returns)

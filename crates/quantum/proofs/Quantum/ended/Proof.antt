@@ -1,9 +1,11 @@
 -- Time runs on to the end. Assumes nothing.
+use Prim.Native.Nat.{_≤_}
 use mathlib.Core.Path.{ap, _∙_}
 use native.Mathlib.Omega.{arith}
 use Rattle.rules.specs.Kept.{keptBelow}
+use Rattle.rules.specs.Lapses.{lapsesBelow}
 use Rattle.quantum.specs.declared.Clock.{Clock}
-use Rattle.quantum.proofs.Standing.{time-is, length-is, onward, kept-at}
+use Rattle.quantum.proofs.Standing.{time-is, length-is, onward, kept-at, lapses-at}
 use Rattle.quantum.proofs.Answers.{stands-for}
 use Rattle.quantum.proofs.Quantum.ended.Statement.{statement}
 use Rattle.quantum.proofs.Quantum.ended.Tie as tie
@@ -29,9 +31,12 @@ returns c = λ row sp es g is.
     let h = stands-for row sp es q is g in
     let t = time-is row sp es (q .clock) (h .clock-is) in
     let l = length-is row sp es (q .duty) (q .clock) (q .table) h in
-    ap (λ (x : Clock). x .kept .0) (c .before .onward .ensures)
-    ∙ kept-at row sp es (q .clock) (h .clock-is) g (q .duty .length .0) (omega (arith, t, l, g .ends))
-    ∙ ap (keptBelow row sp es) l
+    let end = q .duty .length .0 in
+    let later : q .clock .time .0 ≤ end = omega (arith, t, l, g .ends) in
+    let o = c .before .onward .ensures in (
+      ap (λ (x : Clock). x .kept .0) o ∙ kept-at row sp es (q .clock) (h .clock-is) g end later ∙ ap (keptBelow row sp es) l,
+      ap (λ (x : Clock). x .lapses) o ∙ lapses-at row sp es (q .clock) (h .clock-is) g end later ∙ ap (lapsesBelow row sp es) l,
+    )
 
 pub ended-spec : {M : Type 1} → statement M
 ended-spec = tie.close (tie.spec onward-requires returns)

@@ -1,0 +1,22 @@
+-- The test of `goodLimit`, its two parts in turn. Assumes nothing.
+use Rattle.rules.specs.Lapses.{goodLimit}
+use borrow.Author.Needs.{needs}
+use Rattle.ranges.proofs.lapse_limit.Statement.{statement}
+use Rattle.ranges.proofs.lapse_limit.Tie as tie
+
+-- src/lib.rt:67:8
+at-most-requires : tie.Need-at-most-requires
+at-most-requires c κs = search needs
+
+-- src/lib.rt:68:9
+returns : tie.Need-returns
+unfolding goodLimit
+returns c = simp (← c .before .at-most .ensures, c .if1 .taken)
+
+-- src/lib.rt:64:1
+returns-2 : tie.Need-returns-2
+unfolding goodLimit
+returns-2 c = simp (← c .before .at-most .ensures, c .if1 .left)
+
+pub lapse-limit-spec : {M : Type 1} → statement M
+lapse-limit-spec = tie.close (tie.spec at-most-requires returns returns-2)
