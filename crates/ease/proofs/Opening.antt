@@ -7,7 +7,7 @@ use mathlib.Core.Bool.{true}
 use borrow.Author.Tests.{eq-eqb}
 use lib.IntN.{ℤ}
 use lib.ListN.{length}
-use Rattle.rules.specs.declared.Steps.{Steps}
+use Rattle.rules.specs.declared.Opening.{Opening}
 use Rattle.rules.specs.declared.Row.{Row}
 use Rattle.rules.specs.declared.Event.{Event}
 use Rattle.rules.specs.Terms.{paper}
@@ -45,11 +45,11 @@ module _ (words : List ℕ) (pass : passes words ≡ true) where
   read-is = simp (eq-eqb (length (eased words)) 7 still-seven, still-good) (ap accepted row-is)
 
   -- open notes the altered row, in the cell of the words as they were
-  pub opened : (b : Book) (day : ℕ) (sp : Steps)
-      → changed b (Open (eased words) day sp) .running
-      ≡ Quoting (placeOf day (rowOf words .expiry) (rowOf words .quantum)) (easedRow (rowOf words)) sp []
+  pub opened : (b : Book) (day : ℕ) (told : Opening)
+      → changed b (Open (eased words) day told) .running
+      ≡ Quoting (placeOf day (rowOf words .expiry) (rowOf words .quantum)) (easedRow (rowOf words)) told []
   unfolding changed easedRow
-  opened b day sp = ap (λ (row : Row). Quoting (placeOf day (row .expiry) (row .quantum)) row sp []) row-is
+  opened b day told = ap (λ (row : Row). Quoting (placeOf day (row .expiry) (row .quantum)) row told []) row-is
 
   -- "so kept time is worked out from the altered row"
   pub kept-is : (sp : ℤ) (events : List Event) (n : ℕ) → keptBelow (rowOf (eased words)) sp events n ≡ keptBelow (easedRow (rowOf words)) sp events n
