@@ -62,7 +62,7 @@ module _ (words : List ℕ) (c : Change) (least : ℕ) (m : Moving words c least
   moving-few = omega (arith, moving-count, m .good .few)
 
   -- what stands in them is a level of the orders before it
-  moving-level : levelRead words ≡ bestIn least (m .before)
+  pub moving-level : levelRead words ≡ bestIn least (m .before)
   moving-level =
       let l = bestIn least (m .before) in
       λ i. record {

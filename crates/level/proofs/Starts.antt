@@ -19,10 +19,12 @@ use Rattle.quote.specs.Keys.{quoteKey, quoteAt}
 use Rattle.quote.specs.Levels.{enough, greatest, foundBy, bestKey, levelAt, levelOf, Searchable}
 use Rattle.quote.proofs.Keys.{key-quote, good-quote, say-good}
 use Rattle.quote.proofs.Levels.{start-below, found-end}
+use Rattle.side.specs.declared.Change.{Change}
 use Rattle.side.specs.Slots.{Slot, keysOf, volumesOf, GoodSlots}
-use Rattle.level.specs.Steps.{IsLevel}
+use Rattle.side.specs.Moves.{Moving}
+use Rattle.level.specs.Steps.{IsLevel, levelRead}
 use Rattle.level.proofs.Depths.{before-is}
-use Rattle.level.proofs.Parts.{keys-most}
+use Rattle.level.proofs.Parts.{keys-most, moving-level}
 
 -- what is kept of numbers that are at most b
 greatest-most : (b : ℕ) (t : ℕ → Bool) (ks : List ℕ) → ((i : ℕ) → getD ks i 0 ≤ b) → greatest (keep t ks) ≤ b
@@ -33,6 +35,15 @@ greatest-most b t (k ∷ ks) h = go (t k) (h 0) (greatest-most b t ks (λ i. h (
     go : (a : Bool) → k ≤ b → greatest (keep t ks) ≤ b → greatest (if a then k ∷ keep t ks else keep t ks) ≤ b
     go true p q = omega arith
     go false p q = q
+
+-- the level that stands in a side's words has a key of the orders before the change
+pub carried-most : (words : List ℕ) (c : Change) (least : ℕ) (m : Moving words c least) (l : Level) → l ≡ levelRead words → l .key ≤ 2000000001
+unfolding levelOf levelAt bestKey
+carried-most words c least m l e =
+    let ks = keysOf (m .before) in
+    let vs = volumesOf (m .before) in
+    let key : l .key ≡ bestKey least ks vs = ap (λ (x : Level). x .key) (e ∙ moving-level words c least m) in
+    omega (arith, key, greatest-most 2000000001 (enough least ks vs) ks (keys-most (m .before) (m .good-before .key-most)))
 
 -- ---- where it starts
 

@@ -1,9 +1,9 @@
 // The best level of a side after one of its orders changed: carried where it still holds, else guessed and measured, else searched.
 ghost use mathlib.Core.Path.{_≡_};
 ghost use mathlib.Core.List.{List};
-ghost use Prim.Native.Nat.{_+_, _-_, _≤_};
+ghost use Prim.Native.Nat.{ℕ, _+_, _-_, _≤_};
 ghost use lib.Dec.{leb};
-ghost use lib.ListN.{length};
+ghost use lib.ListN.{length, getD};
 ghost use Rattle.rules.specs.Lists.{if_then_else_};
 ghost use Rattle.quote.specs.Levels.{levelAt, levelOf, bestKey, Columns, Searchable};
 ghost use Rattle.side.specs.Slots.{Slot, sideOf, levelIn, bestIn, GoodSlots};
@@ -60,52 +60,77 @@ fn moved(level: Level, change: Change) -> Level
 
 // ---- a guess at the best key: nothing rests on it, since what it answers is measured before it is taken
 
-fn greater(a: u32, b: u32) -> u32 {
-    if a < b {
+// Whether a key is below another. Keys fit 31 bits, and the machine compares numbers with a sign sooner.
+fn under(a: u32, b: u32) -> bool
+    requires { ⌜ (a ≤ 2000000001) × (b ≤ 2000000001) ⌝ }
+{
+    (a as i32) < (b as i32)
+}
+
+fn greater(a: u32, b: u32) -> u32
+    requires { ⌜ (a ≤ 2000000001) × (b ≤ 2000000001) ⌝ }
+    ensures { λ r. ⌜ r ≤ 2000000001 ⌝ }
+{
+    if under(a, b) {
         return b;
     }
     a
 }
 
-fn lesser(a: u32, b: u32) -> u32 {
-    if b < a {
+fn lesser(a: u32, b: u32) -> u32
+    requires { ⌜ (a ≤ 2000000001) × (b ≤ 2000000001) ⌝ }
+    ensures { λ r. ⌜ r ≤ 2000000001 ⌝ }
+{
+    if under(b, a) {
         return b;
     }
     a
 }
 
-fn key_where(counts: bool, key: u32, other: u32) -> u32 {
+fn key_where(counts: bool, key: u32, other: u32) -> u32
+    requires { ⌜ (key ≤ 2000000001) × (other ≤ 2000000001) ⌝ }
+    ensures { λ r. ⌜ r ≤ 2000000001 ⌝ }
+{
     if counts {
         return key;
     }
     other
 }
 
-// The next better key, or the greatest number.
-fn above(keys: &[u32], key: u32) -> u32 {
-    let mut next: u32 = 4294967295;
+// The next better key, or the best one that there can be.
+fn above(keys: &[u32], key: u32) -> u32
+    requires { ⌜ ((i : ℕ) → getD (now keys) i 0 ≤ 2000000001) × (key ≤ 2000000001) ⌝ }
+    ensures { λ r. ⌜ r ≤ 2000000001 ⌝ }
+{
+    let mut next: u32 = 2000000001;
     let mut i: usize = 0;
     while i < keys.len() {
         let k = keys[i];
-        next = lesser(next, key_where(key < k, k, 4294967295));
+        next = lesser(next, key_where(under(key, k), k, 2000000001));
         i += 1;
     }
     next
 }
 
 // The next worse key, or none.
-fn below(keys: &[u32], key: u32) -> u32 {
+fn below(keys: &[u32], key: u32) -> u32
+    requires { ⌜ ((i : ℕ) → getD (now keys) i 0 ≤ 2000000001) × (key ≤ 2000000001) ⌝ }
+    ensures { λ r. ⌜ r ≤ 2000000001 ⌝ }
+{
     let mut next: u32 = 0;
     let mut i: usize = 0;
     while i < keys.len() {
         let k = keys[i];
-        next = greater(next, key_where(k < key, k, 0));
+        next = greater(next, key_where(under(k, key), k, 0));
         i += 1;
     }
     next
 }
 
-fn neighbour(keys: &[u32], level: Level, least: Contracts) -> u32 {
+fn neighbour(keys: &[u32], level: Level, least: Contracts) -> u32
+    requires { ⌜ ((i : ℕ) → getD (now keys) i 0 ≤ 2000000001) × (level .key ≤ 2000000001) ⌝ }
+    ensures { λ r. ⌜ r ≤ 2000000001 ⌝ }
+{
     if least.0 <= level.before {
         return above(keys, level.key);
     }
@@ -114,15 +139,15 @@ fn neighbour(keys: &[u32], level: Level, least: Contracts) -> u32 {
 
 // The level next to one, on the side where the best one is.
 fn stepped(keys: &[u32], volumes: &[u32], level: Level, least: Contracts) -> Level
-    requires { ⌜ Columns (now keys) (now volumes) ⌝ }
-    ensures { λ r. ⌜ r ≡ levelAt (now (keys .entry)) (now (volumes .entry)) (r .key) ⌝ }
+    requires { ⌜ Searchable (now keys) (now volumes) (level .key) ⌝ }
+    ensures { λ r. ⌜ (r ≡ levelAt (now (keys .entry)) (now (volumes .entry)) (r .key)) × (r .key ≤ 2000000001) ⌝ }
 {
     quote::measured(keys, volumes, neighbour(keys, level, least))
 }
 
 // The level near the old one: itself after the change, or one or two steps from it.
 fn near(keys: &[u32], volumes: &[u32], old: Level, least: Contracts) -> Level
-    requires { ⌜ Columns (now keys) (now volumes) × (old ≡ levelAt (now keys) (now volumes) (old .key)) ⌝ }
+    requires { ⌜ Searchable (now keys) (now volumes) (old .key) × (old ≡ levelAt (now keys) (now volumes) (old .key)) ⌝ }
     ensures { λ r. ⌜ r ≡ levelAt (now (keys .entry)) (now (volumes .entry)) (r .key) ⌝ }
 {
     if quote::is_best(old, least) {

@@ -4,10 +4,11 @@ use native.Mathlib.Omega.{arith}
 use mathlib.Core.Path.{_≡_, refl, sym, _∙_}
 use lib.ListN.{length, drop, length-take, length-drop}
 use borrow.Author.Needs.{needs}
-use Rattle.side.specs.Slots.{keysOf, volumesOf}
+use Rattle.side.specs.Slots.{keysOf, volumesOf, levelIn}
 use Rattle.level.specs.Steps.{IsLevel}
-use Rattle.level.proofs.Depths.{own-level}
-use Rattle.level.proofs.Parts.{moving-length, moving-few, carried, part-columns, part-level}
+use Rattle.level.proofs.Depths.{own-level, level-most}
+use Rattle.level.proofs.Parts.{moving-length, moving-few, carried, part-columns, part-searchable, part-level}
+use Rattle.level.proofs.Starts.{carried-most}
 use Rattle.level.proofs.guessed.Statement.{statement}
 use Rattle.level.proofs.guessed.Tie as tie
 
@@ -119,11 +120,15 @@ near-requires c κs =
     let r = c .before .before .moved in
     let en : 64 + to .result - 64 ≡ to .result = omega arith in
     let ek : 128 + to .result - 128 ≡ to .result = omega arith in
+    let moved-is : r .result ≡ levelIn (m .after) (l .result .key) =
+    r .ensures (m .before) (m .after) (m .good-before) (m .good) (carried (a .words .now) (a .change) (a .least .0) m (l .result) (l .ensures)) (m .changed) in
     let is : IsLevel (m .after) (r .result) =
     own-level (keysOf (m .after)) (volumesOf (m .after)) (l .result .key) (r .result)
-    (r .ensures (m .before) (m .after) (m .good-before) (m .good) (carried (a .words .now) (a .change) (a .least .0) m (l .result) (l .ensures)) (m .changed)) in (
-      part-columns (a .words .now) (a .change) (a .least .0) m (to .result) (64 + to .result - 64) (128 + to .result - 128) en ek
-          (to .ensures .0) (to .ensures .1),
+    moved-is in (
+      part-searchable (a .words .now) (a .change) (a .least .0) m (to .result) (64 + to .result - 64) (128 + to .result - 128) en ek
+          (to .ensures .0) (to .ensures .1) (r .result .key)
+          (level-most (keysOf (m .after)) (volumesOf (m .after)) (l .result .key) (r .result) moved-is
+          (carried-most (a .words .now) (a .change) (a .least .0) m (l .result) (l .ensures))),
       is
           ∙ sym (part-level (a .words .now) (a .change) (a .least .0) m (to .result) (64 + to .result - 64) (128 + to .result - 128) en ek
           (to .ensures .0) (to .ensures .1) (r .result .key)),

@@ -7,7 +7,7 @@ use Rattle.level.proofs.near.Tie as tie
 is-best-requires : tie.Need-is-best-requires
 is-best-requires c κs =
     let s = c .before .before in
-    level-small (s .args .keys .now) (s .args .volumes .now) (s .args .old) (s .pre .0) (s .pre .1)
+    level-small (s .args .keys .now) (s .args .volumes .now) (s .args .old) (s .pre .0 .columns) (s .pre .1)
 
 returns : tie.Need-returns
 returns c = search needs
@@ -18,7 +18,7 @@ stepped-requires c κs = search needs
 is-best-requires-2 : tie.Need-is-best-requires-2
 is-best-requires-2 c κs =
     let s = c .before .before .before .before .before in
-    level-small (s .args .keys .now) (s .args .volumes .now) (c .stepped .result) (s .pre .0) (c .stepped .ensures)
+    level-small (s .args .keys .now) (s .args .volumes .now) (c .stepped .result) (s .pre .0 .columns) (c .stepped .ensures .0)
 
 returns-2 : tie.Need-returns-2
 returns-2 c = search needs
