@@ -50,12 +50,15 @@ fn kept_line(kept: Millis, length: Millis) {
     text(b"\n");
 }
 
+// A session has no lapse limit, so no count of lapses is too many.
 fn verdict(kept: Millis, length: Millis, share: u32) {
     let cell = Cell {
         filled: true,
         kept,
         length,
         share,
+        limit: 65535,
+        lapses: 0,
         active: Kopecks(0),
         passive: Kopecks(0),
     };
