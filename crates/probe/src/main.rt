@@ -17,7 +17,6 @@ use rules::SessionAnswer;
 use rules::Side;
 use rules::Steps;
 
-
 fn text(bytes: &[u8]) {
     io::write_all(STDOUT_FILENO, bytes);
 }

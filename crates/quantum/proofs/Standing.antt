@@ -1,7 +1,7 @@
 -- From the clock and the table to the accepted events that they stand for, and back. Assumes nothing.
-use Prim.Native.Nat.{ℕ, suc, _+_, _*_, _-_, _≤_, _<_}
+use Prim.Native.Nat.{ℕ, zero, suc, _+_, _*_, _-_, _≤_, _<_}
 use mathlib.Core.Path.{_≡_, refl, ap, sym, _∙_}
-use mathlib.Core.Bool.{Bool, true, false, _||_, or-true}
+use mathlib.Core.Bool.{Bool, true, false, _||_}
 use lib.Dec.{ltb, eqb}
 use mathlib.Core.List.{List, [], _∷_, _++_}
 use native.Mathlib.Omega.{arith}
@@ -41,21 +41,22 @@ stands s = record { bounds = s .bounds; duty-is = s .duty-is; clock-is = s .cloc
 abbrev pub one : Bool → ℕ
 one b = if b then 1 else 0
 
--- ---- whether a lapse starts, by what the clock holds
+-- ---- whether a lapse starts, by numbers: k and l are 0 or 1
 
-module _ (c : Clock) where
-  pub starting-kept : c .keeps ≡ 1 → 0 ≡ startingBy c
-  starting-kept e = rw (eq-eqb (c .keeps) 1 e) refl
+abbrev starts : ℕ → ℕ → ℕ → ℕ
+starts k t l = if eqb k 1 then 0 else (if eqb t 0 || eqb l 1 then 1 else 0)
 
-  module _ (e : c .keeps ≡ 1 → ⊥) where
-    pub starting-first : c .time .0 ≡ 0 → 1 ≡ startingBy c
-    starting-first f = rw (ne-eqb (c .keeps) 1 e, eq-eqb (c .time .0) 0 f) refl
+pub starts-first : (k t l : ℕ) → k ≤ 1 → t ≡ 0 → (1 - k ≡ starts k t l) × (1 - k ≤ 1)
+starts-first zero t l h e = (rw (eq-eqb t 0 e) refl, omega arith)
+starts-first (suc zero) t l h e = (refl, omega arith)
+starts-first (suc (suc k)) t l h e = absurd (omega (arith, h))
 
-    pub starting-after : c .last ≡ 1 → 1 ≡ startingBy c
-    starting-after f = rw (ne-eqb (c .keeps) 1 e, eq-eqb (c .last) 1 f, or-true (eqb (c .time .0) 0)) refl
-
-    pub starting-longer : (c .time .0 ≡ 0 → ⊥) → (c .last ≡ 1 → ⊥) → 0 ≡ startingBy c
-    starting-longer f g = rw (ne-eqb (c .keeps) 1 e, ne-eqb (c .time .0) 0 f, ne-eqb (c .last) 1 g) refl
+pub starts-later : (k t l : ℕ) → k ≤ 1 → l ≤ 1 → (t ≡ 0 → ⊥) → ((1 - k) * l ≡ starts k t l) × ((1 - k) * l ≤ 1)
+starts-later zero t zero h g f = (rw (ne-eqb t 0 f) refl, omega arith)
+starts-later zero t (suc zero) h g f = (rw (ne-eqb t 0 f) refl, omega arith)
+starts-later zero t (suc (suc l)) h g f = absurd (omega (arith, g))
+starts-later (suc zero) t l h g f = (omega arith, omega arith)
+starts-later (suc (suc k)) t l h g f = absurd (omega (arith, h))
 
 -- ---- whether time passes
 
@@ -125,6 +126,7 @@ module _ (row : Row) (sp : ℤ) (es : List Event) (clock : Clock) (is : clock �
         onward = h;
         keeps-most = omega (arith, keeps-is, keeps-small (ordersKeep row sp (live es)));
         lapses-most = omega (arith, lapses-is, time-is, lapsesBelow-le row sp es (present es));
+        last-most = omega (arith, last-is, keeps-small (before (keptAt row sp es) (present es)));
       }
 
   times : (b : Bool) (n : ℕ) → one b * n ≡ (if b then n else 0)

@@ -108,6 +108,7 @@ pub record Onward (c : Clock) (t : Millis) : Type 0 where
   pub onward : c .time .0 ≤ t .0
   pub keeps-most : c .keeps ≤ 1
   pub lapses-most : c .lapses ≤ c .time .0
+  pub last-most : c .last ≤ 1
 
 -- 1 where the time that follows starts a lapse
 abbrev pub startingBy : Clock → ℕ

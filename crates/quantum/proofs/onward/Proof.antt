@@ -37,7 +37,9 @@ add-t9 c =
     }
 
 starting-requires : tie.Need-starting-requires
-starting-requires c κs = search needs
+starting-requires c κs =
+    let s = c .before .before .before .before .before .before .before .before .before in
+    (s .pre .keeps-most, s .pre .last-most)
 
 add-lapses : tie.Need-add-lapses
 add-lapses c =

@@ -1,25 +1,33 @@
--- Case by case. Assumes nothing.
+-- By numbers that are 0 or 1. Assumes nothing.
 use native.Mathlib.Omega.{arith}
-use Rattle.quantum.proofs.Standing.{starting-kept, starting-first, starting-after, starting-longer}
+use borrow.Author.Needs.{needs}
+use Rattle.quantum.proofs.Standing.{starts-first, starts-later}
 use Rattle.quantum.proofs.starting.Statement.{statement}
 use Rattle.quantum.proofs.starting.Tie as tie
 
+sub-result : tie.Need-sub-result
+sub-result c = search needs
+
 returns : tie.Need-returns
-returns c = (starting-kept (c .before .before .args .clock) (c .if1 .taken), omega arith)
+returns c =
+    let s = c .before .before .before in
+    let k = s .args .clock in
+    starts-first (k .keeps) (k .time .0) (k .last) (s .pre .0) (c .before .if1 .taken)
+
+sub-result-2 : tie.Need-sub-result-2
+sub-result-2 c = search needs
+
+mul-result : tie.Need-mul-result
+mul-result c =
+    let s = c .before .before .before .before in
+    let k = s .args .clock in
+    record { fits = omega (arith, starts-later (k .keeps) (k .time .0) (k .last) (s .pre .0) (s .pre .1) (c .before .before .if1 .left) .1) }
 
 returns-2 : tie.Need-returns-2
-returns-2 c = (starting-first (c .before .before .before .before .args .clock) (c .before .before .if1 .left) (c .if2 .taken), omega arith)
-
-returns-3 : tie.Need-returns-3
-returns-3 c =
-    (starting-after (c .before .before .before .before .before .before .args .clock) (c .before .before .before .before .if1 .left) (c .if3 .taken), omega arith)
-
-returns-4 : tie.Need-returns-4
-returns-4 c = (
-  starting-longer (c .before .before .before .before .before .before .args .clock) (c .before .before .before .before .if1 .left)
-      (c .before .before .if2 .left) (c .if3 .left),
-  omega arith,
-)
+returns-2 c =
+    let s = c .before .before .before .before in
+    let k = s .args .clock in
+    starts-later (k .keeps) (k .time .0) (k .last) (s .pre .0) (s .pre .1) (c .before .before .if1 .left)
 
 pub starting-spec : {M : Type 1} → statement M
-starting-spec = tie.close (tie.spec returns returns-2 returns-3 returns-4)
+starting-spec = tie.close (tie.spec sub-result returns sub-result-2 mul-result returns-2)
