@@ -31,6 +31,7 @@ shows b r e =
       bid = ap (λ (x : Report). x .bid) e;
       ask = ap (λ (x : Report). x .ask) e;
       kept = ap (λ (x : Report). x .kept) e;
+      lapses = ap (λ (x : Report). x .lapses) e;
       failures = ap (λ (x : Report). x .failures) e;
       fee = ap (λ (x : Report). x .fee) e;
     }

@@ -10,7 +10,7 @@ use Rattle.rules.specs.Terms.{paper}
 use Rattle.rules.specs.Units.{millis, kopecks}
 use Rattle.rules.specs.Pay.{allFailures, fee}
 use Rattle.rules.specs.Answers.{shownLooked, shownReport}
-use Rattle.rules.specs.Book.{Book, bidIn, askIn, keptIn, reportOf, answerOf, after}
+use Rattle.rules.specs.Book.{Book, bidIn, askIn, keptIn, lapsesIn, reportOf, answerOf, after}
 use Rattle.rules.specs.Book as B
 use Rattle.month.specs.declared.LookedAt.{LookedAt}
 use Rattle.month.specs.declared.Reported.{Reported}
@@ -28,12 +28,13 @@ pub record Runs (ws before behind : List ℕ) (r : Ran) : Type 0 where
   pub month : r .month ≡ monthOf (after paper (if r .fits then callsOf ws else []))
   pub outcomes : behind ≡ (if r .fits then outcomesOf (callsOf ws) ++ drop (length (callsOf ws)) before else before)
 
--- What the plain book shows after a list of calls, named one by one: both best quotes, the milliseconds kept, every series' count of
--- failed quanta and the fee.
+-- What the plain book shows after a list of calls, named one by one: both best quotes, the milliseconds kept, the lapses (document
+-- 02, W1), every series' count of failed quanta and the fee.
 pub record Shows (b : Book) (r : Report) : Type 0 where
   pub bid : r .bid ≡ bidIn (b .running)
   pub ask : r .ask ≡ askIn (b .running)
   pub kept : r .kept ≡ millis (keptIn (b .running))
+  pub lapses : r .lapses ≡ lapsesIn (b .running)
   pub failures : r .failures ≡ allFailures paper (b .cells)
   pub fee : r .fee ≡ kopecks (fee paper (b .cells))
 
