@@ -4,7 +4,7 @@ from contextlib import contextmanager
 
 from recount import book
 
-LOCKED, CROSSED = SIGHTS = "a locked quote", "a crossed quote"
+LOCKED, CROSSED = MUST_SHOW = "a locked quote", "a crossed quote"
 
 
 def kept_before(row, sp, gap):

@@ -68,7 +68,7 @@ class Program:
     """A program that reads one case from standard input. Its cases are bytes."""
 
     refusals = range(0)  # the numbers that its cases must have met
-    sights = {}  # what its answers must have shown, as patterns
+    must_show = {}  # what its answers must have shown, as patterns
 
     def __init__(self):
         self.path = TARGET / "bin" / self.name
@@ -106,7 +106,7 @@ class Replay(Program):
     name = "replay"
     cases = 2_500
     refusals = [*range(1, 15), 17]
-    sights = {
+    must_show = {
         "15 failed cells and a fee": r"failed (\d+ )*15 .*fee [1-9]",
         "16 failed cells and no fee": r"failed (\d+ )*16 .*fee 0$",
         "a fee at its limit": r"fee 120000000$",
@@ -173,7 +173,7 @@ class Sheet(Program):
     name = "sheet"
     cases = 2_500
     refusals = [1, 2, 3, *range(8, 16)]
-    sights = {
+    must_show = {
         "the longest quantum": r"^kept [1-9]\d* of 86400000$",
         "800 pairs": r"(^pair \d+ \d+\n){800}",
         "a weight between": r"^weight 1[0-9]*[1-9][0-9]*$",
@@ -423,7 +423,7 @@ class Tally:
         if name != "special":
             self.reached.update(refused)
         self.seen.update(
-            sight for sight, pattern in program.sights.items() if re.search(pattern, answer, re.M)
+            shown for shown, pattern in program.must_show.items() if re.search(pattern, answer, re.M)
         )
         kept = program.kept_in(answer)
         if kept and name != "special":
@@ -484,9 +484,9 @@ def complaints(program, tally, count):
     never = [number for number in program.refusals if not reached[number]]
     if never:
         yield f"{program.name}: never refused by {', '.join(map(str, never))}"
-    for sight in (*program.sights, *crossed.SIGHTS):
-        if not tally.seen[sight]:
-            yield f"{program.name}: no case with {sight}"
+    for shown in (*program.must_show, *crossed.MUST_SHOW):
+        if not tally.seen[shown]:
+            yield f"{program.name}: no case with {shown}"
     if 3 * tally.with_time < tally.accepted:
         yield f"{program.name}: {tally.with_time} of {tally.accepted} accepted have kept time"
 

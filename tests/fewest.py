@@ -80,7 +80,7 @@ def pairs_of(answer, at):
     return tuple((found[2 * i] - at, found[2 * i + 1]) for i in range(count))
 
 
-def sights(pairs):
+def shows(pairs):
     for (offset, length), (then, _) in zip(pairs, pairs[1:]):
         if then == offset:
             yield "start together"
@@ -107,7 +107,7 @@ def main():
     seen, sessions = Counter(), 0
     for kept in range(1 << WINDOW):
         for pairs in lists[kept]:
-            seen.update(set(sights(pairs)))
+            seen.update(set(shows(pairs)))
         for at in (0, LENGTH - WINDOW):
             for busy in (False, True):
                 case = words(1, 2 * MOST + 1, FILL, len(ROW), *ROW, 0) + session_bytes(kept, at, busy)
@@ -118,9 +118,9 @@ def main():
                         print(f"fewest: {name}, kept {kept:0{WINDOW}b} at {at}: {answer}")
                         return 1
                 sessions += 1
-    for sight in ("start together", "overlap", "touch"):
-        if not seen[sight]:
-            print(f"fewest: no other list in which two pairs {sight}")
+    for shown in ("start together", "overlap", "touch"):
+        if not seen[shown]:
+            print(f"fewest: no other list in which two pairs {shown}")
             return 1
     count = sum(map(len, lists.values()))
     print(f"fewest: {sessions} sessions have the fewest pairs of {count} lists")

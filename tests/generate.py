@@ -89,7 +89,7 @@ def wrong_row_words(rng):
 # ---------------------------------------------------------------- one quantum
 
 
-class Scene:
+class Feed:
     """An open quantum to which events are sent; `calls` has all that was sent, refused or not."""
 
     def __init__(self, rng, book, count):
@@ -275,7 +275,7 @@ def scene(rng, row, sp, count):
     """A fresh book with the quantum opened, and a scene that `count` events about fill."""
     book = Book()
     book.call(Open(list(row), 1, sp))
-    return Scene(rng, book, count)
+    return Feed(rng, book, count)
 
 
 def amount(rng):

@@ -7,7 +7,7 @@ from recount.book import (
 )
 from recount.session import HEAD
 from tests.generate import (
-    WORD_END, Scene, amount, any_limit, any_session, any_sp, fill, keeping_a_step, long_row,
+    WORD_END, Feed, amount, any_limit, any_session, any_sp, fill, keeping_a_step, long_row,
     programme_row, short_row, wrong_limit, wrong_row_words,
 )
 
@@ -46,7 +46,7 @@ class Month:
 
     def events(self, count, wrong):
         """Events into the open quantum, with wrong ones and reports among them."""
-        s = Scene(self.rng, self.book, count)
+        s = Feed(self.rng, self.book, count)
         s.calls = self.calls
         if count:
             s.quote()
@@ -79,7 +79,7 @@ class Month:
         self.send(Report())
 
 
-def soup(rng):
+def mixed_calls(rng):
     """Any call at any place, right or wrong."""
     m = Month(rng)
     for _ in range(rng.choice([5, 20, 60])):
@@ -210,7 +210,7 @@ def crowded(rng):
     m = Month(rng)
     row = short_row(rng)._replace(least=rng.choice([60, 500]))
     m.open(row, 1)
-    s = Scene(rng, m.book, 150)
+    s = Feed(rng, m.book, 150)
     s.calls = m.calls
     fill(s)
     s.send(Add(s.now, s.new_id(), BUY, 1, 1))
@@ -276,7 +276,7 @@ def reported_session(rng):
 
 
 CALLS = [
-    (soup, 8), (reported_session, 8), (makers_month, 3), (failures, 2), (whole_month, 1),
+    (mixed_calls, 8), (reported_session, 8), (makers_month, 3), (failures, 2), (whole_month, 1),
     (fee_limits, 2), (crowded, 2), (lapsing, 3),
 ]
 

@@ -37,7 +37,7 @@ def prices_case(prices, threshold, kind=5):
 
 # ---------------------------------------------------------------- what the cases are to show
 
-SIGHTS = [
+MUST_SHOW = [
     "a period begins on the asked day",
     "a period lasts to the asked day",
     "a period ends on the asked day",
@@ -307,7 +307,7 @@ def check_cases(count):
             sys.exit(f"case {at} differs, see {kept}:\nprobe   {said}recount {due}")
         seen.update(shows)
         seen[due.split("\n")[0] if due.startswith(("inside", "refused")) else "other"] += 1
-    missing = [sight for sight in SIGHTS if not seen[sight]]
+    missing = [sight for sight in MUST_SHOW if not seen[sight]]
     if missing:
         sys.exit("never shown: " + "; ".join(missing))
     print(f"volatile: {at + 1} cases agree, {seen['inside yes']} inside, {seen['inside no']} outside, {seen['refused 22']} refused")

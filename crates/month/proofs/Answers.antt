@@ -12,7 +12,7 @@ use Rattle.rules.proofs.Answers.{refused-by}
 use Rattle.rules.proofs.Refusals.{step-accepted, step-refused, answer-accepted, answer-refused}
 use Rattle.rules.proofs.Bounds.{bounds, after-snoc}
 use Rattle.month.specs.declared.Month.{Month}
-use Rattle.month.specs.declared.Turned.{Turned}
+use Rattle.month.specs.declared.AfterCall.{AfterCall}
 use Rattle.month.specs.Represents.{monthOf, Reached, Answered}
 
 pub answered : (m next : Month) (c : Call) (shown : Outcome Reply)
@@ -56,6 +56,6 @@ pub reached-again : (m next : Month) (c : Call) (shown : Outcome Reply) → Reac
 reached-again m next c shown r a = record { calls = r .calls ++ (c ∷ []); is = a .month (r .calls) (r .is) }
 
 -- what the ends `refused` and `accepted` hand on
-pub handed : (m : Month) (c : Call) (r : Turned) (next : Month) (a : Answer) → (r .month ≡ next) × (r .answer ≡ a)
+pub handed : (m : Month) (c : Call) (r : AfterCall) (next : Month) (a : Answer) → (r .month ≡ next) × (r .answer ≡ a)
     → Answered m c next (shownAnswer a) → Answered m c (r .month) (shownAnswer (r .answer))
 handed m c r next a e h = subst₂ (λ (x : Month) (y : Answer). Answered m c x (shownAnswer y)) (sym (e .0)) (sym (e .1)) h

@@ -41,7 +41,7 @@ pub struct Month {
 }
 
 // What a call that shows nothing hands back.
-pub struct Turned {
+pub struct AfterCall {
     pub month: Month,
     pub answer: Answer,
 }
@@ -66,20 +66,20 @@ enum Named {
 }
 
 // Every refused call ends here, with the month as it was ..
-fn refused(month: Month, refusal: Refusal) -> Turned
+fn refused(month: Month, refusal: Refusal) -> AfterCall
     ensures { λ r. ⌜ (r .month ≡ month) × (r .answer ≡ Answer.Refused refusal) ⌝ }
 {
-    Turned {
+    AfterCall {
         month,
         answer: Answer::Refused(refusal),
     }
 }
 
 // .. and every accepted one here.
-fn accepted(month: Month) -> Turned
+fn accepted(month: Month) -> AfterCall
     ensures { λ r. ⌜ (r .month ≡ month) × (r .answer ≡ Answer.Accepted) ⌝ }
 {
-    Turned {
+    AfterCall {
         month,
         answer: Answer::Accepted,
     }
@@ -194,7 +194,7 @@ impl Month {
     }
 
     // A row that was read: the other causes of open, then the quantum opens.
-    fn open_row(self, row: Row, day: u32, told: Opening) -> Turned
+    fn open_row(self, row: Row, day: u32, told: Opening) -> AfterCall
         requires { ⌜ Reached self × (goodRow paper row ≡ true) ⌝ }
         ensures { λ r. ⌜ ((words : List ℕ) → length words ≡ 7 → rowOf words ≡ row → Answered self (B.Open words day told) (r .month) (shownAnswer (r .answer))) ⌝ }
     {
@@ -226,7 +226,7 @@ impl Month {
     }
 
     // The named cell's quantum opens with no orders, at time 0.
-    pub fn open(self, words: &[u32], day: u32, told: Opening) -> Turned
+    pub fn open(self, words: &[u32], day: u32, told: Opening) -> AfterCall
         requires { ⌜ Reached self ⌝ }
         ensures { λ r. ⌜ Answered self (B.Open (now (words .entry)) day told) (r .month) (shownAnswer (r .answer)) ⌝ }
     {
@@ -238,7 +238,7 @@ impl Month {
     }
 
     // An event of the open quantum.
-    pub fn send(self, e: Event) -> Turned
+    pub fn send(self, e: Event) -> AfterCall
         requires { ⌜ Reached self ⌝ }
         ensures { λ r. ⌜ Answered self (B.Send e) (r .month) (shownAnswer (r .answer)) ⌝ }
     {
@@ -259,7 +259,7 @@ impl Month {
         }
     }
 
-    pub fn add(self, t: Millis, id: u32, side: Side, price: Steps, volume: Contracts) -> Turned
+    pub fn add(self, t: Millis, id: u32, side: Side, price: Steps, volume: Contracts) -> AfterCall
         requires { ⌜ Reached self ⌝ }
         ensures { λ r. ⌜ Answered self (B.Send (Add t id side price volume)) (r .month) (shownAnswer (r .answer)) ⌝ }
     {
@@ -273,7 +273,7 @@ impl Month {
     }
 
     // Keeps id and side, and puts the new price and volume in place of the old.
-    pub fn amend(self, t: Millis, id: u32, price: Steps, volume: Contracts) -> Turned
+    pub fn amend(self, t: Millis, id: u32, price: Steps, volume: Contracts) -> AfterCall
         requires { ⌜ Reached self ⌝ }
         ensures { λ r. ⌜ Answered self (B.Send (Amend t id price volume)) (r .month) (shownAnswer (r .answer)) ⌝ }
     {
@@ -285,7 +285,7 @@ impl Month {
         })
     }
 
-    pub fn cancel(self, t: Millis, id: u32) -> Turned
+    pub fn cancel(self, t: Millis, id: u32) -> AfterCall
         requires { ⌜ Reached self ⌝ }
         ensures { λ r. ⌜ Answered self (B.Send (Cancel t id)) (r .month) (shownAnswer (r .answer)) ⌝ }
     {
@@ -293,14 +293,14 @@ impl Month {
     }
 
     // Lessens the order, and removes it at nothing left.
-    pub fn deal(self, t: Millis, id: u32, volume: Contracts) -> Turned
+    pub fn deal(self, t: Millis, id: u32, volume: Contracts) -> AfterCall
         requires { ⌜ Reached self ⌝ }
         ensures { λ r. ⌜ Answered self (B.Send (Deal t id volume)) (r .month) (shownAnswer (r .answer)) ⌝ }
     {
         self.send(Event::Deal { t, id, volume })
     }
 
-    pub fn tick(self, t: Millis) -> Turned
+    pub fn tick(self, t: Millis) -> AfterCall
         requires { ⌜ Reached self ⌝ }
         ensures { λ r. ⌜ Answered self (B.Send (Tick t)) (r .month) (shownAnswer (r .answer)) ⌝ }
     {
@@ -308,7 +308,7 @@ impl Month {
     }
 
     // Time runs on to L, and the cell is filled with kept time, L, p, the lapse limit, the lapses, A and P.
-    pub fn close(self, active: Kopecks, passive: Kopecks) -> Turned
+    pub fn close(self, active: Kopecks, passive: Kopecks) -> AfterCall
         requires { ⌜ Reached self ⌝ }
         ensures { λ r. ⌜ Answered self (B.Close active passive) (r .month) (shownAnswer (r .answer)) ⌝ }
     {
@@ -336,7 +336,7 @@ impl Month {
     }
 
     // The open quantum is forgotten.
-    pub fn drop(self) -> Turned
+    pub fn drop(self) -> AfterCall
         requires { ⌜ Reached self ⌝ }
         ensures { λ r. ⌜ Answered self B.Drop (r .month) (shownAnswer (r .answer)) ⌝ }
     {
@@ -369,7 +369,7 @@ impl Month {
         quantum: u32,
         active: Kopecks,
         passive: Kopecks,
-    ) -> Turned
+    ) -> AfterCall
         requires { ⌜ Reached self ⌝ }
         ensures { λ r. ⌜ Answered self (B.Charge day expiry quantum active passive) (r .month) (shownAnswer (r .answer)) ⌝ }
     {
@@ -387,7 +387,7 @@ impl Month {
     }
 
     // The cell is blank again.
-    pub fn withdraw(self, day: u32, expiry: u32, quantum: u32) -> Turned
+    pub fn withdraw(self, day: u32, expiry: u32, quantum: u32) -> AfterCall
         requires { ⌜ Reached self ⌝ }
         ensures { λ r. ⌜ Answered self (B.Withdraw day expiry quantum) (r .month) (shownAnswer (r .answer)) ⌝ }
     {

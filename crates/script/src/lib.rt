@@ -9,7 +9,7 @@ ghost use Rattle.script.specs.Measures.{Measures};
 ghost use Rattle.script.specs.Blocks.{blankReport, showing, shownOf, outcomeNumber, Performed, Stepped};
 ghost use Rattle.script.specs.Runs.{Runs};
 use month::Month;
-use month::Turned;
+use month::AfterCall;
 use rules::Answer;
 use rules::CellView;
 use rules::Contracts;
@@ -58,7 +58,7 @@ pub struct Ran {
 }
 
 // The month after a call, and what the call shows.
-struct Told {
+struct AfterBlock {
     month: Month,
     shown: Shown,
 }
@@ -279,7 +279,7 @@ fn side_of(w: u32) -> Side
 // ---- a block by its kind
 
 // Kind 1.
-fn open_block(month: Month, words: &[u32]) -> Turned
+fn open_block(month: Month, words: &[u32]) -> AfterCall
     requires { ⌜ Reached month × (getD (now words) 0 0 ≡ 1) × (5 + getD (now words) 1 0 ≤ length (now words)) ⌝ }
     ensures { λ r. ⌜ Answered month (callOf (now (words .entry))) (r .month) (shownAnswer (r .answer)) ⌝ }
 {
@@ -289,7 +289,7 @@ fn open_block(month: Month, words: &[u32]) -> Turned
 }
 
 // Kinds 2 to 6.
-fn event_block(month: Month, words: &[u32]) -> Turned
+fn event_block(month: Month, words: &[u32]) -> AfterCall
     requires { ⌜ Reached month × (2 ≤ getD (now words) 0 0) × (getD (now words) 0 0 ≤ 6) ⌝ }
     ensures { λ r. ⌜ Answered month (callOf (now (words .entry))) (r .month) (shownAnswer (r .answer)) ⌝ }
 {
@@ -315,7 +315,7 @@ fn event_block(month: Month, words: &[u32]) -> Turned
 }
 
 // Kinds 7 to 10.
-fn office_block(month: Month, words: &[u32]) -> Turned
+fn office_block(month: Month, words: &[u32]) -> AfterCall
     requires { ⌜ Reached month × (7 ≤ getD (now words) 0 0) × (getD (now words) 0 0 ≤ 10) ⌝ }
     ensures { λ r. ⌜ Answered month (callOf (now (words .entry))) (r .month) (shownAnswer (r .answer)) ⌝ }
 {
@@ -342,7 +342,7 @@ fn office_block(month: Month, words: &[u32]) -> Turned
 }
 
 // Kind 11.
-fn look_block(month: Month, words: &[u32]) -> Told
+fn look_block(month: Month, words: &[u32]) -> AfterBlock
     requires { ⌜ Reached month × (getD (now words) 0 0 ≡ 11) ⌝ }
     ensures { λ r. ⌜ Performed month (callOf (now (words .entry))) (r .month) (r .shown) ⌝ }
 {
@@ -350,11 +350,11 @@ fn look_block(month: Month, words: &[u32]) -> Told
     let month = found.month;
     let answer = found.answer;
     let shown = show_looked(answer);
-    Told { month, shown }
+    AfterBlock { month, shown }
 }
 
 // Kind 12.
-fn report_block(month: Month, words: &[u32]) -> Told
+fn report_block(month: Month, words: &[u32]) -> AfterBlock
     requires { ⌜ Reached month × (getD (now words) 0 0 ≡ 12) ⌝ }
     ensures { λ r. ⌜ Performed month (callOf (now (words .entry))) (r .month) (r .shown) ⌝ }
 {
@@ -365,11 +365,11 @@ fn report_block(month: Month, words: &[u32]) -> Told
         outcome: Outcome::Reported,
         report,
     };
-    Told { month, shown }
+    AfterBlock { month, shown }
 }
 
 // The call that the block at the front says.
-fn perform(month: Month, words: &[u32]) -> Told
+fn perform(month: Month, words: &[u32]) -> AfterBlock
     requires { ⌜ Reached month × (blockSize (now words) ≡ 0 → ⊥) ⌝ }
     ensures { λ r. ⌜ Performed month (callOf (now (words .entry))) (r .month) (r .shown) ⌝ }
 {
@@ -389,13 +389,13 @@ fn perform(month: Month, words: &[u32]) -> Told
     tell(office_block(month, words))
 }
 
-fn tell(turned: Turned) -> Told
-    ensures { λ r. ⌜ (r .month ≡ turned .month) × (r .shown ≡ shownOf (shownAnswer (turned .answer))) ⌝ }
+fn tell(called: AfterCall) -> AfterBlock
+    ensures { λ r. ⌜ (r .month ≡ called .month) × (r .shown ≡ shownOf (shownAnswer (called .answer))) ⌝ }
 {
-    let month = turned.month;
-    let answer = turned.answer;
+    let month = called.month;
+    let answer = called.answer;
     let shown = show_answer(answer);
-    Told { month, shown }
+    AfterBlock { month, shown }
 }
 
 // One block of a list: the call that it says, run on the month. Where there is no call, the month and the place are as they were.
