@@ -8,8 +8,8 @@ ghost use Rattle.script.specs.Words.{fixedDue, addDue, due, blockSize, s
 ghost use Rattle.script.specs.Measures.{Measures};
 ghost use Rattle.script.specs.Blocks.{blankReport, showing, shownOf, outcomeNumber, Performed, Stepped};
 ghost use Rattle.script.specs.Runs.{Runs};
-use month::Month;
 use month::AfterCall;
+use month::Month;
 use rules::Answer;
 use rules::CellView;
 use rules::Contracts;
