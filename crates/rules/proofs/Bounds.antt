@@ -15,15 +15,17 @@ use Rattle.rules.specs.declared.Kopecks.{Kopecks}
 use Rattle.rules.specs.declared.Order.{Order}
 use Rattle.rules.specs.declared.Row.{Row}
 use Rattle.rules.specs.declared.Cell.{Cell}
+use Rattle.rules.specs.declared.Spread.{Spread}
+use Rattle.rules.specs.declared.Spread.the-variants.{Settled, OfStrike}
 use Rattle.rules.specs.declared.Event.{Event}
 use Rattle.rules.specs.declared.Event.the-variants.{Add, Amend, Cancel, Deal, Tick}
 use Rattle.rules.specs.Lists.{within}
 use Rattle.rules.specs.Terms.{Terms}
 use Rattle.rules.specs.Units.{goodPrice, goodVolume, goodCharge}
-use Rattle.rules.specs.Rows.{goodExpiry, goodQuantum, goodLength, rowOf, goodRow}
+use Rattle.rules.specs.Rows.{goodExpiry, goodQuantum, goodLength, rowOf, goodRow, asRead, goodRowFor}
 use Rattle.rules.specs.Cells.{blankCell, goodCell, placeOf, cellAt}
 use Rattle.rules.specs.Orders.{lessenedOrder, apply, applyAll, live, timeFrom, present}
-use Rattle.rules.specs.Book.{Call, Open, Send, Close, Drop, Charge, Withdraw, Look, Report, Running, Idle, Quoting, Book, freshBook, eventRefusal, refusalOf, noted, closedCell, closed, charged, changed, stepBy, step, run, after}
+use Rattle.rules.specs.Book.{Call, Open, Send, Close, Drop, Charge, Withdraw, Look, Report, Running, Idle, Quoting, Book, freshBook, goodSettlement, goodSpread, eventRefusal, refusalOf, noted, closedCell, closed, charged, changed, stepBy, step, run, after}
 use Rattle.rules.specs.Bounds.{Distinct, EventBounds, OpenBounds, RunningBounds, CellBounds, BookBounds}
 use Rattle.rules.proofs.Lists.{both, and}
 use Rattle.rules.proofs.Members.{getD-in, in-set, in-replicate}
@@ -86,6 +88,46 @@ row-bounds terms row e =
       b-most = leb-true (row .b) 1000000 (h2 .1);
       share-least = share .0;
       share-most = share .1;
+    }
+
+-- what is read of a row: all but a and b, which a strike leaves unread
+pub record ReadBounds (terms : Terms) (row : Row) : Type 0 where
+  pub expiry-least : 1 ≤ row .expiry
+  pub expiry-most : row .expiry ≤ 2
+  pub quantum-most : row .quantum ≤ 2
+  pub length-least : 1000 ≤ row .length .0
+  pub length-most : row .length .0 ≤ 86400000
+  pub least-least : 1 ≤ row .least .0
+  pub share-least : 1 ≤ row .share
+  pub share-most : row .share ≤ terms .most-share
+
+read-part : (terms : Terms) (row : Row) → RowBounds terms row → ReadBounds terms row
+read-part terms row r =
+    record {
+      expiry-least = r .expiry-least;
+      expiry-most = r .expiry-most;
+      quantum-most = r .quantum-most;
+      length-least = r .length-least;
+      length-most = r .length-most;
+      least-least = r .least-least;
+      share-least = r .share-least;
+      share-most = r .share-most;
+    }
+
+pub read-bounds : (terms : Terms) (spread : Spread) (row : Row) → goodRowFor terms spread row ≡ true → ReadBounds terms row
+unfolding goodRowFor
+read-bounds terms (Settled sp) row e = read-part terms row (row-bounds terms row e)
+read-bounds terms (OfStrike s) row e =
+    let r = row-bounds terms (asRead (OfStrike s) row) e in
+    record {
+      expiry-least = r .expiry-least;
+      expiry-most = r .expiry-most;
+      quantum-most = r .quantum-most;
+      length-least = r .length-least;
+      length-most = r .length-most;
+      least-least = r .least-least;
+      share-least = r .share-least;
+      share-most = r .share-most;
     }
 
 -- the cells' places
@@ -189,16 +231,16 @@ module _ (terms : Terms) where
   filled-blank : Filled blankCell
   filled-blank e = absurd (false≢true e)
 
-  filled-closed : (row : Row) (told : Opening) (events : List Event) (active passive : Kopecks) → goodRow terms row ≡ true
+  filled-closed : (row : Row) (told : Opening) (events : List Event) (active passive : Kopecks) → goodRowFor terms (told .spread) row ≡ true
       → goodCharge terms (active .0) ≡ true → goodCharge terms (passive .0) ≡ true → Filled (closedCell row told events active passive)
   filled-closed row told events active passive good a p e =
-      let r = row-bounds terms row good in
+      let r = read-bounds terms (told .spread) row good in
       record {
         length-least = r .length-least;
         length-most = r .length-most;
         share-least = r .share-least;
         share-most = r .share-most;
-        kept-most = kept-le row (told .sp .0) events (row .length .0);
+        kept-most = kept-le row (told .spread) events (row .length .0);
         active-most = charge-bound terms (active .0) a;
         passive-most = charge-bound terms (passive .0) p;
       }
@@ -216,16 +258,18 @@ module _ (terms : Terms) where
         passive-most = charge-bound terms (passive .0) p;
       }
 
-  opened : (words : List ℕ) (day : ℕ) (told : Opening) → goodRow terms (rowOf words) ≡ true → within 1 31 day ≡ true → goodPrice (told .sp .0) ≡ true
+  opened : (words : List ℕ) (day : ℕ) (told : Opening) → goodRowFor terms (told .spread) (rowOf words) ≡ true → within 1 31 day ≡ true
+      → goodSettlement (told .spread) ≡ true → goodSpread (told .spread) ≡ true
       → OpenBounds terms (placeOf day (rowOf words .expiry) (rowOf words .quantum)) (rowOf words) told []
-  opened words day told good d p =
-      let r = row-bounds terms (rowOf words) good in
+  opened words day told good d p s =
+      let r = read-bounds terms (told .spread) (rowOf words) good in
       record {
         inside = place-small day (rowOf words .expiry) (rowOf words .quantum) (within-parts 1 31 day d .1) (r .expiry-most) (r .quantum-most);
         row-good = good;
         price-good = p;
+        spread-good = s;
         events-good = event-bounds-none (rowOf words);
-        kept = kept-le (rowOf words) (told .sp .0) [] (present []);
+        kept = kept-le (rowOf words) (told .spread) [] (present []);
       }
 
   noted-bounds : (r : Running) (e : Event) → RunningBounds terms r → SendPasses r e → RunningBounds terms (noted r e)
@@ -235,8 +279,9 @@ module _ (terms : Terms) where
         inside = g .inside;
         row-good = g .row-good;
         price-good = g .price-good;
+        spread-good = g .spread-good;
         events-good = event-bounds-passed row events e (g .events-good) p;
-        kept = kept-le row (told .sp .0) (events ++ (e ∷ [])) (present (events ++ (e ∷ [])));
+        kept = kept-le row (told .spread) (events ++ (e ∷ [])) (present (events ++ (e ∷ [])));
       }
 
   closed-length : (r : Running) (active passive : Kopecks) (cells : List Cell) → length (closed r active passive cells) ≡ length cells
@@ -263,7 +308,7 @@ module _ (terms : Terms) where
       record {
         all-cells = g .all-cells;
         filled = g .filled;
-        running = opened words day told (p .row-good) (p .day-good) (p .price-good);
+        running = opened words day told (p .row-good) (p .day-good) (p .price-good) (p .spread-good);
       }
   bounds-changed b (Send e) g p =
       record { all-cells = g .all-cells; filled = g .filled; running = noted-bounds (b .running) e (g .running) p }

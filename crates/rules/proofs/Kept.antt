@@ -13,6 +13,7 @@ use Rattle.rules.specs.declared.Steps.{Steps}
 use Rattle.rules.specs.declared.Quote.{Quote}
 use Rattle.rules.specs.declared.Quote.the-variants.{At}
 use Rattle.rules.specs.declared.Row.{Row}
+use Rattle.rules.specs.declared.Spread.{Spread}
 use Rattle.rules.specs.declared.Event.{Event}
 use Rattle.rules.specs.Lists.{if_then_else_, keep, count}
 use Rattle.rules.specs.Orders.{live, timeOf, timeFrom, present}
@@ -71,25 +72,25 @@ upTo-snoc m (d ∷ es) e h = ap (λ (l : List Event). if leb (timeOf d) m then d
 
 -- ---- locked and crossed quotes
 
--- a D below 1 keeps nothing, whatever a, b and SP
-pub below-one : (a b : ℕ) (sp d : ℤ) → ltZ d (pos 1) ≡ true → spreadKeeps a b sp d ≡ false
-below-one a b sp (pos zero) h = refl
-below-one a b sp (pos (suc d)) h = absurd (omega (arith, ltb-true (suc d) 1 h))
-below-one a b sp (negsuc d) h = refl
+-- a D below 1 keeps nothing, whatever a, b and SP, or a strike's numbers
+pub below-one : (row : Row) (sp : Spread) (d : ℤ) → ltZ d (pos 1) ≡ true → spreadKeeps row sp d ≡ false
+below-one row sp (pos zero) h = refl
+below-one row sp (pos (suc d)) h = absurd (omega (arith, ltb-true (suc d) 1 h))
+below-one row sp (negsuc d) h = refl
 
 -- a millisecond whose best bid is at its best ask or above it is not kept
-pub crossed-not-kept : (row : Row) (sp : ℤ) (es : List Event) (m : ℕ) (bid ask : Steps)
+pub crossed-not-kept : (row : Row) (sp : Spread) (es : List Event) (m : ℕ) (bid ask : Steps)
     → bestBid row (live (upTo m es)) ≡ At bid → bestAsk row (live (upTo m es)) ≡ At ask
     → ltZ (gap (bid .0) (ask .0)) (pos 1) ≡ true → keptAt row sp es m ≡ false
 unfolding keptAt ordersKeep quotesKeep
 crossed-not-kept row sp es m bid ask b a h =
-    ap (λ (q : Quote). quotesKeep (row .a) (row .b) sp q (bestAsk row (live (upTo m es)))) b
-    ∙ ap (quotesKeep (row .a) (row .b) sp (At bid)) a
-    ∙ below-one (row .a) (row .b) sp (gap (bid .0) (ask .0)) h
+    ap (λ (q : Quote). quotesKeep row sp q (bestAsk row (live (upTo m es)))) b
+    ∙ ap (quotesKeep row sp (At bid)) a
+    ∙ below-one row sp (gap (bid .0) (ask .0)) h
 
 -- ---- kept time
 
-module _ (row : Row) (sp : ℤ) (es : List Event) where
+module _ (row : Row) (sp : Spread) (es : List Event) where
   -- from the present on, a millisecond is kept if the live orders of now keep the quote
   pub keptAt-now : Ordered 0 es → (m : ℕ) → present es ≤ m → keptAt row sp es m ≡ ordersKeep row sp (live es)
   unfolding keptAt

@@ -19,12 +19,12 @@ use Rattle.rules.specs.declared.Event.the-variants.{Add, Amend, Cancel, 
 use Rattle.rules.specs.Lists.{within}
 use Rattle.rules.specs.Terms.{Terms}
 use Rattle.rules.specs.Units.{goodPrice, goodVolume, goodCharge}
-use Rattle.rules.specs.Rows.{rowOf, goodRow}
+use Rattle.rules.specs.Rows.{rowOf, goodRowFor}
 use Rattle.rules.specs.Cells.{goodCell, placeOf, cellAt}
 use Rattle.rules.specs.Lapses.{goodLimit}
 use Rattle.rules.specs.Orders.{isLive, left, live, timeOf, present}
 use Rattle.rules.specs.Answers.{accepted, refused, outcomeBy}
-use Rattle.rules.specs.Book.{Call, Open, Send, Close, Drop, Charge, Withdraw, Look, Report, Running, Idle, Quoting, Book, isOpen, Cause, cause, lowest, traderCauses, eventCauses, eventRefusal, sendCauses, goodCharges, causes, refusalOf, changed, replyOf, answerOf, stepBy, step}
+use Rattle.rules.specs.Book.{Call, Open, Send, Close, Drop, Charge, Withdraw, Look, Report, Running, Idle, Quoting, Book, isOpen, Cause, cause, lowest, traderCauses, eventCauses, eventRefusal, sendCauses, goodSettlement, goodSpread, goodCharges, causes, refusalOf, changed, replyOf, answerOf, stepBy, step}
 use Rattle.rules.proofs.Lists.{both, and}
 
 -- ---- the lowest number
@@ -150,12 +150,13 @@ passes-event row events e p =
 
 pub record OpenPasses (terms : Terms) (b : Book) (words : List ℕ) (day : ℕ) (told : Opening) : Type 0 where
   pub seven : length words ≡ 7
-  pub row-good : goodRow terms (rowOf words) ≡ true
+  pub row-good : goodRowFor terms (told .spread) (rowOf words) ≡ true
   pub day-good : within 1 31 day ≡ true
-  pub price-good : goodPrice (told .sp .0) ≡ true
+  pub price-good : goodSettlement (told .spread) ≡ true
   pub blank : cellAt (b .cells) (placeOf day (rowOf words .expiry) (rowOf words .quantum)) .filled ≡ false
   pub idle : isOpen (b .running) ≡ false
   pub limit-good : goodLimit (told .limit) ≡ true
+  pub spread-good : goodSpread (told .spread) ≡ true
 
 abbrev pub SendPasses : Running → Event → Type 0
 SendPasses Idle e = ⊥
@@ -210,15 +211,17 @@ module _ (terms : Terms) where
       let a4 = passed 3 _ _ (a3 .1) in
       let a6 = passed 5 _ _ (a4 .1) in
       let a17 = passed 16 _ _ (a6 .1) in
-      let (d, p) = not-both (within 1 31 day) (goodPrice (told .sp .0)) (a3 .0) in
+      let a18 = passed 17 _ _ (a17 .1) in
+      let (d, p) = not-both (within 1 31 day) (goodSettlement (told .spread)) (a3 .0) in
       record {
         seven = eqb-true (length words) 7 (not-false (eqb (length words) 7) (a1 .0));
-        row-good = not-false (goodRow terms (rowOf words)) (a2 .0);
+        row-good = not-false (goodRowFor terms (told .spread) (rowOf words)) (a2 .0);
         day-good = d;
         price-good = p;
         blank = a4 .0;
         idle = a6 .0;
         limit-good = not-false (goodLimit (told .limit)) (a17 .0);
+        spread-good = not-false (goodSpread (told .spread)) (a18 .0);
       }
   call-passes b (Send e) h = send-passes (b .running) e h
   call-passes b (Close active passive) h =
@@ -258,7 +261,7 @@ module _ (terms : Terms) where
   unfolding refusalOf causes
   passes-call b (Open words day told) p =
       skip _ _ (ap not (eq-eqb (length words) 7 (p .seven)))
-      (skip _ _ (ap not (p .row-good)) (skip _ _ (both-not (p .day-good) (p .price-good)) (skip _ _ (p .blank) (skip _ _ (p .idle) (skip _ _ (ap not (p .limit-good)) clear)))))
+      (skip _ _ (ap not (p .row-good)) (skip _ _ (both-not (p .day-good) (p .price-good)) (skip _ _ (p .blank) (skip _ _ (p .idle) (skip _ _ (ap not (p .limit-good)) (skip _ _ (ap not (p .spread-good)) clear))))))
   passes-call b (Send e) p = passes-send (b .running) e p
   passes-call b (Close active passive) p =
       skip _ _ (both-not (p .active-good) (p .passive-good)) (skip _ _ (ap not (p .quoting)) clear)

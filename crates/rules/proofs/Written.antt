@@ -11,6 +11,8 @@ use lib.ListN.{length, take, drop}
 use lib.Seq.{take-length, take-append-seam}
 use Rattle.rules.specs.declared.Steps.{Steps}
 use Rattle.rules.specs.declared.Row.{Row}
+use Rattle.rules.specs.declared.Spread.{Spread}
+use Rattle.rules.specs.declared.Spread.the-variants.{Settled}
 use Rattle.rules.specs.declared.Event.{Event}
 use Rattle.rules.specs.Lists.{if_then_else_}
 use Rattle.rules.specs.Terms.{Terms}
@@ -46,7 +48,7 @@ unless-whole (suc n) place next k w ss e = let z : _≡_ {A = ℕ} 0 1 = cc in a
 record KeptPairs (row : Row) (sp : Steps) (events : List Event) (rs : List (List ℕ)) (ss : List Stretch) : Type 0 where
   further : List Event
   read : map readRecord rs ≡ map accepted further
-  pairs : keptStretches row (sp .0) (events ++ further) ≡ ss
+  pairs : keptStretches row (Settled sp) (events ++ further) ≡ ss
 
 module _ (terms : Terms) (limit cell : ℕ) (row : Row) (sp : Steps) (k w : ℕ) (ss : List Stretch) where
   -- an accepted event goes to the end of the list
@@ -70,7 +72,7 @@ module _ (terms : Terms) (limit cell : ℕ) (row : Row) (sp : Steps) (k w : ℕ)
       record {
         further = [];
         read = refl;
-        pairs = ap (keptStretches row (sp .0)) (append-nil events) ∙ ap stretchesIn (sym h) ∙ ending b e;
+        pairs = ap (keptStretches row (Settled sp)) (append-nil events) ∙ ap stretchesIn (sym h) ∙ ending b e;
       }
   runs-kept (r ∷ rs) place at b events h e =
       let (none, next) = unless-whole (recordRefusal terms limit place b r) place _ k w ss e in
@@ -86,7 +88,7 @@ module _ (terms : Terms) (limit cell : ℕ) (row : Row) (sp : Steps) (k w : ℕ)
           record {
             further = x ∷ t .further;
             read = λ i. o i ∷ t .read i;
-            pairs = ap (keptStretches row (sp .0)) (sym (append-assoc events (x ∷ []) (t .further))) ∙ t .pairs;
+            pairs = ap (keptStretches row (Settled sp)) (sym (append-assoc events (x ∷ []) (t .further))) ∙ t .pairs;
           }
 
 module _ (terms : Terms) (limit : ℕ) (words : List ℕ) (sp : Steps) (bytes : List ℕ) where
@@ -129,7 +131,7 @@ done n (halted a b) k w pairs e = let z : _≡_ {A = ℕ} 0 1 = cc in absurd (om
 
 -- ---- the theorem, of words
 
-fewest-too : (row : Row) (sp : ℤ) (events : List Event) (ss ts : List Stretch) → ss ≡ ts → FewestKept row sp events ss → FewestKept row sp events ts
+fewest-too : (row : Row) (sp : Spread) (events : List Event) (ss ts : List Stretch) → ss ≡ ts → FewestKept row sp events ss → FewestKept row sp events ts
 fewest-too row sp events ss ts e h = rw (← e) h
 
 module _ (terms : Terms) (limit : ℕ) (words : List ℕ) (sp : Steps) (bytes : List ℕ) (n k w pairs : ℕ)
@@ -150,7 +152,7 @@ module _ (terms : Terms) (limit : ℕ) (words : List ℕ) (sp : Steps) (bytes : 
         events = t .further;
         read = t .read;
         number = ap length (sym ours) ∙ d .number;
-        fewest = fewest-too (rowOf words) (sp .0) (t .further) _ _ (t .pairs ∙ ours) (fewest-kept (rowOf words) (sp .0) (t .further));
+        fewest = fewest-too (rowOf words) (Settled sp) (t .further) _ _ (t .pairs ∙ ours) (fewest-kept (rowOf words) (Settled sp) (t .further));
       }
 
   pub front-fewest : FewestWritten words sp bytes pairs (front n (session terms limit words sp bytes))

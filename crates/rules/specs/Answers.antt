@@ -4,7 +4,7 @@ use Prim.Native.Nat.{ℕ, zero, suc}
 use Rattle.rules.specs.declared.Row.{Row}
 use Rattle.rules.specs.declared.Event.{Event}
 use Rattle.rules.specs.declared.Refusal.{Refusal}
-use Rattle.rules.specs.declared.Refusal.the-variants.{RowNotSevenWords, RowWordOutOfRange, ArgumentOutOfRange, CellFilled, CellBlank, QuantumOpen, NoQuantumOpen, TimeBackwards, TimePastEnd, IdLive, IdNotLive, PriceOrVolumeOutOfRange, TooManyOrders, DealAboveLeft, BadRecord, BufferShort, LapseLimitOutOfRange}
+use Rattle.rules.specs.declared.Refusal.the-variants.{RowNotSevenWords, RowWordOutOfRange, ArgumentOutOfRange, CellFilled, CellBlank, QuantumOpen, NoQuantumOpen, TimeBackwards, TimePastEnd, IdLive, IdNotLive, PriceOrVolumeOutOfRange, TooManyOrders, DealAboveLeft, BadRecord, BufferShort, LapseLimitOutOfRange, StrikesOutOfRange}
 use Rattle.rules.specs.declared.CellView.{CellView}
 use Rattle.rules.specs.declared.Report.{Report}
 use Rattle.rules.specs.declared.Answer.{Answer}
@@ -45,6 +45,8 @@ numberOf BadRecord = 15
 numberOf BufferShort = 16
 -- document 02, W1: "17, lapse limit outside its values, at open"
 numberOf LapseLimitOutOfRange = 17
+-- W4: "18, an empty or overlong board, unequal lengths, or a number outside the ranges above"
+numberOf StrikesOutOfRange = 18
 
 -- what is worked out afresh: accepted with values, or refused by a number
 pub data Outcome (A : Type 0) : Type 0 where

@@ -4,6 +4,8 @@ use mathlib.Core.List.{List, [], _∷_, _++_}
 use mathlib.Core.Bool.{Bool, true, false, not, _&&_}
 use lib.Dec.{leb, ltb, eqb}
 use lib.ListN.{length, set}
+use Rattle.rules.specs.declared.Spread.{Spread}
+use Rattle.rules.specs.declared.Spread.the-variants.{Settled, OfStrike}
 use Rattle.rules.specs.declared.Opening.{Opening}
 use Rattle.rules.specs.declared.Kopecks.{Kopecks}
 use Rattle.rules.specs.declared.Quote.{Quote}
@@ -17,9 +19,10 @@ use Rattle.rules.specs.declared.Report.{Report as ReportValues}
 use Rattle.rules.specs.Lists.{if_then_else_, within}
 use Rattle.rules.specs.Terms.{Terms}
 use Rattle.rules.specs.Units.{millis, kopecks, goodPrice, goodVolume, goodCharge}
-use Rattle.rules.specs.Rows.{rowOf, goodRow}
+use Rattle.rules.specs.Rows.{rowOf, goodRowFor}
 use Rattle.rules.specs.Cells.{blankCells, blankCell, goodCell, placeOf, cellAt}
 use Rattle.rules.specs.Orders.{isLive, left, live, timeOf, present}
+use Rattle.rules.specs.Strikes.{goodStrike}
 use Rattle.rules.specs.Kept.{bestBid, bestAsk, keptBelow}
 use Rattle.rules.specs.Lapses.{lapsesBelow, goodLimit}
 use Rattle.rules.specs.Pay.{viewOf, allFailures, fee}
@@ -27,7 +30,8 @@ use Rattle.rules.specs.Answers.{Outcome, outcomeBy, Reply, done, cell, r
 
 -- The calls, "each by its name and its arguments other than the month". Send is add, amend, cancel, deal or tick: an event.
 pub data Call : Type 0 where
-  -- the row's words, the day, and what else open is told: SP and, by document 02, W1, the lapse limit
+  -- the row's words, the day, and what else open is told: SP or, by document 02, W4, a strike's four numbers in its place, and, by W1,
+  -- the lapse limit
   Open : List ℕ → ℕ → Opening → Call
   Send : Event → Call
   -- A, P
@@ -103,28 +107,39 @@ abbrev pub sendCauses : Running → Event → List Cause
 sendCauses Idle e = cause 7 true ∷ []
 sendCauses (Quoting place row told events) e = eventCauses row events e
 
+-- "SP, the settlement price, has the same range"; a strike has none
+abbrev pub goodSettlement : Spread → Bool
+goodSettlement (Settled sp) = goodPrice (sp .0)
+goodSettlement (OfStrike s) = true
+
+-- document 02, W4: a strike's four numbers in their ranges; "in place of SP", so with SP there are none
+abbrev pub goodSpread : Spread → Bool
+goodSpread (Settled sp) = true
+goodSpread (OfStrike s) = goodStrike s
+
 module _ (terms : Terms) where
   -- 1 row not seven words; 2 a word outside its range
-  abbrev pub rowCauses : List ℕ → List Cause
-  rowCauses words = cause 1 (not (eqb (length words) 7)) ∷ cause 2 (not (goodRow terms (rowOf words))) ∷ []
+  abbrev pub rowCauses : Spread → List ℕ → List Cause
+  rowCauses spread words = cause 1 (not (eqb (length words) 7)) ∷ cause 2 (not (goodRowFor terms spread (rowOf words))) ∷ []
 
   -- a row read from words: the row, or 1 or 2
-  unfoldable pub readRow : List ℕ → Outcome Row
-  readRow words = outcomeBy (lowest (rowCauses words)) (rowOf words)
+  unfoldable pub readRow : Spread → List ℕ → Outcome Row
+  readRow spread words = outcomeBy (lowest (rowCauses spread words)) (rowOf words)
 
   abbrev pub goodCharges : Kopecks → Kopecks → Bool
   goodCharges active passive = goodCharge terms (active .0) && goodCharge terms (passive .0)
 
   -- 3 day, expiry, quantum, SP, A or P outside its range; 4 open on a filled cell; 5 charge, withdraw or look on a blank cell;
   -- 6 open while a quantum is open; 7 an event, close or drop with none open; document 02, W1: "17, lapse limit outside its values, at
-  -- open"
+  -- open"; W4: "18, .. a number outside the ranges above"
   unfoldable pub causes : Book → Call → List Cause
   causes b (Open words day told) =
-      rowCauses words
-      ++ (cause 3 (not (within 1 31 day && goodPrice (told .sp .0)))
+      rowCauses (told .spread) words
+      ++ (cause 3 (not (within 1 31 day && goodSettlement (told .spread)))
       ∷ cause 4 (cellAt (b .cells) (placeOf day (rowOf words .expiry) (rowOf words .quantum)) .filled)
       ∷ cause 6 (isOpen (b .running))
       ∷ cause 17 (not (goodLimit (told .limit)))
+      ∷ cause 18 (not (goodSpread (told .spread)))
       ∷ [])
   causes b (Send e) = sendCauses (b .running) e
   causes b (Close active passive) = cause 3 (not (goodCharges active passive)) ∷ cause 7 (not (isOpen (b .running))) ∷ []
@@ -156,11 +171,11 @@ abbrev pub closedCell : Row → Opening → List Event → Kopecks → Kopecks �
 closedCell row told events active passive =
     record {
       filled = true;
-      kept = millis (keptBelow row (told .sp .0) events (row .length .0));
+      kept = millis (keptBelow row (told .spread) events (row .length .0));
       length = row .length;
       share = row .share;
       limit = told .limit;
-      lapses = lapsesBelow row (told .sp .0) events (row .length .0);
+      lapses = lapsesBelow row (told .spread) events (row .length .0);
       active = active;
       passive = passive;
     }
@@ -218,12 +233,12 @@ askIn (Quoting place row told events) = bestAsk row (live events)
 
 abbrev pub keptIn : Running → ℕ
 keptIn Idle = 0
-keptIn (Quoting place row told events) = keptBelow row (told .sp .0) events (present events)
+keptIn (Quoting place row told events) = keptBelow row (told .spread) events (present events)
 
 -- document 02, W1: "look and report show the count, 0 with none open"
 abbrev pub lapsesIn : Running → ℕ
 lapsesIn Idle = 0
-lapsesIn (Quoting place row told events) = lapsesBelow row (told .sp .0) events (present events)
+lapsesIn (Quoting place row told events) = lapsesBelow row (told .spread) events (present events)
 
 module _ (terms : Terms) where
   unfoldable pub reportOf : Book → ReportValues

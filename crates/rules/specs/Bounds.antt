@@ -11,10 +11,10 @@ use Rattle.rules.specs.declared.Cell.{Cell}
 use Rattle.rules.specs.declared.Event.{Event}
 use Rattle.rules.specs.Terms.{Terms}
 use Rattle.rules.specs.Units.{goodPrice, goodVolume}
-use Rattle.rules.specs.Rows.{goodRow}
+use Rattle.rules.specs.Rows.{goodRowFor}
 use Rattle.rules.specs.Orders.{isLive, live, timeOf, present}
 use Rattle.rules.specs.Kept.{keptBelow}
-use Rattle.rules.specs.Book.{Running, Idle, Quoting, Book}
+use Rattle.rules.specs.Book.{Running, Idle, Quoting, Book, goodSettlement, goodSpread}
 
 -- ids all different
 abbrev pub Distinct : List Order → Type 0
@@ -37,10 +37,11 @@ pub record EventBounds (row : Row) (events : List Event) : Type 0 where
 
 pub record OpenBounds (terms : Terms) (place : ℕ) (row : Row) (told : Opening) (events : List Event) : Type 0 where
   pub inside : place < 186
-  pub row-good : goodRow terms row ≡ true
-  pub price-good : goodPrice (told .sp .0) ≡ true
+  pub row-good : goodRowFor terms (told .spread) row ≡ true
+  pub price-good : goodSettlement (told .spread) ≡ true
+  pub spread-good : goodSpread (told .spread) ≡ true
   pub events-good : EventBounds row events
-  pub kept : keptBelow row (told .sp .0) events (present events) ≤ present events
+  pub kept : keptBelow row (told .spread) events (present events) ≤ present events
 
 abbrev pub RunningBounds : Terms → Running → Type 0
 RunningBounds terms Idle = Unit

@@ -1,6 +1,6 @@
 -- Document 01, "Checks on paper": C1 to C12 and the unmarked ones, the one with D = 0 that document 02, W2, joins to them, and one with
 -- D = -1, each with what the definitions give and what the paper prints. That the two agree is proved once, over the list, in proofs/Checks.
--- After them, two checks on document 02, W1.
+-- After them, two checks on document 02, W1, and two on W4.
 use Prim.Native.Nat.{ℕ, _+_}
 use mathlib.Core.List.{List, [], _∷_, _++_, map}
 use mathlib.Core.Bool.{Bool, true, false}
@@ -12,6 +12,7 @@ use Rattle.rules.specs.declared.Quote.{Quote}
 use Rattle.rules.specs.declared.Quote.the-variants.{At}
 use Rattle.rules.specs.declared.Row.{Row}
 use Rattle.rules.specs.declared.Cell.{Cell}
+use Rattle.rules.specs.declared.Spread.the-variants.{Settled, OfStrike}
 use Rattle.rules.specs.declared.Event.{Event}
 use Rattle.rules.specs.declared.Event.the-variants.{Add, Cancel}
 use Rattle.rules.specs.Lists.{below}
@@ -26,7 +27,7 @@ use Rattle.rules.specs.Records.{recordOf}
 use Rattle.rules.specs.Session.{Session, session, sheetLimit}
 
 pub data Name : Type 0 where
-  C1 C2 C3 C4 C5 C6 C7 C8 C9 C10 C11 C12 fifteenFailed sixteenFailed eventAtEnd negativePrice lockedQuote crossedQuote manyLapses lapsesAtEnds : Name
+  C1 C2 C3 C4 C5 C6 C7 C8 C9 C10 C11 C12 fifteenFailed sixteenFailed eventAtEnd negativePrice lockedQuote crossedQuote manyLapses lapsesAtEnds halfStep wholeSteps : Name
 
 pub data Value : Type 0 where
   quote : Quote → Value
@@ -75,11 +76,11 @@ third = add 3 Buy 98 400
 
 -- C4 and C5: a 100, b 1, a bid of 100 and an ask D above it
 abbrev kept : ℤ → ℕ → Value
-kept sp d = keeps (quotesKeep 100 1 sp (At (steps (pos 100))) (At (steps (pos (100 + d)))))
+kept sp d = keeps (quotesKeep row (Settled (steps sp)) (At (steps (pos 100))) (At (steps (pos (100 + d)))))
 
 -- document 02, W2: a 100, SP 2000, b 1, a bid of 100 and an ask at it or a step below
 abbrev keptAsk : ℕ → Value
-keptAsk ask = keeps (quotesKeep 100 1 (pos 2000) (At (steps (pos 100))) (At (steps (pos ask))))
+keptAsk ask = keeps (quotesKeep row (Settled (steps (pos 2000))) (At (steps (pos 100))) (At (steps (pos ask))))
 
 -- C6 to C10: p 60, L 31,500,000
 abbrev weighed : ℕ → Value
@@ -141,10 +142,16 @@ quotingTwice =
     ∷ []
 
 abbrev lapsesOf : List Event → Value
-lapsesOf events = number (lapsesBelow row (pos 2000) events 1000)
+lapsesOf events = number (lapsesBelow row (Settled (steps (pos 2000))) events 1000)
 
 abbrev keptIn : List Event → Value
-keptIn events = number (keptBelow row (pos 2000) events 1000)
+keptIn events = number (keptBelow row (Settled (steps (pos 2000))) events 1000)
+
+-- document 02, W4: of a strike with days 365, whose root is 1, a bid of 100 and an ask D above it
+abbrev keptStrike : ℕ → ℕ → ℕ → ℕ → Value
+keptStrike a difference b d =
+    keeps
+    (quotesKeep row (OfStrike (record { a = a; difference = difference; days = 365; b = b })) (At (steps (pos 100))) (At (steps (pos (100 + d)))))
 
 abbrev pub checks : List Check
 checks =
@@ -170,6 +177,14 @@ checks =
     (verdict noLimit 70000 ∷ verdict 1000 1000 ∷ verdict 1000 1001 ∷ weighs noLimit 70000 ∷ weighs 1000 1001 ∷ [])
     (keeps true ∷ keeps true ∷ keeps false ∷ number 20000 ∷ number 0 ∷ [])
     ∷ check lapsesAtEnds (lapsesOf quotingTwice ∷ lapsesOf quoting ∷ lapsesOf [] ∷ []) (number 3 ∷ number 0 ∷ number 1 ∷ [])
+    -- 0.5 × 5 is 2.5, rounded half upwards 3; 0.4 × 6 is 2.4, rounded 2
+    ∷ check halfStep
+    (keptStrike 5 5 0 3 ∷ keptStrike 5 5 0 4 ∷ keptStrike 4 6 0 2 ∷ keptStrike 4 6 0 3 ∷ [])
+    (keeps true ∷ keeps false ∷ keeps true ∷ keeps false ∷ [])
+    -- 7.5 × 2 is 15; b 16 is more; a locked quote is not kept
+    ∷ check wholeSteps
+    (keptStrike 75 2 0 15 ∷ keptStrike 75 2 0 16 ∷ keptStrike 75 2 16 16 ∷ keptStrike 75 2 16 17 ∷ keptStrike 75 2 0 0 ∷ [])
+    (keeps true ∷ keeps false ∷ keeps true ∷ keeps false ∷ keeps false ∷ [])
     ∷ []
 
 -- the session that "Event records and the session run" prints: its row, its SP and its events

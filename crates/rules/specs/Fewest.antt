@@ -6,10 +6,11 @@ use mathlib.Core.Logic.{_≢_}
 use mathlib.Core.List.{List, [], _∷_, map}
 use mathlib.Core.Bool.{Bool, _&&_}
 use lib.Dec.{ltb}
-use lib.IntN.{ℤ}
 use lib.ListN.{length, take}
 use Rattle.rules.specs.declared.Steps.{Steps}
 use Rattle.rules.specs.declared.Row.{Row}
+use Rattle.rules.specs.declared.Spread.{Spread}
+use Rattle.rules.specs.declared.Spread.the-variants.{Settled}
 use Rattle.rules.specs.declared.Event.{Event}
 use Rattle.rules.specs.Rows.{rowOf}
 use Rattle.rules.specs.Kept.{keptAt}
@@ -45,8 +46,8 @@ pub record Fewest (p : ℕ → Bool) (n : ℕ) (ours : List Stretch) : Type 0 wh
 
 -- ---- the kept milliseconds: those of 0 to L-1 that the accepted events keep
 
-abbrev pub FewestKept : Row → ℤ → List Event → List Stretch → Type 0
-FewestKept row sp events ours = Fewest (keptAt row sp events) (row .length .0) ours
+abbrev pub FewestKept : Row → Spread → List Event → List Stretch → Type 0
+FewestKept row spread events ours = Fewest (keptAt row spread events) (row .length .0) ours
 
 -- ---- the words that a session run writes
 
@@ -63,4 +64,4 @@ pub record FewestWritten (words : List ℕ) (sp : Steps) (bytes : List ℕ) (pai
   pub events : List Event
   pub read : map readRecord (recordsOf bytes) ≡ map accepted events
   pub number : length (pairsIn (take (2 * pairs) buffer)) ≡ pairs
-  pub fewest : FewestKept (rowOf words) (sp .0) events (pairsIn (take (2 * pairs) buffer))
+  pub fewest : FewestKept (rowOf words) (Settled sp) events (pairsIn (take (2 * pairs) buffer))

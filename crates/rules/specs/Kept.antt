@@ -1,4 +1,5 @@
--- Document 01, "Best quote and kept time": kept milliseconds and kept time, with the sentence that document 02, W2, adds.
+-- Document 01, "Best quote and kept time": kept milliseconds and kept time, with what document 02 adds: W2's sentence on
+-- D and, by W4, a strike's spread limit.
 use Prim.Native.Nat.{ℕ}
 use mathlib.Core.List.{List}
 use mathlib.Core.Bool.{Bool, false, _&&_, _||_}
@@ -10,24 +11,32 @@ use Rattle.rules.specs.declared.Quote.{Quote}
 use Rattle.rules.specs.declared.Quote.the-variants.{Absent, At}
 use Rattle.rules.specs.declared.Order.{Order}
 use Rattle.rules.specs.declared.Row.{Row}
+use Rattle.rules.specs.declared.Spread.{Spread}
+use Rattle.rules.specs.declared.Spread.the-variants.{Settled, OfStrike}
 use Rattle.rules.specs.declared.Event.{Event}
 use Rattle.rules.specs.Lists.{keep, count}
 use Rattle.rules.specs.Orders.{timeOf, live}
 use Rattle.rules.specs.Quotes.{best}
+use Rattle.rules.specs.Strikes.{strikeWithin}
 
 -- "D is best ask less best bid, and may be negative."
 abbrev pub gap : ℤ → ℤ → ℤ
 gap bid ask = ask -ℤ bid
 
--- "D × 100,000 ≤ a × SP or D ≤ b"; document 02, W2: "a millisecond is kept only if D is also 1 or more"
-abbrev pub spreadKeeps : ℕ → ℕ → ℤ → ℤ → Bool
-spreadKeeps a b sp d = leZ (pos 1) d && (leZ (d *ℤ pos 100000) (pos a *ℤ sp) || leZ d (pos b))
+-- "D × 100,000 ≤ a × SP or D ≤ b"; document 02, W4: "for a strike", "whether D is within" its limit, the row's a and b unread
+abbrev pub spreadWithin : Row → Spread → ℤ → Bool
+spreadWithin row (Settled sp) d = leZ (d *ℤ pos 100000) (pos (row .a) *ℤ (sp .0)) || leZ d (pos (row .b))
+spreadWithin row (OfStrike s) d = strikeWithin s d
+
+-- document 02, W2: "a millisecond is kept only if D is also 1 or more"
+abbrev pub spreadKeeps : Row → Spread → ℤ → Bool
+spreadKeeps row spread d = leZ (pos 1) d && spreadWithin row spread d
 
 -- "both quotes exist and" their D is so
-unfoldable pub quotesKeep : ℕ → ℕ → ℤ → Quote → Quote → Bool
-quotesKeep a b sp Absent ask = false
-quotesKeep a b sp (At bid) Absent = false
-quotesKeep a b sp (At bid) (At ask) = spreadKeeps a b sp (gap (bid .0) (ask .0))
+unfoldable pub quotesKeep : Row → Spread → Quote → Quote → Bool
+quotesKeep row spread Absent ask = false
+quotesKeep row spread (At bid) Absent = false
+quotesKeep row spread (At bid) (At ask) = spreadKeeps row spread (gap (bid .0) (ask .0))
 
 -- the best bid and the best ask of live orders, for the row's M
 abbrev pub bestBid : Row → List Order → Quote
@@ -37,17 +46,17 @@ abbrev pub bestAsk : Row → List Order → Quote
 bestAsk row orders = best Sell (row .least .0) orders
 
 -- the live orders keep the quote
-unfoldable pub ordersKeep : Row → ℤ → List Order → Bool
-ordersKeep row sp orders = quotesKeep (row .a) (row .b) sp (bestBid row orders) (bestAsk row orders)
+unfoldable pub ordersKeep : Row → Spread → List Order → Bool
+ordersKeep row spread orders = quotesKeep row spread (bestBid row orders) (bestAsk row orders)
 
 -- "all accepted events with t at most m"
 unfoldable pub upTo : ℕ → List Event → List Event
 upTo m events = keep (λ (e : Event). leb (timeOf e) m) events
 
 -- "A millisecond m, from 0 to L-1, is kept if, after all accepted events with t at most m," the live orders keep the quote
-unfoldable pub keptAt : Row → ℤ → List Event → ℕ → Bool
-keptAt row sp events m = ordersKeep row sp (live (upTo m events))
+unfoldable pub keptAt : Row → Spread → List Event → ℕ → Bool
+keptAt row spread events m = ordersKeep row spread (live (upTo m events))
 
 -- K below a time: "the number of kept m below the present time; after close, below L"
-unfoldable pub keptBelow : Row → ℤ → List Event → ℕ → ℕ
-keptBelow row sp events n = count (keptAt row sp events) n
+unfoldable pub keptBelow : Row → Spread → List Event → ℕ → ℕ
+keptBelow row spread events n = count (keptAt row spread events) n

@@ -3,9 +3,9 @@ use Prim.Native.Nat.{ℕ}
 use mathlib.Core.List.{List}
 use mathlib.Core.Bool.{Bool, not, _&&_, _||_}
 use lib.Dec.{leb, eqb}
-use lib.IntN.{ℤ}
 use lib.ListN.{length}
 use Rattle.rules.specs.declared.Row.{Row}
+use Rattle.rules.specs.declared.Spread.{Spread}
 use Rattle.rules.specs.declared.Event.{Event}
 use Rattle.rules.specs.Kept.{keptAt}
 use Rattle.rules.specs.Stretches.{Stretch, stretches}
@@ -20,8 +20,8 @@ unfoldable pub lapses : (ℕ → Bool) → ℕ → List Stretch
 lapses p n = stretches (missing p) n
 
 -- their count: "the open quantum (below its present time)", and a cell, below L
-unfoldable pub lapsesBelow : Row → ℤ → List Event → ℕ → ℕ
-lapsesBelow row sp events n = length (lapses (keptAt row sp events) n)
+unfoldable pub lapsesBelow : Row → Spread → List Event → ℕ → ℕ
+lapsesBelow row spread events n = length (lapses (keptAt row spread events) n)
 
 -- As a person counts them: each one has a first millisecond, which is not kept, at the quantum's start or right after a kept one.
 -- proofs/Lapses shows that these are as many.

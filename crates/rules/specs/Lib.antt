@@ -10,6 +10,8 @@ pub mod Orders
 -- "Best quote and kept time"
 pub mod Quotes
 pub mod Search
+-- document 02, W4: strikes
+pub mod Strikes
 pub mod Kept
 pub mod Stretches
 pub mod Runs
@@ -21,6 +23,8 @@ pub mod Pay
 pub mod Answers
 pub mod Book
 pub mod Bounds
+-- document 02, W4: boards
+pub mod Boards
 -- "Choosing the row"
 pub mod Choosing
 -- "Event records and the session run"

@@ -5,6 +5,7 @@ use mathlib.Core.Bool.{Bool}
 use lib.Dec.{ltb, eqb}
 use lib.ListN.{length, take, drop}
 use Rattle.rules.specs.declared.Steps.{Steps}
+use Rattle.rules.specs.declared.Spread.the-variants.{Settled}
 use Rattle.rules.specs.declared.Opening.{Opening}
 use Rattle.rules.specs.declared.Event.{Event}
 use Rattle.rules.specs.Lists.{if_then_else_, below}
@@ -45,7 +46,7 @@ pub data Session : Type 0 where
 -- the stretches that the open quantum has kept below L
 abbrev pub stretchesIn : Running → List Stretch
 stretchesIn Idle = []
-stretchesIn (Quoting place row told events) = keptStretches row (told .sp .0) events
+stretchesIn (Quoting place row told events) = keptStretches row (told .spread) events
 
 -- as stopped by a refusal at a place, or going on where there is none
 abbrev pub unless : ℕ → ℕ → Session → Session
@@ -54,7 +55,7 @@ unless (suc n) place next = halted (suc n) place
 
 -- document 02, W1: "Session runs use 65,535."
 abbrev pub withoutLimit : Steps → Opening
-withoutLimit sp = record { sp = sp; limit = noLimit }
+withoutLimit sp = record { spread = Settled sp; limit = noLimit }
 
 module _ (terms : Terms) where
   -- "A record with cause 15 is no event, so 15 is its only cause."

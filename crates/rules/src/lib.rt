@@ -41,9 +41,23 @@ pub struct Row {
     pub share: u32,
 }
 
-// What open is told besides the row and the day: SP and the lapse limit.
+// What a strike's open takes in place of SP: a in tenths, the premium difference in price steps, the days, b in price steps.
+pub struct Strike {
+    pub a: u32,
+    pub difference: u32,
+    pub days: u32,
+    pub b: u32,
+}
+
+// What a quantum's spread limit goes by: SP, beside the row's a and b, or a strike's four numbers.
+pub enum Spread {
+    Settled(Steps),
+    OfStrike(Strike),
+}
+
+// What open is told besides the row and the day: what the spread limit goes by, and the lapse limit.
 pub struct Opening {
-    pub sp: Steps,
+    pub spread: Spread,
     pub limit: u32,
 }
 
@@ -87,7 +101,7 @@ pub enum Event {
     },
 }
 
-// Why a call is refused, in the order of the numbers 1 to 17.
+// Why a call is refused, in the order of the numbers 1 to 18.
 pub enum Refusal {
     RowNotSevenWords,
     RowWordOutOfRange,
@@ -106,6 +120,7 @@ pub enum Refusal {
     BadRecord,
     BufferShort,
     LapseLimitOutOfRange,
+    StrikesOutOfRange,
 }
 
 // The answer of a call that shows nothing when it is accepted.
@@ -187,5 +202,6 @@ pub fn number(refusal: Refusal) -> u32
         Refusal::BadRecord => 15,
         Refusal::BufferShort => 16,
         Refusal::LapseLimitOutOfRange => 17,
+        Refusal::StrikesOutOfRange => 18,
     }
 }
