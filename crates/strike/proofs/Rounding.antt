@@ -9,10 +9,10 @@ use lib.Dec.{leb}
 use lib.IntN.{ℤ, pos, negsuc}
 use lib.Signed.{leZ}
 use Rattle.rules.specs.declared.Strike.{Strike}
-use Rattle.rules.specs.Strikes.{squareOf, halfBelow, strikeWithin, Rounded}
+use Rattle.rules.specs.Strikes.{goodStrike, squareOf, halfBelow, strikeWithin, Rounded}
 use Rattle.strike.specs.Limit.{greatestUpTo, roundedOf, strikeLimit}
 use Rattle.strike.proofs.Greatest.{greatest-law, greatest-passes}
-use Rattle.strike.proofs.Squares.{square-le, beyond}
+use Rattle.strike.proofs.Squares.{square-is, square-le, beyond, strike-bounds, square-most}
 
 -- at most the greater of two: at most one of them
 at-most-greater : (d m n : ℕ) → leb d (max m n) ≡ leb d m || leb d n
@@ -89,3 +89,15 @@ module _ (s : Strike) where
   unfolding strikeLimit strikeWithin
   strike-law (pos d) = at-most-greater d (roundedOf s) (s .b) ∙ ap (λ (t : Bool). t || leb d (s .b)) (rounded-law d)
   strike-law (negsuc d) = refl
+
+  -- with the four numbers in their ranges, the product is rounded to at most 2,000,000, and b is at most 1,000,000
+  pub rounded-most : goodStrike s ≡ true → roundedOf s ≤ 2000000
+  rounded-most e =
+      let square : 4 * squareOf s ≤ 584000000000000000 = rw (square-is (s .a * s .difference)) (omega (arith, square-most s e)) in
+      let most : roundedOf s < 2000001 =
+      leb-false 2000001 (roundedOf s) (rounded-law 2000001 ∙ fails 2000001 (omega arith)) in
+      omega arith
+
+  pub limit-most : goodStrike s ≡ true → strikeLimit s ≤ 2000000
+  unfolding strikeLimit
+  limit-most e = omega (arith, rounded-most e, strike-bounds s e .b-most)

@@ -12,7 +12,7 @@ greatestUpTo p zero = 0
 greatestUpTo p (suc n) = let smaller = greatestUpTo p n in if p (suc n) then suc n else smaller
 
 -- "a × |premium difference| × root of (days / 365)", "rounded to the nearest step, half upwards": the greatest D that, less half a step, is
--- at most that product. With a in tenths and at most 1 / 365 of the days' root, no such D is above a × difference × days.
+-- at most that product. None above a × difference × days is, whatever the four numbers (proofs/Squares, `beyond`).
 unfoldable pub roundedOf : Strike → ℕ
 roundedOf s = greatestUpTo (halfBelow s) (s .a * s .difference * s .days)
 
