@@ -28,13 +28,21 @@ fn square(s: Strike) -> u64
     4 * (product * product * (s.days as u64))
 }
 
+// Twice what d less half a step is.
+fn doubled(d: u32) -> u64
+    requires { ⌜ (1 ≤ d) × (d ≤ 2000001) ⌝ }
+    ensures { λ r. ⌜ (r ≡ 2 * d - 1) × (r ≤ 4000001) ⌝ }
+{
+    2 * (d as u64) - 1
+}
+
 // Whether d less half a step is at most the product, by the doubled numbers' squares.
 fn half_below(d: u32, square: u64) -> bool
     requires { ⌜ (1 ≤ d) × (d ≤ 2000001) ⌝ }
     ensures { λ r. ⌜ r ≡ leb ((2 * d - 1) ^ 2 * 36500) square ⌝ }
 {
-    let doubled = 2 * (d as u64) - 1;
-    doubled * doubled * 36500 <= square
+    let twice = doubled(d);
+    twice * twice * 36500 <= square
 }
 
 // The nearest step, half upwards, between two numbers that close in on it.
