@@ -1,0 +1,78 @@
+// The spread limit of a strike, by a search on squares: no root and no float.
+ghost use mathlib.Core.Path.{_≡_};
+ghost use mathlib.Core.Bool.{true};
+ghost use Prim.Native.Nat.{_+_, _-_, _*_, _^_, max, _≤_, _<_};
+ghost use lib.Dec.{leb};
+ghost use Rattle.rules.specs.Strikes.{goodStrike, squareOf, Rounded};
+ghost use Rattle.strike.specs.Limit.{roundedOf, strikeLimit};
+use rules::Strike;
+
+// Whether the four numbers are in their ranges.
+pub fn is_good(s: Strike) -> bool
+    ensures { λ r. ⌜ r ≡ goodStrike s ⌝ }
+{
+    let product = ranges::both(
+        ranges::at_most(s.a, 200),
+        ranges::at_most(s.difference, 100000),
+    );
+    let root = ranges::both(product, ranges::at_most(s.days, 365));
+    ranges::both(root, ranges::at_most(s.b, 1000000))
+}
+
+// The doubled product's square, times 36,500.
+fn square(s: Strike) -> u64
+    requires { ⌜ goodStrike s ≡ true ⌝ }
+    ensures { λ r. ⌜ (r ≡ 4 * squareOf s) × (r ≤ 584000000000000000) ⌝ }
+{
+    let product = (s.a as u64) * (s.difference as u64);
+    4 * (product * product * (s.days as u64))
+}
+
+// Twice what d less half a step is.
+fn doubled(d: u32) -> u64
+    requires { ⌜ (1 ≤ d) × (d ≤ 2000001) ⌝ }
+    ensures { λ r. ⌜ (r ≡ 2 * d - 1) × (r ≤ 4000001) ⌝ }
+{
+    2 * (d as u64) - 1
+}
+
+// Whether d less half a step is at most the product, by the doubled numbers' squares.
+fn half_below(d: u32, square: u64) -> bool
+    requires { ⌜ (1 ≤ d) × (d ≤ 2000001) ⌝ }
+    ensures { λ r. ⌜ r ≡ leb ((2 * d - 1) ^ 2 * 36500) square ⌝ }
+{
+    let twice = doubled(d);
+    twice * twice * 36500 <= square
+}
+
+// The nearest step, half upwards, between two numbers that close in on it.
+fn nearest(square: u64) -> u32
+    requires { ⌜ square ≤ 584000000000000000 ⌝ }
+    ensures { λ r. ⌜ ((2 * r - 1) ^ 2 * 36500 ≤ square) × (square < (2 * r + 1) ^ 2 * 36500) × (r ≤ 2000000) ⌝ }
+{
+    let mut low: u32 = 0;
+    let mut high: u32 = 2000001;
+    while low + 1 < high {
+        let middle = (low + high) / 2;
+        if half_below(middle, square) {
+            low = middle;
+        } else {
+            high = middle;
+        }
+    }
+    low
+}
+
+fn greater(a: u32, b: u32) -> u32
+    ensures { λ r. ⌜ r ≡ max a b ⌝ }
+{
+    if a < b { b } else { a }
+}
+
+// The greatest D that is within the strike's spread limit.
+pub fn limit(s: Strike) -> u32
+    requires { ⌜ goodStrike s ≡ true ⌝ }
+    ensures { λ r. ⌜ r ≡ strikeLimit s ⌝ }
+{
+    greater(nearest(square(s)), s.b)
+}
