@@ -4,12 +4,12 @@ use native.Mathlib.Omega.{arith}
 use mathlib.Core.Path.{_≡_, sym, ap, _∙_, subst}
 use mathlib.Core.List.{List, map, map-map}
 use mathlib.Core.Bool.{Bool}
-use lib.IntN.{ℤ}
 use lib.ListN.{getD}
 use Rattle.rules.specs.declared.Side.{Side}
 use Rattle.rules.specs.declared.Side.the-variants.{Buy, Sell}
 use Rattle.rules.specs.declared.Order.{Order}
 use Rattle.rules.specs.declared.Row.{Row}
+use Rattle.rules.specs.declared.Spread.{Spread}
 use Rattle.rules.specs.Lists.{if_then_else_}
 use Rattle.rules.specs.Quotes.{best}
 use Rattle.rules.specs.Kept.{quotesKeep, ordersKeep}
@@ -17,7 +17,7 @@ use Rattle.rules.proofs.Lists.{kept-in}
 use Rattle.rules.proofs.Best.{sided}
 use Rattle.quote.specs.Keys.{keyIn, quoteKey, quoteAt}
 use Rattle.quote.specs.Levels.{levelAt, levelOf, bestKey}
-use Rattle.quote.specs.Limit.{limitOf, keysKeep}
+use Rattle.quote.specs.Limit.{LimitFor, keysKeep}
 use Rattle.quote.proofs.Keys.{GoodQuote, good-quote}
 use Rattle.quote.proofs.Finding.{bestOf, side-most, best-key, key-best}
 use Rattle.quote.proofs.Spread.{keys-law}
@@ -56,18 +56,16 @@ module _ (table : List ℕ) (least : ℕ) (live : List Order) (stands : Standing
   good-best s =
       subst GoodQuote (sym (best-key s least live (stands .good .prices))) (good-quote s (bestOf s least (ofSide s live)) (most s))
 
-  pub words-keep : (a b : ℕ) (sp : ℤ)
-      → keysKeep (limitOf a b sp) (getD table 193 0) (getD table 449 0) ≡ quotesKeep a b sp (best Buy least live) (best Sell least live)
-  words-keep a b sp =
-      ap (λ (k : ℕ). keysKeep (limitOf a b sp) k (getD table 449 0)) (word-key 0 (omega arith))
-      ∙ ap (keysKeep (limitOf a b sp) (quoteKey Buy (best Buy least live))) (word-key 1 (omega arith))
-      ∙ keys-law a b sp (best Buy least live) (best Sell least live) (good-best Buy) (good-best Sell)
+  pub words-keep : (row : Row) (sp : Spread) (limit : ℕ) → LimitFor row sp limit
+      → keysKeep limit (getD table 193 0) (getD table 449 0) ≡ quotesKeep row sp (best Buy least live) (best Sell least live)
+  words-keep row sp limit law =
+      ap (λ (k : ℕ). keysKeep limit k (getD table 449 0)) (word-key 0 (omega arith))
+      ∙ ap (keysKeep limit (quoteKey Buy (best Buy least live))) (word-key 1 (omega arith))
+      ∙ keys-law row sp limit law (best Buy least live) (best Sell least live) (good-best Buy) (good-best Sell)
 
-pub keeps-is : (table : List ℕ) (row : Row) (sp : ℤ) (live : List Order) → GoodOrders live → table ≡ tableOf (row .least .0) live
-    → (limit r : ℕ) → limit ≡ limitOf (row .a) (row .b) sp → r ≡ (if keysKeep limit (getD table 193 0) (getD table 449 0) then 1 else 0)
+pub keeps-is : (table : List ℕ) (row : Row) (sp : Spread) (live : List Order) → GoodOrders live → table ≡ tableOf (row .least .0) live
+    → (limit r : ℕ) → LimitFor row sp limit → r ≡ (if keysKeep limit (getD table 193 0) (getD table 449 0) then 1 else 0)
     → r ≡ (if ordersKeep row sp live then 1 else 0)
 unfolding ordersKeep
 keeps-is table row sp live good is limit r l e =
-    e
-    ∙ ap (λ (n : ℕ). if keysKeep n (getD table 193 0) (getD table 449 0) then 1 else 0) l
-    ∙ ap (λ (b : Bool). if b then 1 else 0) (words-keep table (row .least .0) live (record { good = good; is = is }) (row .a) (row .b) sp)
+    e ∙ ap (λ (b : Bool). if b then 1 else 0) (words-keep table (row .least .0) live (record { good = good; is = is }) row sp limit l)

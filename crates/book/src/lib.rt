@@ -5,17 +5,17 @@ ghost use mathlib.Core.List.{List, []};
 ghost use mathlib.Core.Bool.{_&&_, not};
 ghost use Prim.Native.Nat.{ℕ, _+_, _≤_, _<_};
 ghost use lib.Dec.{eqb};
-ghost use lib.IntN.{ℤ};
 ghost use lib.ListN.{length};
 ghost use Rattle.rules.specs.declared.Order.{Order};
 ghost use Rattle.rules.specs.declared.Millis.{Millis};
 ghost use Rattle.rules.specs.declared.Row.{Row};
+ghost use Rattle.rules.specs.declared.Spread.{Spread};
 ghost use Rattle.rules.specs.declared.Event.the-variants.{Add, Amend, Cancel, Deal};
 ghost use Rattle.rules.specs.Lists.{if_then_else_};
 ghost use Rattle.rules.specs.Units.{goodPrice, goodVolume};
 ghost use Rattle.rules.specs.Quotes.{best as bestQuote};
 ghost use Rattle.rules.specs.Kept.{ordersKeep};
-ghost use Rattle.quote.specs.Limit.{limitOf};
+ghost use Rattle.quote.specs.Limit.{LimitFor};
 ghost use Rattle.book.specs.Table.{tableOf, slotBy, slotIn, GoodOrders, Held, Holding, Sends};
 ghost use Rattle.book.specs.Steps.{Numbers, sideAt, idOf, Standing, Located, Placed, answer, noChange, Turned};
 use ranges::both;
@@ -329,7 +329,7 @@ pub fn send(table: &mut [u32], hints: &mut [u8], e: Event, least: Contracts) -> 
 // Whether the live orders keep the quote, 1 or 0, by the row's spread limit.
 pub fn keeps(table: &[u32], limit: u32) -> u32
     requires { ⌜ length (now table) ≡ 512 ⌝ }
-    ensures { λ r. ⌜ ((row : Row) (sp : ℤ) (live : List Order) → GoodOrders live → now (table .entry) ≡ tableOf (row .least .0) live → limit ≡ limitOf (row .a) (row .b) sp → r ≡ (if ordersKeep row sp live then 1 else 0)) ⌝ }
+    ensures { λ r. ⌜ ((row : Row) (sp : Spread) (live : List Order) → GoodOrders live → now (table .entry) ≡ tableOf (row .least .0) live → LimitFor row sp limit → r ≡ (if ordersKeep row sp live then 1 else 0)) ⌝ }
 {
     quote::keys_keep(limit, table[193], table[449])
 }

@@ -6,9 +6,9 @@ use mathlib.Core.List.{List, [], _∷_}
 use native.Mathlib.Omega.{arith}
 use borrow.Author.Tests.{ltb-true, ltb-false}
 use lib.Dec.{ltb}
-use lib.IntN.{ℤ}
 use lib.ListN.{length}
 use Rattle.rules.specs.declared.Row.{Row}
+use Rattle.rules.specs.declared.Spread.{Spread}
 use Rattle.rules.specs.declared.Event.{Event}
 use Rattle.rules.specs.declared.Event.the-variants.{Add, Amend, Cancel, Deal, Tick}
 use Rattle.rules.specs.declared.Order.{Order}
@@ -73,7 +73,7 @@ fifteen n l u a b c d e f g =
 
 -- ---- the quantum
 
-module _ (row : Row) (sp : ℤ) (es : List Event) (q : Quantum) (is : q ≡ standing row sp es) where
+module _ (row : Row) (sp : Spread) (es : List Event) (q : Quantum) (is : q ≡ standing row sp es) where
   pub stands-for : EventBounds row es → Stands row sp es (q .duty) (q .clock) (q .table)
   unfolding standing
   stands-for g =
@@ -112,7 +112,7 @@ held-in q r =
       is = stands-for (r .row) (r .sp) (r .events) q (r .is) (r .bounds) .table-is;
     }
 
-pub opened-is : (row : Row) (sp : ℤ) (duty : Duty) (clock : Clock) (table : List ℕ) → duty ≡ dutyOf row sp → clock ≡ clockOf row sp []
+pub opened-is : (row : Row) (sp : Spread) (duty : Duty) (clock : Clock) (table : List ℕ) → duty ≡ dutyOf row sp → clock ≡ clockOf row sp []
     → table ≡ tableOf (row .least .0) [] → _≡_ {A = Quantum} (record { duty = duty; clock = clock; table = table }) (standing row sp [])
 unfolding standing live applyAll
 opened-is row sp duty clock table d c t = λ i. record { duty = d i; clock = c i; table = t i }
@@ -120,7 +120,7 @@ opened-is row sp duty clock table d c t = λ i. record { duty = d i; clock = c i
 -- ---- what an event's answer shows
 
 module _ (q : Quantum) (e : Event) (exit : List ℕ) (r : Stepped) (h : Stepping (q .duty) (q .clock) e (q .table) exit r) where
-  module _ (row : Row) (sp : ℤ) (es : List Event) (g : EventBounds row es) (is : q ≡ standing row sp es) where
+  module _ (row : Row) (sp : Spread) (es : List Event) (g : EventBounds row es) (is : q ≡ standing row sp es) where
     number-is : r .refusal ≡ eventRefusal row es e
     number-is = h .number row sp es (stands-for row sp es q is g)
 

@@ -6,10 +6,13 @@ use lib.Dec.{ltb, eqb}
 use mathlib.Core.List.{List, [], _∷_, _++_}
 use native.Mathlib.Omega.{arith}
 use native.Mathlib.Nat.{le-refl}
-use lib.IntN.{ℤ}
+use lib.IntN.{pos}
+use lib.Signed.{leZ}
 use borrow.Author.Tests.{lt-ltb, le-ltb, ltb-true, ltb-false, eq-eqb, ne-eqb}
 use Rattle.rules.specs.declared.Millis.{Millis}
 use Rattle.rules.specs.declared.Row.{Row}
+use Rattle.rules.specs.declared.Spread.{Spread}
+use Rattle.rules.specs.declared.Spread.the-variants.{Settled, OfStrike}
 use Rattle.rules.specs.declared.Event.{Event}
 use Rattle.rules.specs.declared.Event.the-variants.{Add, Amend, Cancel, Deal, Tick}
 use Rattle.rules.specs.declared.Order.{Order}
@@ -25,17 +28,24 @@ use Rattle.rules.proofs.Orders.{live-snoc, present-snoc}
 use Rattle.rules.proofs.Kept.{kept-onward, kept-snoc, kept-le}
 use Rattle.rules.proofs.Lapses.{lapsesBelow-le, lapses-onward, before-onward, lapses-snoc, before-snoc}
 use Rattle.rules.proofs.Refusals.{skip, stop}
-use Rattle.quote.specs.Limit.{limitOf}
+use Rattle.strike.proofs.Rounding.{strike-law}
+use Rattle.quote.specs.Limit.{LimitFor}
+use Rattle.quote.proofs.Spread.{limit-law}
 use Rattle.book.specs.Table.{tableOf, GoodOrders}
 use Rattle.quantum.specs.declared.Duty.{Duty}
 use Rattle.quantum.specs.declared.Clock.{Clock}
-use Rattle.quantum.specs.Standing.{dutyOf, clockOf, tableAfter, taken, Running, Stands, Onward, startingBy, ranOn, InTime, isTick}
+use Rattle.quantum.specs.Standing.{limitFor, dutyOf, clockOf, tableAfter, taken, Running, Stands, Onward, startingBy, ranOn, InTime, isTick}
 
 pub good-orders : (row : Row) (es : List Event) → EventBounds row es → GoodOrders (live es)
 good-orders row es g = record { few = g .few; distinct = g .distinct; prices = g .prices; volumes = g .volumes }
 
 abbrev pub stands : {duty : Duty} {clock : Clock} {table hints : List ℕ} (s : Running duty clock table hints) → Stands (s .row) (s .sp) (s .events) duty clock table
 stands s = record { bounds = s .bounds; duty-is = s .duty-is; clock-is = s .clock-is; table-is = s .table-is }
+
+-- what is fixed at open says the same as the definition
+limit-for : (row : Row) (sp : Spread) → LimitFor row sp (limitFor row sp)
+limit-for row (Settled sp) d = limit-law (row .a) (row .b) (sp .0) d
+limit-for row (OfStrike s) d = strike-law s d
 
 -- 1 or 0
 abbrev pub one : Bool → ℕ
@@ -92,7 +102,7 @@ module _ (c : Clock) (t : Millis) (keeps : ℕ) where
 
 -- ---- the fields
 
-module _ (row : Row) (sp : ℤ) (es : List Event) (clock : Clock) (is : clock ≡ clockOf row sp es) where
+module _ (row : Row) (sp : Spread) (es : List Event) (clock : Clock) (is : clock ≡ clockOf row sp es) where
   pub time-is : clock .time .0 ≡ present es
   unfolding clockOf
   time-is = ap (λ (x : Clock). x .time .0) is
@@ -224,7 +234,7 @@ tick-causes orders (Tick t) h = refl
 
 -- ---- what an event does
 
-module _ (row : Row) (sp : ℤ) (es : List Event) (duty : Duty) (clock : Clock) (table : List ℕ) (s : Stands row sp es duty clock table) where
+module _ (row : Row) (sp : Spread) (es : List Event) (duty : Duty) (clock : Clock) (table : List ℕ) (s : Stands row sp es duty clock table) where
   pub length-is : duty .length .0 ≡ row .length .0
   unfolding dutyOf
   length-is = ap (λ (x : Duty). x .length .0) (s .duty-is)
@@ -233,9 +243,9 @@ module _ (row : Row) (sp : ℤ) (es : List Event) (duty : Duty) (clock : Clock) 
   unfolding dutyOf
   least-is = ap (λ (x : Duty). x .least) (s .duty-is)
 
-  pub limit-is : duty .limit ≡ limitOf (row .a) (row .b) sp
+  pub limit-is : LimitFor row sp (duty .limit)
   unfolding dutyOf
-  limit-is = ap (λ (x : Duty). x .limit) (s .duty-is)
+  limit-is d = ap (λ (x : Duty). leZ d (pos (x .limit))) (s .duty-is) ∙ limit-for row sp d
 
   -- ---- the causes, by what the clock holds
 

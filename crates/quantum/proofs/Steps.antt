@@ -4,10 +4,10 @@ use mathlib.Core.Path.{_≡_, refl, ap, sym, _∙_, subst}
 use mathlib.Core.Bool.{true}
 use mathlib.Core.List.{List, [], _∷_, _++_}
 use native.Mathlib.Omega.{arith}
-use lib.IntN.{ℤ}
 use Rattle.rules.specs.declared.Millis.{Millis}
 use Rattle.rules.specs.declared.Contracts.{Contracts}
 use Rattle.rules.specs.declared.Row.{Row}
+use Rattle.rules.specs.declared.Spread.{Spread}
 use Rattle.rules.specs.declared.Event.{Event}
 use Rattle.rules.specs.declared.Order.{Order}
 use Rattle.rules.specs.Orders.{live, apply}
@@ -24,7 +24,7 @@ use Rattle.quantum.proofs.Standing.{good-orders, one, stands, keeps-is,
 
 module _ {duty : Duty} {clock : Clock} where
   -- the table as the duty's least volume has it
-  least-table : {table : List ℕ} {row : Row} {sp : ℤ} {es : List Event} → Stands row sp es duty clock table → table ≡ tableOf (duty .least .0) (live es)
+  least-table : {table : List ℕ} {row : Row} {sp : Spread} {es : List Event} → Stands row sp es duty clock table → table ≡ tableOf (duty .least .0) (live es)
   least-table {table} {row} {sp} {es} s =
       s .table-is ∙ ap (λ (m : Contracts). tableOf (m .0) (live es)) (sym (least-is row sp es duty clock table s))
 
@@ -42,7 +42,7 @@ module _ {duty : Duty} {clock : Clock} where
 -- ---- refused before the orders are looked at: by its number, with clock and table as they were
 
 pub refused-step : (duty : Duty) (clock : Clock) (e : Event) (table : List ℕ) (r : Stepped) (n : ℕ) → (r .clock ≡ clock) × (r .refusal ≡ suc n)
-    → ((row : Row) (sp : ℤ) (es : List Event) → Stands row sp es duty clock table → suc n ≡ eventRefusal row es e)
+    → ((row : Row) (sp : Spread) (es : List Event) → Stands row sp es duty clock table → suc n ≡ eventRefusal row es e)
     → Stepping duty clock e table table r
 refused-step duty clock e table r n h k =
     record {
@@ -65,18 +65,18 @@ tick-step duty clock e t table next h i f =
           next-table row sp es duty clock table s e table (zero-is row sp es s) (s .table-is ∙ ap (tableOf (row .least .0)) (sym (tick-live (live es) e h)));
     }
   where
-    zero-is : (row : Row) (sp : ℤ) (es : List Event) → Stands row sp es duty clock table → eventRefusal row es e ≡ 0
+    zero-is : (row : Row) (sp : Spread) (es : List Event) → Stands row sp es duty clock table → eventRefusal row es e ≡ 0
     zero-is row sp es s = in-time row sp es duty clock table s e t i ∙ tick-causes (live es) e h
 
 -- ---- the orders' answer
 
 module _ (duty : Duty) (clock : Clock) (e : Event) (t : Millis) (entry exit : List ℕ) (n : ℕ) (i : InTime duty clock e t)
     (sends : Sends e (duty .least .0) entry exit n) where
-  number-is : (row : Row) (sp : ℤ) (es : List Event) → Stands row sp es duty clock entry → n ≡ eventRefusal row es e
+  number-is : (row : Row) (sp : Spread) (es : List Event) → Stands row sp es duty clock entry → n ≡ eventRefusal row es e
   number-is row sp es s =
       sends .refusal (live es) (good-orders row es (s .bounds)) (least-table s) ∙ sym (in-time row sp es duty clock entry s e t i)
 
-  exit-is : (row : Row) (sp : ℤ) (es : List Event) → Stands row sp es duty clock entry → exit ≡ tableOf (row .least .0) (sentTo n (live es) e)
+  exit-is : (row : Row) (sp : Spread) (es : List Event) → Stands row sp es duty clock entry → exit ≡ tableOf (row .least .0) (sentTo n (live es) e)
   exit-is row sp es s =
       sends .table (live es) (good-orders row es (s .bounds)) (least-table s)
       ∙ ap (λ (m : Contracts). tableOf (m .0) (sentTo n (live es) e)) (least-is row sp es duty clock entry s)
@@ -97,20 +97,20 @@ module _ (duty : Duty) (clock : Clock) (e : Event) (t : Millis) (entry exit : Li
           }
 
   -- the orders after it
-  pub taken-table : n ≤ 0 → (row : Row) (sp : ℤ) (es : List Event) → Stands row sp es duty clock entry → exit ≡ tableOf (row .least .0) (apply (live es) e)
+  pub taken-table : n ≤ 0 → (row : Row) (sp : Spread) (es : List Event) → Stands row sp es duty clock entry → exit ≡ tableOf (row .least .0) (apply (live es) e)
   taken-table l row sp es s =
       let z : n ≡ 0 = omega arith in
       exit-is row sp es s ∙ ap (λ (k : ℕ). tableOf (row .least .0) (sentTo k (live es) e)) z
 
   -- they are as the book's bounds have them
-  pub taken-good : n ≤ 0 → (row : Row) (sp : ℤ) (es : List Event) → Stands row sp es duty clock entry → GoodOrders (apply (live es) e)
+  pub taken-good : n ≤ 0 → (row : Row) (sp : Spread) (es : List Event) → Stands row sp es duty clock entry → GoodOrders (apply (live es) e)
   taken-good l row sp es s =
       let z : n ≡ 0 = omega arith in
       subst GoodOrders (live-snoc es e)
       (good-orders row (es ++ (e ∷ [])) (event-bounds-more row es e (s .bounds) (sym (number-is row sp es s) ∙ z)))
 
   pub taken-orders : (next : Clock) (keeps : ℕ) → n ≤ 0 → next ≡ ranOn clock t keeps
-      → ((row : Row) (sp : ℤ) (es : List Event) → Stands row sp es duty clock entry → keeps ≡ one (ordersKeep row sp (apply (live es) e)))
+      → ((row : Row) (sp : Spread) (es : List Event) → Stands row sp es duty clock entry → keeps ≡ one (ordersKeep row sp (apply (live es) e)))
       → Stepping duty clock e entry exit (record { clock = next; refusal = 0 })
   taken-orders next keeps l f k =
       let z : n ≡ 0 = omega arith in

@@ -4,10 +4,11 @@ use mathlib.Core.Path.{_≡_}
 use mathlib.Core.List.{List, [], _∷_, _++_}
 use mathlib.Core.Bool.{Bool, true, false, _||_}
 use lib.Dec.{ltb, eqb}
-use lib.IntN.{ℤ}
 use lib.ListN.{length}
 use Rattle.rules.specs.declared.Millis.{Millis}
 use Rattle.rules.specs.declared.Row.{Row}
+use Rattle.rules.specs.declared.Spread.{Spread}
+use Rattle.rules.specs.declared.Spread.the-variants.{Settled, OfStrike}
 use Rattle.rules.specs.declared.Event.{Event}
 use Rattle.rules.specs.declared.Event.the-variants.{Add, Amend, Cancel, Deal, Tick}
 use Rattle.rules.specs.Lists.{if_then_else_}
@@ -19,6 +20,7 @@ use Rattle.rules.specs.Lapses.{lapsesBelow}
 use Rattle.rules.specs.Answers.{outcomeBy, done, shownAnswer}
 use Rattle.rules.specs.Book.{eventRefusal}
 use Rattle.rules.specs.Bounds.{EventBounds}
+use Rattle.strike.specs.Limit.{strikeLimit}
 use Rattle.quote.specs.Limit.{limitOf}
 use Rattle.book.specs.Table.{tableOf}
 use Rattle.quantum.specs.declared.Duty.{Duty}
@@ -27,13 +29,18 @@ use Rattle.quantum.specs.declared.Stepped.{Stepped}
 use Rattle.quantum.specs.declared.Quantum.{Quantum}
 use Rattle.quantum.specs.declared.Sent.{Sent}
 
+-- the greatest D that the spread test takes
+abbrev pub limitFor : Row → Spread → ℕ
+limitFor row (Settled sp) = limitOf (row .a) (row .b) (sp .0)
+limitFor row (OfStrike s) = strikeLimit s
+
 -- what a quantum is opened with
-unfoldable pub dutyOf : Row → ℤ → Duty
-dutyOf row sp = record { length = row .length; least = row .least; limit = limitOf (row .a) (row .b) sp }
+unfoldable pub dutyOf : Row → Spread → Duty
+dutyOf row sp = record { length = row .length; least = row .least; limit = limitFor row sp }
 
 -- after these accepted events: the time, kept time, whether the live orders keep the quote from now on, the lapses, and whether the
 -- millisecond before the present is kept
-unfoldable pub clockOf : Row → ℤ → List Event → Clock
+unfoldable pub clockOf : Row → Spread → List Event → Clock
 clockOf row sp events =
     record {
       time = millis (present events);
@@ -47,13 +54,13 @@ clockOf row sp events =
 abbrev pub tableAfter : Row → List Event → List ℕ
 tableAfter row events = tableOf (row .least .0) (live events)
 
-unfoldable pub standing : Row → ℤ → List Event → Quantum
+unfoldable pub standing : Row → Spread → List Event → Quantum
 standing row sp events = record { duty = dutyOf row sp; clock = clockOf row sp events; table = tableAfter row events }
 
 -- a quantum that a call handed back
 pub record Reached (q : Quantum) : Type 0 where
   pub row : Row
-  pub sp : ℤ
+  pub sp : Spread
   pub events : List Event
   pub some : 1 ≤ row .least .0
   pub bounds : EventBounds row events
@@ -66,9 +73,9 @@ taken (suc n) events e = events
 
 -- what an event promises: for all accepted events that led to q, the quantum with this event taken or refused, and the book's number
 pub record Answered (q : Quantum) (e : Event) (r : Sent) : Type 0 where
-  pub quantum : (row : Row) (sp : ℤ) (events : List Event) → EventBounds row events → q ≡ standing row sp events
+  pub quantum : (row : Row) (sp : Spread) (events : List Event) → EventBounds row events → q ≡ standing row sp events
       → r .quantum ≡ standing row sp (taken (eventRefusal row events e) events e)
-  pub answer : (row : Row) (sp : ℤ) (events : List Event) → EventBounds row events → q ≡ standing row sp events
+  pub answer : (row : Row) (sp : Spread) (events : List Event) → EventBounds row events → q ≡ standing row sp events
       → shownAnswer (r .answer) ≡ outcomeBy (eventRefusal row events e) done
 
 -- ---- the same in parts, with the table and the hints lent
@@ -76,7 +83,7 @@ pub record Answered (q : Quantum) (e : Event) (r : Sent) : Type 0 where
 -- a duty, a clock and a table that stand for some accepted events, and hints of their size
 pub record Running (duty : Duty) (clock : Clock) (table hints : List ℕ) : Type 0 where
   pub row : Row
-  pub sp : ℤ
+  pub sp : Spread
   pub events : List Event
   pub some : 1 ≤ row .least .0
   pub bounds : EventBounds row events
@@ -86,7 +93,7 @@ pub record Running (duty : Duty) (clock : Clock) (table hints : List ℕ) : Type
   pub hinted : length hints ≡ 1024
 
 -- they stand for these events
-pub record Stands (row : Row) (sp : ℤ) (events : List Event) (duty : Duty) (clock : Clock) (table : List ℕ) : Type 0 where
+pub record Stands (row : Row) (sp : Spread) (events : List Event) (duty : Duty) (clock : Clock) (table : List ℕ) : Type 0 where
   pub bounds : EventBounds row events
   pub duty-is : duty ≡ dutyOf row sp
   pub clock-is : clock ≡ clockOf row sp events
@@ -94,10 +101,10 @@ pub record Stands (row : Row) (sp : ℤ) (events : List Event) (duty : Duty) (cl
 
 -- what an event promises of them: the book's number, and the clock and the table with this event taken or refused
 pub record Stepping (duty : Duty) (clock : Clock) (e : Event) (entry exit : List ℕ) (r : Stepped) : Type 0 where
-  pub number : (row : Row) (sp : ℤ) (events : List Event) → Stands row sp events duty clock entry → r .refusal ≡ eventRefusal row events e
-  pub clock-after : (row : Row) (sp : ℤ) (events : List Event) → Stands row sp events duty clock entry
+  pub number : (row : Row) (sp : Spread) (events : List Event) → Stands row sp events duty clock entry → r .refusal ≡ eventRefusal row events e
+  pub clock-after : (row : Row) (sp : Spread) (events : List Event) → Stands row sp events duty clock entry
       → r .clock ≡ clockOf row sp (taken (eventRefusal row events e) events e)
-  pub table-after : (row : Row) (sp : ℤ) (events : List Event) → Stands row sp events duty clock entry
+  pub table-after : (row : Row) (sp : Spread) (events : List Event) → Stands row sp events duty clock entry
       → exit ≡ tableAfter row (taken (eventRefusal row events e) events e)
 
 -- ---- time running on

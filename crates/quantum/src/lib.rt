@@ -4,19 +4,20 @@ ghost use mathlib.Core.Path.{_≡_};
 ghost use mathlib.Core.List.{List, []};
 ghost use mathlib.Core.Bool.{true};
 ghost use Prim.Native.Nat.{_≤_};
-ghost use lib.IntN.{ℤ};
 ghost use lib.ListN.{length};
 ghost use Rattle.rules.specs.declared.Event.{Event};
 ghost use Rattle.rules.specs.declared.Row.{Row};
 ghost use Rattle.rules.specs.declared.Side.the-variants.{Buy, Sell};
 ghost use Rattle.rules.specs.Terms.{paper};
-ghost use Rattle.rules.specs.Rows.{goodRow};
+ghost use Rattle.rules.specs.declared.Spread.{Spread};
+ghost use Rattle.rules.specs.Rows.{goodRowFor};
 ghost use Rattle.rules.specs.Orders.{live as liveOrders, timeOf};
 ghost use Rattle.rules.specs.Kept.{bestBid, bestAsk, keptBelow};
 ghost use Rattle.rules.specs.Lapses.{lapsesBelow};
 ghost use Rattle.rules.specs.Answers.{numberOf};
+ghost use Rattle.rules.specs.Book.{goodSpread};
 ghost use Rattle.rules.specs.Bounds.{EventBounds};
-ghost use Rattle.quantum.specs.Standing.{dutyOf, clockOf, standing, Reached, Answered, Running, Stepping, Onward, startingBy, ranOn, InTime, isTick};
+ghost use Rattle.quantum.specs.Standing.{limitFor, dutyOf, clockOf, standing, Reached, Answered, Running, Stepping, Onward, startingBy, ranOn, InTime, isTick};
 use rules::Answer;
 use rules::Contracts;
 use rules::Event;
@@ -25,7 +26,7 @@ use rules::Quote;
 use rules::Refusal;
 use rules::Row;
 use rules::Side;
-use rules::Steps;
+use rules::Spread;
 
 // What a quantum is opened with: its length, the least volume of a quote, and the widest spread.
 pub struct Duty {
@@ -70,22 +71,33 @@ pub struct Sent {
 
 // ---- opening
 
-pub fn duty_of(row: Row, sp: Steps) -> Duty
-    requires { ⌜ goodRow paper row ≡ true ⌝ }
-    ensures { λ r. ⌜ r ≡ dutyOf row (sp .0) ⌝ }
+// The greatest D that the spread test takes, by SP or of a strike.
+fn limit_of(row: Row, spread: Spread) -> u32
+    requires { ⌜ (goodRowFor paper spread row ≡ true) × (goodSpread spread ≡ true) ⌝ }
+    ensures { λ r. ⌜ r ≡ limitFor row spread ⌝ }
+{
+    match spread {
+        Spread::Settled(sp) => quote::spread_limit(row.a, row.b, sp),
+        Spread::OfStrike(s) => strike::limit(s),
+    }
+}
+
+pub fn duty_of(row: Row, spread: Spread) -> Duty
+    requires { ⌜ (goodRowFor paper spread row ≡ true) × (goodSpread spread ≡ true) ⌝ }
+    ensures { λ r. ⌜ r ≡ dutyOf row spread ⌝ }
 {
     let length = row.length;
     let least = row.least;
     Duty {
         length,
         least,
-        limit: quote::spread_limit(row.a, row.b, sp),
+        limit: limit_of(row, spread),
     }
 }
 
 // Time 0, nothing kept, no quote, no lapse yet.
 pub fn started() -> Clock
-    ensures { λ r. ⌜ ((row : Row) (sp : ℤ) → r ≡ clockOf row sp []) ⌝ }
+    ensures { λ r. ⌜ ((row : Row) (sp : Spread) → r ≡ clockOf row sp []) ⌝ }
 {
     Clock {
         time: Millis(0),
@@ -291,11 +303,11 @@ fn stepped_on(duty: Duty, clock: Clock, table: [u32; 512], e: Event) -> Sent
 
 impl Quantum {
     // A quantum opens with no orders, at time 0.
-    pub fn opened(row: Row, sp: Steps) -> Quantum
-        requires { ⌜ goodRow paper row ≡ true ⌝ }
-        ensures { λ r. ⌜ r ≡ standing row (sp .0) [] ⌝ }
+    pub fn opened(row: Row, spread: Spread) -> Quantum
+        requires { ⌜ (goodRowFor paper spread row ≡ true) × (goodSpread spread ≡ true) ⌝ }
+        ensures { λ r. ⌜ r ≡ standing row spread [] ⌝ }
     {
-        let duty = duty_of(row, sp);
+        let duty = duty_of(row, spread);
         let clock = started();
         let table = book::empty();
         Quantum { duty, clock, table }
@@ -315,7 +327,7 @@ impl Quantum {
     // Kept time and lapses at the quantum's end.
     pub fn ended(self) -> Totals
         requires { ⌜ Reached self ⌝ }
-        ensures { λ r. ⌜ ((row : Row) (sp : ℤ) (events : List Event) → EventBounds row events → self ≡ standing row sp events → (r .kept .0 ≡ keptBelow row sp events (row .length .0)) × (r .lapses ≡ lapsesBelow row sp events (row .length .0))) ⌝ }
+        ensures { λ r. ⌜ ((row : Row) (sp : Spread) (events : List Event) → EventBounds row events → self ≡ standing row sp events → (r .kept .0 ≡ keptBelow row sp events (row .length .0)) × (r .lapses ≡ lapsesBelow row sp events (row .length .0))) ⌝ }
     {
         let duty = self.duty;
         let clock = self.clock;
@@ -359,7 +371,7 @@ impl Quantum {
 
     pub fn best_bid(self) -> Quote
         requires { ⌜ Reached self ⌝ }
-        ensures { λ r. ⌜ ((row : Row) (sp : ℤ) (events : List Event) → EventBounds row events → self ≡ standing row sp events → r ≡ bestBid row (liveOrders events)) ⌝ }
+        ensures { λ r. ⌜ ((row : Row) (sp : Spread) (events : List Event) → EventBounds row events → self ≡ standing row sp events → r ≡ bestBid row (liveOrders events)) ⌝ }
     {
         let table = self.table;
         book::best(&table, Side::Buy)
@@ -367,7 +379,7 @@ impl Quantum {
 
     pub fn best_ask(self) -> Quote
         requires { ⌜ Reached self ⌝ }
-        ensures { λ r. ⌜ ((row : Row) (sp : ℤ) (events : List Event) → EventBounds row events → self ≡ standing row sp events → r ≡ bestAsk row (liveOrders events)) ⌝ }
+        ensures { λ r. ⌜ ((row : Row) (sp : Spread) (events : List Event) → EventBounds row events → self ≡ standing row sp events → r ≡ bestAsk row (liveOrders events)) ⌝ }
     {
         let table = self.table;
         book::best(&table, Side::Sell)
@@ -375,7 +387,7 @@ impl Quantum {
 
     pub fn live(self) -> u32
         requires { ⌜ Reached self ⌝ }
-        ensures { λ r. ⌜ ((row : Row) (sp : ℤ) (events : List Event) → EventBounds row events → self ≡ standing row sp events → r ≡ length (liveOrders events)) ⌝ }
+        ensures { λ r. ⌜ ((row : Row) (sp : Spread) (events : List Event) → EventBounds row events → self ≡ standing row sp events → r ≡ length (liveOrders events)) ⌝ }
     {
         let table = self.table;
         book::count(&table)

@@ -4,6 +4,11 @@ use Prim.Native.Nat.{ℕ, _+_, _*_, _/_, max}
 use mathlib.Core.Bool.{Bool, not, _&&_}
 use lib.Dec.{eqb, leb}
 use lib.IntN.{ℤ, pos, negsuc}
+use lib.Signed.{leZ}
+use mathlib.Core.Path.{_≡_}
+use Rattle.rules.specs.declared.Row.{Row}
+use Rattle.rules.specs.declared.Spread.{Spread}
+use Rattle.rules.specs.Kept.{spreadWithin}
 
 -- the price, or 0 where it is negative
 abbrev pub positivePart : ℤ → ℕ
@@ -14,6 +19,10 @@ positivePart (negsuc n) = 0
 -- product passes no D above 0
 unfoldable pub limitOf : ℕ → ℕ → ℤ → ℕ
 limitOf a b sp = max b (a * positivePart sp / 100000)
+
+-- a limit that takes just the D that the spread test takes, of a row and SP or of a strike
+abbrev pub LimitFor : Row → Spread → ℕ → Type 0
+LimitFor row spread limit = (d : ℤ) → leZ d (pos limit) ≡ spreadWithin row spread d
 
 -- two best keys of which both are there and whose D, 2,000,000,002 less both, is 1 or more and at most the limit
 unfoldable pub keysKeep : ℕ → ℕ → ℕ → Bool

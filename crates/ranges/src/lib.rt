@@ -8,8 +8,10 @@ ghost use Rattle.rules.specs.Terms.{paper};
 ghost use Rattle.rules.specs.Units.{goodPrice, goodVolume, goodCharge};
 ghost use Rattle.rules.specs.Cells.{goodCell};
 ghost use Rattle.rules.specs.Lapses.{goodLimit};
+ghost use Rattle.rules.specs.Book.{goodSettlement};
 use rules::Contracts;
 use rules::Kopecks;
+use rules::Spread;
 use rules::Steps;
 
 // Tests are joined by calls, so that no branches meet.
@@ -45,6 +47,16 @@ pub fn price(p: Steps) -> bool
         price_at_most(Steps(-1000000000), p),
         price_at_most(p, Steps(1000000000)),
     )
+}
+
+// SP, where open goes by it.
+pub fn settlement(spread: Spread) -> bool
+    ensures { λ r. ⌜ r ≡ goodSettlement spread ⌝ }
+{
+    match spread {
+        Spread::Settled(sp) => price(sp),
+        Spread::OfStrike(_) => true,
+    }
 }
 
 pub fn volume(v: Contracts) -> bool

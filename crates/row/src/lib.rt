@@ -3,7 +3,7 @@ ghost use mathlib.Core.Path.{_≡_};
 ghost use Prim.Native.Nat.{_+_, _*_, _≤_};
 ghost use lib.ListN.{length};
 ghost use Rattle.rules.specs.Terms.{paper};
-ghost use Rattle.rules.specs.Rows.{goodLength, goodRow};
+ghost use Rattle.rules.specs.Rows.{goodLength, goodRow, asRead};
 ghost use Rattle.rules.specs.Answers.{shownRow};
 ghost use Rattle.rules.specs.Book.{readRow};
 ghost use Rattle.rules.specs.Choosing.{rowWords, isFor, firstRow, chosenRow};
@@ -16,6 +16,7 @@ use rules::Millis;
 use rules::Refusal;
 use rules::Row;
 use rules::RowRead;
+use rules::Spread;
 
 fn is_length(l: u32) -> bool
     ensures { λ r. ⌜ r ≡ goodLength l ⌝ }
@@ -37,9 +38,24 @@ pub fn is_good(row: Row) -> bool
     both(good, between(1, 79, row.share))
 }
 
-// Reading a row: the row, or refusal 1 or 2.
-pub fn read(words: &[u32]) -> RowRead
-    ensures { λ r. ⌜ shownRow r ≡ readRow paper (now (words .entry)) ⌝ }
+// The row as open reads it: a strike's leaves a and b unread.
+fn as_read(row: Row, spread: Spread) -> Row
+    ensures { λ r. ⌜ r ≡ asRead spread row ⌝ }
+{
+    match spread {
+        Spread::Settled(_) => row,
+        Spread::OfStrike(_) => {
+            let mut read = row;
+            read.a = 0;
+            read.b = 0;
+            read
+        }
+    }
+}
+
+// Reading a row for an open that goes by SP or a strike: the row, or refusal 1 or 2.
+pub fn read(words: &[u32], spread: Spread) -> RowRead
+    ensures { λ r. ⌜ shownRow r ≡ readRow paper spread (now (words .entry)) ⌝ }
 {
     if words.len() != 7 {
         return RowRead::Refused(Refusal::RowNotSevenWords);
@@ -53,7 +69,7 @@ pub fn read(words: &[u32]) -> RowRead
         b: words[5],
         share: words[6],
     };
-    if is_good(row) {
+    if is_good(as_read(row, spread)) {
         return RowRead::Read(row);
     }
     RowRead::Refused(Refusal::RowWordOutOfRange)

@@ -7,18 +7,21 @@ use lib.ListN.{getD}
 use Rattle.rules.specs.declared.CellView.{CellView}
 use Rattle.rules.specs.declared.Report.{Report}
 use Rattle.rules.specs.declared.Refusal.{Refusal}
-use Rattle.rules.specs.declared.Refusal.the-variants.{RowNotSevenWords, RowWordOutOfRange, ArgumentOutOfRange, CellFilled, CellBlank, QuantumOpen, NoQuantumOpen, TimeBackwards, TimePastEnd, IdLive, IdNotLive, PriceOrVolumeOutOfRange, TooManyOrders, DealAboveLeft, BadRecord, BufferShort, LapseLimitOutOfRange, StrikesOutOfRange}
+use Rattle.rules.specs.declared.Refusal.the-variants.{RowNotSevenWords, RowWordOutOfRange, ArgumentOutOfRange, CellFilled, CellBlank, QuantumOpen, NoQuantumOpen, TimeBackwards, TimePastEnd, IdLive, IdNotLive, PriceOrVolumeOutOfRange, TooManyOrders, DealAboveLeft, BadRecord, BufferShort, LapseLimitOutOfRange, StrikesOutOfRange, WrongTicket}
 use Rattle.rules.specs.declared.Answer.{Answer}
 use Rattle.rules.specs.declared.Answer.the-variants as A
 use Rattle.rules.specs.declared.Looked.{Looked}
 use Rattle.rules.specs.declared.Looked.the-variants as L
+use Rattle.rules.specs.declared.Preview.{Preview}
+use Rattle.rules.specs.declared.Asked.{Asked}
+use Rattle.rules.specs.declared.Asked.the-variants as K
 use Rattle.rules.specs.declared.RowRead.{RowRead}
 use Rattle.rules.specs.declared.RowRead.the-variants as R
 use Rattle.rules.specs.declared.RecordRead.{RecordRead}
 use Rattle.rules.specs.declared.RecordRead.the-variants as E
 use Rattle.rules.specs.declared.SessionAnswer.{SessionAnswer}
 use Rattle.rules.specs.declared.SessionAnswer.the-variants as S
-use Rattle.rules.specs.Answers.{numberOf, Outcome, accepted, refused, outcomeBy, cell, report, shownAnswer, shownLooked, shownReport, shownRow, shownRecord, shownSession, finished, stopped}
+use Rattle.rules.specs.Answers.{numberOf, Outcome, accepted, refused, outcomeBy, cell, asked, report, shownAnswer, shownLooked, shownAsked, shownReport, shownRow, shownRecord, shownSession, finished, stopped}
 
 -- ---- a refusal's number names it
 
@@ -44,6 +47,7 @@ ordered =
     ∷ BufferShort
     ∷ LapseLimitOutOfRange
     ∷ StrikesOutOfRange
+    ∷ WrongTicket
     ∷ []
 
 named : (r : Refusal) → getD ordered (numberOf r) BufferShort ≡ r
@@ -66,6 +70,7 @@ named BadRecord = refl
 named BufferShort = refl
 named LapseLimitOutOfRange = refl
 named StrikesOutOfRange = refl
+named WrongTicket = refl
 
 pub number-names : (r s : Refusal) → numberOf r ≡ numberOf s → r ≡ s
 number-names r s e = sym (named r) ∙ ap (λ (n : ℕ). getD ordered n BufferShort) e ∙ named s
@@ -107,6 +112,15 @@ looked-shown (L.Found v) (L.Found w) e = ap L.Found (same-cell v w (same-values 
 looked-shown (L.Found v) (L.Refused s) e = absurd (not-refused _ _ e)
 looked-shown (L.Refused r) (L.Found w) e = absurd (not-refused _ _ (sym e))
 looked-shown (L.Refused r) (L.Refused s) e = ap L.Refused (number-names r s (same-number _ _ e))
+
+same-preview : (v w : Preview) → asked v ≡ asked w → v ≡ w
+same-preview v w e = cc
+
+pub asked-shown : (a b : Asked) → shownAsked a ≡ shownAsked b → a ≡ b
+asked-shown (K.Shown v) (K.Shown w) e = ap K.Shown (same-preview v w (same-values _ _ e))
+asked-shown (K.Shown v) (K.Refused s) e = absurd (not-refused _ _ e)
+asked-shown (K.Refused r) (K.Shown w) e = absurd (not-refused _ _ (sym e))
+asked-shown (K.Refused r) (K.Refused s) e = ap K.Refused (number-names r s (same-number _ _ e))
 
 same-report : (v w : Report) → report v ≡ report w → v ≡ w
 same-report v w e = cc

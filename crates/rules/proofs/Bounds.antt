@@ -25,7 +25,7 @@ use Rattle.rules.specs.Units.{goodPrice, goodVolume, goodCharge}
 use Rattle.rules.specs.Rows.{goodExpiry, goodQuantum, goodLength, rowOf, goodRow, asRead, goodRowFor}
 use Rattle.rules.specs.Cells.{blankCell, goodCell, placeOf, cellAt}
 use Rattle.rules.specs.Orders.{lessenedOrder, apply, applyAll, live, timeFrom, present}
-use Rattle.rules.specs.Book.{Call, Open, Send, Close, Drop, Charge, Withdraw, Look, Report, Running, Idle, Quoting, Book, freshBook, goodSettlement, goodSpread, eventRefusal, refusalOf, noted, closedCell, closed, charged, changed, stepBy, step, run, after}
+use Rattle.rules.specs.Book.{Call, Open, Send, Ask, Commit, Close, Drop, Charge, Withdraw, Look, Report, Running, Idle, Quoting, Book, freshBook, amendOf, goodSettlement, goodSpread, eventRefusal, refusalOf, noted, closedCell, closed, charged, changed, stepBy, step, run, after}
 use Rattle.rules.specs.Bounds.{Distinct, EventBounds, OpenBounds, RunningBounds, CellBounds, BookBounds}
 use Rattle.rules.proofs.Lists.{both, and}
 use Rattle.rules.proofs.Members.{getD-in, in-set, in-replicate}
@@ -312,6 +312,9 @@ module _ (terms : Terms) where
       }
   bounds-changed b (Send e) g p =
       record { all-cells = g .all-cells; filled = g .filled; running = noted-bounds (b .running) e (g .running) p }
+  bounds-changed b (Ask a) g p = g
+  bounds-changed b (Commit a ticket) g p =
+      record { all-cells = g .all-cells; filled = g .filled; running = noted-bounds (b .running) (amendOf a) (g .running) (p .sent) }
   bounds-changed b (Close active passive) g p =
       record {
         all-cells = closed-length (b .running) active passive (b .cells) ∙ g .all-cells;

@@ -1,9 +1,9 @@
 -- Laws of `lowest`; what an accepted event or call has passed, cause by cause, and that what has passed is accepted; the book's step and
 -- answer by the refusal. Assumes nothing.
-use Prim.Native.Nat.{ℕ, suc, _≤_, _<_}
+use Prim.Native.Nat.{ℕ, zero, suc, _≤_, _<_}
 use native.Mathlib.Omega.{arith}
-use mathlib.Core.Path.{_≡_, refl, ap}
-use mathlib.Core.List.{List, [], _∷_}
+use mathlib.Core.Path.{_≡_, refl, sym, ap, _∙_}
+use mathlib.Core.List.{List, [], _∷_, _++_}
 use mathlib.Core.Bool.{Bool, true, false, true≢false, not, _&&_}
 use lib.Dec.{leb, eqb}
 use lib.ListN.{length}
@@ -16,7 +16,9 @@ use Rattle.rules.specs.declared.Order.{Order}
 use Rattle.rules.specs.declared.Row.{Row}
 use Rattle.rules.specs.declared.Event.{Event}
 use Rattle.rules.specs.declared.Event.the-variants.{Add, Amend, Cancel, Deal, Tick}
-use Rattle.rules.specs.Lists.{within}
+use Rattle.rules.specs.declared.Amendment.{Amendment}
+use Rattle.rules.specs.declared.Ticket.{Ticket}
+use Rattle.rules.specs.Lists.{if_then_else_, within}
 use Rattle.rules.specs.Terms.{Terms}
 use Rattle.rules.specs.Units.{goodPrice, goodVolume, goodCharge}
 use Rattle.rules.specs.Rows.{rowOf, goodRowFor}
@@ -24,7 +26,7 @@ use Rattle.rules.specs.Cells.{goodCell, placeOf, cellAt}
 use Rattle.rules.specs.Lapses.{goodLimit}
 use Rattle.rules.specs.Orders.{isLive, left, live, timeOf, present}
 use Rattle.rules.specs.Answers.{accepted, refused, outcomeBy}
-use Rattle.rules.specs.Book.{Call, Open, Send, Close, Drop, Charge, Withdraw, Look, Report, Running, Idle, Quoting, Book, isOpen, Cause, cause, lowest, traderCauses, eventCauses, eventRefusal, sendCauses, goodSettlement, goodSpread, goodCharges, causes, refusalOf, changed, replyOf, answerOf, stepBy, step}
+use Rattle.rules.specs.Book.{Call, Open, Send, Ask, Commit, Close, Drop, Charge, Withdraw, Look, Report, Running, Idle, Quoting, Book, isOpen, Cause, cause, lowest, traderCauses, eventCauses, eventRefusal, sendCauses, amendOf, goodTicket, goodSettlement, goodSpread, goodCharges, causes, refusalOf, changed, replyOf, answerOf, stepBy, step}
 use Rattle.rules.proofs.Lists.{both, and}
 
 -- ---- the lowest number
@@ -47,6 +49,39 @@ pub passed : (n : ℕ) (b : Bool) (cs : List Cause) → lowest (cause (suc n) b 
 unfolding lowest
 passed n true cs h = absurd (omega arith)
 passed n false cs h = (refl, h)
+
+-- two lists of causes, one behind the other: the first list's number, or the second's where it has none
+pub first-stops : (cs ds : List Cause) (j : ℕ) → lowest cs ≡ suc j → lowest (cs ++ ds) ≡ suc j
+unfolding lowest
+first-stops [] ds j e = absurd (omega arith)
+first-stops (c ∷ cs) ds j e = go (c .applies) e (first-stops cs ds j)
+  where
+    go : (b : Bool) → (if b then c .number else lowest cs) ≡ suc j → (lowest cs ≡ suc j → lowest (cs ++ ds) ≡ suc j)
+        → (if b then c .number else lowest (cs ++ ds)) ≡ suc j
+    go true e r = e
+    go false e r = r e
+
+-- no cause has the number 0
+abbrev pub Numbered : List Cause → Type 0
+Numbered [] = Unit
+Numbered (c ∷ cs) = (c .number ≡ 0 → ⊥) × Numbered cs
+
+pub first-passes : (cs ds : List Cause) → lowest cs ≡ 0 → Numbered cs → lowest (cs ++ ds) ≡ lowest ds
+unfolding lowest
+first-passes [] ds e n = refl
+first-passes (c ∷ cs) ds e n = go (c .applies) e (λ h. first-passes cs ds h (n .1))
+  where
+    go : (b : Bool) → (if b then c .number else lowest cs) ≡ 0 → (lowest cs ≡ 0 → lowest (cs ++ ds) ≡ lowest ds)
+        → (if b then c .number else lowest (cs ++ ds)) ≡ lowest ds
+    go true e r = absurd (n .0 e)
+    go false e r = r e
+
+pub both-pass : (cs ds : List Cause) → Numbered cs → lowest (cs ++ ds) ≡ 0 → (lowest cs ≡ 0) × (lowest ds ≡ 0)
+both-pass cs ds n e = go (lowest cs) refl
+  where
+    go : (k : ℕ) → lowest cs ≡ k → (lowest cs ≡ 0) × (lowest ds ≡ 0)
+    go zero h = (h, sym (first-passes cs ds h n) ∙ e)
+    go (suc j) h = absurd (omega (arith, first-stops cs ds j h, e))
 
 -- ---- tests
 
@@ -162,6 +197,10 @@ abbrev pub SendPasses : Running → Event → Type 0
 SendPasses Idle e = ⊥
 SendPasses (Quoting place row told events) e = EventPasses row events e
 
+pub record CommitPasses (b : Book) (a : Amendment) (ticket : Ticket) : Type 0 where
+  pub sent : SendPasses (b .running) (amendOf a)
+  pub ticket-good : goodTicket ticket a (b .count) ≡ true
+
 pub record ClosePasses (terms : Terms) (b : Book) (active passive : Kopecks) : Type 0 where
   pub active-good : goodCharge terms (active .0) ≡ true
   pub passive-good : goodCharge terms (passive .0) ≡ true
@@ -191,10 +230,24 @@ unfolding eventRefusal
 passes-send Idle e p = absurd p
 passes-send (Quoting place row told events) e p = passes-event row events e p
 
+trader-numbered : (orders : List Order) (e : Event) → Numbered (traderCauses orders e)
+trader-numbered orders (Add t id side price volume) = (λ e. omega (arith, e), (λ e. omega (arith, e), (λ e. omega (arith, e), tt)))
+trader-numbered orders (Amend t id price volume) = (λ e. omega (arith, e), (λ e. omega (arith, e), tt))
+trader-numbered orders (Cancel t id) = (λ e. omega (arith, e), tt)
+trader-numbered orders (Deal t id volume) = (λ e. omega (arith, e), (λ e. omega (arith, e), (λ e. omega (arith, e), tt)))
+trader-numbered orders (Tick t) = tt
+
+pub send-numbered : (r : Running) (e : Event) → Numbered (sendCauses r e)
+unfolding eventCauses
+send-numbered Idle e = (λ z. omega (arith, z), tt)
+send-numbered (Quoting place row told events) e = (λ z. omega (arith, z), (λ z. omega (arith, z), trader-numbered (live events) e))
+
 module _ (terms : Terms) where
   abbrev pub CallPasses : Book → Call → Type 0
   CallPasses b (Open words day told) = OpenPasses terms b words day told
   CallPasses b (Send e) = SendPasses (b .running) e
+  CallPasses b (Ask a) = SendPasses (b .running) (amendOf a)
+  CallPasses b (Commit a ticket) = CommitPasses b a ticket
   CallPasses b (Close active passive) = ClosePasses terms b active passive
   CallPasses b Drop = DropPasses b
   CallPasses b (Charge day expiry quantum active passive) = ChargePasses terms b day expiry quantum active passive
@@ -224,6 +277,10 @@ module _ (terms : Terms) where
         spread-good = not-false (goodSpread (told .spread)) (a18 .0);
       }
   call-passes b (Send e) h = send-passes (b .running) e h
+  call-passes b (Ask a) h = send-passes (b .running) (amendOf a) h
+  call-passes b (Commit a ticket) h =
+      let (s, t) = both-pass (sendCauses (b .running) (amendOf a)) _ (send-numbered (b .running) (amendOf a)) h in
+      record { sent = send-passes (b .running) (amendOf a) s; ticket-good = not-false (goodTicket ticket a (b .count)) (passed 18 _ _ t .0) }
   call-passes b (Close active passive) h =
       let a3 = passed 2 _ _ h in
       let a7 = passed 6 _ _ (a3 .1) in
@@ -263,6 +320,10 @@ module _ (terms : Terms) where
       skip _ _ (ap not (eq-eqb (length words) 7 (p .seven)))
       (skip _ _ (ap not (p .row-good)) (skip _ _ (both-not (p .day-good) (p .price-good)) (skip _ _ (p .blank) (skip _ _ (p .idle) (skip _ _ (ap not (p .limit-good)) (skip _ _ (ap not (p .spread-good)) clear))))))
   passes-call b (Send e) p = passes-send (b .running) e p
+  passes-call b (Ask a) p = passes-send (b .running) (amendOf a) p
+  passes-call b (Commit a ticket) p =
+      first-passes (sendCauses (b .running) (amendOf a)) _ (passes-send (b .running) (amendOf a) (p .sent)) (send-numbered (b .running) (amendOf a))
+      ∙ skip _ _ (ap not (p .ticket-good)) clear
   passes-call b (Close active passive) p =
       skip _ _ (both-not (p .active-good) (p .passive-good)) (skip _ _ (ap not (p .quoting)) clear)
   passes-call b Drop p = skip _ _ (ap not (p .quoting)) clear

@@ -4,13 +4,16 @@ use Prim.Native.Nat.{ℕ, zero, suc}
 use Rattle.rules.specs.declared.Row.{Row}
 use Rattle.rules.specs.declared.Event.{Event}
 use Rattle.rules.specs.declared.Refusal.{Refusal}
-use Rattle.rules.specs.declared.Refusal.the-variants.{RowNotSevenWords, RowWordOutOfRange, ArgumentOutOfRange, CellFilled, CellBlank, QuantumOpen, NoQuantumOpen, TimeBackwards, TimePastEnd, IdLive, IdNotLive, PriceOrVolumeOutOfRange, TooManyOrders, DealAboveLeft, BadRecord, BufferShort, LapseLimitOutOfRange, StrikesOutOfRange}
+use Rattle.rules.specs.declared.Refusal.the-variants.{RowNotSevenWords, RowWordOutOfRange, ArgumentOutOfRange, CellFilled, CellBlank, QuantumOpen, NoQuantumOpen, TimeBackwards, TimePastEnd, IdLive, IdNotLive, PriceOrVolumeOutOfRange, TooManyOrders, DealAboveLeft, BadRecord, BufferShort, LapseLimitOutOfRange, StrikesOutOfRange, WrongTicket}
 use Rattle.rules.specs.declared.CellView.{CellView}
 use Rattle.rules.specs.declared.Report.{Report}
 use Rattle.rules.specs.declared.Answer.{Answer}
 use Rattle.rules.specs.declared.Answer.the-variants as A
 use Rattle.rules.specs.declared.Looked.{Looked}
 use Rattle.rules.specs.declared.Looked.the-variants as L
+use Rattle.rules.specs.declared.Preview.{Preview}
+use Rattle.rules.specs.declared.Asked.{Asked}
+use Rattle.rules.specs.declared.Asked.the-variants as K
 use Rattle.rules.specs.declared.RowRead.{RowRead}
 use Rattle.rules.specs.declared.RowRead.the-variants as R
 use Rattle.rules.specs.declared.RecordRead.{RecordRead}
@@ -47,6 +50,8 @@ numberOf BufferShort = 16
 numberOf LapseLimitOutOfRange = 17
 -- W4: "18, an empty or overlong board, unequal lengths, or a number outside the ranges above"
 numberOf StrikesOutOfRange = 18
+-- W5: "19, a ticket whose amendment or count is not the present one, after amend's own"
+numberOf WrongTicket = 19
 
 -- what is worked out afresh: accepted with values, or refused by a number
 pub data Outcome (A : Type 0) : Type 0 where
@@ -62,6 +67,8 @@ outcomeBy (suc n) values = refused (suc n)
 pub data Reply : Type 0 where
   done : Reply
   cell : CellView → Reply
+  -- document 02, W5: "both best quotes after it and a ticket"
+  asked : Preview → Reply
   report : Report → Reply
 
 abbrev pub shownAnswer : Answer → Outcome Reply
@@ -71,6 +78,10 @@ shownAnswer (A.Refused r) = refused (numberOf r)
 abbrev pub shownLooked : Looked → Outcome Reply
 shownLooked (L.Found v) = accepted (cell v)
 shownLooked (L.Refused r) = refused (numberOf r)
+
+abbrev pub shownAsked : Asked → Outcome Reply
+shownAsked (K.Shown p) = accepted (asked p)
+shownAsked (K.Refused r) = refused (numberOf r)
 
 abbrev pub shownReport : Report → Outcome Reply
 shownReport r = accepted (report r)

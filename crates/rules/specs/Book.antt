@@ -1,8 +1,10 @@
 -- Document 01, "A row and a month", "Afresh" and "Refused calls": the calls and the plain book.
-use Prim.Native.Nat.{ℕ, zero, suc}
+use Prim.Native.Nat.{ℕ, zero, suc, _+_, _%_}
 use mathlib.Core.List.{List, [], _∷_, _++_}
 use mathlib.Core.Bool.{Bool, true, false, not, _&&_}
 use lib.Dec.{leb, ltb, eqb}
+use lib.IntN.{ℤ}
+use lib.Signed.{leZ}
 use lib.ListN.{length, set}
 use Rattle.rules.specs.declared.Spread.{Spread}
 use Rattle.rules.specs.declared.Spread.the-variants.{Settled, OfStrike}
@@ -15,6 +17,9 @@ use Rattle.rules.specs.declared.Row.{Row}
 use Rattle.rules.specs.declared.Cell.{Cell}
 use Rattle.rules.specs.declared.Event.{Event}
 use Rattle.rules.specs.declared.Event.the-variants.{Add, Amend, Cancel, Deal, Tick}
+use Rattle.rules.specs.declared.Amendment.{Amendment}
+use Rattle.rules.specs.declared.Ticket.{Ticket}
+use Rattle.rules.specs.declared.Preview.{Preview}
 use Rattle.rules.specs.declared.Report.{Report as ReportValues}
 use Rattle.rules.specs.Lists.{if_then_else_, within}
 use Rattle.rules.specs.Terms.{Terms}
@@ -26,7 +31,7 @@ use Rattle.rules.specs.Strikes.{goodStrike}
 use Rattle.rules.specs.Kept.{bestBid, bestAsk, keptBelow}
 use Rattle.rules.specs.Lapses.{lapsesBelow, goodLimit}
 use Rattle.rules.specs.Pay.{viewOf, allFailures, fee}
-use Rattle.rules.specs.Answers.{Outcome, outcomeBy, Reply, done, cell, report}
+use Rattle.rules.specs.Answers.{Outcome, outcomeBy, Reply, done, cell, asked, report}
 
 -- The calls, "each by its name and its arguments other than the month". Send is add, amend, cancel, deal or tick: an event.
 pub data Call : Type 0 where
@@ -34,6 +39,9 @@ pub data Call : Type 0 where
   -- the lapse limit
   Open : List ℕ → ℕ → Opening → Call
   Send : Event → Call
+  -- document 02, W5: asking names an amendment; "Committing names the amendment again and gives the ticket"
+  Ask : Amendment → Call
+  Commit : Amendment → Ticket → Call
   -- A, P
   Close : Kopecks → Kopecks → Call
   Drop : Call
@@ -53,10 +61,12 @@ pub data Running : Type 0 where
 pub record Book : Type 0 where
   pub running : Running
   pub cells : List Cell
+  -- document 02, W5: "the book counts its accepted calls likewise"
+  pub count : ℕ
 
 -- "At first it has no quantum open and 186 blank cells."
 unfoldable pub freshBook : Book
-freshBook = record { running = Idle; cells = blankCells }
+freshBook = record { running = Idle; cells = blankCells; count = 0 }
 
 abbrev pub isOpen : Running → Bool
 isOpen Idle = false
@@ -107,6 +117,21 @@ abbrev pub sendCauses : Running → Event → List Cause
 sendCauses Idle e = cause 7 true ∷ []
 sendCauses (Quoting place row told events) e = eventCauses row events e
 
+-- document 02, W5: "the refusal that amend would give", and "exactly that amend"
+abbrev pub amendOf : Amendment → Event
+amendOf a = Amend (a .t) (a .id) (a .price) (a .volume)
+
+abbrev pub samePrice : ℤ → ℤ → Bool
+samePrice p q = leZ p q && leZ q p
+
+abbrev pub sameAmendment : Amendment → Amendment → Bool
+sameAmendment a b =
+    eqb (a .t .0) (b .t .0) && eqb (a .id) (b .id) && samePrice (a .price .0) (b .price .0) && eqb (a .volume .0) (b .volume .0)
+
+-- a ticket whose amendment and count are the present ones
+unfoldable pub goodTicket : Ticket → Amendment → ℕ → Bool
+goodTicket ticket a count = sameAmendment (ticket .amendment) a && eqb (ticket .count) count
+
 -- "SP, the settlement price, has the same range"; a strike has none
 abbrev pub goodSettlement : Spread → Bool
 goodSettlement (Settled sp) = goodPrice (sp .0)
@@ -131,7 +156,8 @@ module _ (terms : Terms) where
 
   -- 3 day, expiry, quantum, SP, A or P outside its range; 4 open on a filled cell; 5 charge, withdraw or look on a blank cell;
   -- 6 open while a quantum is open; 7 an event, close or drop with none open; document 02, W1: "17, lapse limit outside its values, at
-  -- open"; W4: "18, .. a number outside the ranges above"
+  -- open"; W4: "18, .. a number outside the ranges above"; W5: "19, a ticket whose
+  -- amendment or count is not the present one, after amend's own"
   unfoldable pub causes : Book → Call → List Cause
   causes b (Open words day told) =
       rowCauses (told .spread) words
@@ -142,6 +168,8 @@ module _ (terms : Terms) where
       ∷ cause 18 (not (goodSpread (told .spread)))
       ∷ [])
   causes b (Send e) = sendCauses (b .running) e
+  causes b (Ask a) = sendCauses (b .running) (amendOf a)
+  causes b (Commit a ticket) = sendCauses (b .running) (amendOf a) ++ (cause 19 (not (goodTicket ticket a (b .count))) ∷ [])
   causes b (Close active passive) = cause 3 (not (goodCharges active passive)) ∷ cause 7 (not (isOpen (b .running))) ∷ []
   causes b Drop = cause 7 (not (isOpen (b .running))) ∷ []
   causes b (Charge day expiry quantum active passive) =
@@ -198,17 +226,32 @@ charged active passive c =
       passive = passive;
     }
 
+-- document 02, W5: a "count, modulo 2^64, of accepted calls other than asks, looks and reports"
+unfoldable pub following : ℕ → ℕ
+following count = (count + 1) % 18446744073709551616
+
 unfoldable pub changed : Book → Call → Book
 changed b (Open words day told) =
-    record { running = Quoting (placeOf day (rowOf words .expiry) (rowOf words .quantum)) (rowOf words) told []; cells = b .cells }
-changed b (Send e) = record { running = noted (b .running) e; cells = b .cells }
-changed b (Close active passive) = record { running = Idle; cells = closed (b .running) active passive (b .cells) }
-changed b Drop = record { running = Idle; cells = b .cells }
+    record {
+      running = Quoting (placeOf day (rowOf words .expiry) (rowOf words .quantum)) (rowOf words) told [];
+      cells = b .cells;
+      count = following (b .count);
+    }
+changed b (Send e) = record { running = noted (b .running) e; cells = b .cells; count = following (b .count) }
+changed b (Ask a) = b
+changed b (Commit a ticket) = record { running = noted (b .running) (amendOf a); cells = b .cells; count = following (b .count) }
+changed b (Close active passive) =
+    record { running = Idle; cells = closed (b .running) active passive (b .cells); count = following (b .count) }
+changed b Drop = record { running = Idle; cells = b .cells; count = following (b .count) }
 changed b (Charge day expiry quantum active passive) =
     let place = placeOf day expiry quantum in
-    record { running = b .running; cells = set (b .cells) place (charged active passive (cellAt (b .cells) place)) }
+    record {
+      running = b .running;
+      cells = set (b .cells) place (charged active passive (cellAt (b .cells) place));
+      count = following (b .count);
+    }
 changed b (Withdraw day expiry quantum) =
-    record { running = b .running; cells = set (b .cells) (placeOf day expiry quantum) blankCell }
+    record { running = b .running; cells = set (b .cells) (placeOf day expiry quantum) blankCell; count = following (b .count) }
 changed b (Look day expiry quantum) = b
 changed b Report = b
 
@@ -240,6 +283,16 @@ abbrev pub lapsesIn : Running → ℕ
 lapsesIn Idle = 0
 lapsesIn (Quoting place row told events) = lapsesBelow row (told .spread) events (present events)
 
+-- document 02, W5: asking answers "both best quotes after it and a ticket": those of the quantum with that amend taken, and the ticket "holds the
+-- amendment and the month's count"
+unfoldable pub previewOf : Book → Amendment → Preview
+previewOf b a =
+    record {
+      bid = bidIn (noted (b .running) (amendOf a));
+      ask = askIn (noted (b .running) (amendOf a));
+      ticket = record { amendment = a; count = b .count };
+    }
+
 module _ (terms : Terms) where
   unfoldable pub reportOf : Book → ReportValues
   reportOf b =
@@ -257,10 +310,12 @@ module _ (terms : Terms) where
 
   -- ---- the book's answer to a call, and the book after it
 
-  -- what an accepted call shows: look "the cell with verdict and weight", report its values, the others nothing
+  -- what an accepted call shows: ask its quotes and ticket, look "the cell with verdict and weight", report its values, the others nothing
   abbrev pub replyOf : Book → Call → Reply
   replyOf b (Open words day told) = done
   replyOf b (Send e) = done
+  replyOf b (Ask a) = asked (previewOf b a)
+  replyOf b (Commit a ticket) = done
   replyOf b (Close active passive) = done
   replyOf b Drop = done
   replyOf b (Charge day expiry quantum active passive) = done

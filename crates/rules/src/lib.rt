@@ -101,7 +101,21 @@ pub enum Event {
     },
 }
 
-// Why a call is refused, in the order of the numbers 1 to 18.
+// What an amend, an ask and a commit name.
+pub struct Amendment {
+    pub t: Millis,
+    pub id: u32,
+    pub price: Steps,
+    pub volume: Contracts,
+}
+
+// What an ask gives and a commit takes: the amendment and the month's count of accepted calls.
+pub struct Ticket {
+    pub amendment: Amendment,
+    pub count: u64,
+}
+
+// Why a call is refused, in the order of the numbers 1 to 19.
 pub enum Refusal {
     RowNotSevenWords,
     RowWordOutOfRange,
@@ -121,6 +135,7 @@ pub enum Refusal {
     BufferShort,
     LapseLimitOutOfRange,
     StrikesOutOfRange,
+    WrongTicket,
 }
 
 // The answer of a call that shows nothing when it is accepted.
@@ -139,6 +154,19 @@ pub struct CellView {
 // The answer of look.
 pub enum Looked {
     Found(CellView),
+    Refused(Refusal),
+}
+
+// Both best quotes after the amendment that was asked about, and its ticket.
+pub struct Preview {
+    pub bid: Quote,
+    pub ask: Quote,
+    pub ticket: Ticket,
+}
+
+// The answer of ask.
+pub enum Asked {
+    Shown(Preview),
     Refused(Refusal),
 }
 
@@ -203,5 +231,6 @@ pub fn number(refusal: Refusal) -> u32
         Refusal::BufferShort => 16,
         Refusal::LapseLimitOutOfRange => 17,
         Refusal::StrikesOutOfRange => 18,
+        Refusal::WrongTicket => 19,
     }
 }

@@ -3,8 +3,10 @@ ghost use mathlib.Core.Path.{_≡_};
 ghost use mathlib.Core.Bool.{true};
 ghost use Prim.Native.Nat.{_+_, _-_, _*_, _^_, max, _≤_, _<_};
 ghost use lib.Dec.{leb};
+ghost use Rattle.rules.specs.Book.{goodSpread};
 ghost use Rattle.rules.specs.Strikes.{goodStrike, squareOf, Rounded};
 ghost use Rattle.strike.specs.Limit.{roundedOf, strikeLimit};
+use rules::Spread;
 use rules::Strike;
 
 // Whether the four numbers are in their ranges.
@@ -17,6 +19,16 @@ pub fn is_good(s: Strike) -> bool
     );
     let root = ranges::both(product, ranges::at_most(s.days, 365));
     ranges::both(root, ranges::at_most(s.b, 1000000))
+}
+
+// The same, where open goes by a strike.
+pub fn in_range(spread: Spread) -> bool
+    ensures { λ r. ⌜ r ≡ goodSpread spread ⌝ }
+{
+    match spread {
+        Spread::Settled(_) => true,
+        Spread::OfStrike(s) => is_good(s),
+    }
 }
 
 // The doubled product's square, times 36,500.

@@ -1,18 +1,17 @@
--- The limit is fixed once, of a row whose words are in their ranges. Assumes nothing.
-use Rattle.rules.specs.Terms.{paper}
-use Rattle.rules.proofs.Bounds.{row-bounds}
+-- The limit is fixed once. Assumes nothing.
+use borrow.Author.Needs.{needs}
 use Rattle.quantum.specs.Standing.{dutyOf}
 use Rattle.quantum.proofs.duty_of.Statement.{statement}
 use Rattle.quantum.proofs.duty_of.Tie as tie
 
-spread-limit-requires : tie.Need-spread-limit-requires
-spread-limit-requires c κs = row-bounds paper (c .before .before .args .row) (c .before .before .pre) .a-most
+limit-of-requires : tie.Need-limit-of-requires
+limit-of-requires c κs = search needs
 
 returns : tie.Need-returns
 unfolding dutyOf
 returns c =
     let row = c .before .before .before .args .row in
-    λ i. record { length = row .length; least = row .least; limit = c .spread-limit .ensures i }
+    λ i. record { length = row .length; least = row .least; limit = c .limit-of .ensures i }
 
 pub duty-of-spec : {M : Type 1} → statement M
-duty-of-spec = tie.close (tie.spec spread-limit-requires returns)
+duty-of-spec = tie.close (tie.spec limit-of-requires returns)
