@@ -6,7 +6,6 @@ ghost use Prim.Native.Nat.{_*_, _≤_, _<_};
 ghost use lib.Dec.{leb, eqb};
 ghost use lib.ListN.{length, getD};
 ghost use Rattle.rules.specs.Lists.{within, sum};
-ghost use Rattle.rules.specs.Rows.{goodLength};
 ghost use Rattle.rules.specs.Boards.{keptOf, lengthIn, goodQuantumOf, reaches, judged};
 ghost use Rattle.board.specs.Answers.{shownBoard};
 ghost use Rattle.board.specs.Tests.{every, numbersGood, sharesMet};
@@ -19,12 +18,6 @@ pub enum BoardAnswer {
     Met,
     Failed,
     Refused,
-}
-
-fn is_length(l: u32) -> bool
-    ensures { λ r. ⌜ r ≡ goodLength l ⌝ }
-{
-    both(between(1000, 86400000, l), l % 1000 == 0)
 }
 
 fn is_size(n: usize) -> bool
@@ -139,7 +132,7 @@ fn are_good(strikes: &[[u32; 2]], l: u32, first: u32, second: u32) -> bool
     requires { ⌜ length (now strikes) ≤ 32 ⌝ }
     ensures { λ r. ⌜ r ≡ numbersGood l first second (now (strikes .entry)) ⌝ }
 {
-    let quanta = both(is_length(l), are_quanta(strikes, l));
+    let quanta = both(row::is_length(l), are_quanta(strikes, l));
     both(quanta, are_shares(first, second))
 }
 
