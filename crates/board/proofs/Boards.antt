@@ -1,12 +1,12 @@
 -- A board's answer by the tests of its numbers, and that two different answers never show the same. Assumes nothing.
-use Prim.Native.Nat.{ℕ, suc, _*_, _≤_, _<_}
+use Prim.Native.Nat.{ℕ, _*_, _%_, _≤_, _<_}
 use native.Mathlib.Omega.{arith}
 use native.Mathlib.Nat.{mul-le-mul}
 use mathlib.Core.Path.{_≡_, refl, sym, ap, _∙_}
 use mathlib.Core.List.{List, [], _∷_, map}
-use mathlib.Core.Bool.{Bool, true, false, true≢false, _&&_, and-true, and-false}
-use borrow.Author.Tests.{le-leb, lt-leb}
-use lib.Dec.{leb, ltb}
+use mathlib.Core.Bool.{Bool, true, false, true≢false, not, _&&_, and-true, and-false}
+use borrow.Author.Tests.{le-leb, lt-leb, not-true, not-false}
+use lib.Dec.{leb, ltb, eqb}
 use lib.ListN.{length, getD}
 use Rattle.rules.specs.Lists.{within, sum}
 use Rattle.rules.specs.Rows.{goodLength}
@@ -44,48 +44,56 @@ regroup true true c d = refl
 regroup true false c d = refl
 regroup false b c d = refl
 
-module _ (first second : ℕ) (strikes : List (List ℕ)) where
-  pub size-refused : within 1 32 (length strikes) ≡ false → refused 18 ≡ judged first second strikes
+first-length : (ss : List (List ℕ)) → 0 < length ss → boardLength ss ≡ lengthIn (getD ss 0 [])
+first-length [] h = absurd (omega arith)
+first-length (s ∷ ss) h = refl
+
+pub record Bounds (l first second : ℕ) : Type 0 where
+  pub length-most : l ≤ 86400000
+  pub first-most : first ≤ 100
+  pub second-most : second ≤ 100
+
+-- by the test of the number of strikes
+module _ (first second : ℕ) (strikes : List (List ℕ)) (size : Bool) (s : size ≡ within 1 32 (length strikes)) where
+  pub size-refused : not size ≡ true → refused 18 ≡ judged first second strikes
   unfolding judged goodBoard lowest
-  size-refused e = simp e
+  size-refused e = simp (sym s ∙ not-true size e)
 
-  first-length : (ss : List (List ℕ)) → 0 < length ss → boardLength ss ≡ lengthIn (getD ss 0 [])
-  first-length [] h = absurd (omega arith)
-  first-length (s ∷ ss) h = refl
+  pub size-bounds : not size ≡ false → (1 ≤ length strikes) × (length strikes ≤ 32)
+  size-bounds e = within-parts 1 32 (length strikes) (sym s ∙ not-false size e)
 
-  module _ (l : ℕ) (size : within 1 32 (length strikes) ≡ true) (e : l ≡ lengthIn (getD strikes 0 [])) where
+  -- and by that of the numbers
+  module _ (sized : not size ≡ false) (l : ℕ) (e : l ≡ lengthIn (getD strikes 0 [])) (good : Bool)
+      (g : good ≡ numbersGood l first second strikes) where
     length-is : boardLength strikes ≡ l
-    length-is = first-length strikes (omega (arith, within-parts 1 32 (length strikes) size)) ∙ sym e
+    length-is = first-length strikes (size-bounds sized .0) ∙ sym e
 
-    good-is : goodBoard first second strikes ≡ numbersGood l first second strikes
+    good-is : goodBoard first second strikes ≡ good
     unfolding goodBoard
-    good-is = rw (length-is, size) (regroup (goodLength l) (every (goodQuantumOf l) strikes) (within 1 100 first) (within 1 100 second))
+    good-is =
+        rw (length-is, sym s ∙ not-false size sized)
+        (regroup (goodLength l) (every (goodQuantumOf l) strikes) (within 1 100 first) (within 1 100 second) ∙ sym g)
 
-    pub numbers-refused : numbersGood l first second strikes ≡ false → refused 18 ≡ judged first second strikes
+    pub numbers-refused : not good ≡ true → refused 18 ≡ judged first second strikes
     unfolding judged lowest
-    numbers-refused f = simp (good-is ∙ f)
+    numbers-refused f = simp (good-is ∙ not-true good f)
 
-    pub answered : numbersGood l first second strikes ≡ true → (b : Bool)
-        → b ≡ sharesMet l first second strikes
-        → accepted b ≡ judged first second strikes
+    pub numbers-bounds : not good ≡ false → Bounds l first second
+    numbers-bounds f =
+        let quanta = goodLength l && every (goodQuantumOf l) strikes in
+        let all = both quanta (within 1 100 first && within 1 100 second) (sym g ∙ not-false good f) in
+        let lengths = both (goodLength l) (every (goodQuantumOf l) strikes) (all .0) in
+        let shares = both (within 1 100 first) (within 1 100 second) (all .1) in
+        record {
+          length-most = within-parts 1000 86400000 l (both (within 1000 86400000 l) (eqb (l % 1000) 0) (lengths .0) .0) .1;
+          first-most = within-parts 1 100 first (shares .0) .1;
+          second-most = within-parts 1 100 second (shares .1) .1;
+        }
+
+    pub answered : not good ≡ false → (met t : Bool) → met ≡ sharesMet l first second strikes → met ≡ t
+        → accepted t ≡ judged first second strikes
     unfolding judged lowest boardMet
-    answered f b g = rw (g, good-is ∙ f, length-is) refl
-
-  pub record NumbersBounds (l : ℕ) : Type 0 where
-    pub length-most : l ≤ 86400000
-    pub first-most : first ≤ 100
-    pub second-most : second ≤ 100
-
-  pub numbers-bounds : (l : ℕ) → numbersGood l first second strikes ≡ true → NumbersBounds l
-  numbers-bounds l e =
-      let shares = both (goodLength l && every (goodQuantumOf l) strikes) (within 1 100 first && within 1 100 second) e in
-      let quanta = both (goodLength l) (every (goodQuantumOf l) strikes) (shares .0) in
-      let two = both (within 1 100 first) (within 1 100 second) (shares .1) in
-      record {
-        length-most = within-parts 1000 86400000 l (both _ _ (quanta .0) .0) .1;
-        first-most = within-parts 1 100 first (two .0) .1;
-        second-most = within-parts 1 100 second (two .1) .1;
-      }
+    answered f met t m h = rw (good-is ∙ not-false good f, length-is) (ap accepted (sym h ∙ m))
 
 same-verdict : (a b : Bool) → _≡_ {A = Outcome Bool} (accepted a) (accepted b) → a ≡ b
 same-verdict a b e = cc
