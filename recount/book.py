@@ -1,11 +1,15 @@
-"""The plain book of document 01 and of document 02, W1, written from the papers: calls, refusals,
-quotes, kept time, lapses, pay.
+"""The plain book of document 01 and of document 02, W1 and W4, written from the papers: calls,
+refusals, quotes, kept time, lapses, pay.
+
+Open is told SP, or a strike in its place (W4): wherever `sp` stands, a Strike may.
 
 Nothing is carried that the paper does not carry. Quotes, kept time, verdicts, weights, failure
 counts and fee are worked out from the book each time they are asked for.
 """
 
 from collections import namedtuple
+
+from recount.strikes import Strike, strike_fits, strike_limit
 
 BUY, SELL = 1, 2
 
@@ -141,16 +145,25 @@ def best_ask(live, least):
     return None
 
 
+def narrow(row, sp, gap):
+    """The spread is at most a share of SP or a number of steps, or a strike's limit."""
+    if isinstance(sp, Strike):
+        return gap <= strike_limit(sp)
+    return gap * 100_000 <= row.a * sp or gap <= row.b
+
+
 def within(row, sp, bid, ask):
-    """Both quotes exist, and the spread is 1 or more and at most a share of SP or a number of steps."""
+    """Both quotes exist, and the spread is 1 or more and not too wide."""
     if bid is None or ask is None:
         return False
     gap = ask - bid
-    return gap >= 1 and (gap * 100_000 <= row.a * sp or gap <= row.b)
+    return gap >= 1 and narrow(row, sp, gap)
 
 
 def widest(row, sp):
     """The greatest spread that is within, as one number, 0 where none is; the rest goes by `within`."""
+    if isinstance(sp, Strike):
+        return strike_limit(sp)
     return max(row.b, row.a * max(sp, 0) // 100_000)
 
 
@@ -369,11 +382,12 @@ class Book:
     def open_causes(self, call):
         found = []
         row = Row(*call.words) if len(call.words) == 7 else None
+        is_strike = isinstance(call.sp, Strike)
         if row is None:
             found.append(1)
-        elif not row_fits(row):
+        elif not row_fits(row._replace(a=0, b=0) if is_strike else row):  # a strike's are unread
             found.append(2)
-        if call.day not in DAYS or not price_fits(call.sp):
+        if call.day not in DAYS or not (is_strike or price_fits(call.sp)):
             found.append(3)
         if row is not None and (call.day, row.expiry, row.quantum) in self.cells:
             found.append(4)
@@ -381,6 +395,8 @@ class Book:
             found.append(6)
         if not limit_fits(call.limit):
             found.append(17)
+        if is_strike and not strike_fits(call.sp):
+            found.append(18)
         return found
 
     def event_causes(self, event):

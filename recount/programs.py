@@ -2,10 +2,10 @@
 
 import struct
 
-from recount import game, records, session, standing, volatile
+from recount import game, records, session, standing, strikes, volatile
 from recount.book import (
     BUY, NO_LIMIT, SELL, Accepted, Add, Amend, Cancel, CellView, Charge, Close, Deal, Drop, Look, Open,
-    Refused, Report, Tick, Withdraw, Book, choose,
+    Refused, Report, Strike, Tick, Withdraw, Book, choose,
 )
 
 REPLAY_BYTES = 262_144
@@ -41,13 +41,15 @@ def read_call(words, at):
         return block if len(block) == count else None
 
     kind = words[at]
-    if kind == 1:
-        if at + 1 == len(words) or at + 2 + words[at + 1] + 3 > len(words):
+    if kind in (1, 13):
+        told = 3 if kind == 1 else 6  # words behind the row's
+        if at + 1 == len(words) or at + 2 + words[at + 1] + told > len(words):
             return None
         count = words[at + 1]
-        block = take(count + 4)
-        day, sp, limit = block[-3:]
-        return Open(block[1 : 1 + count], day, signed(sp), limit), at + count + 5
+        block = take(count + 1 + told)
+        day, *sp, limit = block[-told:]
+        sp = signed(sp[0]) if kind == 1 else Strike(*sp)
+        return Open(block[1 : 1 + count], day, sp, limit), at + count + told + 2
     sizes = {2: 5, 3: 4, 4: 2, 5: 3, 6: 1, 7: 4, 8: 0, 9: 7, 10: 3, 11: 3, 12: 0}
     block = take(sizes[kind]) if kind in sizes else None
     if block is None:
@@ -170,6 +172,8 @@ def probe(data):
         out = probe_row(words, data)
     elif words[:1] == [3]:
         out = probe_record(data[4:])
+    elif words[:1] == [4]:
+        out = strikes.probe(words, data)
     elif words[:1] == [8]:
         out = game.probe(words, data)
     elif words[:1] in ([5], [6], [12]):

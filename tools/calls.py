@@ -9,6 +9,9 @@ The text, one call a line, # for comments:
     open row EXPIRY QUANTUM L M A B P day DAY sp SP lapses LIMIT|none
                                               (a row may have any number of words; `lapses`, the
                                               lapse limit, may be left out for none)
+    strike row WORDS.. day DAY a A difference N days N b B lapses LIMIT|none
+                                              (open, told a strike's four numbers in place of SP; the
+                                              row's own a and b are unread)
     add T ID buy|sell PRICE VOLUME
     amend T ID PRICE VOLUME
     cancel T ID
@@ -35,7 +38,7 @@ sys.path.insert(0, str(Path(__file__).resolve().parent.parent))
 
 from recount import programs
 from recount.book import (
-    EVENTS, NO_LIMIT, Add, Amend, Cancel, Charge, Close, Deal, Drop, Look, Open, Report, Tick, Withdraw,
+    EVENTS, NO_LIMIT, Add, Amend, Cancel, Charge, Close, Deal, Drop, Look, Open, Report, Strike, Tick, Withdraw,
 )
 from tools import text
 
@@ -49,31 +52,38 @@ OTHER_COLUMNS = {
 }
 
 
-def open_call(words):
-    shape = "open is written: open row WORDS.. day DAY sp SP lapses LIMIT|none"
+def open_call(name, words):
+    """`open`, or `strike` with four numbers in place of SP."""
+    told = ["sp"] if name == "open" else list(Strike._fields)
+    shapes = {"open": "sp SP", "strike": "a A difference N days N b B"}
+    shape = f"{name} is written: {name} row WORDS.. day DAY {shapes[name]} lapses LIMIT|none"
     limit = NO_LIMIT
     if words[-2:-1] == ["lapses"]:
         if words[-1] != "none":
             limit = text.number(words[-1], text.WORD, "lapses")
         words = words[:-2]
-    if len(words) < 5 or (words[0], words[-4], words[-2]) != ("row", "day", "sp"):
+    behind = 2 + 2 * len(told)  # words from `day` on
+    if len(words) < 1 + behind or words[0] != "row" or words[-behind::2] != ["day", *told]:
         raise text.TextError(shape)
     row = [
         text.time(word, "L") if at == 2 else text.number(word, text.WORD, "a word of the row")
-        for at, word in enumerate(words[1:-4])
+        for at, word in enumerate(words[1:-behind])
     ]
-    day = text.number(words[-3], text.WORD, "day")
-    return Open(row, day, text.number(words[-1], text.SIGNED, "SP"), limit)
+    day = text.number(words[1 - behind], text.WORD, "day")
+    if name == "open":
+        return Open(row, day, text.number(words[-1], text.SIGNED, "SP"), limit)
+    numbers = zip(told, words[3 - behind :: 2])
+    return Open(row, day, Strike(*(text.number(word, text.WORD, what) for what, word in numbers)), limit)
 
 
 def read_call(name, words):
     """The call of one line."""
-    if name == "open":
-        return open_call(words)
+    if name in ("open", "strike"):
+        return open_call(name, words)
     if name in text.EVENT_COLUMNS:
         return text.event(name, words)
     if name not in OTHER_COLUMNS:
-        known = ", ".join(["open", *text.EVENT_COLUMNS, *OTHER_COLUMNS, "words", "bytes"])
+        known = ", ".join(["open", "strike", *text.EVENT_COLUMNS, *OTHER_COLUMNS, "words", "bytes"])
         raise text.TextError(f"{name!r} is not known; a line begins with one of {known}")
     kind, names = OTHER_COLUMNS[name]
     values = {}
@@ -91,6 +101,8 @@ def halves(charge):
 def call_words(call):
     """The block of one call."""
     kind = type(call)
+    if kind is Open and isinstance(call.sp, Strike):
+        return [13, len(call.words), *call.words, call.day, *call.sp, call.limit]
     if kind is Open:
         return [1, len(call.words), *call.words, call.day, call.sp & 0xFFFFFFFF, call.limit]
     if kind is Add:
@@ -115,8 +127,11 @@ def calls_bytes(calls):
 
 def call_line(call):
     if isinstance(call, Open):
-        told = f"day {call.day} sp {call.sp} lapses {programs.limit_text(call.limit)}"
-        return " ".join(["open row", *map(str, call.words), told])
+        name, told = "open", f"sp {call.sp}"
+        if isinstance(call.sp, Strike):
+            name, told = "strike", "a {} difference {} days {} b {}".format(*call.sp)
+        told = f"day {call.day} {told} lapses {programs.limit_text(call.limit)}"
+        return " ".join([f"{name} row", *map(str, call.words), told])
     if isinstance(call, EVENTS):
         return text.event_line(call)
     return " ".join([type(call).__name__.lower(), *map(str, call)])
