@@ -3,12 +3,12 @@
 from recount import records
 from recount.book import (
     BUY, CHARGE_LIMIT, PRICE_LIMIT, SELL, Add, Amend, Book, Cancel, Charge, Close,
-    Deal, Drop, Look, Open, Report, Tick, Withdraw,
+    Deal, Drop, Look, Open, Report, Tick, Withdraw, widest,
 )
 from recount.session import HEAD
 from tests.generate import (
-    WORD_END, Feed, amount, any_limit, any_session, any_sp, fill, keeping_a_step, long_row,
-    programme_row, short_row, wrong_limit, wrong_row_words,
+    WORD_END, Feed, amount, any_limit, any_session, any_sp, any_strike, clamp, fill, keeping_a_step,
+    long_row, programme_row, short_row, unread, wrong_limit, wrong_row_words, wrong_strike,
 )
 
 
@@ -59,7 +59,23 @@ class Month:
                 self.send(Report())
 
     def open(self, row, day):
+        """By SP, or at times by a strike."""
+        if self.rng.random() < 0.3:
+            return self.open_strike(row, day)
         return self.send(Open(list(row), day, any_sp(self.rng), any_limit(self.rng)))
+
+    def open_strike(self, row, day):
+        row = unread(self.rng, row) if self.rng.random() < 0.5 else row
+        return self.send(Open(list(row), day, any_strike(self.rng), any_limit(self.rng)))
+
+    def wrong_strike(self):
+        """An open that is refused for the strike's numbers, at times for something lower."""
+        rng = self.rng
+        row = list(rng.choice([short_row(rng), unread(rng, short_row(rng))]))
+        words = wrong_row_words(rng) if rng.random() < 0.1 else row
+        day = rng.choice([0, 32, WORD_END - 1]) if rng.random() < 0.1 else self.cell()[0]
+        limit = wrong_limit(rng) if rng.random() < 0.1 else any_limit(rng)
+        self.send(Open(words, day, wrong_strike(rng), limit))
 
     def planned(self, day, row, kept, active, passive):
         """A whole quantum with that kept time, by a row that keeps a spread of one step."""
@@ -94,6 +110,10 @@ def mixed_calls(rng):
                             rng.choice([PRICE_LIMIT + 1, -PRICE_LIMIT - 1, 0]), wrong_limit(rng)))
             elif rng.random() < 0.1:
                 m.send(Open(list(short_row(rng)), m.cell()[0], any_sp(rng), wrong_limit(rng)))
+            elif rng.random() < 0.1:
+                m.wrong_strike()
+            elif rng.random() < 0.05:
+                m.send(Open(wrong_row_words(rng), rng.choice([1, 32]), any_strike(rng), any_limit(rng)))
             else:
                 row = rng.choice([short_row, short_row, long_row, programme_row])(rng)
                 m.open(row, m.cell()[0])
@@ -260,6 +280,30 @@ def lapsing(rng):
     return m.calls
 
 
+def strike_month(rng):
+    """A strike's meter: quotes as wide as the limit, a step less and a step more."""
+    m = Month(rng)
+    row = rng.choice([short_row, long_row])(rng)
+    for day in range(1, rng.randrange(2, 6)):
+        if rng.random() < 0.4:
+            m.wrong_strike()
+        m.open_strike(row, day)
+        wide = widest(row, m.book.quoting.sp)
+        price, t = rng.randrange(-5_000, 5_000), 0
+        m.send(Add(t, 1, BUY, price, row.least))
+        m.send(Add(t, 2, SELL, price + wide, row.least))
+        for _ in range(rng.randrange(1, 8)):
+            t = min(row.length, t + rng.choice([1, 10, rng.randrange(row.length // 4)]))
+            gap = clamp(wide + rng.choice([-1, 0, 0, 1]), -5, 2_000_001)
+            m.send(Amend(t, 2, price + gap, row.least))
+            if rng.random() < 0.5:
+                m.send(Report())
+        m.events(rng.choice([0, 5]), 0.1)
+        m.send(Close(m.charge(), m.charge()))
+    m.look_round()
+    return m.calls
+
+
 def reported_session(rng):
     """Any of the sessions as a month's calls, with reports among its events: the quotes show."""
     _, head, data = any_session(rng)
@@ -277,7 +321,7 @@ def reported_session(rng):
 
 CALLS = [
     (mixed_calls, 8), (reported_session, 8), (makers_month, 3), (failures, 2), (whole_month, 1),
-    (fee_limits, 2), (crowded, 2), (lapsing, 3),
+    (fee_limits, 2), (crowded, 2), (lapsing, 3), (strike_month, 4),
 ]
 
 

@@ -24,6 +24,8 @@ def check_examples():
     example = (ROOT / "examples" / "document01.session").read_text()
     for line in ("lapses none", "lapses 65535", ""):
         assert calls.to_bytes(f"open row 1 day 1 sp 1 {line}")[-4:] == b"\xff\xff\0\0", line
+        strike = calls.to_bytes(f"strike row 1 day 1 a 2 difference 3 days 4 b 5 {line}")
+        assert strike == calls.to_bytes("words 13 1 1 1 2 3 4 5 65535"), line
     printed = "kept 6000 of 10000\npair 0 6000\nverdict met\nweight 10000\n"
     assert programs.sheet(session.to_bytes(example)) == printed
 
@@ -62,7 +64,7 @@ def check_rows():
 def check_any_bytes(rng):
     """Whatever the bytes, their text turns into them again."""
     for _ in range(500):
-        data = bytes(rng.choice([0, 0, 0, 1, 2, 3, 6, 255]) for _ in range(rng.randrange(120)))
+        data = bytes(rng.choice([0, 0, 0, 1, 2, 3, 6, 13, 255]) for _ in range(rng.randrange(120)))
         assert session.to_bytes(session.to_text(data)) == data, data.hex()
         assert calls.to_bytes(calls.to_text(data)) == data, data.hex()
 
@@ -82,6 +84,9 @@ ERRORS = [
     (calls, "report\nopen 1 1 day 1 sp 1", 2, "open is written"),
     (calls, "open row 1 1 day 1 sp 1 lapses", 1, "open is written"),
     (calls, "open row 1 1 day 1 sp 1 lapses some", 1, "lapses: 'some' is not a number"),
+    (calls, "strike row 1 1 day 1 sp 1", 1, "strike is written"),
+    (calls, "strike row 1 1 day 1 a 1 difference 1 days 1 lapses 1", 1, "strike is written"),
+    (calls, "strike row 1 1 day 1 a 1 difference -1 days 1 b 1", 1, "difference: -1 does not fit"),
     (calls, "report 1", 1, "report takes nothing"),
     (calls, "close 1", 1, "close takes active passive"),
     (calls, "close 1 18446744073709551616", 1, "passive: 18446744073709551616"),
