@@ -79,9 +79,12 @@ def judge(first, second, lines):
     words = [4, first, second, 2 * len(lines)]
     words += [word for line in lines for word in (line.kept, line.length)]
     data = struct.pack(f"<{len(words)}I", *words)
-    if PROBE.exists():
-        return subprocess.run([PROBE], input=data, capture_output=True, check=True).stdout.decode().strip()
-    return programs.probe(data).strip()
+    if not PROBE.exists():
+        return programs.probe(data).strip()
+    said = subprocess.run([PROBE], input=data, capture_output=True, check=True).stdout.decode().strip()
+    if said == "bad case":
+        raise TextError("target/bin/probe knows no boards, it is an old one: rt check probe")
+    return said
 
 
 def why_refused(first, second, lines):
