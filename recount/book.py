@@ -1,4 +1,4 @@
-"""The plain book of document 01 and of document 02, W1 and W4, written from the papers: calls,
+"""The plain book of document 01 and of document 02, W1, W4 and W5, written from the papers: calls,
 refusals, quotes, kept time, lapses, pay.
 
 Open is told SP, or a strike in its place (W4): wherever `sp` stands, a Strike may.
@@ -88,13 +88,21 @@ Charge = namedtuple("Charge", "day expiry quantum active passive")
 Withdraw = namedtuple("Withdraw", "day expiry quantum")
 Look = namedtuple("Look", "day expiry quantum")
 Report = namedtuple("Report", "")
+Ask = namedtuple("Ask", "t id price volume")
+Commit = namedtuple("Commit", "t id price volume ticket")
 
 EVENTS = (Add, Amend, Cancel, Deal, Tick)
+UNCOUNTED = (Ask, Look, Report)  # they alter nothing
+
+# An amendment and the book's count when it was asked for.
+Ticket = namedtuple("Ticket", "t id price volume count")
+COUNTS = 2**64
 
 Accepted = namedtuple("Accepted", "")
 Refused = namedtuple("Refused", "number")
 CellView = namedtuple("CellView", "kept length share limit lapses active passive met weight")
 ReportView = namedtuple("ReportView", "is_open time orders bid ask kept lapses failed fee")
+Asked = namedtuple("Asked", "bid ask ticket")
 
 # ---------------------------------------------------------------- live orders and best quotes
 
@@ -340,18 +348,23 @@ class Quoting:
 
 
 class Book:
-    """The plain book: at most one open quantum and the filled cells of 186."""
+    """The plain book: at most one open quantum, the filled cells of 186, and the count of the
+    accepted calls other than asks, looks and reports, modulo 2^64."""
 
     def __init__(self):
         self.quoting = None
         self.cells = {}
+        self.count = 0
 
     def call(self, call):
         """Refuses by the lowest number that applies and stays as it is, or accepts."""
         causes = self.causes(call)
         if causes:
             return Refused(min(causes))
-        return self.accept(call)
+        answer = self.accept(call)
+        if type(call) not in UNCOUNTED:
+            self.count = (self.count + 1) % COUNTS
+        return answer
 
     def causes(self, call):
         """The numbers of all causes that apply."""
@@ -360,6 +373,12 @@ class Book:
             return [7] if self.quoting is None else self.event_causes(call)
         if kind is Open:
             return self.open_causes(call)
+        if kind is Ask:
+            return self.causes(Amend(*call))
+        if kind is Commit:
+            amend = Amend(*call[:4])
+            stale = call.ticket != Ticket(*amend, self.count)
+            return self.causes(amend) + ([19] if stale else [])
         found = []
         if kind is Close:
             if not (charge_fits(call.active) and charge_fits(call.passive)):
@@ -450,7 +469,16 @@ class Book:
             return self.look((call.day, call.expiry, call.quantum))
         elif kind is Report:
             return self.report()
+        elif kind is Ask:
+            return self.ask(Amend(*call))
+        elif kind is Commit:
+            return self.accept(Amend(*call[:4]))
         return Accepted()
+
+    def ask(self, amend):
+        """Both best quotes after that amendment, and the ticket for it."""
+        live, least = live_after([*self.quoting.events, amend]), self.quoting.row.least
+        return Asked(best_bid(live, least), best_ask(live, least), Ticket(*amend, self.count))
 
     def look(self, cell):
         c = self.cells[cell]

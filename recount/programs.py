@@ -4,8 +4,8 @@ import struct
 
 from recount import game, records, session, standing, strikes, volatile
 from recount.book import (
-    BUY, NO_LIMIT, SELL, Accepted, Add, Amend, Cancel, CellView, Charge, Close, Deal, Drop, Look, Open,
-    Refused, Report, Strike, Tick, Withdraw, Book, choose,
+    BUY, NO_LIMIT, SELL, Accepted, Add, Amend, Ask, Asked, Cancel, CellView, Charge, Close, Commit, Deal,
+    Drop, Look, Open, Refused, Report, Strike, Tick, Ticket, Withdraw, Book, choose,
 )
 
 REPLAY_BYTES = 262_144
@@ -50,7 +50,7 @@ def read_call(words, at):
         day, *sp, limit = block[-told:]
         sp = signed(sp[0]) if kind == 1 else Strike(*sp)
         return Open(block[1 : 1 + count], day, sp, limit), at + count + told + 2
-    sizes = {2: 5, 3: 4, 4: 2, 5: 3, 6: 1, 7: 4, 8: 0, 9: 7, 10: 3, 11: 3, 12: 0}
+    sizes = {2: 5, 3: 4, 4: 2, 5: 3, 6: 1, 7: 4, 8: 0, 9: 7, 10: 3, 11: 3, 12: 0, 14: 4, 15: 10}
     block = take(sizes[kind]) if kind in sizes else None
     if block is None:
         return None
@@ -77,6 +77,12 @@ def read_call(words, at):
         return Withdraw(*block), behind
     if kind == 11:
         return Look(*block), behind
+    if kind == 14:
+        return Ask(*amendment(block)), behind
+    if kind == 15:
+        low, high = block[8:]
+        ticket = Ticket(*amendment(block[4:8]), low + (high << 32))
+        return Commit(*amendment(block[:4]), ticket), behind
     return Report(), behind
 
 
@@ -84,6 +90,11 @@ def charges(block):
     """Two charges, each two words, the low one first."""
     a_low, a_high, p_low, p_high = block
     return a_low + (a_high << 32), p_low + (p_high << 32)
+
+
+def amendment(block):
+    t, id, price, volume = block
+    return t, id, signed(price), volume
 
 
 def read_calls(data):
@@ -113,6 +124,12 @@ def answer_line(answer):
             f" lapses {answer.lapses} limit {limit_text(answer.limit)}"
             f" active {answer.active} passive {answer.passive}"
             f" verdict {verdict_text(answer.met)} weight {answer.weight}"
+        )
+    if isinstance(answer, Asked):
+        *named, count = answer.ticket
+        return (
+            f"asked bid {quote_text(answer.bid)} ask {quote_text(answer.ask)}"
+            f" ticket {' '.join(map(str, named))} count {count}"
         )
     return (
         f"report open {'yes' if answer.is_open else 'no'} time {answer.time}"

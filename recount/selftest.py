@@ -9,8 +9,8 @@ import random
 
 from recount import game, programs, records, session, standing, strikes, volatile
 from recount.book import (
-    BUY, NO_LIMIT, SELL, Accepted, Add, Amend, Book, Cancel, Cell, Charge, Close, Deal, Look, Open, Order,
-    Refused, Report, Row, Strike, Tick, Withdraw, best_ask, best_bid, cell_met, cell_weight, choose,
+    BUY, NO_LIMIT, SELL, Accepted, Add, Amend, Ask, Book, Cancel, Cell, Charge, Close, Commit, Deal, Look, Open, Order,
+    Refused, Report, Row, Strike, Tick, Ticket, Withdraw, best_ask, best_bid, cell_met, cell_weight, choose,
     fee, keeps, kept_time, lapses_by_milliseconds, lapses_by_stretches, live_after, stretches_by_events, stretches_by_milliseconds, weight, widest,
     within,
 )
@@ -115,7 +115,7 @@ def refusal(book, call):
 
 def check_refusals():
     """Each number from 1 to 16, and the lowest where several apply; 17 is in check_lapses, 18 in
-    check_strikes."""
+    check_strikes, 19 in check_asks."""
     good = EXAMPLE_ROW
     book = Book()
     assert refusal(book, Open(good[:6], 32, 0)) == 1
@@ -194,6 +194,58 @@ def check_strikes():
     assert refusal(book, Open(EXAMPLE_ROW, 2, 2_000)) == 0  # SP and strikes in one month
 
 
+def held(book):
+    """All that a book holds, to be compared."""
+    q = book.quoting
+    return book.count, dict(book.cells), q and (vars(q) | {"events": list(q.events), "live": dict(q.live)})
+
+
+def check_asks():
+    """Document 02, W5: an ask alters nothing and answers as after the amend; 19 comes after amend's own."""
+    book, named = Book(), (5, 1, 100, 500)
+    assert refusal(book, Ask(*named)) == refusal(book, Commit(*named, Ticket(*named, 1))) == 7
+    for at, call in enumerate([
+        Open(EXAMPLE_ROW, 1, 2_000), Add(0, 1, BUY, 99, 500), Add(0, 2, SELL, 101, 400),
+    ]):
+        assert book.count == at and book.call(call) == Accepted()
+    before = held(book)
+    asked = book.call(Ask(*named))
+    assert asked == (100, None, Ticket(*named, 3)) and held(book) == before
+    assert book.call(Ask(5, 2, 102, 500))[:2] == (99, 102)
+    # Each refusal that amend has, beside a ticket that is not good.
+    for wrong, due in [
+        ((10_001, 9, 100, 500), 9), ((5, 9, 100, 0), 11), ((5, 1, 100, 0), 12), ((5, 1, 10**9 + 1, 1), 12),
+    ]:
+        bad = Ticket(*wrong, 4)
+        answers = refusal(book, Amend(*wrong)), refusal(book, Ask(*wrong)), refusal(book, Commit(*wrong, bad))
+        assert answers == (due, due, due), wrong
+    # A ticket of which one number is not the present one.
+    for at in range(5):
+        for off in (1, -1):
+            ticket = Ticket(*(n + off * (place == at) for place, n in enumerate(asked.ticket)))
+            assert refusal(book, Commit(*named, ticket)) == 19
+    assert refusal(book, Commit(*named, Ticket(*named, 3 + 2**32))) == 19
+    assert refusal(book, Commit(5, 1, 100, 501, asked.ticket)) == 19 and held(book) == before
+    book.call(Report()), book.call(Look(1, 1, 1)), book.call(Tick(10_001))
+    assert held(book) == before
+    # The commit is that amend, and its own ticket is then old.
+    assert book.call(Commit(*named, asked.ticket)) == Accepted() and book.count == 4
+    assert book.quoting.events[-1] == Amend(*named)
+    assert (book.report().bid, book.report().ask, book.report().time) == (100, None, 5)
+    assert refusal(book, Commit(*named, asked.ticket)) == 19
+    assert refusal(book, Ask(4, 1, 100, 500)) == refusal(book, Commit(4, 1, 1, 0, asked.ticket)) == 8
+    again = book.call(Ask(*named)).ticket
+    book.call(Tick(5))
+    assert refusal(book, Commit(*named, again)) == 19
+    # Every other accepted call counts, whichever it is, and the count goes round.
+    for call in (Close(0, 0), Charge(1, 1, 1, 1, 1), Withdraw(1, 1, 1), Open(EXAMPLE_ROW, 1, Strike(0, 0, 0, 0))):
+        before = book.count
+        assert book.call(call) == Accepted() and book.count == before + 1
+    book.count = 2**64 - 1
+    book.call(Add(0, 1, BUY, 99, 500))
+    assert book.count == 0 and book.call(Commit(*named, Ticket(*named, 0))) == Accepted()
+
+
 def check_rows():
     """Choosing goes by the first row with expiry and quantum, whatever its other words."""
     usual = [1, 0, 9, 9, 9, 9, 9, 1, 1, 7, 7, 7, 7, 7, 1, 1, 8, 8, 8, 8, 8, 2, 2]
@@ -220,8 +272,21 @@ def random_events(rng, book):
             Add(t, id, BUY, price, volume), Add(t, id, SELL, price, volume),
             Amend(t, id, price, volume), Cancel(t, id), Deal(t, id, volume), Tick(t),
         ])
-        book.call(call)
+        if isinstance(call, Amend):
+            check_asked(book, call)
+        else:
+            book.call(call)
         yield call
+
+
+def check_asked(book, amend):
+    """What an ask answers is what the amend then does."""
+    asked, answer = book.call(Ask(*amend)), book.call(amend)
+    if isinstance(answer, Refused):
+        assert asked == answer, (asked, answer)
+    else:
+        shown = book.report()
+        assert asked[:2] == (shown.bid, shown.ask) and asked.ticket == (*amend, book.count - 1)
 
 
 def stretches_as_said(row, sp, events, end):
@@ -317,6 +382,7 @@ def main():
     check_lapses()
     check_refusals()
     check_strikes()
+    check_asks()
     check_rows()
     check_quotes(rng, 2_000)
     check_records(rng, 2_000)

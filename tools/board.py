@@ -29,7 +29,7 @@ from tools import text
 from tools.text import TextError
 
 PROBE = ROOT / "target" / "bin" / "probe"
-OTHER_ANSWERS = ("accepted", "refused", "report")
+OTHER_ANSWERS = ("accepted", "refused", "report", "asked")
 
 Line = namedtuple("Line", "name kept length")
 

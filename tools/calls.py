@@ -23,6 +23,8 @@ The text, one call a line, # for comments:
     withdraw DAY EXPIRY QUANTUM
     look DAY EXPIRY QUANTUM
     report
+    ask T ID PRICE VOLUME                     what that amend would do, and a ticket for it
+    commit T ID PRICE VOLUME ticket T ID PRICE VOLUME COUNT
     words N..                                 words as they stand, for what is no call
     bytes HEX..                               bytes as they stand, for what is no word
 
@@ -38,7 +40,8 @@ sys.path.insert(0, str(Path(__file__).resolve().parent.parent))
 
 from recount import programs
 from recount.book import (
-    EVENTS, NO_LIMIT, Add, Amend, Cancel, Charge, Close, Deal, Drop, Look, Open, Report, Strike, Tick, Withdraw,
+    EVENTS, NO_LIMIT, Add, Amend, Ask, Cancel, Charge, Close, Commit, Deal, Drop, Look, Open, Report, Strike,
+    Tick, Ticket, Withdraw,
 )
 from tools import text
 
@@ -76,14 +79,27 @@ def open_call(name, words):
     return Open(row, day, Strike(*(text.number(word, text.WORD, what) for what, word in numbers)), limit)
 
 
+def commit_call(words):
+    if len(words) != 10 or words[4] != "ticket":
+        raise text.TextError("commit is written: commit T ID PRICE VOLUME ticket T ID PRICE VOLUME COUNT")
+    count = text.number(words[9], text.LONG, "count")
+    return Commit(*text.event("amend", words[:4]), Ticket(*text.event("amend", words[5:9]), count))
+
+
 def read_call(name, words):
     """The call of one line."""
     if name in ("open", "strike"):
         return open_call(name, words)
+    if name == "ask":
+        text.columns(name, words, "t id price volume")
+        return Ask(*text.event("amend", words))
+    if name == "commit":
+        return commit_call(words)
     if name in text.EVENT_COLUMNS:
         return text.event(name, words)
     if name not in OTHER_COLUMNS:
-        known = ", ".join(["open", "strike", *text.EVENT_COLUMNS, *OTHER_COLUMNS, "words", "bytes"])
+        known = ["open", "strike", *text.EVENT_COLUMNS, *OTHER_COLUMNS, "ask", "commit", "words", "bytes"]
+        known = ", ".join(known)
         raise text.TextError(f"{name!r} is not known; a line begins with one of {known}")
     kind, names = OTHER_COLUMNS[name]
     values = {}
@@ -93,9 +109,14 @@ def read_call(name, words):
     return kind(**values)
 
 
-def halves(charge):
-    """A charge as two words, the low one first."""
-    return [charge & 0xFFFFFFFF, charge >> 32]
+def halves(number):
+    """A charge or a count as two words, the low one first."""
+    return [number & 0xFFFFFFFF, number >> 32]
+
+
+def amendment(call):
+    """The four words of what an amend, an ask, a commit or a ticket names."""
+    return [call.t, call.id, call.price & 0xFFFFFFFF, call.volume]
 
 
 def call_words(call):
@@ -108,7 +129,11 @@ def call_words(call):
     if kind is Add:
         return [2, call.t, call.id, call.side, call.price & 0xFFFFFFFF, call.volume]
     if kind is Amend:
-        return [3, call.t, call.id, call.price & 0xFFFFFFFF, call.volume]
+        return [3, *amendment(call)]
+    if kind is Ask:
+        return [14, *amendment(call)]
+    if kind is Commit:
+        return [15, *amendment(call), *amendment(call.ticket), *halves(call.ticket.count)]
     if kind is Close:
         return [7, *halves(call.active), *halves(call.passive)]
     if kind is Charge:
@@ -134,6 +159,8 @@ def call_line(call):
         return " ".join([f"{name} row", *map(str, call.words), told])
     if isinstance(call, EVENTS):
         return text.event_line(call)
+    if isinstance(call, Commit):
+        return " ".join(["commit", *map(str, call[:4]), "ticket", *map(str, call.ticket)])
     return " ".join([type(call).__name__.lower(), *map(str, call)])
 
 
