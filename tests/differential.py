@@ -30,7 +30,7 @@ sys.path.insert(0, str(ROOT))
 from recount import book, programs, records
 from recount import session as run
 from recount.book import BUY, SELL, Add, Cancel, Tick
-from tests import crossed, generate, known, months, strike_sights
+from tests import ask_sights, crossed, generate, known, months, strike_sights
 from tools import calls as calls_text
 from tools import session as session_text
 
@@ -110,8 +110,8 @@ class Program:
 class Replay(Program):
     name = "replay"
     cases = 2_500
-    refusals = [*range(1, 15), 17, 18]
-    must_sight = strike_sights.MUST_SHOW
+    refusals = [*range(1, 15), 17, 18, 19]
+    must_sight = [*strike_sights.MUST_SHOW, *ask_sights.MUST_SHOW]
     must_show = {
         "15 failed cells and a fee": r"failed (\d+ )*15 .*fee [1-9]",
         "16 failed cells and no fee": r"failed (\d+ )*16 .*fee 0$",
@@ -129,6 +129,7 @@ class Replay(Program):
     def special(self):
         for calls in (
             known.paper_calls, known.every_refusal, known.edge_calls, known.lapse_calls, known.strike_calls,
+            known.ask_calls,
         ):
             yield calls_text.calls_bytes(calls())
         for path in sorted((ROOT / "examples").glob("*.calls")):
@@ -147,7 +148,7 @@ class Replay(Program):
         yield words(13, 16, *range(16), 1, 0, 0, 0, 0, 0) + report
         for side in (0, 1, 2, 3, 2**32 - 1):
             yield good_open + words(2, 0, 1, side, 100, 500) + report
-        sizes = {2: 5, 3: 4, 4: 2, 5: 3, 6: 1, 7: 4, 9: 7, 10: 3, 11: 3}
+        sizes = {2: 5, 3: 4, 4: 2, 5: 3, 6: 1, 7: 4, 9: 7, 10: 3, 11: 3, 14: 4, 15: 10}
         for kind, size in sizes.items():
             for short in range(size):
                 yield good_open + words(kind, *[1] * short)
@@ -173,8 +174,8 @@ class Replay(Program):
         return [int(kept) for kept in re.findall(r"^cell kept (\d+)", answer, re.M)]
 
     def sights_in(self, data, answer):
-        calls, _ = programs.read_calls(data)
-        return strike_sights.sights(calls, answer.splitlines())
+        (calls, _), lines = programs.read_calls(data), answer.splitlines()
+        return [*strike_sights.sights(calls, lines), *ask_sights.sights(calls, lines)]
 
     def parts(self, data):
         calls, stop = programs.read_calls(data)

@@ -2,8 +2,8 @@
 
 from recount import records
 from recount.book import (
-    BUY, CHARGE_LIMIT, MOST_LAPSES, NO_LIMIT, PRICE_LIMIT, SELL, VOLUME_LIMIT, Add, Amend, Cancel,
-    Charge, Close, Deal, Drop, Look, Open, Report, Row, Strike, Tick, Withdraw, widest,
+    BUY, CHARGE_LIMIT, COUNTS, MOST_LAPSES, NO_LIMIT, PRICE_LIMIT, SELL, VOLUME_LIMIT, Add, Amend, Ask,
+    Cancel, Charge, Close, Commit, Deal, Drop, Look, Open, Report, Row, Strike, Tick, Ticket, Withdraw, widest,
 )
 from tests.generate import LONGEST, STRIKE_LIMITS, WORD_END, session
 
@@ -249,3 +249,34 @@ def strike_calls():
     calls += [Close(5, 5), Open(row, 1, wrong, 1_001), Open(row, 1, good), Look(1, 1, 1)]
     calls += [Open(list(MAIN_ROW), 2, 2_000, 0), *kept_events(5, 9_000), Close(7, 7), Look(2, 1, 1)]
     return calls + [Report()]
+
+
+def ask_calls():
+    """Asks and commits: tickets that are good, old, of another amendment or off by one, and amend's own
+    refusals beside them. The counts are written as they are due."""
+    row, named = list(Row(1, 1, 10_000, 500, 100, 1, 60)), (5, 1, 100, 500)
+    ticket = lambda count: Ticket(*named, count)
+    calls = [Ask(*named), Commit(*named, ticket(0)), Commit(*named, ticket(1)), Report()]
+    calls += [Open(row, 1, 2_000), Add(0, 1, BUY, 99, 500), Add(0, 2, SELL, 101, 500), Report()]  # 3 accepted
+    calls += [Ask(*named), Ask(5, 2, -5, 500), Ask(5, 1, 99, 499), Ask(5, 2, 101, VOLUME_LIMIT), Report()]
+    calls += [Look(1, 1, 1), Tick(10_001), Commit(*named, ticket(3)), Report()]  # nothing of that counts: 4
+    calls += [Commit(*named, ticket(3)), Ask(*named), Tick(5), Commit(*named, ticket(4))]  # 5, and old
+    good = ticket(5)
+    for at in range(5):
+        for off in (1, -1):
+            calls += [Commit(*named, Ticket(*good[:at], good[at] + off, *good[at + 1 :]))]
+    for count in (5 + 2**32, 5 + (2**32 - 1 << 32), COUNTS - 5, COUNTS - 1, 2**32, 0):
+        calls += [Commit(*named, ticket(count))]
+    for at, value in enumerate((6, 2, 99, 501)):
+        calls += [Commit(*named[:at], value, *named[at + 1 :], good), Ask(*named[:at], value, *named[at + 1 :])]
+    for wrong in (
+        (4, 1, 100, 500), (10_001, 1, 100, 500), (5, 9, 100, 500), (5, 1, PRICE_LIMIT + 1, 500),
+        (5, 1, 100, 0), (4, 9, 100, 0), (10_001, 9, -PRICE_LIMIT - 1, 0), (5, 9, 100, VOLUME_LIMIT + 1),
+    ):
+        calls += [Ask(*wrong), Commit(*wrong, Ticket(*wrong, 5)), Commit(*wrong, Ticket(*wrong, 6))]
+    calls += [Commit(*named, good), Report(), Cancel(6, 1), Ask(*named), Ask(6, 1, 100, 500)]  # 6, 7
+    calls += [Ask(6, 2, -PRICE_LIMIT, 500), Commit(6, 2, -PRICE_LIMIT, 500, Ticket(6, 2, -PRICE_LIMIT, 500, 7))]
+    calls += [Report(), Ask(10_000, 2, 1, 1), Close(1, 1), Ask(*named), Commit(*named, ticket(9))]  # 9
+    calls += [Charge(1, 1, 1, 2, 2), Withdraw(1, 1, 1), Open(row, 1, 2_000), Drop(), Open(row, 1, STRIKES[0])]
+    calls += [Add(5, 1, SELL, 7, 700), Commit(*named, ticket(14)), Commit(*named, ticket(15)), Report()]
+    return calls + [Close(1, 1), Look(1, 1, 1)]
