@@ -1,11 +1,15 @@
-"""The plain book of document 01 and of document 02, W1, written from the papers: calls, refusals,
-quotes, kept time, lapses, pay.
+"""The plain book of document 01 and of document 02, W1, W4 and W5, written from the papers: calls,
+refusals, quotes, kept time, lapses, pay.
+
+Open is told SP, or a strike in its place (W4): wherever `sp` stands, a Strike may.
 
 Nothing is carried that the paper does not carry. Quotes, kept time, verdicts, weights, failure
 counts and fee are worked out from the book each time they are asked for.
 """
 
 from collections import namedtuple
+
+from recount.strikes import Strike, strike_fits, strike_limit
 
 BUY, SELL = 1, 2
 
@@ -84,13 +88,21 @@ Charge = namedtuple("Charge", "day expiry quantum active passive")
 Withdraw = namedtuple("Withdraw", "day expiry quantum")
 Look = namedtuple("Look", "day expiry quantum")
 Report = namedtuple("Report", "")
+Ask = namedtuple("Ask", "t id price volume")
+Commit = namedtuple("Commit", "t id price volume ticket")
 
 EVENTS = (Add, Amend, Cancel, Deal, Tick)
+UNCOUNTED = (Ask, Look, Report)  # they alter nothing
+
+# An amendment and the book's count when it was asked for.
+Ticket = namedtuple("Ticket", "t id price volume count")
+COUNTS = 2**64
 
 Accepted = namedtuple("Accepted", "")
 Refused = namedtuple("Refused", "number")
 CellView = namedtuple("CellView", "kept length share limit lapses active passive met weight")
 ReportView = namedtuple("ReportView", "is_open time orders bid ask kept lapses failed fee")
+Asked = namedtuple("Asked", "bid ask ticket")
 
 # ---------------------------------------------------------------- live orders and best quotes
 
@@ -141,16 +153,25 @@ def best_ask(live, least):
     return None
 
 
+def narrow(row, sp, gap):
+    """The spread is at most a share of SP or a number of steps, or a strike's limit."""
+    if isinstance(sp, Strike):
+        return gap <= strike_limit(sp)
+    return gap * 100_000 <= row.a * sp or gap <= row.b
+
+
 def within(row, sp, bid, ask):
-    """Both quotes exist, and the spread is 1 or more and at most a share of SP or a number of steps."""
+    """Both quotes exist, and the spread is 1 or more and not too wide."""
     if bid is None or ask is None:
         return False
     gap = ask - bid
-    return gap >= 1 and (gap * 100_000 <= row.a * sp or gap <= row.b)
+    return gap >= 1 and narrow(row, sp, gap)
 
 
 def widest(row, sp):
     """The greatest spread that is within, as one number, 0 where none is; the rest goes by `within`."""
+    if isinstance(sp, Strike):
+        return strike_limit(sp)
     return max(row.b, row.a * max(sp, 0) // 100_000)
 
 
@@ -327,18 +348,23 @@ class Quoting:
 
 
 class Book:
-    """The plain book: at most one open quantum and the filled cells of 186."""
+    """The plain book: at most one open quantum, the filled cells of 186, and the count of the
+    accepted calls other than asks, looks and reports, modulo 2^64."""
 
     def __init__(self):
         self.quoting = None
         self.cells = {}
+        self.count = 0
 
     def call(self, call):
         """Refuses by the lowest number that applies and stays as it is, or accepts."""
         causes = self.causes(call)
         if causes:
             return Refused(min(causes))
-        return self.accept(call)
+        answer = self.accept(call)
+        if type(call) not in UNCOUNTED:
+            self.count = (self.count + 1) % COUNTS
+        return answer
 
     def causes(self, call):
         """The numbers of all causes that apply."""
@@ -347,6 +373,12 @@ class Book:
             return [7] if self.quoting is None else self.event_causes(call)
         if kind is Open:
             return self.open_causes(call)
+        if kind is Ask:
+            return self.causes(Amend(*call))
+        if kind is Commit:
+            amend = Amend(*call[:4])
+            stale = call.ticket != Ticket(*amend, self.count)
+            return self.causes(amend) + ([19] if stale else [])
         found = []
         if kind is Close:
             if not (charge_fits(call.active) and charge_fits(call.passive)):
@@ -369,11 +401,12 @@ class Book:
     def open_causes(self, call):
         found = []
         row = Row(*call.words) if len(call.words) == 7 else None
+        is_strike = isinstance(call.sp, Strike)
         if row is None:
             found.append(1)
-        elif not row_fits(row):
+        elif not row_fits(row._replace(a=0, b=0) if is_strike else row):  # a strike's are unread
             found.append(2)
-        if call.day not in DAYS or not price_fits(call.sp):
+        if call.day not in DAYS or not (is_strike or price_fits(call.sp)):
             found.append(3)
         if row is not None and (call.day, row.expiry, row.quantum) in self.cells:
             found.append(4)
@@ -381,6 +414,8 @@ class Book:
             found.append(6)
         if not limit_fits(call.limit):
             found.append(17)
+        if is_strike and not strike_fits(call.sp):
+            found.append(18)
         return found
 
     def event_causes(self, event):
@@ -434,7 +469,16 @@ class Book:
             return self.look((call.day, call.expiry, call.quantum))
         elif kind is Report:
             return self.report()
+        elif kind is Ask:
+            return self.ask(Amend(*call))
+        elif kind is Commit:
+            return self.accept(Amend(*call[:4]))
         return Accepted()
+
+    def ask(self, amend):
+        """Both best quotes after that amendment, and the ticket for it."""
+        live, least = live_after([*self.quoting.events, amend]), self.quoting.row.least
+        return Asked(best_bid(live, least), best_ask(live, least), Ticket(*amend, self.count))
 
     def look(self, cell):
         c = self.cells[cell]

@@ -2,10 +2,10 @@
 
 import struct
 
-from recount import game, records, session, standing, volatile
+from recount import game, records, session, standing, strikes, volatile
 from recount.book import (
-    BUY, NO_LIMIT, SELL, Accepted, Add, Amend, Cancel, CellView, Charge, Close, Deal, Drop, Look, Open,
-    Refused, Report, Tick, Withdraw, Book, choose,
+    BUY, NO_LIMIT, SELL, Accepted, Add, Amend, Ask, Asked, Cancel, CellView, Charge, Close, Commit, Deal,
+    Drop, Look, Open, Refused, Report, Strike, Tick, Ticket, Withdraw, Book, choose,
 )
 
 REPLAY_BYTES = 262_144
@@ -41,14 +41,16 @@ def read_call(words, at):
         return block if len(block) == count else None
 
     kind = words[at]
-    if kind == 1:
-        if at + 1 == len(words) or at + 2 + words[at + 1] + 3 > len(words):
+    if kind in (1, 13):
+        told = 3 if kind == 1 else 6  # words behind the row's
+        if at + 1 == len(words) or at + 2 + words[at + 1] + told > len(words):
             return None
         count = words[at + 1]
-        block = take(count + 4)
-        day, sp, limit = block[-3:]
-        return Open(block[1 : 1 + count], day, signed(sp), limit), at + count + 5
-    sizes = {2: 5, 3: 4, 4: 2, 5: 3, 6: 1, 7: 4, 8: 0, 9: 7, 10: 3, 11: 3, 12: 0}
+        block = take(count + 1 + told)
+        day, *sp, limit = block[-told:]
+        sp = signed(sp[0]) if kind == 1 else Strike(*sp)
+        return Open(block[1 : 1 + count], day, sp, limit), at + count + told + 2
+    sizes = {2: 5, 3: 4, 4: 2, 5: 3, 6: 1, 7: 4, 8: 0, 9: 7, 10: 3, 11: 3, 12: 0, 14: 4, 15: 10}
     block = take(sizes[kind]) if kind in sizes else None
     if block is None:
         return None
@@ -75,6 +77,12 @@ def read_call(words, at):
         return Withdraw(*block), behind
     if kind == 11:
         return Look(*block), behind
+    if kind == 14:
+        return Ask(*amendment(block)), behind
+    if kind == 15:
+        low, high = block[8:]
+        ticket = Ticket(*amendment(block[4:8]), low + (high << 32))
+        return Commit(*amendment(block[:4]), ticket), behind
     return Report(), behind
 
 
@@ -82,6 +90,11 @@ def charges(block):
     """Two charges, each two words, the low one first."""
     a_low, a_high, p_low, p_high = block
     return a_low + (a_high << 32), p_low + (p_high << 32)
+
+
+def amendment(block):
+    t, id, price, volume = block
+    return t, id, signed(price), volume
 
 
 def read_calls(data):
@@ -111,6 +124,12 @@ def answer_line(answer):
             f" lapses {answer.lapses} limit {limit_text(answer.limit)}"
             f" active {answer.active} passive {answer.passive}"
             f" verdict {verdict_text(answer.met)} weight {answer.weight}"
+        )
+    if isinstance(answer, Asked):
+        *named, count = answer.ticket
+        return (
+            f"asked bid {quote_text(answer.bid)} ask {quote_text(answer.ask)}"
+            f" ticket {' '.join(map(str, named))} count {count}"
         )
     return (
         f"report open {'yes' if answer.is_open else 'no'} time {answer.time}"
@@ -170,6 +189,8 @@ def probe(data):
         out = probe_row(words, data)
     elif words[:1] == [3]:
         out = probe_record(data[4:])
+    elif words[:1] == [4]:
+        out = strikes.probe(words, data)
     elif words[:1] == [8]:
         out = game.probe(words, data)
     elif words[:1] in ([5], [6], [12]):

@@ -7,10 +7,10 @@ counted in two: millisecond by millisecond, and as the gaps that the kept stretc
 
 import random
 
-from recount import game, programs, records, session, standing, volatile
+from recount import game, programs, records, session, standing, strikes, volatile
 from recount.book import (
-    BUY, NO_LIMIT, SELL, Accepted, Add, Amend, Book, Cancel, Cell, Charge, Close, Deal, Look, Open, Order,
-    Refused, Report, Row, Tick, Withdraw, best_ask, best_bid, cell_met, cell_weight, choose,
+    BUY, NO_LIMIT, SELL, Accepted, Add, Amend, Ask, Book, Cancel, Cell, Charge, Close, Commit, Deal, Look, Open, Order,
+    Refused, Report, Row, Strike, Tick, Ticket, Withdraw, best_ask, best_bid, cell_met, cell_weight, choose,
     fee, keeps, kept_time, lapses_by_milliseconds, lapses_by_stretches, live_after, stretches_by_events, stretches_by_milliseconds, weight, widest,
     within,
 )
@@ -114,7 +114,8 @@ def refusal(book, call):
 
 
 def check_refusals():
-    """Each number from 1 to 16, and the lowest where several apply; 17 is in check_lapses."""
+    """Each number from 1 to 16, and the lowest where several apply; 17 is in check_lapses, 18 in
+    check_strikes, 19 in check_asks."""
     good = EXAMPLE_ROW
     book = Book()
     assert refusal(book, Open(good[:6], 32, 0)) == 1
@@ -161,6 +162,90 @@ def check_refusals():
     assert cut == session.Stopped(15, 6)
 
 
+def check_strikes():
+    """Document 02, W4: a strike's open goes by its own a and b and not by the row's, and has no SP."""
+    row, unread = Row(*EXAMPLE_ROW), [*EXAMPLE_ROW[:4], 2**32 - 1, 2**32 - 1, *EXAMPLE_ROW[6:]]
+    for strike in (
+        Strike(75, 40, 365, 0), Strike(5, 1, 365, 0), Strike(15, 1, 365, 0), Strike(200, 100_000, 100, 3),
+        Strike(0, 5, 5, 9), Strike(9, 0, 9, 1), Strike(9, 9, 0, 1_000_000),
+    ):
+        wide = widest(row, strike)
+        assert within(row, strike, 0, wide) and not within(row, strike, 0, wide + 1), strike
+        assert not within(row, strike, 100, 100) and not within(row, strike, 100, 99), strike
+    book, good = Book(), Strike(75, 40, 365, 0)
+    for wrong in (
+        good._replace(a=201), good._replace(difference=100_001), good._replace(days=366),
+        good._replace(b=1_000_001), Strike(*[2**32 - 1] * 4),
+    ):
+        assert refusal(book, Open(unread, 1, wrong)) == 18
+        assert refusal(book, Open(unread, 1, wrong, 1_001)) == 17
+        assert refusal(book, Open(unread, 32, wrong)) == 3
+        assert refusal(book, Open([3] + unread[1:], 32, wrong)) == 2
+        assert refusal(book, Open(unread[:6], 32, wrong)) == 1
+    assert refusal(book, Open(unread, 1, 2_000)) == 2
+    assert refusal(book, Open(unread[:6] + [0], 1, good)) == 2
+    assert refusal(book, Open(unread, 1, good)) == 0
+    assert refusal(book, Open(unread, 2, Strike(201, 0, 0, 0), 1_001)) == 6
+    book.call(Add(0, 1, BUY, -150, 500))
+    book.call(Add(0, 2, SELL, 150, 500))
+    book.call(Amend(4_000, 2, 151, 500))
+    assert book.call(Close(0, 0)) == Accepted() and book.call(Look(1, 1, 1)).kept == 4_000
+    assert refusal(book, Open(unread, 1, Strike(201, 0, 0, 0), 1_001)) == 4
+    assert refusal(book, Open(EXAMPLE_ROW, 2, 2_000)) == 0  # SP and strikes in one month
+
+
+def held(book):
+    """All that a book holds, to be compared."""
+    q = book.quoting
+    return book.count, dict(book.cells), q and (vars(q) | {"events": list(q.events), "live": dict(q.live)})
+
+
+def check_asks():
+    """Document 02, W5: an ask alters nothing and answers as after the amend; 19 comes after amend's own."""
+    book, named = Book(), (5, 1, 100, 500)
+    assert refusal(book, Ask(*named)) == refusal(book, Commit(*named, Ticket(*named, 1))) == 7
+    for at, call in enumerate([
+        Open(EXAMPLE_ROW, 1, 2_000), Add(0, 1, BUY, 99, 500), Add(0, 2, SELL, 101, 400),
+    ]):
+        assert book.count == at and book.call(call) == Accepted()
+    before = held(book)
+    asked = book.call(Ask(*named))
+    assert asked == (100, None, Ticket(*named, 3)) and held(book) == before
+    assert book.call(Ask(5, 2, 102, 500))[:2] == (99, 102)
+    # Each refusal that amend has, beside a ticket that is not good.
+    for wrong, due in [
+        ((10_001, 9, 100, 500), 9), ((5, 9, 100, 0), 11), ((5, 1, 100, 0), 12), ((5, 1, 10**9 + 1, 1), 12),
+    ]:
+        bad = Ticket(*wrong, 4)
+        answers = refusal(book, Amend(*wrong)), refusal(book, Ask(*wrong)), refusal(book, Commit(*wrong, bad))
+        assert answers == (due, due, due), wrong
+    # A ticket of which one number is not the present one.
+    for at in range(5):
+        for off in (1, -1):
+            ticket = Ticket(*(n + off * (place == at) for place, n in enumerate(asked.ticket)))
+            assert refusal(book, Commit(*named, ticket)) == 19
+    assert refusal(book, Commit(*named, Ticket(*named, 3 + 2**32))) == 19
+    assert refusal(book, Commit(5, 1, 100, 501, asked.ticket)) == 19 and held(book) == before
+    book.call(Report()), book.call(Look(1, 1, 1)), book.call(Tick(10_001))
+    assert held(book) == before
+    # The commit is that amend, and its own ticket is then old.
+    assert book.call(Commit(*named, asked.ticket)) == Accepted() and book.count == 4
+    assert book.quoting.events[-1] == Amend(*named)
+    assert (book.report().bid, book.report().ask, book.report().time) == (100, None, 5)
+    assert refusal(book, Commit(*named, asked.ticket)) == 19
+    assert refusal(book, Ask(4, 1, 100, 500)) == refusal(book, Commit(4, 1, 1, 0, asked.ticket)) == 8
+    again = book.call(Ask(*named)).ticket
+    book.call(Tick(5))
+    assert refusal(book, Commit(*named, again)) == 19
+    # Every other accepted call counts, whichever it is, and the count goes round.
+    for call in (Close(0, 0), Charge(1, 1, 1, 1, 1), Withdraw(1, 1, 1), Open(EXAMPLE_ROW, 1, Strike(0, 0, 0, 0))):
+        before = book.count
+        assert book.call(call) == Accepted() and book.count == before + 1
+    book.count = 2**64 - 1
+    book.call(Add(0, 1, BUY, 99, 500))
+    assert book.count == 0 and book.call(Commit(*named, Ticket(*named, 0))) == Accepted()
+
+
 def check_rows():
     """Choosing goes by the first row with expiry and quantum, whatever its other words."""
     usual = [1, 0, 9, 9, 9, 9, 9, 1, 1, 7, 7, 7, 7, 7, 1, 1, 8, 8, 8, 8, 8, 2, 2]
@@ -187,8 +272,21 @@ def random_events(rng, book):
             Add(t, id, BUY, price, volume), Add(t, id, SELL, price, volume),
             Amend(t, id, price, volume), Cancel(t, id), Deal(t, id, volume), Tick(t),
         ])
-        book.call(call)
+        if isinstance(call, Amend):
+            check_asked(book, call)
+        else:
+            book.call(call)
         yield call
+
+
+def check_asked(book, amend):
+    """What an ask answers is what the amend then does."""
+    asked, answer = book.call(Ask(*amend)), book.call(amend)
+    if isinstance(answer, Refused):
+        assert asked == answer, (asked, answer)
+    else:
+        shown = book.report()
+        assert asked[:2] == (shown.bid, shown.ask) and asked.ticket == (*amend, book.count - 1)
 
 
 def stretches_as_said(row, sp, events, end):
@@ -204,7 +302,7 @@ def check_counting(rng, cases, said):
     for case in range(cases):
         row = [1, 0, 1_000 * rng.randrange(1, 4), rng.randrange(1, 6),
                rng.choice([0, 5_000, 10_000]), rng.randrange(6), 60]
-        sp = rng.choice([-5, 0, 100, 100])
+        sp = rng.choice([-5, 0, 100, 100, Strike(rng.randrange(60), 1, 365, rng.randrange(3))])
         book = Book()
         limit = rng.choice([0, 1, 2, 3, NO_LIMIT])
         assert book.call(Open(row, 1, sp, limit)) == Accepted()
@@ -283,6 +381,8 @@ def main():
     check_paper()
     check_lapses()
     check_refusals()
+    check_strikes()
+    check_asks()
     check_rows()
     check_quotes(rng, 2_000)
     check_records(rng, 2_000)
@@ -290,6 +390,7 @@ def main():
     game.check()
     volatile.selftest()
     standing.check()
+    strikes.check()
     check_counting(rng, 400, 40)
     print("recount: agrees with the paper's checks and with itself")
     return 0

@@ -8,8 +8,8 @@ LOCKED, CROSSED = MUST_SHOW = "a locked quote", "a crossed quote"
 
 
 def kept_before(row, sp, gap):
-    """Document 01's sentence alone: what a, SP and b keep."""
-    return gap * 100_000 <= row.a * sp or gap <= row.b
+    """Document 01's sentence alone: what a, SP and b keep, or a strike's limit in their place."""
+    return book.narrow(row, sp, gap)
 
 
 @contextmanager

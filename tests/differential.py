@@ -30,7 +30,7 @@ sys.path.insert(0, str(ROOT))
 from recount import book, programs, records
 from recount import session as run
 from recount.book import BUY, SELL, Add, Cancel, Tick
-from tests import crossed, generate, known, months
+from tests import ask_sights, crossed, generate, known, months, strike_sights
 from tools import calls as calls_text
 from tools import session as session_text
 
@@ -69,6 +69,7 @@ class Program:
 
     refusals = range(0)  # the numbers that its cases must have met
     must_show = {}  # what its answers must have shown, as patterns
+    must_sight = ()  # what its cases must have shown, by name
 
     def __init__(self):
         self.path = TARGET / "bin" / self.name
@@ -89,6 +90,10 @@ class Program:
         """The refusal numbers of an answer."""
         return [int(number) for number in re.findall(r"^refused (\d+)", answer, re.M)]
 
+    def sights_in(self, data, answer):
+        """What a case and its answer show, by name."""
+        return ()
+
     def kept_in(self, answer):
         """Kept time of each accepted session of an answer."""
         return [int(kept) for kept in re.findall(r"^kept (\d+)", answer, re.M)]
@@ -105,7 +110,8 @@ class Program:
 class Replay(Program):
     name = "replay"
     cases = 2_500
-    refusals = [*range(1, 15), 17]
+    refusals = [*range(1, 15), 17, 18, 19]
+    must_sight = [*strike_sights.MUST_SHOW, *ask_sights.MUST_SHOW]
     must_show = {
         "15 failed cells and a fee": r"failed (\d+ )*15 .*fee [1-9]",
         "16 failed cells and no fee": r"failed (\d+ )*16 .*fee 0$",
@@ -121,21 +127,28 @@ class Replay(Program):
     }
 
     def special(self):
-        for calls in (known.paper_calls, known.every_refusal, known.edge_calls, known.lapse_calls):
+        for calls in (
+            known.paper_calls, known.every_refusal, known.edge_calls, known.lapse_calls, known.strike_calls,
+            known.ask_calls,
+        ):
             yield calls_text.calls_bytes(calls())
         for path in sorted((ROOT / "examples").glob("*.calls")):
             yield calls_text.to_bytes(path.read_text())
         report, wrong_open = words(12), words(1, 6, 1, 1, 10_000, 500, 100, 1, 1, 2_000, 5)
         good_open = words(1, 7, 1, 1, 10_000, 500, 100, 1, 60, 1, 2_000, 5)
         yield from [b"", b"\1", report + b"\0\0\0", report * 3]
-        yield from [words(0), words(13), words(2**32 - 1)]
+        yield from [words(0), words(16), words(2**32 - 1)]
         yield from [wrong_open, words(1), words(1, 0), words(1, 0, 1), words(1, 0, 1, 0),
                     words(1, 0, 1, 0, 0) + report]
         yield words(1, 2**32 - 1, 1, 2)
         yield words(1, 16, *range(16), 1, 0, 0)
+        strike = words(13, 7, 1, 1, 10_000, 500, 0, 0, 60, 1, 75, 40, 365, 0, 5)
+        yield from [strike[: 4 * size] for size in range(1, 16)]
+        yield from [strike + report, words(13, 2**32 - 1, 1, 2, 3, 4, 5, 6, 7), words(13, *[0] * 7) + report]
+        yield words(13, 16, *range(16), 1, 0, 0, 0, 0, 0) + report
         for side in (0, 1, 2, 3, 2**32 - 1):
             yield good_open + words(2, 0, 1, side, 100, 500) + report
-        sizes = {2: 5, 3: 4, 4: 2, 5: 3, 6: 1, 7: 4, 9: 7, 10: 3, 11: 3}
+        sizes = {2: 5, 3: 4, 4: 2, 5: 3, 6: 1, 7: 4, 9: 7, 10: 3, 11: 3, 14: 4, 15: 10}
         for kind, size in sizes.items():
             for short in range(size):
                 yield good_open + words(kind, *[1] * short)
@@ -152,13 +165,17 @@ class Replay(Program):
         data = calls_text.calls_bytes(calls)
         if rng.random() < 0.15:
             name, at = "damaged_words", rng.randrange(len(data) + 1)
-            noise, kind = rng.randbytes(rng.randrange(9)), words(rng.choice([0, 13, 99]))
+            noise, kind = rng.randbytes(rng.randrange(9)), words(rng.choice([0, 16, 99]))
             rest = data[at:] if rng.random() < 0.5 else b""
             data = data[:at] + rng.choice([b"", noise, kind]) + rest
         return name, data
 
     def kept_in(self, answer):
         return [int(kept) for kept in re.findall(r"^cell kept (\d+)", answer, re.M)]
+
+    def sights_in(self, data, answer):
+        (calls, _), lines = programs.read_calls(data), answer.splitlines()
+        return [*strike_sights.sights(calls, lines), *ask_sights.sights(calls, lines)]
 
     def parts(self, data):
         calls, stop = programs.read_calls(data)
@@ -412,16 +429,17 @@ class Tally:
     def __init__(self):
         self.cases = 0
         self.refused, self.generators, self.seen = Counter(), Counter(), Counter()
-        self.reached = Counter()  # refusals, by the random cases alone
+        self.reached = Counter()  # refusals and sights, by the random cases alone
         self.accepted = self.with_time = 0
 
-    def count(self, program, name, answer, quotes):
+    def count(self, program, name, answer, quotes, sights):
         self.cases += 1
         self.generators[name] += 1
         refused = set(program.refusals_in(answer))  # cases that met it
         self.refused.update(refused)
+        self.seen.update(sights)
         if name != "special":
-            self.reached.update(refused)
+            self.reached.update(refused | sights)
         self.seen.update(
             shown for shown, pattern in program.must_show.items() if re.search(pattern, answer, re.M)
         )
@@ -461,12 +479,13 @@ def test(program, seed, count, until):
     for batch in batches(named_cases(program, seed, count), 200 if program.name == "ccall" else 1):
         answers = program.actual_many([data for _, _, data in batch])
         for (label, name, data), actual in zip(batch, answers):
-            with crossed.noted() as quotes:
+            with crossed.noted() as quotes, strike_sights.noted() as sights:
                 expected = program.expected(data)
             if actual != expected:
                 write_failure(program, data, label)
                 return None
-            tally.count(program, name, expected, quotes)
+            sights.update(program.sights_in(data, expected))
+            tally.count(program, name, expected, quotes, sights)
         if time.monotonic() > until and name != "special":
             print(f"{program.name}: time is up after {tally.cases} cases")
             break
@@ -486,6 +505,9 @@ def complaints(program, tally, count):
         yield f"{program.name}: never refused by {', '.join(map(str, never))}"
     for shown in (*program.must_show, *crossed.MUST_SHOW):
         if not tally.seen[shown]:
+            yield f"{program.name}: no case with {shown}"
+    for shown in program.must_sight:
+        if not (tally.reached if whole else tally.seen)[shown]:
             yield f"{program.name}: no case with {shown}"
     if 3 * tally.with_time < tally.accepted:
         yield f"{program.name}: {tally.with_time} of {tally.accepted} accepted have kept time"

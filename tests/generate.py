@@ -10,7 +10,7 @@ from pathlib import Path
 from recount import records
 from recount.book import (
     BUY, LIVE_LIMIT, MOST_LAPSES, NO_LIMIT, PRICE_LIMIT, SELL, VOLUME_LIMIT, Add, Amend, Book,
-    Cancel, Deal, Open, Row, Tick, best_ask, best_bid, keeps, pass_event, widest,
+    Cancel, Deal, Open, Row, Strike, Tick, best_ask, best_bid, keeps, pass_event, widest,
 )
 from recount.session import HEAD
 from tools import session as session_text
@@ -57,6 +57,40 @@ def any_sp(rng):
     return rng.choice([2_000, 8_452, 24_050, 1_999, rng.randrange(1, 200_000)])
 
 
+STRIKE_LIMITS = Strike(200, 100_000, 365, 1_000_000)
+
+
+def any_strike(rng):
+    """A strike: of a programme, with a limit of whole or half steps before it is rounded, with a number
+    at an end of its range, or with any numbers."""
+    how = rng.randrange(5)
+    if how <= 1:
+        b = rng.choice([0, 0, 5, 25, 45])
+        return Strike(rng.choice([30, 75, 115]), rng.randrange(1, 80), rng.randrange(1, 120), b)
+    if how == 2:  # the root of 365 / 365 is whole, and a is in halves
+        return Strike(5 * rng.randrange(1, 41), rng.randrange(1, 40, 2), 365, rng.choice([0, 0, 1, 7]))
+    strike = Strike(*(rng.randrange(most + 1) for most in STRIKE_LIMITS))
+    if how == 3:
+        at = rng.choice(Strike._fields)
+        return strike._replace(**{at: rng.choice([0, getattr(STRIKE_LIMITS, at)])})
+    return strike._replace(difference=rng.randrange(1_000), b=rng.randrange(200))
+
+
+def wrong_strike(rng):
+    """A strike with one number outside its range, mostly just so, at times all of them."""
+    if rng.random() < 0.1:
+        return Strike(*[WORD_END - 1] * 4)
+    at = rng.choice(Strike._fields)
+    past = rng.choice([getattr(STRIKE_LIMITS, at) + 1] * 3 + [WORD_END - 1])
+    return any_strike(rng)._replace(**{at: past})
+
+
+def unread(rng, row):
+    """The row with an a and b that a strike does not read."""
+    word = lambda: rng.choice([0, 100_001, 1_000_001, WORD_END - 1, rng.randrange(WORD_END)])
+    return row._replace(a=word(), b=word())
+
+
 def any_limit(rng):
     """A lapse limit: few, the most or none."""
     return rng.choice([*range(6), MOST_LAPSES, NO_LIMIT, NO_LIMIT])
@@ -98,7 +132,8 @@ class Feed:
         # One event in five is up to this much later than the one before it.
         self.stride = 8 * self.row.length // max(8, count)
         self.wide = widest(self.row, self.sp)
-        self.middle = clamp(self.sp, -PRICE_LIMIT // 2, PRICE_LIMIT // 2)
+        middle = rng.randrange(5_000) if isinstance(self.sp, Strike) else self.sp
+        self.middle = clamp(middle, -PRICE_LIMIT // 2, PRICE_LIMIT // 2)
         self.calls = []
         self.next_id = rng.choice([0, 1, 1_000, WORD_END - 2_000])
 

@@ -2,10 +2,10 @@
 
 from recount import records
 from recount.book import (
-    BUY, CHARGE_LIMIT, MOST_LAPSES, NO_LIMIT, PRICE_LIMIT, SELL, VOLUME_LIMIT, Add, Amend, Cancel,
-    Charge, Close, Deal, Drop, Look, Open, Report, Row, Tick, Withdraw,
+    BUY, CHARGE_LIMIT, COUNTS, MOST_LAPSES, NO_LIMIT, PRICE_LIMIT, SELL, VOLUME_LIMIT, Add, Amend, Ask,
+    Cancel, Charge, Close, Commit, Deal, Drop, Look, Open, Report, Row, Strike, Tick, Ticket, Withdraw, widest,
 )
-from tests.generate import LONGEST, WORD_END, session
+from tests.generate import LONGEST, STRIKE_LIMITS, WORD_END, session
 
 # ---------------------------------------------------------------- sessions
 
@@ -207,3 +207,76 @@ def lapse_calls():
         calls += [Report(), Close(10, 10), Look(day, 1, 1), Charge(day, 1, 1, 1, 1)]
         calls += [Look(day, 1, 1), Report()]
     return calls
+
+
+STRIKE_ROW = Row(1, 1, 10_000, 500, WORD_END - 1, WORD_END - 1, 60)  # a and b unread
+
+STRIKES = [
+    Strike(75, 40, 365, 0), Strike(75, 41, 365, 0), Strike(75, 60, 30, 45), Strike(75, 60, 2, 45),
+    Strike(5, 1, 365, 0), Strike(15, 1, 365, 0), Strike(4, 1, 365, 0), Strike(14, 1, 365, 0),
+    Strike(15, 1, 365, 1), Strike(15, 1, 365, 2), Strike(15, 1, 365, 3), Strike(10, 1, 91, 0),
+    Strike(10, 1, 92, 0), Strike(0, 100_000, 365, 0), Strike(0, 100_000, 365, 7), Strike(200, 0, 365, 0),
+    Strike(200, 0, 365, 7), Strike(200, 100_000, 0, 0), Strike(200, 100_000, 0, 7), STRIKE_LIMITS,
+    STRIKE_LIMITS._replace(b=0), STRIKE_LIMITS._replace(days=1, b=0), STRIKE_LIMITS._replace(days=364, b=0),
+    STRIKE_LIMITS._replace(a=0), Strike(0, 0, 0, 0), Strike(195, 99_999, 365, 0), Strike(1, 1, 1, 1),
+]
+
+
+def spread_calls(strike, day=1):
+    """A strike's quantum that stands ten milliseconds at its limit, ten a step past it, ten a step less."""
+    wide = widest(STRIKE_ROW, strike)
+    yield Open(list(STRIKE_ROW), day, strike)
+    yield from [Add(0, 1, BUY, -500, 500), Add(0, 2, SELL, wide - 500, 500), Tick(10), Report()]
+    yield from [Amend(10, 2, wide - 499, 500), Tick(20), Report()]
+    yield from [Amend(20, 2, wide - 501, 500), Tick(30), Report(), Drop()]
+
+
+def strike_calls():
+    """Limits where the rounding or b decides, each end of each number's range, and each refusal beside 18."""
+    calls, row = [], list(STRIKE_ROW)
+    for strike in STRIKES:
+        calls += spread_calls(strike)
+    for at, most in enumerate(STRIKE_LIMITS):
+        for value in (0, most, most + 1, WORD_END - 1):
+            calls += [Open(row, 1, Strike(*STRIKES[0][:at], value, *STRIKES[0][at + 1 :])), Drop()]
+    good, wrong = STRIKES[0], Strike(201, 100_001, 366, 1_000_001)
+    for words in edge_rows():
+        calls += [Open(words, 31, good), Drop(), Open(words, 31, wrong)]
+    calls += [Open(row, 1, 2_000), Open(row[:6], 1, good), Open(row + [1], 1, good)]
+    calls += [Open(row[:6], 32, wrong, 1_001), Open([3] + row[1:], 32, wrong, 1_001)]
+    calls += [Open(row, 32, wrong, 1_001), Open(row, 0, good), Open(row, 1, wrong, 1_001)]
+    calls += [Open(row, 1, good), Open(row, 2, wrong, 1_001), Report(), *kept_events(0, 9_000)]
+    calls += [Close(5, 5), Open(row, 1, wrong, 1_001), Open(row, 1, good), Look(1, 1, 1)]
+    calls += [Open(list(MAIN_ROW), 2, 2_000, 0), *kept_events(5, 9_000), Close(7, 7), Look(2, 1, 1)]
+    return calls + [Report()]
+
+
+def ask_calls():
+    """Asks and commits: tickets that are good, old, of another amendment or off by one, and amend's own
+    refusals beside them. The counts are written as they are due."""
+    row, named = list(Row(1, 1, 10_000, 500, 100, 1, 60)), (5, 1, 100, 500)
+    ticket = lambda count: Ticket(*named, count)
+    calls = [Ask(*named), Commit(*named, ticket(0)), Commit(*named, ticket(1)), Report()]
+    calls += [Open(row, 1, 2_000), Add(0, 1, BUY, 99, 500), Add(0, 2, SELL, 101, 500), Report()]  # 3 accepted
+    calls += [Ask(*named), Ask(5, 2, -5, 500), Ask(5, 1, 99, 499), Ask(5, 2, 101, VOLUME_LIMIT), Report()]
+    calls += [Look(1, 1, 1), Tick(10_001), Commit(*named, ticket(3)), Report()]  # nothing of that counts: 4
+    calls += [Commit(*named, ticket(3)), Ask(*named), Tick(5), Commit(*named, ticket(4))]  # 5, and old
+    good = ticket(5)
+    for at in range(5):
+        for off in (1, -1):
+            calls += [Commit(*named, Ticket(*good[:at], good[at] + off, *good[at + 1 :]))]
+    for count in (5 + 2**32, 5 + (2**32 - 1 << 32), COUNTS - 5, COUNTS - 1, 2**32, 0):
+        calls += [Commit(*named, ticket(count))]
+    for at, value in enumerate((6, 2, 99, 501)):
+        calls += [Commit(*named[:at], value, *named[at + 1 :], good), Ask(*named[:at], value, *named[at + 1 :])]
+    for wrong in (
+        (4, 1, 100, 500), (10_001, 1, 100, 500), (5, 9, 100, 500), (5, 1, PRICE_LIMIT + 1, 500),
+        (5, 1, 100, 0), (4, 9, 100, 0), (10_001, 9, -PRICE_LIMIT - 1, 0), (5, 9, 100, VOLUME_LIMIT + 1),
+    ):
+        calls += [Ask(*wrong), Commit(*wrong, Ticket(*wrong, 5)), Commit(*wrong, Ticket(*wrong, 6))]
+    calls += [Commit(*named, good), Report(), Cancel(6, 1), Ask(*named), Ask(6, 1, 100, 500)]  # 6, 7
+    calls += [Ask(6, 2, -PRICE_LIMIT, 500), Commit(6, 2, -PRICE_LIMIT, 500, Ticket(6, 2, -PRICE_LIMIT, 500, 7))]
+    calls += [Report(), Ask(10_000, 2, 1, 1), Close(1, 1), Ask(*named), Commit(*named, ticket(9))]  # 9
+    calls += [Charge(1, 1, 1, 2, 2), Withdraw(1, 1, 1), Open(row, 1, 2_000), Drop(), Open(row, 1, STRIKES[0])]
+    calls += [Add(5, 1, SELL, 7, 700), Commit(*named, ticket(14)), Commit(*named, ticket(15)), Report()]
+    return calls + [Close(1, 1), Look(1, 1, 1)]

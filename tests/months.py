@@ -2,13 +2,13 @@
 
 from recount import records
 from recount.book import (
-    BUY, CHARGE_LIMIT, PRICE_LIMIT, SELL, Add, Amend, Book, Cancel, Charge, Close,
-    Deal, Drop, Look, Open, Report, Tick, Withdraw,
+    BUY, CHARGE_LIMIT, COUNTS, PRICE_LIMIT, SELL, Add, Amend, Ask, Book, Cancel, Charge, Close, Commit,
+    Deal, Drop, Look, Open, Report, Tick, Ticket, Withdraw, widest,
 )
 from recount.session import HEAD
 from tests.generate import (
-    WORD_END, Feed, amount, any_limit, any_session, any_sp, fill, keeping_a_step, long_row,
-    programme_row, short_row, wrong_limit, wrong_row_words,
+    WORD_END, Feed, amount, any_limit, any_session, any_sp, any_strike, clamp, fill, keeping_a_step,
+    long_row, programme_row, short_row, unread, wrong_limit, wrong_row_words, wrong_strike,
 )
 
 
@@ -57,9 +57,64 @@ class Month:
                 s.step()
             if self.rng.random() < 0.2:
                 self.send(Report())
+            if self.rng.random() < 0.1:
+                self.ask_and_commit(s)
+
+    def amendment(self, s):
+        """An amendment of a live order, at times one that amend refuses, mostly for one cause."""
+        rng, order, t = self.rng, s.some(), s.later()
+        if order is None:
+            return Amend(t, s.new_id(), 0, 1)
+        good = Amend(t, order.id, s.price(order.side), s.enough())
+        if rng.random() < 0.75:
+            return good
+        return rng.choice([
+            good._replace(t=max(0, s.now - 1)), good._replace(t=s.row.length + 1), good._replace(id=s.new_id()),
+            good._replace(volume=0), good._replace(price=PRICE_LIMIT + 1, volume=0, id=s.new_id()),
+        ])
+
+    def ask_and_commit(self, s):
+        """An ask, and mostly a commit with its ticket, which may be old by then or not the right one."""
+        rng, amend = self.rng, self.amendment(s)
+        if rng.random() < 0.5:
+            self.send(Report())
+        self.send(Ask(*amend))
+        ticket, how = Ticket(*amend, self.book.count), rng.randrange(8)
+        if how == 0:  # what leaves the ticket good
+            other = Ask(*self.amendment(s))
+            self.send(rng.choice([Report(), Look(*self.cell()), other, Tick(WORD_END - 1), Open([], 0, 0)]))
+        elif how == 1:  # what makes it old
+            self.send(rng.choice([Tick(s.now), amend]))
+        elif how == 2:
+            amend = amend._replace(volume=amend.volume + rng.choice([1, 2]))
+        elif how == 3:
+            ticket = spoiled_ticket(rng, ticket)
+        elif how == 4:
+            return
+        self.send(Commit(*amend, ticket))
+        if rng.random() < 0.2:
+            self.send(Commit(*amend, ticket))
+        if rng.random() < 0.5:
+            self.send(Report())
 
     def open(self, row, day):
+        """By SP, or at times by a strike."""
+        if self.rng.random() < 0.3:
+            return self.open_strike(row, day)
         return self.send(Open(list(row), day, any_sp(self.rng), any_limit(self.rng)))
+
+    def open_strike(self, row, day):
+        row = unread(self.rng, row) if self.rng.random() < 0.5 else row
+        return self.send(Open(list(row), day, any_strike(self.rng), any_limit(self.rng)))
+
+    def wrong_strike(self):
+        """An open that is refused for the strike's numbers, at times for something lower."""
+        rng = self.rng
+        row = list(rng.choice([short_row(rng), unread(rng, short_row(rng))]))
+        words = wrong_row_words(rng) if rng.random() < 0.1 else row
+        day = rng.choice([0, 32, WORD_END - 1]) if rng.random() < 0.1 else self.cell()[0]
+        limit = wrong_limit(rng) if rng.random() < 0.1 else any_limit(rng)
+        self.send(Open(words, day, wrong_strike(rng), limit))
 
     def planned(self, day, row, kept, active, passive):
         """A whole quantum with that kept time, by a row that keeps a spread of one step."""
@@ -79,6 +134,17 @@ class Month:
         self.send(Report())
 
 
+def spoiled_ticket(rng, ticket):
+    """The ticket with a number off by one, or the count's high word, or none of its numbers right."""
+    how = rng.randrange(7)
+    if how == 5:
+        return ticket._replace(count=(ticket.count + (rng.randrange(1, 2**32) << 32)) % COUNTS)
+    if how == 6:
+        return Ticket(WORD_END - 1, WORD_END - 1, -1, WORD_END - 1, COUNTS - 1)
+    off = -1 if ticket[how] == WORD_END - 1 or ticket[how] and rng.random() < 0.5 else 1
+    return Ticket(*ticket[:how], ticket[how] + off, *ticket[how + 1 :])
+
+
 def mixed_calls(rng):
     """Any call at any place, right or wrong."""
     m = Month(rng)
@@ -94,6 +160,10 @@ def mixed_calls(rng):
                             rng.choice([PRICE_LIMIT + 1, -PRICE_LIMIT - 1, 0]), wrong_limit(rng)))
             elif rng.random() < 0.1:
                 m.send(Open(list(short_row(rng)), m.cell()[0], any_sp(rng), wrong_limit(rng)))
+            elif rng.random() < 0.1:
+                m.wrong_strike()
+            elif rng.random() < 0.05:
+                m.send(Open(wrong_row_words(rng), rng.choice([1, 32]), any_strike(rng), any_limit(rng)))
             else:
                 row = rng.choice([short_row, short_row, long_row, programme_row])(rng)
                 m.open(row, m.cell()[0])
@@ -102,6 +172,7 @@ def mixed_calls(rng):
         elif how == 1:
             m.send(rng.choice([
                 Add(0, 1, BUY, 1, 1), Amend(0, 1, 1, 1), Cancel(0, 1), Deal(0, 1, 1), Tick(0),
+                Ask(0, 1, 1, 1), Commit(0, 1, 1, 1, Ticket(0, 1, 1, 1, m.book.count + rng.randrange(2))),
             ]))
         elif how == 2:
             wrong = rng.random() < 0.1
@@ -260,6 +331,46 @@ def lapsing(rng):
     return m.calls
 
 
+def strike_month(rng):
+    """A strike's meter: quotes as wide as the limit, a step less and a step more."""
+    m = Month(rng)
+    row = rng.choice([short_row, long_row])(rng)
+    for day in range(1, rng.randrange(2, 6)):
+        if rng.random() < 0.4:
+            m.wrong_strike()
+        m.open_strike(row, day)
+        wide = widest(row, m.book.quoting.sp)
+        price, t = rng.randrange(-5_000, 5_000), 0
+        m.send(Add(t, 1, BUY, price, row.least))
+        m.send(Add(t, 2, SELL, price + wide, row.least))
+        for _ in range(rng.randrange(1, 8)):
+            t = min(row.length, t + rng.choice([1, 10, rng.randrange(row.length // 4)]))
+            gap = clamp(wide + rng.choice([-1, 0, 0, 1]), -5, 2_000_001)
+            m.send(Amend(t, 2, price + gap, row.least))
+            if rng.random() < 0.5:
+                m.send(Report())
+        m.events(rng.choice([0, 5]), 0.1)
+        m.send(Close(m.charge(), m.charge()))
+    m.look_round()
+    return m.calls
+
+
+def asking(rng):
+    """Quanta in which most amendments are asked for first."""
+    m = Month(rng)
+    for day in range(1, rng.randrange(2, 5)):
+        m.open(rng.choice([short_row, long_row, programme_row])(rng), day)
+        s = Feed(rng, m.book, 40)
+        s.calls = m.calls
+        s.quote()
+        for _ in range(rng.randrange(2, 12)):
+            s.step()
+            m.ask_and_commit(s)
+        m.send(rng.choice([Close(m.charge(), m.charge()), Drop()]))
+    m.look_round()
+    return m.calls
+
+
 def reported_session(rng):
     """Any of the sessions as a month's calls, with reports among its events: the quotes show."""
     _, head, data = any_session(rng)
@@ -277,7 +388,7 @@ def reported_session(rng):
 
 CALLS = [
     (mixed_calls, 8), (reported_session, 8), (makers_month, 3), (failures, 2), (whole_month, 1),
-    (fee_limits, 2), (crowded, 2), (lapsing, 3),
+    (fee_limits, 2), (crowded, 2), (lapsing, 3), (strike_month, 4), (asking, 4),
 ]
 
 

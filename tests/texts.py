@@ -21,9 +21,14 @@ def check_examples():
         for path in found:
             data = tool.to_bytes(path.read_text())
             assert tool.to_bytes(tool.to_text(data)) == data, path.name
+    written = calls.to_bytes("commit 0:00:01 2 -3 4 ticket 5 6 -7 8 4294967298\nask 1 2 -1 4")
+    due = f"words 15 1000 2 {2**32 - 3} 4 5 6 {2**32 - 7} 8 2 1 14 1 2 {2**32 - 1} 4"
+    assert written == calls.to_bytes(due)
     example = (ROOT / "examples" / "document01.session").read_text()
     for line in ("lapses none", "lapses 65535", ""):
         assert calls.to_bytes(f"open row 1 day 1 sp 1 {line}")[-4:] == b"\xff\xff\0\0", line
+        strike = calls.to_bytes(f"strike row 1 day 1 a 2 difference 3 days 4 b 5 {line}")
+        assert strike == calls.to_bytes("words 13 1 1 1 2 3 4 5 65535"), line
     printed = "kept 6000 of 10000\npair 0 6000\nverdict met\nweight 10000\n"
     assert programs.sheet(session.to_bytes(example)) == printed
 
@@ -62,7 +67,7 @@ def check_rows():
 def check_any_bytes(rng):
     """Whatever the bytes, their text turns into them again."""
     for _ in range(500):
-        data = bytes(rng.choice([0, 0, 0, 1, 2, 3, 6, 255]) for _ in range(rng.randrange(120)))
+        data = bytes(rng.choice([0, 0, 0, 1, 2, 3, 6, 13, 14, 15, 255]) for _ in range(rng.randrange(120)))
         assert session.to_bytes(session.to_text(data)) == data, data.hex()
         assert calls.to_bytes(calls.to_text(data)) == data, data.hex()
 
@@ -82,6 +87,14 @@ ERRORS = [
     (calls, "report\nopen 1 1 day 1 sp 1", 2, "open is written"),
     (calls, "open row 1 1 day 1 sp 1 lapses", 1, "open is written"),
     (calls, "open row 1 1 day 1 sp 1 lapses some", 1, "lapses: 'some' is not a number"),
+    (calls, "strike row 1 1 day 1 sp 1", 1, "strike is written"),
+    (calls, "strike row 1 1 day 1 a 1 difference 1 days 1 lapses 1", 1, "strike is written"),
+    (calls, "strike row 1 1 day 1 a 1 difference -1 days 1 b 1", 1, "difference: -1 does not fit"),
+    (calls, "ask 1 2 3", 1, "ask takes t id price volume"),
+    (calls, "ask 1 2 3 -4", 1, "volume: -4 does not fit"),
+    (calls, "commit 1 2 3 4", 1, "commit is written"),
+    (calls, "commit 1 2 3 4 with 1 2 3 4 5", 1, "commit is written"),
+    (calls, "commit 1 2 3 4 ticket 1 2 3 4 18446744073709551616", 1, "count: 18446744073709551616"),
     (calls, "report 1", 1, "report takes nothing"),
     (calls, "close 1", 1, "close takes active passive"),
     (calls, "close 1 18446744073709551616", 1, "passive: 18446744073709551616"),

@@ -9,6 +9,9 @@ The text, one call a line, # for comments:
     open row EXPIRY QUANTUM L M A B P day DAY sp SP lapses LIMIT|none
                                               (a row may have any number of words; `lapses`, the
                                               lapse limit, may be left out for none)
+    strike row WORDS.. day DAY a A difference N days N b B lapses LIMIT|none
+                                              (open, told a strike's four numbers in place of SP; the
+                                              row's own a and b are unread)
     add T ID buy|sell PRICE VOLUME
     amend T ID PRICE VOLUME
     cancel T ID
@@ -20,6 +23,8 @@ The text, one call a line, # for comments:
     withdraw DAY EXPIRY QUANTUM
     look DAY EXPIRY QUANTUM
     report
+    ask T ID PRICE VOLUME                     what that amend would do, and a ticket for it
+    commit T ID PRICE VOLUME ticket T ID PRICE VOLUME COUNT
     words N..                                 words as they stand, for what is no call
     bytes HEX..                               bytes as they stand, for what is no word
 
@@ -35,7 +40,8 @@ sys.path.insert(0, str(Path(__file__).resolve().parent.parent))
 
 from recount import programs
 from recount.book import (
-    EVENTS, NO_LIMIT, Add, Amend, Cancel, Charge, Close, Deal, Drop, Look, Open, Report, Tick, Withdraw,
+    EVENTS, NO_LIMIT, Add, Amend, Ask, Cancel, Charge, Close, Commit, Deal, Drop, Look, Open, Report, Strike,
+    Tick, Ticket, Withdraw,
 )
 from tools import text
 
@@ -49,31 +55,51 @@ OTHER_COLUMNS = {
 }
 
 
-def open_call(words):
-    shape = "open is written: open row WORDS.. day DAY sp SP lapses LIMIT|none"
+def open_call(name, words):
+    """`open`, or `strike` with four numbers in place of SP."""
+    told = ["sp"] if name == "open" else list(Strike._fields)
+    shapes = {"open": "sp SP", "strike": "a A difference N days N b B"}
+    shape = f"{name} is written: {name} row WORDS.. day DAY {shapes[name]} lapses LIMIT|none"
     limit = NO_LIMIT
     if words[-2:-1] == ["lapses"]:
         if words[-1] != "none":
             limit = text.number(words[-1], text.WORD, "lapses")
         words = words[:-2]
-    if len(words) < 5 or (words[0], words[-4], words[-2]) != ("row", "day", "sp"):
+    behind = 2 + 2 * len(told)  # words from `day` on
+    if len(words) < 1 + behind or words[0] != "row" or words[-behind::2] != ["day", *told]:
         raise text.TextError(shape)
     row = [
         text.time(word, "L") if at == 2 else text.number(word, text.WORD, "a word of the row")
-        for at, word in enumerate(words[1:-4])
+        for at, word in enumerate(words[1:-behind])
     ]
-    day = text.number(words[-3], text.WORD, "day")
-    return Open(row, day, text.number(words[-1], text.SIGNED, "SP"), limit)
+    day = text.number(words[1 - behind], text.WORD, "day")
+    if name == "open":
+        return Open(row, day, text.number(words[-1], text.SIGNED, "SP"), limit)
+    numbers = zip(told, words[3 - behind :: 2])
+    return Open(row, day, Strike(*(text.number(word, text.WORD, what) for what, word in numbers)), limit)
+
+
+def commit_call(words):
+    if len(words) != 10 or words[4] != "ticket":
+        raise text.TextError("commit is written: commit T ID PRICE VOLUME ticket T ID PRICE VOLUME COUNT")
+    count = text.number(words[9], text.LONG, "count")
+    return Commit(*text.event("amend", words[:4]), Ticket(*text.event("amend", words[5:9]), count))
 
 
 def read_call(name, words):
     """The call of one line."""
-    if name == "open":
-        return open_call(words)
+    if name in ("open", "strike"):
+        return open_call(name, words)
+    if name == "ask":
+        text.columns(name, words, "t id price volume")
+        return Ask(*text.event("amend", words))
+    if name == "commit":
+        return commit_call(words)
     if name in text.EVENT_COLUMNS:
         return text.event(name, words)
     if name not in OTHER_COLUMNS:
-        known = ", ".join(["open", *text.EVENT_COLUMNS, *OTHER_COLUMNS, "words", "bytes"])
+        known = ["open", "strike", *text.EVENT_COLUMNS, *OTHER_COLUMNS, "ask", "commit", "words", "bytes"]
+        known = ", ".join(known)
         raise text.TextError(f"{name!r} is not known; a line begins with one of {known}")
     kind, names = OTHER_COLUMNS[name]
     values = {}
@@ -83,20 +109,31 @@ def read_call(name, words):
     return kind(**values)
 
 
-def halves(charge):
-    """A charge as two words, the low one first."""
-    return [charge & 0xFFFFFFFF, charge >> 32]
+def halves(number):
+    """A charge or a count as two words, the low one first."""
+    return [number & 0xFFFFFFFF, number >> 32]
+
+
+def amendment(call):
+    """The four words of what an amend, an ask, a commit or a ticket names."""
+    return [call.t, call.id, call.price & 0xFFFFFFFF, call.volume]
 
 
 def call_words(call):
     """The block of one call."""
     kind = type(call)
+    if kind is Open and isinstance(call.sp, Strike):
+        return [13, len(call.words), *call.words, call.day, *call.sp, call.limit]
     if kind is Open:
         return [1, len(call.words), *call.words, call.day, call.sp & 0xFFFFFFFF, call.limit]
     if kind is Add:
         return [2, call.t, call.id, call.side, call.price & 0xFFFFFFFF, call.volume]
     if kind is Amend:
-        return [3, call.t, call.id, call.price & 0xFFFFFFFF, call.volume]
+        return [3, *amendment(call)]
+    if kind is Ask:
+        return [14, *amendment(call)]
+    if kind is Commit:
+        return [15, *amendment(call), *amendment(call.ticket), *halves(call.ticket.count)]
     if kind is Close:
         return [7, *halves(call.active), *halves(call.passive)]
     if kind is Charge:
@@ -115,10 +152,15 @@ def calls_bytes(calls):
 
 def call_line(call):
     if isinstance(call, Open):
-        told = f"day {call.day} sp {call.sp} lapses {programs.limit_text(call.limit)}"
-        return " ".join(["open row", *map(str, call.words), told])
+        name, told = "open", f"sp {call.sp}"
+        if isinstance(call.sp, Strike):
+            name, told = "strike", "a {} difference {} days {} b {}".format(*call.sp)
+        told = f"day {call.day} {told} lapses {programs.limit_text(call.limit)}"
+        return " ".join([f"{name} row", *map(str, call.words), told])
     if isinstance(call, EVENTS):
         return text.event_line(call)
+    if isinstance(call, Commit):
+        return " ".join(["commit", *map(str, call[:4]), "ticket", *map(str, call.ticket)])
     return " ".join([type(call).__name__.lower(), *map(str, call)])
 
 

@@ -1,0 +1,302 @@
+"""Strikes (document 02, W4): spread limits through `replay`, boards through `probe`, and the person's
+command, against the recount.
+
+    python3 tests/strikes.py             all cases
+    python3 tests/strikes.py --quick     a tenth of the random ones
+
+It fails where an answer differs, or where something that the cases are to show never showed.
+"""
+
+import argparse
+import random
+import sys
+from collections import Counter
+from pathlib import Path
+
+ROOT = Path(__file__).resolve().parent.parent
+sys.path.insert(0, str(ROOT))
+
+from recount import programs
+from recount.book import Strike
+from recount.strikes import LENGTHS, SHARES, board, met_by_products
+from tests import generate, known, strike_sights
+from tests.differential import run_program, words
+from tools import board as command
+from tools import calls as calls_text
+
+REPLAY = ROOT / "target" / "bin" / "replay"
+PROBE = ROOT / "target" / "bin" / "probe"
+GREATEST = 2**32 - 1
+
+
+def agree(program, data, kept_as):
+    """The answer that the program and the recount give alike; where they differ the case is kept."""
+    said, due = run_program(program, data), getattr(programs, program.name)(data)
+    if said != due:
+        kept = ROOT / "target" / kept_as
+        kept.write_bytes(data)
+        pairs = zip([*said.splitlines(), "(nothing)"], [*due.splitlines(), "(nothing)"])
+        line, (one, other) = next((at, pair) for at, pair in enumerate(pairs, 1) if pair[0] != pair[1])
+        sys.exit(f"strikes: answers differ, see {kept}: line {line}\n{program.name:<8}{one}\nrecount {other}")
+    return due
+
+
+# ---------------------------------------------------------------- spread limits
+
+
+def limit_strikes(rng, count):
+    """Every number of days; whole and half steps; then any strikes."""
+    for days in range(366):
+        yield Strike(rng.randrange(201), rng.randrange(100_001), days, rng.choice([0, 0, 10, 1_000]))
+        yield Strike(200, 100_000, days, 0)
+    for a in range(5, 201, 5):
+        for difference in (1, 2, 3, 99_999, 100_000, rng.randrange(100_001)):
+            yield Strike(a, difference, 365, rng.choice([0, 0, 1]))
+    for a in range(0, 30):
+        yield Strike(a, 1, rng.choice([365, 364, 91, 92]), 0)
+    for _ in range(count):
+        yield generate.any_strike(rng)
+
+
+def check_limits(count):
+    """Each strike's quantum at its limit, a step past it and a step less."""
+    rng, seen = random.Random(4), Counter()
+    strikes = list(limit_strikes(rng, count))
+    for at in range(0, len(strikes), 200):
+        calls = [call for strike in strikes[at : at + 200] for call in known.spread_calls(strike)]
+        with strike_sights.noted() as spreads:
+            agree(REPLAY, calls_text.calls_bytes(calls), "strikes.replay")
+        seen.update(spreads)
+    missing = [spread for spread in strike_sights.SPREADS if not seen[spread]]
+    if missing:
+        sys.exit("never shown: " + "; ".join(missing))
+    print(f"strikes: {len(strikes)} spread limits agree")
+
+
+# ---------------------------------------------------------------- boards
+
+MUST_SHOW = [
+    "met", "failed by a strike alone", "failed by the sum alone", "failed by both", "met with one strike",
+    "met with 32 strikes", "32 strikes failed by the last alone", "a strike just at the first share",
+    "a strike a millisecond short", "a sum just at the second share", "a sum a millisecond short",
+    "the longest sum", "K = L", "K = 0", "a share of 1", "a share of 100",
+    "18: an empty board", "18: 33 strikes", "18: 64 strikes", "18: unequal lengths", "18: K above L",
+    "18: a share of 0", "18: a share above 100", "18: a length of 0", "18: a length below a second",
+    "18: a length above a row's", "18: a length with part of a second", "18: an odd number of words",
+    "bad case: 129 words or more", "bad case: cut short", "bad case: more behind it",
+]
+
+
+def case(first, second, strikes):
+    return words(4, first, second, 2 * len(strikes), *(word for strike in strikes for word in strike))
+
+
+def due_time(share, length):
+    return -(-share * length // 100)
+
+
+def planned(rng):
+    """A board whose strikes or sum are just at their shares, or a millisecond beside."""
+    count = rng.choice([1, 1, 2, 3, 5, 14, 31, 32, 32])
+    length = rng.choice([1_000, 2_000, 31_500_000, 86_400_000, rng.choice(LENGTHS)])
+    first = rng.choice([1, 55, 100, rng.choice(SHARES)])
+    second = rng.choice([1, 60, 100, rng.choice(SHARES)])
+    least = due_time(first, length)
+    kept = [least] * count
+    spare = due_time(second, length * count) - least * count  # what the sum lacks above the least
+    for at in range(count):
+        more = min(max(0, spare), length - least)
+        kept[at] += more if at == count - 1 else rng.choice([more, rng.randrange(more + 1)])
+        spare -= kept[at] - least
+    how = rng.randrange(5)
+    at = rng.choice([rng.randrange(count), count - 1])
+    if how == 0:
+        kept[at] -= 1
+    elif how == 1:
+        kept[at] = rng.choice([0, length])
+    elif how == 2 and count > 1:  # a millisecond short, the sum as it was
+        other = (at + 1) % count
+        kept[at], kept[other] = kept[at] - 1, kept[other] + 1
+    return first, second, [(min(max(0, k), length), length) for k in kept]
+
+
+def spoiled(rng):
+    """A board with one thing wrong, at times with two."""
+    first, second, strikes = planned(rng)
+    for _ in range(rng.choice([1, 1, 2])):
+        how = rng.randrange(7)
+        at = rng.randrange(len(strikes)) if strikes else 0
+        if how == 0:
+            first = rng.choice([0, 101, GREATEST])
+        elif how == 1:
+            second = rng.choice([0, 101, GREATEST])
+        elif how == 2 and strikes:
+            length = rng.choice([0, 999, 1_001, (strikes[at][1] + 1_000) & GREATEST, 86_400_001, 86_401_000, GREATEST])
+            strikes[at] = (strikes[at][0], length)
+        elif how == 3 and strikes:
+            length = rng.choice([0, 1, 500, 1_500, 86_401_000, GREATEST - 295, GREATEST])
+            strikes = [(rng.choice([0, length]), length) for _ in strikes]
+        elif how == 4 and strikes:
+            strikes[at] = (rng.choice([min(GREATEST, strikes[at][1] + 1), GREATEST]), strikes[at][1])
+        elif how == 5:
+            strikes = []
+        else:
+            strikes = (strikes * 64)[: rng.choice([33, 34, 64])]
+    return first, second, strikes
+
+
+def known_boards():
+    for count in (1, 32, 33, 64):
+        for kept in (0, 999, 1_000):
+            yield 100, 100, [(kept, 1_000)] * count
+        yield 1, 1, [(10, 1_000)] * (count - 1) + [(9, 1_000)]
+        yield 100, 100, [(86_400_000, 86_400_000)] * count
+        yield 100, 100, [(86_400_000, 86_400_000)] * (count - 1) + [(86_399_999, 86_400_000)]
+    for first in (0, 1, 100, 101, GREATEST):
+        for second in (0, 1, 100, 101, GREATEST):
+            yield first, second, [(1_000, 1_000)]
+            yield first, second, []
+    for length in (0, 1, 999, 1_000, 1_001, 86_399_999, 86_400_000, 86_400_001, 86_401_000, GREATEST):
+        yield 1, 1, [(length, length)] * 2
+        yield 1, 1, [(1_000, 1_000), (1_000, length)]
+        yield 1, 1, [(length + 1 & GREATEST, length)]
+
+
+def board_sights(first, second, strikes):
+    """What a board shows, by its numbers and the recount."""
+    answer = board(first, second, strikes)
+    if answer == 18:
+        lengths = {length for _, length in strikes}
+        found = {
+            "an empty board": not strikes, f"{len(strikes)} strikes": len(strikes) > 32,
+            "unequal lengths": len(lengths) > 1, "K above L": any(k > length for k, length in strikes),
+            "a share of 0": 0 in (first, second), "a share above 100": max(first, second) > 100,
+            "a length of 0": 0 in lengths, "a length above a row's": any(n > 86_400_000 for n in lengths),
+            "a length below a second": any(0 < n < 1_000 for n in lengths),
+            "a length with part of a second": any(n % 1_000 and 1_000 < n < 86_400_000 for n in lengths),
+        }
+        causes = [f"18: {name}" for name, shown in found.items() if shown]
+        assert causes, (first, second, strikes)
+        return causes if len(causes) == 1 else []  # alone, so that nothing else gives the answer
+    length, count, total = strikes[0][1], len(strikes), sum(kept for kept, _ in strikes)
+    each = [100 * kept - first * length for kept, _ in strikes]
+    found = {
+        "a strike just at the first share": due_time(first, length) in [kept for kept, _ in strikes],
+        "a strike a millisecond short": due_time(first, length) - 1 in [kept for kept, _ in strikes],
+        "a sum just at the second share": total == due_time(second, length * count),
+        "a sum a millisecond short": total == due_time(second, length * count) - 1,
+        "the longest sum": total == 32 * 86_400_000,
+        "K = L": (length, length) in strikes, "K = 0": (0, length) in strikes,
+        "a share of 1": 1 in (first, second), "a share of 100": 100 in (first, second),
+        "32 strikes failed by the last alone": count == 32 and min(each[:-1]) >= 0 > each[-1],
+    }
+    short = min(each) < 0, 100 * total < second * length * count
+    verdict = {
+        (False, False): "met", (True, False): "failed by a strike alone",
+        (False, True): "failed by the sum alone", (True, True): "failed by both",
+    }[short]
+    assert answer == verdict.split()[0] and (answer == "met") == met_by_products(first, second, strikes)
+    found |= {verdict: True, f"met with {count} strikes": answer == "met",
+              "met with one strike": answer == "met" and count == 1}
+    return [name for name, shown in found.items() if shown]
+
+
+def odd_and_bad():
+    """Cases that are no board, with what they show."""
+    good = case(1, 1, [(5, 1_000), (6, 1_000)])
+    for count in (1, 3, 63, 127):
+        yield words(4, 1, 1, count, *[1_000] * count), "18: an odd number of words"
+    for data in (words(4, 1, 1, 129, *[1_000] * 129), words(4, 1, 1, 130, *[1_000] * 130), words(4, 1, 1, GREATEST)):
+        yield data, "bad case: 129 words or more"
+    for size in range(len(good)):
+        yield good[:size], "bad case: cut short"
+    for more in (b"\0", words(0), words(5, 1_000)):
+        yield good + more, "bad case: more behind it"
+        yield words(4, 1, 1, 1, 1_000) + more, "bad case: more behind it"
+    yield words(4, 1, 1, 3, 1_000, 1_000), "bad case: cut short"
+
+
+def check_boards(count):
+    rng, seen, cases = random.Random(5), Counter(), 0
+    boards = [*known_boards(), *(rng.choice([planned, planned, spoiled])(rng) for _ in range(count))]
+    for given in boards:
+        answer = agree(PROBE, case(*given), "strikes.probe")
+        due = board(*given)
+        assert answer == ("refused 18\n" if due == 18 else f"board {due}\n"), given
+        seen.update(board_sights(*given))
+        cases += 1
+    for data, shown in odd_and_bad():
+        answer = agree(PROBE, data, "strikes.probe")
+        assert answer == ("refused 18\n" if shown.startswith("18") else "bad case\n"), data.hex()
+        seen[shown] += 1
+        cases += 1
+    missing = [sight for sight in MUST_SHOW if not seen[sight]]
+    if missing:
+        sys.exit("never shown: " + "; ".join(missing))
+    print(f"strikes: {cases} boards agree, {seen['met']} met")
+
+
+# ---------------------------------------------------------------- the person's command
+
+KNOWN = """\
+strike             kept         of  share  due      lacks
+CALL-CS        25950250   31500000  82.38   55          -
+CALL-CS+500    23400000   31500000  74.28   55          -
+CALL-CS+1000   18900000   31500000  60.00   55          -
+CALL-CS+1500   17325000   31500000  55.00   55          -
+CALL-CS+2000   17324999   31500000  54.99   55          1
+PUT-CS         27600000   31500000  87.61   55          -
+PUT-CS-500     21670000   31500000  68.79   55          -
+month          29690000   31500000  94.25   55          -
+together      181860249  252000000  72.16   60          -
+board failed
+"""
+
+SAID = [
+    (1, 1, "5 0:00:01", "board failed"),
+    (1, 1, "10 1000 # at its share", "board met"),
+    (0, 1, "10 1000", "refused 18: a share of 0 is not 1 to 100"),
+    (1, 1, "", "refused 18: no strike"),
+    (1, 1, "a 1 1000\nb 1 2000", "refused 18: b: a length of 2000, but a has 1000"),
+    (1, 1, "a 1001 1000", "refused 18: a: 1001 kept of 1000"),
+    (1, 1, "cell kept 5 of 999 and so on", "refused 18: x: a length of 999 is no row's"),
+    (1, 1, "5 1000\n" * 33, "refused 18: 33 strikes, of 32 at most"),
+]
+WRONG = [
+    ("5", 1, "a strike is written"), ("5 1000\na b 5 1000", 2, "a strike is written"),
+    ("cell kept 5", 1, "an answer of replay begins"), ("a x 1000", 1, "K: 'x' is not a number"),
+    ("accepted\ncell kept 5 of 1000\ncell kept 6 of 1000", None, "a strike's month has one look"),
+    ("accepted\nreport open no", None, "a strike's month has one look"),
+]
+
+
+def check_command():
+    examples = ROOT / "examples"
+    month = programs.replay(calls_text.to_bytes((examples / "strike.calls").read_text()))
+    lines = command.read((examples / "strikes.board").read_text(), "strikes") + command.read(month, "month")
+    for command.PROBE in (ROOT / "target" / "none", PROBE):  # by the recount, by the program
+        assert "\n".join(command.table(55, 60, lines)) + "\n" == KNOWN, command.table(55, 60, lines)
+        for first, second, source, said in SAID:
+            assert command.table(first, second, command.read(source, "x"))[-1] == said, source
+    for source, at, said in WRONG:
+        try:
+            command.read(source, "x")
+        except command.TextError as error:
+            assert (error.line, str(error)[: len(said)]) == (at, said), (source, error.line, str(error))
+        else:
+            raise AssertionError(source)
+
+
+def main():
+    parser = argparse.ArgumentParser()
+    parser.add_argument("--quick", action="store_true")
+    quick = parser.parse_args().quick
+    if not (PROBE.exists() and REPLAY.exists()):
+        sys.exit("target/bin/probe or target/bin/replay is not built")
+    check_command()
+    check_boards(200 if quick else 2_000)
+    check_limits(200 if quick else 2_000)
+
+
+if __name__ == "__main__":
+    main()
