@@ -1,5 +1,5 @@
-"""The plain book of document 01 and of document 02, W1, written from the papers: calls, refusals,
-quotes, kept time, lapses, pay.
+"""The plain book of document 01 and of document 02, W1, W2 and W6, written from the papers: calls,
+refusals, quotes, kept time, lapses, pay.
 
 Nothing is carried that the paper does not carry. Quotes, kept time, verdicts, weights, failure
 counts and fee are worked out from the book each time they are asked for.
@@ -57,7 +57,7 @@ def row_fits(row):
         and 1 <= row.least <= 100_000
         and 0 <= row.a <= 100_000
         and 0 <= row.b <= 1_000_000
-        and 1 <= row.share <= 79
+        and 1 <= row.share <= 799
     )
 
 
@@ -256,7 +256,8 @@ Cell = namedtuple("Cell", "kept length share limit lapses active passive")
 
 
 def met(kept, length, share):
-    return 100 * kept >= share * length
+    """The share is in tenths of a percent."""
+    return 1_000 * kept >= share * length
 
 
 def weight(kept, length, share):
@@ -265,7 +266,7 @@ def weight(kept, length, share):
     f = 1_000 * kept // length
     if f >= 800:
         return 20_000
-    n, d = f - 10 * share, 800 - 10 * share
+    n, d = f - share, 800 - share
     return 10_000 + 10_000 * n**5 // d**5
 
 

@@ -23,8 +23,8 @@ The text, one call a line, # for comments:
     words N..                                 words as they stand, for what is no call
     bytes HEX..                               bytes as they stand, for what is no word
 
-T (and a row's third word) are milliseconds, or h:mm:ss or h:mm:ss.mmm. Numbers may have
-underscores.
+T (and a row's third word) are milliseconds, or h:mm:ss or h:mm:ss.mmm. A row's seventh word is
+tenths of a percent, or a percentage: 725 is 72.5%. Numbers may have underscores.
 """
 
 import struct
@@ -58,10 +58,7 @@ def open_call(words):
         words = words[:-2]
     if len(words) < 5 or (words[0], words[-4], words[-2]) != ("row", "day", "sp"):
         raise text.TextError(shape)
-    row = [
-        text.time(word, "L") if at == 2 else text.number(word, text.WORD, "a word of the row")
-        for at, word in enumerate(words[1:-4])
-    ]
+    row = [text.row_word(at, word, "a word of the row") for at, word in enumerate(words[1:-4])]
     day = text.number(words[-3], text.WORD, "day")
     return Open(row, day, text.number(words[-1], text.SIGNED, "SP"), limit)
 
