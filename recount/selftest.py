@@ -86,6 +86,24 @@ def check_paper():
     assert session.ccall(example_bytes()[:32], example_bytes()[32:]) == 6_000
 
 
+def weight_in_percent(kept, length, share):
+    """Document 01's sentences as printed, with p in percent."""
+    if 100 * kept < share * length:
+        return 0
+    f = 1_000 * kept // length
+    return 20_000 if f >= 800 else 10_000 + 10_000 * (f - 10 * share) ** 5 // (800 - 10 * share) ** 5
+
+
+def check_percents(rng):
+    """Document 02, W6: a p in percent, times ten, gives the weight that it gave."""
+    for share in range(1, 80):
+        for _ in range(100):
+            length = 1_000 * rng.choice([1, 7, 10, 31_500, 86_400])
+            edge = -(-rng.choice([share * 10, rng.randrange(1_001)]) * length // 1_000)
+            kept = max(0, min(length, edge + rng.choice([-1, 0, 1])))
+            assert weight(kept, length, 10 * share) == weight_in_percent(kept, length, share)
+
+
 def check_lapses():
     """Document 02, W1: with no limit no count is too many, with one a count above it is."""
     for limit, count, is_met in [
@@ -289,6 +307,7 @@ def check_reports():
 def main():
     rng = random.Random(1)
     check_paper()
+    check_percents(random.Random(1))
     check_lapses()
     check_refusals()
     check_rows()
