@@ -13,7 +13,7 @@ import time
 from pathlib import Path
 
 REPLAY = Path(__file__).resolve().parent.parent / "target" / "bin" / "replay"
-ROW = [1, 0, 86_400_000, 500, 100, 1, 60]
+ROW = [1, 0, 86_400_000, 500, 100, 1, 600]
 
 
 def opened(day, row):

@@ -14,7 +14,7 @@ extern "C" {
  * charges 0; stops at the first refusal.
  *
  * head     the 32 leading bytes: the row's seven unsigned 32-bit words (expiry, quantum, L, M, a, b, p), then SP in two's complement, four
- *          bytes each, low byte first. head_length is its number of bytes.
+ *          bytes each, low byte first. p is in tenths of a percent, 1 to 799. head_length is its number of bytes.
  * records  the records, 20 bytes each: kind (1 add buy, 2 add sell, 3 amend, 4 cancel, 5 deal, 6 tick), three zero bytes, then t, id, price
  *          (two's complement) and volume, four bytes each, low byte first; fields that the call doesn't take are zero. records_length is
  *          the number of bytes. 1 to 19 bytes behind the last full record are one more record, cut short.

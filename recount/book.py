@@ -1,5 +1,5 @@
-"""The plain book of document 01 and of document 02, W1, W4 and W5, written from the papers: calls,
-refusals, quotes, kept time, lapses, pay.
+"""The plain book of document 01 and of document 02, W1, W2, W4, W5 and W6, written from the papers:
+calls, refusals, quotes, kept time, lapses, pay.
 
 Open is told SP, or a strike in its place (W4): wherever `sp` stands, a Strike may.
 
@@ -61,7 +61,7 @@ def row_fits(row):
         and 1 <= row.least <= 100_000
         and 0 <= row.a <= 100_000
         and 0 <= row.b <= 1_000_000
-        and 1 <= row.share <= 79
+        and 1 <= row.share <= 799
     )
 
 
@@ -277,7 +277,8 @@ Cell = namedtuple("Cell", "kept length share limit lapses active passive")
 
 
 def met(kept, length, share):
-    return 100 * kept >= share * length
+    """The share is in tenths of a percent."""
+    return 1_000 * kept >= share * length
 
 
 def weight(kept, length, share):
@@ -286,7 +287,7 @@ def weight(kept, length, share):
     f = 1_000 * kept // length
     if f >= 800:
         return 20_000
-    n, d = f - 10 * share, 800 - 10 * share
+    n, d = f - share, 800 - share
     return 10_000 + 10_000 * n**5 // d**5
 
 

@@ -11,11 +11,11 @@ from recount import game, programs, records, session, standing, strikes, volatil
 from recount.book import (
     BUY, NO_LIMIT, SELL, Accepted, Add, Amend, Ask, Book, Cancel, Cell, Charge, Close, Commit, Deal, Look, Open, Order,
     Refused, Report, Row, Strike, Tick, Ticket, Withdraw, best_ask, best_bid, cell_met, cell_weight, choose,
-    fee, keeps, kept_time, lapses_by_milliseconds, lapses_by_stretches, live_after, stretches_by_events, stretches_by_milliseconds, weight, widest,
+    fee, keeps, kept_time, lapses_by_milliseconds, lapses_by_stretches, live_after, row_fits, stretches_by_events, stretches_by_milliseconds, weight, widest,
     within,
 )
 
-EXAMPLE_ROW = [1, 1, 10_000, 500, 100, 1, 60]
+EXAMPLE_ROW = [1, 1, 10_000, 500, 100, 1, 600]
 EXAMPLE_EVENTS = [
     Add(0, 1, BUY, 99, 500),
     Add(0, 2, SELL, 101, 500),
@@ -43,7 +43,7 @@ def check_paper():
     assert best_bid(orders((300, 100), (200, 99), (400, 98)), 500) == 99
     assert best_bid(orders((200, 99), (400, 98)), 500) == 98
     # C4 and C5: the spread; SP -5 leaves the limit b.
-    row = Row(1, 1, 10_000, 500, 100, 1, 60)
+    row = Row(1, 1, 10_000, 500, 100, 1, 600)
     assert within(row, 2_000, 99, 101) and not within(row, 2_000, 99, 102)
     assert not within(row, 1_999, 99, 101) and within(row, 1_999, 100, 101)
     assert within(row, -5, 100, 101) and not within(row, -5, 99, 101)
@@ -53,19 +53,27 @@ def check_paper():
             assert within(wide_row, sp, 0, wide) == (wide > 0) and not within(wide_row, sp, 0, wide + 1)
             # Document 02, W2: D = 0 and D = -1 keep nothing, whatever a, b and SP.
             assert not within(wide_row, sp, 100, 100) and not within(wide_row, sp, 100, 99)
-    # C6 to C10: weights with p 60 and L 31,500,000.
+    # C6 to C10: weights with p 600 and L 31,500,000.
     for kept, due in [
         (18_899_999, 0), (18_900_000, 10_000), (22_050_000, 10_312),
         (25_199_999, 19_752), (25_200_000, 20_000),
     ]:
-        assert weight(kept, 31_500_000, 60) == due, (kept, due)
+        assert weight(kept, 31_500_000, 600) == due, (kept, due)
+    # Document 02, W6: 72.5% of 10,000 is 7,250; f 762 makes n 37 and d 75; p 1 and 799 are in the range.
+    for kept, share, due in [
+        (7_249, 725, 0), (7_250, 725, 10_000), (7_625, 725, 10_292), (7_999, 725, 19_350),
+        (7_989, 799, 0), (7_990, 799, 10_000), (7_999, 799, 10_000), (8_000, 799, 20_000),
+        (9, 1, 0), (10, 1, 10_000), (8_000, 1, 20_000),
+    ]:
+        assert weight(kept, 10_000, share) == due, (kept, share, due)
+    assert [s for s in range(1_001) if row_fits(row._replace(share=s))] == list(range(1, 800))
     # C11 and C12: the fee.
-    assert fee({(1, 1, 1): Cell(22_050_000, 31_500_000, 60, NO_LIMIT, 0, 10_000, 20_000)}) == 10_312
-    top = Cell(31_500_000, 31_500_000, 60, NO_LIMIT, 0, 10**9, 10**9)
+    assert fee({(1, 1, 1): Cell(22_050_000, 31_500_000, 600, NO_LIMIT, 0, 10_000, 20_000)}) == 10_312
+    top = Cell(31_500_000, 31_500_000, 600, NO_LIMIT, 0, 10**9, 10**9)
     assert fee({(1, 1, 1): top}) == 120_000_000
     # 15 failed cells in a series leave the fee, 16 make it 0.
-    paid = {(31, 1, 1): Cell(22_050_000, 31_500_000, 60, NO_LIMIT, 0, 10_000, 20_000)}
-    failed = Cell(0, 1_000, 60, NO_LIMIT, 1, 5, 5)
+    paid = {(31, 1, 1): Cell(22_050_000, 31_500_000, 600, NO_LIMIT, 0, 10_000, 20_000)}
+    failed = Cell(0, 1_000, 600, NO_LIMIT, 1, 5, 5)
     fifteen = {(day, 1, 1): failed for day in range(1, 16)}
     assert fee({**paid, **fifteen}) == 10_312
     assert fee({**paid, **fifteen, (16, 1, 1): failed}) == 0
@@ -78,13 +86,31 @@ def check_paper():
     assert session.ccall(example_bytes()[:32], example_bytes()[32:]) == 6_000
 
 
+def weight_in_percent(kept, length, share):
+    """Document 01's sentences as printed, with p in percent."""
+    if 100 * kept < share * length:
+        return 0
+    f = 1_000 * kept // length
+    return 20_000 if f >= 800 else 10_000 + 10_000 * (f - 10 * share) ** 5 // (800 - 10 * share) ** 5
+
+
+def check_percents(rng):
+    """Document 02, W6: a p in percent, times ten, gives the weight that it gave."""
+    for share in range(1, 80):
+        for _ in range(100):
+            length = 1_000 * rng.choice([1, 7, 10, 31_500, 86_400])
+            edge = -(-rng.choice([share * 10, rng.randrange(1_001)]) * length // 1_000)
+            kept = max(0, min(length, edge + rng.choice([-1, 0, 1])))
+            assert weight(kept, length, 10 * share) == weight_in_percent(kept, length, share)
+
+
 def check_lapses():
     """Document 02, W1: with no limit no count is too many, with one a count above it is."""
     for limit, count, is_met in [
         (NO_LIMIT, 70_000, True), (1_000, 1_000, True), (1_000, 1_001, False),
         (0, 0, True), (0, 1, False), (NO_LIMIT, 43_200_000, True),
     ]:
-        cell = Cell(31_500_000, 31_500_000, 60, limit, count, 1_000, 0)
+        cell = Cell(31_500_000, 31_500_000, 600, limit, count, 1_000, 0)
         assert cell_met(cell) == is_met and cell_weight(cell) == (20_000 if is_met else 0)
         assert fee({(1, 1, 1): cell}) == (500 if is_met else 0)
     # One at the start, one between, one at the end; one in a quantum without a quote; none.
@@ -301,7 +327,7 @@ def check_counting(rng, cases, said):
     with_time = most_lapses = 0
     for case in range(cases):
         row = [1, 0, 1_000 * rng.randrange(1, 4), rng.randrange(1, 6),
-               rng.choice([0, 5_000, 10_000]), rng.randrange(6), 60]
+               rng.choice([0, 5_000, 10_000]), rng.randrange(6), 600]
         sp = rng.choice([-5, 0, 100, 100, Strike(rng.randrange(60), 1, 365, rng.randrange(3))])
         book = Book()
         limit = rng.choice([0, 1, 2, 3, NO_LIMIT])
@@ -379,6 +405,7 @@ def check_reports():
 def main():
     rng = random.Random(1)
     check_paper()
+    check_percents(random.Random(1))
     check_lapses()
     check_refusals()
     check_strikes()

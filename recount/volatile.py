@@ -129,8 +129,8 @@ def probe(words, data):
 
 def selftest():
     # A row eased: M rounded up, a and b at their limits; a row that is refused stays.
-    assert eased([1, 1, 1_000, 501, 60_000, 7, 60]) == [1, 1, 1_000, 251, 100_000, 14, 60]
-    assert eased([1, 1, 1_000, 0, 1, 1, 60]) == [1, 1, 1_000, 0, 1, 1, 60]
+    assert eased([1, 1, 1_000, 501, 60_000, 7, 600]) == [1, 1, 1_000, 251, 100_000, 14, 600]
+    assert eased([1, 1, 1_000, 0, 1, 1, 600]) == [1, 1, 1_000, 0, 1, 1, 600]
     # R, rounded toward zero either way, and its limits.
     assert changes([3, 4, 3, -3, -4, -3][:3]) == [333_333, -250_000]
     assert change(2_000_000, -1) == -MILLION and answer([2_000_000, -2], 1) == "refused 22"

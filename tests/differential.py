@@ -124,25 +124,28 @@ class Replay(Program):
         "1001 lapses, limit 1000": r"lapses 1001 limit 1000 .* verdict failed weight 0$",
         "1001 lapses, no limit": r"lapses 1001 limit none .* verdict met weight 20000$",
         "lapses of an open quantum": r"^report open yes .* lapses [1-9]\d* failed",
+        "72.5% just kept": r"^cell kept 7250 of 10000 share 725 .* verdict met weight 10000$",
+        "72.5% missed by a millisecond": r"^cell kept 7249 of 10000 share 725 .* verdict failed weight 0$",
+        "a weight by a half percent": r" share \d*[1-9] .* weight 1(?!0000$)\d{4}$",
     }
 
     def special(self):
         for calls in (
             known.paper_calls, known.every_refusal, known.edge_calls, known.lapse_calls, known.strike_calls,
-            known.ask_calls,
+            known.ask_calls, known.share_calls,
         ):
             yield calls_text.calls_bytes(calls())
         for path in sorted((ROOT / "examples").glob("*.calls")):
             yield calls_text.to_bytes(path.read_text())
         report, wrong_open = words(12), words(1, 6, 1, 1, 10_000, 500, 100, 1, 1, 2_000, 5)
-        good_open = words(1, 7, 1, 1, 10_000, 500, 100, 1, 60, 1, 2_000, 5)
+        good_open = words(1, 7, 1, 1, 10_000, 500, 100, 1, 600, 1, 2_000, 5)
         yield from [b"", b"\1", report + b"\0\0\0", report * 3]
         yield from [words(0), words(16), words(2**32 - 1)]
         yield from [wrong_open, words(1), words(1, 0), words(1, 0, 1), words(1, 0, 1, 0),
                     words(1, 0, 1, 0, 0) + report]
         yield words(1, 2**32 - 1, 1, 2)
         yield words(1, 16, *range(16), 1, 0, 0)
-        strike = words(13, 7, 1, 1, 10_000, 500, 0, 0, 60, 1, 75, 40, 365, 0, 5)
+        strike = words(13, 7, 1, 1, 10_000, 500, 0, 0, 600, 1, 75, 40, 365, 0, 5)
         yield from [strike[: 4 * size] for size in range(1, 16)]
         yield from [strike + report, words(13, 2**32 - 1, 1, 2, 3, 4, 5, 6, 7), words(13, *[0] * 7) + report]
         yield words(13, 16, *range(16), 1, 0, 0, 0, 0, 0) + report

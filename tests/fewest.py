@@ -21,7 +21,7 @@ from tests.differential import run_program, words
 PROBE = ROOT / "target" / "bin" / "probe"
 WINDOW = 7  # milliseconds
 MOST = 4  # stretches that so many milliseconds can have
-ROW = [1, 0, 1_000, 1, 0, 1, 60]
+ROW = [1, 0, 1_000, 1, 0, 1, 600]
 LENGTH = ROW[2]
 FILL = 9
 

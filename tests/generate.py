@@ -34,7 +34,12 @@ def short_row(rng):
     least = rng.choice([1, 2, 5, 10, 10, 100, 500])
     a, b = rng.choice([(0, 3), (100, 1), (150, 3), (1_050, 0), (0, 0), (100_000, 0), (50, 20)])
     length = 1_000 * rng.choice([1, 1, 2, 3, 5, 10, 20])
-    return Row(rng.choice([1, 2]), rng.randrange(3), length, least, a, b, rng.randrange(1, 80))
+    return Row(rng.choice([1, 2]), rng.randrange(3), length, least, a, b, any_share(rng))
+
+
+def any_share(rng):
+    """A required share, in tenths of a percent."""
+    return rng.choice([rng.randrange(1, 800), rng.randrange(1, 800), 1, 600, 700, 725, 750, 799])
 
 
 def long_row(rng):
@@ -114,7 +119,7 @@ def wrong_row_words(rng):
             [0, 100_001, WORD_END - 1],
             [100_001, WORD_END - 1],
             [1_000_001, WORD_END - 1],
-            [0, 80, WORD_END - 1],
+            [0, 800, WORD_END - 1],
         ][at]
     )
     return words
@@ -477,7 +482,7 @@ def at_limits(rng):
     row = Row(
         rng.choice([1, 2]), rng.choice([0, 2]), rng.choice([1_000, LONGEST]),
         rng.choice([1, 100_000]), rng.choice([0, 1, 100_000]), rng.choice([0, 1, 1_000_000]),
-        rng.choice([1, 79]),
+        rng.choice([1, 799]),
     )
     sp = rng.choice([PRICE_LIMIT, -PRICE_LIMIT, PRICE_LIMIT - 1, 0, 1, -1, -5])
     s = scene(rng, row, sp, 20)
@@ -505,10 +510,10 @@ def at_verdict(rng):
     """K planned to stand at, or a millisecond beside, the share or a step of the weight."""
     row = keeping_a_step(rng.choice([short_row, long_row, programme_row])(rng))
     wanted = rng.choice([
-        -(-row.share * row.length // 100),
-        -(-row.share * row.length // 100),
+        -(-row.share * row.length // 1_000),
+        -(-row.share * row.length // 1_000),
         -(-800 * row.length // 1_000),
-        -(-rng.randrange(10 * row.share, 1_001) * row.length // 1_000),
+        -(-rng.randrange(row.share, 1_001) * row.length // 1_000),
     ])
     kept = clamp(wanted + rng.choice([0, -1, -1, 1]), 0, row.length)
     start = rng.randrange(row.length - kept + 1)

@@ -12,7 +12,7 @@ from tests.generate import LONGEST, STRIKE_LIMITS, WORD_END, session
 
 def many_records(count):
     """A session of exactly `count` records, its pairs as many as they can give."""
-    row = Row(1, 1, 20_000, 10, 100, 5, 60)
+    row = Row(1, 1, 20_000, 10, 100, 5, 600)
     events = [Add(0, 1, BUY, 100, 10)]
     for at in range(count - 1):
         events.append(Add(at, 2, SELL, 101, 10) if at % 2 == 0 else Cancel(at, 2))
@@ -21,10 +21,10 @@ def many_records(count):
 
 def refusals():
     """A session for each refusal number that one can have: 1, 2, 3 and 8 to 15."""
-    row, first = Row(1, 1, 10_000, 500, 100, 1, 60), Add(5, 1, BUY, 100, 500)
+    row, first = Row(1, 1, 10_000, 500, 100, 1, 600), Add(5, 1, BUY, 100, 500)
     full = [first] + [Add(5, id, BUY, 100, 500) for id in range(2, 65)]
     yield session(row, 2_000, [])[0][:31], b""
-    yield session(row._replace(share=80), 2_000, [first])
+    yield session(row._replace(share=800), 2_000, [first])
     yield session(row, PRICE_LIMIT + 1, [first])
     for events in [
         [first, Tick(4)],
@@ -40,7 +40,7 @@ def refusals():
     yield head, data[:-1]
 
 
-MAIN_ROW = Row(1, 1, 31_500_000, 500, 100, 1, 60)  # of the paper's checks
+MAIN_ROW = Row(1, 1, 31_500_000, 500, 100, 1, 600)  # of the paper's checks
 PAPER_KEPT = [18_899_999, 18_900_000, 22_050_000, 25_199_999, 25_200_000]  # C6 to C10
 
 
@@ -67,14 +67,14 @@ ROW_EDGES = [
     (0, 1, 100_000, 100_001),
     (0, 100_000, 100_001),
     (0, 1_000_000, 1_000_001),
-    (0, 1, 79, 80),
+    (0, 1, 725, 799, 800),
 ]
 PRICE_EDGES = [sign * (PRICE_LIMIT + past) for sign in (1, -1) for past in (0, 1)]
 VOLUME_EDGES = [0, 1, VOLUME_LIMIT, VOLUME_LIMIT + 1]
 
 
 def edge_rows():
-    good = Row(1, 1, 10_000, 500, 100, 1, 60)
+    good = Row(1, 1, 10_000, 500, 100, 1, 600)
     for at, values in enumerate(ROW_EDGES):
         for value in values:
             yield [*good[:at], value, *good[at + 1 :]]
@@ -82,7 +82,7 @@ def edge_rows():
 
 def edges():
     """A session for each end of each range, inside and outside, and each byte that must be zero."""
-    row = Row(1, 1, 10_000, 1, 100, 1, 60)
+    row = Row(1, 1, 10_000, 1, 100, 1, 600)
     first = [Add(0, 1, BUY, 100, VOLUME_LIMIT), Add(0, 2, SELL, 101, 1)]
     for words in edge_rows():
         yield session(words, 2_000, [])
@@ -133,9 +133,9 @@ def paper_calls():
 
 def every_refusal():
     """A list of calls that meets each number from 1 to 14 and 17, mostly with higher causes beside it."""
-    row, id = list(Row(1, 1, 10_000, 500, 100, 1, 60)), 65
+    row, id = list(Row(1, 1, 10_000, 500, 100, 1, 600)), 65
     calls = [
-        Open(row[:6], 32, 0), Open(row[:6] + [80], 32, 0), Open(row, 32, 0), Open(row, 0, 0),
+        Open(row[:6], 32, 0), Open(row[:6] + [800], 32, 0), Open(row, 32, 0), Open(row, 0, 0),
         Open(row, 1, PRICE_LIMIT + 1), Open(row, 1, -PRICE_LIMIT - 1, 1_001), Open(row, 1, 0, 1_001),
         Close(CHARGE_LIMIT + 1, 0), Close(0, CHARGE_LIMIT + 1), Close(0, 0), Drop(), Tick(0),
         Look(1, 1, 1), Charge(1, 1, 1, 0, 0), Withdraw(1, 1, 1), Look(0, 1, 1), Look(1, 3, 1),
@@ -155,7 +155,7 @@ def every_refusal():
 
 def edge_calls():
     """Each end of each range that a month's call has, inside and outside."""
-    row = list(Row(1, 1, 10_000, 1, 100, 1, 60))
+    row = list(Row(1, 1, 10_000, 1, 100, 1, 600))
     calls = []
     for words in edge_rows():
         calls += [Open(words, 31, 0), Drop()]
@@ -190,7 +190,7 @@ def edge_calls():
 
 def lapse_calls():
     """Quanta with 0, 1, 2, 3, 1,000 and 1,001 lapses, at their start and end among them, by limits."""
-    row, calls = list(Row(1, 1, 86_400_000, 500, 100, 1, 60)), []
+    row, calls = list(Row(1, 1, 86_400_000, 500, 100, 1, 600)), []
     for day, (limit, count, from_start) in enumerate([
         (0, 0, False), (0, 1, True), (1, 1, True), (0, 1, False), (2, 2, True), (2, 3, True),
         (MOST_LAPSES, 1_000, False), (MOST_LAPSES, 1_001, True), (NO_LIMIT, 1_001, False),
@@ -209,7 +209,22 @@ def lapse_calls():
     return calls
 
 
-STRIKE_ROW = Row(1, 1, 10_000, 500, WORD_END - 1, WORD_END - 1, 60)  # a and b unread
+SHARES = (1, 599, 600, 700, 725, 750, 798, 799)
+
+
+def share_calls():
+    """Shares in tenths of a percent: K one below, at and above what each asks, and at the full weight."""
+    calls, cells = [Open([1, 1, 10_000, 500, 100, 1, 800], 1, 2_000)], []
+    for at, share in enumerate(SHARES):
+        for by, kept in enumerate((10 * share - 1, 10 * share, 10 * share + 1, 7_999, 8_000)):
+            cells.append((1 + (5 * at + by) % 31, 1 + (5 * at + by) // 31, 0, share, kept))
+    for day, expiry, quantum, share, kept in cells:
+        calls += [Open([expiry, quantum, 10_000, 500, 100, 1, share], day, 2_000), *kept_events(0, kept)]
+        calls += [Close(10_000, 20_000), Look(day, expiry, quantum)]
+    return calls + [Report()]
+
+
+STRIKE_ROW = Row(1, 1, 10_000, 500, WORD_END - 1, WORD_END - 1, 600)  # a and b unread
 
 STRIKES = [
     Strike(75, 40, 365, 0), Strike(75, 41, 365, 0), Strike(75, 60, 30, 45), Strike(75, 60, 2, 45),
@@ -254,7 +269,7 @@ def strike_calls():
 def ask_calls():
     """Asks and commits: tickets that are good, old, of another amendment or off by one, and amend's own
     refusals beside them. The counts are written as they are due."""
-    row, named = list(Row(1, 1, 10_000, 500, 100, 1, 60)), (5, 1, 100, 500)
+    row, named = list(Row(1, 1, 10_000, 500, 100, 1, 600)), (5, 1, 100, 500)
     ticket = lambda count: Ticket(*named, count)
     calls = [Ask(*named), Commit(*named, ticket(0)), Commit(*named, ticket(1)), Report()]
     calls += [Open(row, 1, 2_000), Add(0, 1, BUY, 99, 500), Add(0, 2, SELL, 101, 500), Report()]  # 3 accepted

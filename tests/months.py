@@ -213,7 +213,7 @@ def failures(rng):
     """A series with 14 to 17 failed cells, then corrections around the fifteenth."""
     m = Month(rng)
     row = short_row(rng)._replace(a=0, b=1)
-    share = -(-row.share * row.length // 100)
+    share = -(-row.share * row.length // 1_000)
     failed = rng.choice([14, 15, 15, 16, 16, 17])
     days = rng.sample(range(1, 32), 31)
     m.planned(days[20], row, row.length, m.charge(), m.charge())
@@ -244,8 +244,8 @@ def whole_month(rng):
     great = rng.choice([2, 1_000, 1_000_000, CHARGE_LIMIT])
     row = rng.choice([short_row, long_row])(rng)
     for day, expiry, quantum in cells[: rng.choice([20, 100, 186])]:
-        this = row._replace(expiry=expiry, quantum=quantum, share=rng.choice([60, 70, 75, 1, 79]))
-        low = -(-this.share * this.length // 100)
+        this = row._replace(expiry=expiry, quantum=quantum, share=rng.choice([600, 700, 750, 725, 1, 799]))
+        low = -(-this.share * this.length // 1_000)
         kept = rng.randrange(low, this.length + 1) if rng.random() < 0.9 else rng.randrange(low)
         m.planned(day, this, kept, rng.randrange(great + 1), rng.randrange(great + 1))
         if rng.random() < 0.05:

@@ -29,6 +29,11 @@ def check_examples():
         assert calls.to_bytes(f"open row 1 day 1 sp 1 {line}")[-4:] == b"\xff\xff\0\0", line
         strike = calls.to_bytes(f"strike row 1 day 1 a 2 difference 3 days 4 b 5 {line}")
         assert strike == calls.to_bytes("words 13 1 1 1 2 3 4 5 65535"), line
+    for word, tenths in (("60%", 600), ("600", 600), ("72.5%", 725), ("0.1%", 1), ("79.9%", 799), ("80.0%", 800)):
+        row = f"1 1 10000 500 100 1 {word}"
+        assert session.row_words(row.split())[6] == tenths, word
+        opened = programs.read_calls(calls.to_bytes(f"open row {row} day 1 sp 1"))[0][0]
+        assert opened.words[6] == tenths, word
     printed = "kept 6000 of 10000\npair 0 6000\nverdict met\nweight 10000\n"
     assert programs.sheet(session.to_bytes(example)) == printed
 
@@ -53,6 +58,14 @@ def check_picture_limit():
         assert f"lapses 1, at most {limit}<" in svg and said in svg, limit
 
 
+def check_picture_share():
+    """The required share is drawn in percent, half ones too."""
+    source = (ROOT / "examples" / "document01.session").read_text()
+    for share, said in (("600", "required 60%<"), ("72.5%", "required 72.5%<"), ("1", "required 0.1%<")):
+        svg = picture.picture("one", session.to_bytes(source.replace("1 600\n", f"1 {share}\n")))
+        assert said in svg, share
+
+
 def check_rows():
     """Every row of the programmes is one that a month opens with."""
     rows = 0
@@ -74,16 +87,19 @@ def check_any_bytes(rng):
 
 ERRORS = [
     (session, "row 1 1 10000 500 100 1\nsp 0", 1, "row takes expiry quantum L M a b p"),
-    (session, "row 1 1 10000 500 100 1 60\n\nadd 0 1 buy 1 1", 3, "row and sp stand before"),
-    (session, "# a\nrow 1 1 10000 500 100 1 60\nsp 4_294_967_296", 3, "SP: 4_294_967_296"),
-    (session, "row 1 1 0:00:10 500 100 1 60\nsp 1\nadd 0 1 bid 1 1", 3, "side: 'bid'"),
-    (session, "row 1 1 10000 500 100 1 60\nsp 1\nadd 0 1 buy 1", 3, "add takes t id side"),
-    (session, "row 1 1 10000 500 100 1 60\nsp 1\nadd -1 1 buy 1 1", 3, "t: -1 does not fit"),
-    (session, "row 1 1 10000 500 100 1 60\nsp 1\ntick 1:60:00", 3, "t: '1:60:00' is not"),
-    (session, "row 1 1 10000 500 100 1 60\nsp 1\nbytes 0g", 3, "bytes takes pairs"),
-    (session, "row 1 1 10000 500 100 1 60\nsp 1\nsell 1", 3, "'sell' is not known"),
-    (session, "row 1 1 10000 500 100 1 60", None, "there is no sp"),
+    (session, "row 1 1 10000 500 100 1 600\n\nadd 0 1 buy 1 1", 3, "row and sp stand before"),
+    (session, "# a\nrow 1 1 10000 500 100 1 600\nsp 4_294_967_296", 3, "SP: 4_294_967_296"),
+    (session, "row 1 1 0:00:10 500 100 1 600\nsp 1\nadd 0 1 bid 1 1", 3, "side: 'bid'"),
+    (session, "row 1 1 10000 500 100 1 600\nsp 1\nadd 0 1 buy 1", 3, "add takes t id side"),
+    (session, "row 1 1 10000 500 100 1 600\nsp 1\nadd -1 1 buy 1 1", 3, "t: -1 does not fit"),
+    (session, "row 1 1 10000 500 100 1 600\nsp 1\ntick 1:60:00", 3, "t: '1:60:00' is not"),
+    (session, "row 1 1 10000 500 100 1 600\nsp 1\nbytes 0g", 3, "bytes takes pairs"),
+    (session, "row 1 1 10000 500 100 1 600\nsp 1\nsell 1", 3, "'sell' is not known"),
+    (session, "row 1 1 10000 500 100 1 600", None, "there is no sp"),
     (session, "# nothing", None, "there is no row"),
+    (session, "row 1 1 10000 500 100 1 72.55%\nsp 1", 1, "p: '72.55%' is not a percentage"),
+    (session, "row 1 1 10000 500 100 1% 600\nsp 1", 1, "b: '1%' is not a number"),
+    (session, "row 1 1 10000 500 100 1 72.5\nsp 1", 1, "p: '72.5' is not a number"),
     (calls, "report\nopen 1 1 day 1 sp 1", 2, "open is written"),
     (calls, "open row 1 1 day 1 sp 1 lapses", 1, "open is written"),
     (calls, "open row 1 1 day 1 sp 1 lapses some", 1, "lapses: 'some' is not a number"),
@@ -118,6 +134,7 @@ def main():
     check_examples()
     check_pictures()
     check_picture_limit()
+    check_picture_share()
     check_rows()
     check_any_bytes(random.Random(1))
     check_errors()

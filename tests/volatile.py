@@ -242,10 +242,10 @@ def any_row(rng):
         rng.choice([1, 2]), rng.randrange(3), 1_000 * rng.randint(1, 86_400), rng.randint(1, 100_000),
         rng.choice([0, 125, 49_999, 50_000, 50_001, 100_000, rng.randint(0, 100_000)]),
         rng.choice([0, 1, 499_999, 500_000, 500_001, 1_000_000, rng.randint(0, 1_000_000)]),
-        rng.randint(1, 79),
+        rng.randint(1, 799),
     ]
     if rng.random() < 0.25:
-        words[rng.randrange(7)] = rng.choice([0, 3, 80, 999, 100_001, 1_000_001, 86_400_001, 2**32 - 1])
+        words[rng.randrange(7)] = rng.choice([0, 3, 800, 999, 100_001, 1_000_001, 86_400_001, 2**32 - 1])
     if rng.random() < 0.15:
         words = [*words, *[1] * 9][: rng.randrange(17)]
     return words
@@ -282,7 +282,7 @@ def cases(rng, count):
         yield data, ["a list that does not fit its count"]
     for prices, threshold in known_prices():
         yield from with_shorter(prices, threshold)
-    for words in ([], [1] * 16, [1, 1, 1_000, 1, 0, 0, 1], [2, 2, 86_400_000, 100_000, 100_000, 1_000_000, 79]):
+    for words in ([], [1] * 16, [1, 1, 1_000, 1, 0, 0, 1], [2, 2, 86_400_000, 100_000, 100_000, 1_000_000, 799]):
         yield packed(6, len(words), *words), list(row_sights(words))
     yield prices_case(cycle([1_000, 1_004, 1_002], 4_096), 2**20), []
     for at in range(count):

@@ -28,8 +28,8 @@ The text, one call a line, # for comments:
     words N..                                 words as they stand, for what is no call
     bytes HEX..                               bytes as they stand, for what is no word
 
-T (and a row's third word) are milliseconds, or h:mm:ss or h:mm:ss.mmm. Numbers may have
-underscores.
+T (and a row's third word) are milliseconds, or h:mm:ss or h:mm:ss.mmm. A row's seventh word is
+tenths of a percent, or a percentage: 725 is 72.5%. Numbers may have underscores.
 """
 
 import struct
@@ -68,10 +68,7 @@ def open_call(name, words):
     behind = 2 + 2 * len(told)  # words from `day` on
     if len(words) < 1 + behind or words[0] != "row" or words[-behind::2] != ["day", *told]:
         raise text.TextError(shape)
-    row = [
-        text.time(word, "L") if at == 2 else text.number(word, text.WORD, "a word of the row")
-        for at, word in enumerate(words[1:-behind])
-    ]
+    row = [text.row_word(at, word, "a word of the row") for at, word in enumerate(words[1:-behind])]
     day = text.number(words[1 - behind], text.WORD, "day")
     if name == "open":
         return Open(row, day, text.number(words[-1], text.SIGNED, "SP"), limit)

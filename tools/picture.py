@@ -173,11 +173,11 @@ def draw_shares(d, row, done):
     colour = MET_BAR if done.met else FAILED_BAR
     d.rect(LEFT, BAR_TOP, width * done.kept / row.length, BAR_HEIGHT, colour)
     d.text(LEFT, BAR_TOP - 7, f"kept {percent(done.kept, row.length)}")
-    anchor = "start" if row.share < 20 else "end"
+    anchor = "start" if row.share < 200 else "end"
     for share, label, anchor in (
-        (row.share, f"required {row.share}%", anchor), (80, "full weight from 80%", "start"),
+        (row.share, f"required {tenths(row.share)}%", anchor), (800, "full weight from 80%", "start"),
     ):
-        x = round(LEFT + width * share / 100, 2)
+        x = round(LEFT + width * share / 1_000, 2)
         d.line(x, BAR_TOP - 5, x, BAR_TOP + BAR_HEIGHT + 5, INK, ' stroke-width="1.5"')
         side = -5 if anchor == "end" else 5
         d.text(x + side, BAR_TOP + BAR_HEIGHT + 18, label, anchor, 12)
@@ -194,6 +194,11 @@ def draw_lapses(d, row, done, limit):
             d.rect(d.x(stop), BOTTOM + 1, max(1, d.x(start) - d.x(stop)), 4, colour)
     words = f"lapses {count}, at most {limit}"
     d.text(RIGHT, BAR_TOP - 7, words, "end", colour=colour, more=' font-weight="bold"')
+
+
+def tenths(share):
+    """A share in tenths of a percent as percent: 60, 72.5."""
+    return f"{share // 10}.{share % 10}" if share % 10 else str(share // 10)
 
 
 def percent(kept, length):

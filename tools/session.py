@@ -15,7 +15,8 @@ The text, one item a line, # for comments:
     tick T
     bytes HEX..                               bytes as they stand, for what is no event
 
-T (and L) are milliseconds, or h:mm:ss or h:mm:ss.mmm. Numbers may have underscores.
+T (and L) are milliseconds, or h:mm:ss or h:mm:ss.mmm. P is tenths of a percent, or a percentage:
+725 is 72.5%. Numbers may have underscores.
 """
 
 import sys
@@ -33,10 +34,7 @@ ROW_COLUMNS = "expiry quantum L M a b p"
 def row_words(words):
     """The seven words of a row; only their width is looked at, not document 01's ranges."""
     row = text.columns("row", words, ROW_COLUMNS)
-    return [
-        text.time(word, name) if name == "L" else text.number(word, text.WORD, name)
-        for name, word in row.items()
-    ]
+    return [text.row_word(at, word, name) for at, (name, word) in enumerate(row.items())]
 
 
 class Reader:

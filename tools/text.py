@@ -1,7 +1,8 @@
 """What the text tools share: lines with comments, numbers, times, events, errors by line.
 
 A line is words apart by blanks; what follows a # is a comment. A number may have underscores. A
-time is milliseconds from the quantum's start, or h:mm:ss with or without thousandths (.mmm).
+time is milliseconds from the quantum's start, or h:mm:ss with or without thousandths (.mmm). A
+share is tenths of a percent, or a percentage with or without one decimal (725 is 72.5%).
 """
 
 import re
@@ -59,6 +60,23 @@ def time(word, what="t"):
         return number(word, WORD, what)
     h, m, s, ms = (int(part or 0) for part in clock.groups())
     return number(str(((h * 60 + m) * 60 + s) * 1_000 + ms), WORD, what)
+
+
+def share(word, what="p"):
+    percentage = re.fullmatch(r"([0-9]+)(?:\.([0-9]))?%", word)
+    if percentage is None and "%" in word:
+        raise TextError(f"{what}: {word!r} is not a percentage with at most one decimal")
+    if percentage is None:
+        return number(word, WORD, what)
+    whole, tenths = (int(part or 0) for part in percentage.groups())
+    return number(str(10 * whole + tenths), WORD, what)
+
+
+def row_word(at, word, what):
+    """A word of a row: the third, L, is a time, the seventh, p, a share."""
+    if at == 2:
+        return time(word, "L")
+    return share(word) if at == 6 else number(word, WORD, what)
 
 
 def columns(name, words, names):

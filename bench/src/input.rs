@@ -245,7 +245,7 @@ pub const KINDS: [(&str, Shape); 5] = [
 
 pub fn measured(shape: &Shape, n: usize, seed: u64) -> Session {
     Session {
-        head: head([1, 1, LENGTH, 500, 125, 0, 60], 20_000),
+        head: head([1, 1, LENGTH, 500, 125, 0, 600], 20_000),
         records: records(&mut Rng(seed), shape, LENGTH, n),
     }
 }
@@ -259,7 +259,7 @@ pub fn example() -> Session {
     push(&mut records, ADD_SELL, 4_000, 3, 101, 500);
     push(&mut records, CANCEL, 6_000, 1, 0, 0);
     Session {
-        head: head([1, 1, 10_000, 500, 100, 1, 60], 2_000),
+        head: head([1, 1, 10_000, 500, 100, 1, 600], 2_000),
         records,
     }
 }
@@ -319,7 +319,7 @@ pub fn small(seed: u64) -> Session {
         least,
         a,
         b,
-        rng.within(1, 79) as u32,
+        rng.within(1, 799) as u32,
     ];
     let mut session = Session {
         head: head(row, sp),
@@ -365,7 +365,7 @@ fn damage_head(rng: &mut Rng, head: &mut Vec<u8>) {
         (3, [0, 100_001]),
         (4, [100_001, u32::MAX]),
         (5, [1_000_001, u32::MAX]),
-        (6, [0, 80]),
+        (6, [0, 800]),
         (7, [1_000_000_001, -1_000_000_001i32 as u32]),
         (7, [i32::MIN as u32, i32::MAX as u32]),
     ]);

@@ -62,7 +62,7 @@ pub fn read_terms(head: &[u8]) -> Result<Terms, u64> {
         && (1..=100_000).contains(&least)
         && a <= 100_000
         && b <= 1_000_000
-        && (1..=79).contains(&share);
+        && (1..=799).contains(&share);
     if !good {
         return Err(2);
     }

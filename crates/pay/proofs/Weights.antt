@@ -40,6 +40,11 @@ pub ratio-most : (n d : ℕ) → n ≤ d → (10000 * n ^ 5) / d ^ 5 ≤ 10000
 ratio-most n d h =
     div-le-of-le-mul (d ^ 5) (omega (arith, mul-le-mul-left 10000 (pow-le-pow-left h 5), mul-comm (d ^ 5) 10000))
 
+-- p is in thousandths as it stands: n = f - p, d = 800 - p
+weightMet-is : (f share : ℕ) → weightMet paper f share ≡ (if leb 800 f then 20000 else 10000 + (10000 * (f - share) ^ 5) / (800 - share) ^ 5)
+unfolding weightMet
+weightMet-is f share = rw (one-mul share) refl
+
 -- the weight of what is met, from f and the two fifth powers
 pub weightMet-high : (f share : ℕ) → 800 ≤ f → 20000 ≡ weightMet paper f share
 unfolding weightMet
@@ -48,34 +53,32 @@ weightMet-high f share h = rw (le-leb 800 f h) refl
 -- what is known of n⁵ and d⁵ where f is below 800
 pub record Powers (f share n d : ℕ) : Type 0 where
   pub low : f < 800
-  pub small : share ≤ 79
-  pub n-is : n ≡ (f - 10 * share) ^ 5
-  pub d-is : d ≡ (800 - 10 * share) ^ 5
+  pub small : share ≤ 799
+  pub n-is : n ≡ (f - share) ^ 5
+  pub d-is : d ≡ (800 - share) ^ 5
 
 module _ {f share n d : ℕ} (h : Powers f share n d) where
   pub product-most : 10000 * n ≤ 3276800000000000000
-  product-most = omega (arith, power-most (f - 10 * share) (omega arith))
+  product-most = omega (arith, power-most (f - share) (omega arith))
 
   pub divisor-least : 0 < d
-  divisor-least = omega (arith, power-least (800 - 10 * share) (omega arith))
+  divisor-least = omega (arith, power-least (800 - share) (omega arith))
 
   pub quotient-most : (10000 * n) / d ≤ 10000
-  quotient-most = rw (h .n-is, h .d-is) (ratio-most (f - 10 * share) (800 - 10 * share) (omega arith))
+  quotient-most = rw (h .n-is, h .d-is) (ratio-most (f - share) (800 - share) (omega arith))
 
   pub weightMet-low : 10000 + (10000 * n) / d ≡ weightMet paper f share
-  unfolding weightMet
-  weightMet-low = rw (lt-leb 800 f (h .low), h .n-is, h .d-is) refl
+  weightMet-low = rw (weightMet-is f share, lt-leb 800 f (h .low), h .n-is, h .d-is) refl
 
-pub weightMet-most : (f share : ℕ) → share ≤ 79 → weightMet paper f share ≤ 20000
-unfolding weightMet
-weightMet-most f share h = go (leb 800 f) refl
+pub weightMet-most : (f share : ℕ) → share ≤ 799 → weightMet paper f share ≤ 20000
+weightMet-most f share h = rw (weightMet-is f share) (go (leb 800 f) refl)
   where
     go : (b : Bool) → leb 800 f ≡ b
-        → (if b then 20000 else 10000 + (10000 * (f - 10 * share) ^ 5) / (800 - 10 * share) ^ 5) ≤ 20000
+        → (if b then 20000 else 10000 + (10000 * (f - share) ^ 5) / (800 - share) ^ 5) ≤ 20000
     go true e = omega arith
     go false e =
         let low = leb-false 800 f e in
-        omega (arith, ratio-most (f - 10 * share) (800 - 10 * share) (omega arith))
+        omega (arith, ratio-most (f - share) (800 - share) (omega arith))
 
 -- the weight by the verdict
 module _ (kept length share : ℕ) where
@@ -88,7 +91,7 @@ module _ (kept length share : ℕ) where
   weight-failed h = rw h refl
 
 -- whatever the verdict
-pub weightBy-most : (verdict : Bool) (kept length share : ℕ) → share ≤ 79 → weightBy paper verdict kept length share ≤ 20000
+pub weightBy-most : (verdict : Bool) (kept length share : ℕ) → share ≤ 799 → weightBy paper verdict kept length share ≤ 20000
 weightBy-most true kept length share h = weightMet-most (thousandths kept length) share h
 weightBy-most false kept length share h = omega arith
 
@@ -100,12 +103,11 @@ module _ (verdict within : Bool) (kept length share : ℕ) where
   pub weight-past : within ≡ false → 0 ≡ weightBy paper (verdict && within) kept length share
   weight-past h = rw (h, and-false verdict) refl
 
--- what is met is at least 10p thousandths
-pub met-least : (kept length share : ℕ) → 1 ≤ length → met paper kept length share ≡ true → 10 * share ≤ thousandths kept length
+-- what is met is at least p thousandths
+pub met-least : (kept length share : ℕ) → 1 ≤ length → met paper kept length share ≡ true → share ≤ thousandths kept length
 unfolding met
 met-least kept length share l h =
-    let k = leb-true (share * length) (100 * kept) h in
-    le-div-iff-mul-le {k = length} {x = 10 * share} {y = 1000 * kept} l .1 (omega (arith, mul-assoc 10 share length))
+    le-div-iff-mul-le {k = length} {x = share} {y = 1000 * kept} l .1 (leb-true (share * length) (1000 * kept) h)
 
 -- ---- what a cell earns
 

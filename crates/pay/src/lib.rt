@@ -17,14 +17,14 @@ use rules::CellView;
 use rules::Kopecks;
 use rules::Millis;
 
-// Whether 100 × K ≥ p × L.
+// Whether 1000 × K ≥ p × L.
 fn reaches(kept: Millis, length: Millis, share: u32) -> bool
     ensures { λ r. ⌜ r ≡ P.met paper (kept .0) (length .0) share ⌝ }
 {
     let l = length.0 as u64;
     let k = kept.0 as u64;
     let needed = (share as u64) * l;
-    let held = 100 * k;
+    let held = 1000 * k;
     needed <= held
 }
 
@@ -70,13 +70,13 @@ fn fifth(x: u64) -> u64
 
 // The weight of a quantum that is met, by its f.
 fn weight_met(f: u64, share: u32) -> u32
-    requires { ⌜ (share ≤ 79) × (10 * share ≤ f) ⌝ }
+    requires { ⌜ (share ≤ 799) × (share ≤ f) ⌝ }
     ensures { λ r. ⌜ r ≡ P.weightMet paper f share ⌝ }
 {
     if 800 <= f {
         return 20000;
     }
-    let required = 10 * (share as u64);
+    let required = share as u64;
     let n = f - required;
     let d = 800 - required;
     let top = fifth(n);
@@ -86,7 +86,7 @@ fn weight_met(f: u64, share: u32) -> u32
 
 // The weight of a kept time K in a length L with a required share p, with no lapse limit.
 pub fn weight_of(kept: Millis, length: Millis, share: u32) -> u32
-    requires { ⌜ (1 ≤ length .0) × (share ≤ 79) ⌝ }
+    requires { ⌜ (1 ≤ length .0) × (share ≤ 799) ⌝ }
     ensures { λ r. ⌜ r ≡ P.weight paper (kept .0) (length .0) share ⌝ }
 {
     if reaches(kept, length, share) {

@@ -36,7 +36,7 @@ pub fn is_good(row: Row) -> bool
     let good = both(good, between(1, 100000, least.0));
     let good = both(good, at_most(row.a, 100000));
     let good = both(good, at_most(row.b, 1000000));
-    both(good, between(1, 79, row.share))
+    both(good, between(1, 799, row.share))
 }
 
 // The row as open reads it: a strike's leaves a and b unread.

@@ -1,6 +1,7 @@
 -- Document 01, "Checks on paper": C1 to C12 and the unmarked ones, the one with D = 0 that document 02, W2, joins to them, and one with
 -- D = -1, each with what the definitions give and what the paper prints. That the two agree is proved once, over the list, in proofs/Checks.
--- After them, two checks on document 02, W1, and two on W4.
+-- After them, two checks on document 02, W1, two on W4, and one on W6: "C6 to C10 and the sheet's example read p 600" would not see a half
+-- percent.
 use Prim.Native.Nat.{ℕ, _+_}
 use mathlib.Core.List.{List, [], _∷_, _++_, map}
 use mathlib.Core.Bool.{Bool, true, false}
@@ -27,7 +28,7 @@ use Rattle.rules.specs.Records.{recordOf}
 use Rattle.rules.specs.Session.{Session, session, sheetLimit}
 
 pub data Name : Type 0 where
-  C1 C2 C3 C4 C5 C6 C7 C8 C9 C10 C11 C12 fifteenFailed sixteenFailed eventAtEnd negativePrice lockedQuote crossedQuote manyLapses lapsesAtEnds halfStep wholeSteps : Name
+  C1 C2 C3 C4 C5 C6 C7 C8 C9 C10 C11 C12 fifteenFailed sixteenFailed eventAtEnd negativePrice lockedQuote crossedQuote manyLapses lapsesAtEnds halfStep wholeSteps halfPercent : Name
 
 pub data Value : Type 0 where
   quote : Quote → Value
@@ -42,7 +43,7 @@ pub record Check : Type 0 where
 abbrev check : Name → List Value → List Value → Check
 check name found printed = record { name = name; found = found; printed = printed }
 
--- M 500, a 100, b 1, p 60, in a quantum of a second
+-- M 500, a 100, b 1, p 600, in a quantum of a second
 abbrev row : Row
 row =
     record {
@@ -52,7 +53,7 @@ row =
       least = contracts 500;
       a = 100;
       b = 1;
-      share = 60;
+      share = 600;
     }
 
 abbrev add : ℕ → Side → ℕ → ℕ → Event
@@ -82,9 +83,13 @@ kept sp d = keeps (quotesKeep row (Settled (steps sp)) (At (steps (pos 100))) (A
 abbrev keptAsk : ℕ → Value
 keptAsk ask = keeps (quotesKeep row (Settled (steps (pos 2000))) (At (steps (pos 100))) (At (steps (pos ask))))
 
--- C6 to C10: p 60, L 31,500,000
+-- C6 to C10: p 600, L 31,500,000
 abbrev weighed : ℕ → Value
-weighed k = number (weight paper k 31500000 60)
+weighed k = number (weight paper k 31500000 600)
+
+-- document 02, W6: p 725, "72.5%", L 10,000
+abbrev weighedHalf : ℕ → Value
+weighedHalf k = number (weight paper k 10000 725)
 
 -- C11 and C12: one filled cell alone
 abbrev lapsed : ℕ → ℕ → ℕ → ℕ → ℕ → Cell
@@ -93,7 +98,7 @@ lapsed limit lapses k active passive =
       filled = true;
       kept = millis k;
       length = millis 31500000;
-      share = 60;
+      share = 600;
       limit = limit;
       lapses = lapses;
       active = kopecks active;
@@ -185,11 +190,12 @@ checks =
     ∷ check wholeSteps
     (keptStrike 75 2 0 15 ∷ keptStrike 75 2 0 16 ∷ keptStrike 75 2 16 16 ∷ keptStrike 75 2 16 17 ∷ keptStrike 75 2 0 0 ∷ [])
     (keeps true ∷ keeps false ∷ keeps true ∷ keeps false ∷ keeps false ∷ [])
+    ∷ check halfPercent (weighedHalf 7249 ∷ weighedHalf 7250 ∷ weighedHalf 7625 ∷ []) (number 0 ∷ number 10000 ∷ number 10292 ∷ [])
     ∷ []
 
 -- the session that "Event records and the session run" prints: its row, its SP and its events
 abbrev pub sheetWords : List ℕ
-sheetWords = 1 ∷ 1 ∷ 10000 ∷ 500 ∷ 100 ∷ 1 ∷ 60 ∷ []
+sheetWords = 1 ∷ 1 ∷ 10000 ∷ 500 ∷ 100 ∷ 1 ∷ 600 ∷ []
 
 abbrev pub sheetEvents : List Event
 sheetEvents =

@@ -1,4 +1,4 @@
--- Document 01, "Verdict, weight, fee".
+-- Document 01, "Verdict, weight, fee", with document 02, W6: p in tenths of a percent, "met is 1000 × K ≥ p × L, n = f - p, d = 800 - p".
 use Prim.Native.Nat.{ℕ, _+_, _-_, _*_, _/_, _^_, min}
 use mathlib.Core.List.{List, [], _∷_, map}
 use mathlib.Core.Bool.{Bool, not, _&&_}
@@ -15,16 +15,16 @@ abbrev pub thousandths : ℕ → ℕ → ℕ
 thousandths kept length = (1000 * kept) / length
 
 module _ (terms : Terms) where
-  -- "A quantum is met if 100 × K ≥ p × L, else failed."
+  -- "A quantum is met if 100 × K ≥ p × L, else failed."; W6: "met is 1000 × K ≥ p × L"
   unfoldable pub met : ℕ → ℕ → ℕ → Bool
   met kept length share = leb (share * length) (terms .whole * kept)
 
-  -- the required share in thousandths: 10p
+  -- the required share in thousandths: 10p of a p in percent; by W6 p itself
   abbrev pub required : ℕ → ℕ
   required share = (1000 / terms .whole) * share
 
   -- the weight of a quantum that is met: "If f is 800 or more, w = 20,000. Else n = f - 10p, d = 800 - 10p, and
-  -- w = 10,000 + (10,000 × n⁵ / d⁵, rounded down)."
+  -- w = 10,000 + (10,000 × n⁵ / d⁵, rounded down)."; W6: "n = f - p, d = 800 - p"
   unfoldable pub weightMet : ℕ → ℕ → ℕ
   weightMet f share =
       if leb 800 f then 20000 else 10000 + (10000 * (f - required share) ^ 5) / (800 - required share) ^ 5

@@ -36,7 +36,7 @@ rowOf words =
     }
 
 -- every word in its range: "M the least volume (1 to 100,000), a in hundred-thousandths (0 to 100,000 ..), b in price steps
--- (0 to 1,000,000), p the required share in percent (1 to 79)"
+-- (0 to 1,000,000), p the required share in percent (1 to 79)"; document 02, W6: "p is in tenths of a percent, 1 to 799"
 unfoldable pub goodRow : Terms → Row → Bool
 goodRow terms row =
     goodExpiry (row .expiry) && goodQuantum (row .quantum) && goodLength (row .length .0) && within 1 100000 (row .least .0)

@@ -1,4 +1,5 @@
--- The numbers of document 01 that its definitions take from one place, so that the same definitions can be read at other numbers.
+-- The numbers of document 01, as the requests of document 02 have changed them, that the definitions take from one place, so that the
+-- same definitions can be read at other numbers.
 use Prim.Native.Nat.{ℕ}
 
 pub record Terms : Type 0 where
@@ -9,6 +10,10 @@ pub record Terms : Type 0 where
   -- the greatest charge A or P, in kopecks
   pub most-charge : ℕ
 
--- "p the required share in percent (1 to 79)"; "0 to 1,000,000,000 kopecks each"
+-- document 02, W6: "The row's p is in tenths of a percent, 1 to 799."; document 01: "0 to 1,000,000,000 kopecks each"
 abbrev pub paper : Terms
-paper = record { whole = 100; most-share = 79; most-charge = 1000000000 }
+paper = record { whole = 1000; most-share = 799; most-charge = 1000000000 }
+
+-- before W6, document 01: "p the required share in percent (1 to 79)"
+abbrev pub percents : Terms
+percents = record { whole = 100; most-share = 79; most-charge = 1000000000 }

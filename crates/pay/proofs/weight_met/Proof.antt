@@ -8,9 +8,6 @@ use Rattle.pay.proofs.weight_met.Tie as tie
 returns : tie.Need-returns
 returns c = weightMet-high (c .before .args .f) (c .before .args .share) (c .if1 .taken)
 
-mul-required : tie.Need-mul-required
-mul-required c = search needs
-
 sub-n : tie.Need-sub-n
 sub-n c = search needs
 
@@ -53,7 +50,6 @@ weight-met-spec =
     tie.close
     (tie.spec
     returns
-    mul-required
     sub-n
     sub-d
     fifth-requires
