@@ -7,5 +7,6 @@ pub mod Said
 pub mod Performing
 pub mod Running
 pub mod Demand
+pub mod Rearranged
 pub mod Playing
 pub mod Format

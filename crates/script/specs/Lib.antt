@@ -2,3 +2,4 @@ pub mod Words
 pub mod Measures
 pub mod Blocks
 pub mod Runs
+pub mod Rearranged
