@@ -14,6 +14,7 @@ pub mod Lapses
 pub mod Refusals
 pub mod Bounds
 pub mod Percents
+pub mod Charges
 pub mod Rearranged
 pub mod Choosing
 pub mod Records

@@ -34,6 +34,8 @@ pub mod Widths
 pub mod Session
 -- document 02, W6: half percents, old months
 pub mod Percents
+-- document 02, W8: larger charges
+pub mod Charges
 -- document 02, W9: days filled in another order
 pub mod Rearranged
 -- document 02, W10: fewest pairs
