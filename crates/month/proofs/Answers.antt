@@ -2,7 +2,7 @@
 -- nothing.
 use Prim.Native.Nat.{ℕ, suc}
 use mathlib.Core.Path.{_≡_, ap, sym, _∙_, subst₂}
-use mathlib.Core.List.{[], _∷_, _++_}
+use mathlib.Core.List.{List, [], _∷_, _++_}
 use Rattle.rules.specs.declared.Answer.{Answer}
 use Rattle.rules.specs.Terms.{paper}
 use Rattle.rules.specs.Answers.{Outcome, accepted, refused, outcomeBy, Reply, done, shownAnswer}
@@ -15,14 +15,21 @@ use Rattle.month.specs.declared.Month.{Month}
 use Rattle.month.specs.declared.AfterCall.{AfterCall}
 use Rattle.month.specs.Represents.{monthOf, Reached, Answered}
 
+-- of each list of calls by itself
+pub answered-after : (m next : Month) (c : Call) (shown : Outcome Reply)
+    → ((calls : List Call) → m ≡ monthOf (after paper calls)
+    → (next ≡ monthOf (step paper (after paper calls) c)) × (shown ≡ answerOf paper (after paper calls) c))
+    → Answered m c next shown
+answered-after m next c shown h =
+    record {
+      month = λ calls is. h calls is .0 ∙ ap monthOf (sym (after-snoc paper calls c));
+      answer = λ calls is. h calls is .1;
+    }
+
 pub answered : (m next : Month) (c : Call) (shown : Outcome Reply)
     → ((b : Book) → BookBounds paper b → m ≡ monthOf b → (next ≡ monthOf (step paper b c)) × (shown ≡ answerOf paper b c))
     → Answered m c next shown
-answered m next c shown h =
-    record {
-      month = λ calls is. h (after paper calls) (bounds paper calls) is .0 ∙ ap monthOf (sym (after-snoc paper calls c));
-      answer = λ calls is. h (after paper calls) (bounds paper calls) is .1;
-    }
+answered m next c shown h = answered-after m next c shown (λ calls is. h (after paper calls) (bounds paper calls) is)
 
 -- a refused call
 pub stopped : (m : Month) (c : Call) (n : ℕ) → ((b : Book) → BookBounds paper b → m ≡ monthOf b → refusalOf paper b c ≡ suc n)

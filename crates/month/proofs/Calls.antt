@@ -5,9 +5,11 @@ use mathlib.Core.Bool.{Bool, true, false, not, _&&_}
 use mathlib.Core.List.{List, [], _∷_, _++_}
 use native.Mathlib.Omega.{arith}
 use borrow.Author.Tests.{eq-eqb, eqb-true, not-false}
-use lib.IntN.{ℤ, pos}
+use lib.IntN.{pos}
 use lib.ListN.{length, set}
 use Rattle.rules.specs.declared.Millis.{Millis}
+use Rattle.rules.specs.declared.Spread.{Spread}
+use Rattle.rules.specs.declared.Spread.the-variants.{Settled}
 use Rattle.rules.specs.declared.Opening.{Opening}
 use Rattle.rules.specs.declared.Kopecks.{Kopecks}
 use Rattle.rules.specs.declared.Row.{Row}
@@ -19,8 +21,8 @@ use Rattle.rules.specs.declared.Refusal.{Refusal}
 use Rattle.rules.specs.declared.Quote.{Quote}
 use Rattle.rules.specs.Lists.{if_then_else_, within, keep, count}
 use Rattle.rules.specs.Terms.{paper}
-use Rattle.rules.specs.Units.{goodPrice, millis, kopecks}
-use Rattle.rules.specs.Rows.{rowOf, goodRow}
+use Rattle.rules.specs.Units.{millis, steps, kopecks}
+use Rattle.rules.specs.Rows.{rowOf, goodRowFor}
 use Rattle.rules.specs.Cells.{goodCell, placeOf, cellAt, blankCell}
 use Rattle.rules.specs.Orders.{live, applyAll, present, timeFrom}
 use Rattle.rules.specs.Quotes.{best, lead}
@@ -29,11 +31,11 @@ use Rattle.rules.specs.Stretches.{stretches}
 use Rattle.rules.specs.Lapses.{lapses as lapsesOf, lapsesBelow, goodLimit}
 use Rattle.rules.specs.Pay.{viewOf, allFailures, fee}
 use Rattle.rules.specs.Answers.{accepted, refused, outcomeBy, done, cell, report, numberOf, shownAnswer}
-use Rattle.rules.specs.Book.{Open, Send, Close, Drop, Charge, Withdraw, Look, Running, Idle, Quoting, Book, isOpen, Cause, lowest, rowCauses, readRow, goodCharges, sendCauses, eventRefusal, causes, refusalOf, noted, closed, closedCell, charged, changed, timeIn, ordersIn, bidIn, askIn, keptIn, lapsesIn, reportOf}
+use Rattle.rules.specs.Book.{Open, Send, Close, Drop, Charge, Withdraw, Look, Running, Idle, Quoting, Book, isOpen, Cause, lowest, rowCauses, readRow, goodCharges, sendCauses, goodSettlement, goodSpread, following, eventRefusal, causes, refusalOf, noted, closed, closedCell, charged, changed, timeIn, ordersIn, bidIn, askIn, keptIn, lapsesIn, reportOf}
 use Rattle.rules.specs.Book as B
 use Rattle.rules.specs.Bounds.{EventBounds, RunningBounds}
 use Rattle.rules.proofs.Answers.{refused-by, accepted-by}
-use Rattle.rules.proofs.Refusals.{skip, stop, clear, passed}
+use Rattle.rules.proofs.Refusals.{skip, stop, clear, passed, first-stops}
 use Rattle.rules.proofs.Bounds.{event-bounds-none}
 use Rattle.quantum.specs.declared.Quantum.{Quantum}
 use Rattle.quantum.specs.declared.Sent.{Sent}
@@ -43,56 +45,47 @@ use Rattle.quantum.specs.Standing.{clockOf, standing, taken}
 use Rattle.quantum.proofs.Answers.{whole-is}
 use Rattle.month.specs.declared.Month.{Month}
 use Rattle.month.specs.Represents.{idleRow, quantumIn, monthOf, Answered}
-use Rattle.month.specs.Parts.{withCell, withoutQuantum}
+use Rattle.month.specs.Parts.{withCell, withoutQuantum, counted}
 use Rattle.month.proofs.Answers.{stopped, stopped-by, went}
-use Rattle.month.proofs.Fields.{running-is, quantum-is, cells-are, closed-is, open-is, Opened, opened}
+use Rattle.month.proofs.Fields.{running-is, quantum-is, cells-are, count-is, closed-is, open-is, Opened, opened}
 
 -- months with the same fields are the same
 same-month : (m n : Month) → m .running ≡ n .running → m .place ≡ n .place → m .share ≡ n .share → m .limit ≡ n .limit
-    → m .quantum ≡ n .quantum → m .cells ≡ n .cells → m ≡ n
-same-month m n p q r l s t = λ i. record { running = p i; place = q i; share = r i; limit = l i; quantum = s i; cells = t i }
+    → m .count ≡ n .count → m .quantum ≡ n .quantum → m .cells ≡ n .cells → m ≡ n
+same-month m n p q r l c s t =
+    λ i. record { running = p i; place = q i; share = r i; limit = l i; count = c i; quantum = s i; cells = t i }
 
 -- ---- open
 
-lowest-first : (cs ds : List Cause) (j : ℕ) → lowest cs ≡ suc j → lowest (cs ++ ds) ≡ suc j
-unfolding lowest
-lowest-first [] ds j e = absurd (omega arith)
-lowest-first (c ∷ cs) ds j e = go (c .applies) e (lowest-first cs ds j)
-  where
-    go : (b : Bool) → (if b then c .number else lowest cs) ≡ suc j → (lowest cs ≡ suc j → lowest (cs ++ ds) ≡ suc j)
-        → (if b then c .number else lowest (cs ++ ds)) ≡ suc j
-    go true e r = e
-    go false e r = r e
-
 -- the words were read as a row, or refused
-pub open-unread : (m : Month) (words : List ℕ) (day : ℕ) (told : Opening) (k : ℕ) → refused k ≡ readRow paper words → Answered m (Open words day told) m (refused k)
+pub open-unread : (m : Month) (words : List ℕ) (day : ℕ) (told : Opening) (k : ℕ) → refused k ≡ readRow paper (told .spread) words → Answered m (Open words day told) m (refused k)
 unfolding readRow refusalOf causes
 open-unread m words day told k e =
-    let (j, n, f) = refused-by (lowest (rowCauses paper words)) k (rowOf words) e in
+    let (j, n, f) = refused-by (lowest (rowCauses paper (told .spread) words)) k (rowOf words) e in
     subst (λ (x : ℕ). Answered m (Open words day told) m (refused x)) (sym f)
-    (stopped m (Open words day told) j (λ b g is. lowest-first (rowCauses paper words) _ j n))
+    (stopped m (Open words day told) j (λ b g is. first-stops (rowCauses paper (told .spread) words) _ j n))
 
-pub record ReadAs (words : List ℕ) (row : Row) : Type 0 where
+pub record ReadAs (spread : Spread) (words : List ℕ) (row : Row) : Type 0 where
   pub seven : length words ≡ 7
   pub is : rowOf words ≡ row
-  pub good : goodRow paper row ≡ true
+  pub good : goodRowFor paper spread row ≡ true
 
-pub read-as : (words : List ℕ) (row : Row) → accepted row ≡ readRow paper words → ReadAs words row
+pub read-as : (spread : Spread) (words : List ℕ) (row : Row) → accepted row ≡ readRow paper spread words → ReadAs spread words row
 unfolding readRow
-read-as words row e =
-    let (n, f) = accepted-by (lowest (rowCauses paper words)) row (rowOf words) e in
+read-as spread words row e =
+    let (n, f) = accepted-by (lowest (rowCauses paper spread words)) row (rowOf words) e in
     let one = passed 0 _ _ n in
     let two = passed 1 _ _ (one .1) in
     record {
       seven = eqb-true _ _ (not-false _ (one .0));
       is = sym f;
-      good = ap (goodRow paper) f ∙ not-false _ (two .0);
+      good = ap (goodRowFor paper spread) f ∙ not-false _ (two .0);
     }
 
-module _ (m : Month) (words : List ℕ) (row : Row) (read : ReadAs words row) (day : ℕ) (told : Opening) where
-  row-passes : (rest : List Cause) → lowest (rowCauses paper words ++ rest) ≡ lowest rest
+module _ (m : Month) (words : List ℕ) (row : Row) (day : ℕ) (told : Opening) (read : ReadAs (told .spread) words row) where
+  row-passes : (rest : List Cause) → lowest (rowCauses paper (told .spread) words ++ rest) ≡ lowest rest
   row-passes rest =
-      skip _ _ (ap not (eq-eqb _ _ (read .seven))) (skip _ _ (ap not (ap (goodRow paper) (read .is) ∙ read .good)) refl)
+      skip _ _ (ap not (eq-eqb _ _ (read .seven))) (skip _ _ (ap not (ap (goodRowFor paper (told .spread)) (read .is) ∙ read .good)) refl)
 
   abbrev spot : ℕ
   spot = placeOf day (row .expiry) (row .quantum)
@@ -104,11 +97,11 @@ module _ (m : Month) (words : List ℕ) (row : Row) (read : ReadAs words row) (d
   named : (b : Book) → m ≡ monthOf b → cellAt (b .cells) (placeOf day (rowOf words .expiry) (rowOf words .quantum)) ≡ cellAt (m .cells) spot
   named b is = ap (cellAt (b .cells)) spot-is ∙ ap (λ (cs : List Cell). cellAt cs spot) (sym (cells-are m b is))
 
-  pub open-range : (within 1 31 day && goodPrice (told .sp .0)) ≡ false → Answered m (Open words day told) m (refused 3)
+  pub open-range : (within 1 31 day && goodSettlement (told .spread)) ≡ false → Answered m (Open words day told) m (refused 3)
   unfolding refusalOf causes
   open-range h = stopped m (Open words day told) 2 (λ b g is. row-passes _ ∙ stop _ _ (ap not h))
 
-  module _ (h : (within 1 31 day && goodPrice (told .sp .0)) ≡ true) where
+  module _ (h : (within 1 31 day && goodSettlement (told .spread)) ≡ true) where
     pub open-filled : cellAt (m .cells) spot .filled ≡ true → Answered m (Open words day told) m (refused 4)
     unfolding refusalOf causes
     open-filled k =
@@ -132,25 +125,35 @@ module _ (m : Month) (words : List ℕ) (row : Row) (read : ReadAs words row) (d
             row-passes _
             ∙ skip _ _ (ap not h) (skip _ _ (ap (λ (c : Cell). c .filled) (named b is) ∙ k) (skip _ _ (closed-is m b is l) (stop _ _ (ap not n)))))
 
-        pub open-done : goodLimit (told .limit) ≡ true → (q : Quantum) (place : ℕ) → q ≡ standing row (told .sp .0) [] → place ≡ spot
+        pub open-strike : goodLimit (told .limit) ≡ true → goodSpread (told .spread) ≡ false → Answered m (Open words day told) m (refused 18)
+        unfolding refusalOf causes
+        open-strike n s =
+            stopped m (Open words day told) 17
+            (λ b g is.
+            row-passes _
+            ∙ skip _ _ (ap not h)
+            (skip _ _ (ap (λ (c : Cell). c .filled) (named b is) ∙ k) (skip _ _ (closed-is m b is l) (skip _ _ (ap not n) (stop _ _ (ap not s))))))
+
+        pub open-done : goodLimit (told .limit) ≡ true → goodSpread (told .spread) ≡ true → (q : Quantum) (place : ℕ) → q ≡ standing row (told .spread) [] → place ≡ spot
             → Answered m (Open words day told)
-            (record { running = true; place = place; share = row .share; limit = told .limit; quantum = q; cells = m .cells }) (accepted done)
+            (counted (record { running = true; place = place; share = row .share; limit = told .limit; count = m .count; quantum = q; cells = m .cells }))
+            (accepted done)
         unfolding refusalOf causes changed monthOf
-        open-done n q place e f =
+        open-done n s q place e f =
             went m _ (Open words day told) done
             (λ b g is. (
               row-passes _
                   ∙ skip _ _ (ap not h)
-                  (skip _ _ (ap (λ (c : Cell). c .filled) (named b is) ∙ k) (skip _ _ (closed-is m b is l) (skip _ _ (ap not n) clear))),
-              same-month _ _ refl (f ∙ sym spot-is) (ap (λ (r : Row). r .share) (sym (read .is))) refl
-                  (e ∙ ap (λ (r : Row). standing r (told .sp .0) []) (sym (read .is))) (cells-are m b is),
+                  (skip _ _ (ap (λ (c : Cell). c .filled) (named b is) ∙ k) (skip _ _ (closed-is m b is l) (skip _ _ (ap not n) (skip _ _ (ap not s) clear)))),
+              same-month _ _ refl (f ∙ sym spot-is) (ap (λ (r : Row). r .share) (sym (read .is))) refl (ap following (count-is m b is))
+                  (e ∙ ap (λ (r : Row). standing r (told .spread) []) (sym (read .is))) (cells-are m b is),
               refl,
             ))
 
 -- ---- events
 
 -- with none open
-idle-send : (r : Running) (e : Event) → isOpen r ≡ false → lowest (sendCauses r e) ≡ 7
+pub idle-send : (r : Running) (e : Event) → isOpen r ≡ false → lowest (sendCauses r e) ≡ 7
 idle-send Idle e h = stop _ _ refl
 idle-send (Quoting place row told events) e h = let z : _≡_ {A = ℕ} 0 1 = cc in absurd (omega arith)
 
@@ -159,7 +162,7 @@ unfolding refusalOf causes
 send-idle m e h = stopped m (Send e) 6 (λ b g is. idle-send (b .running) e (closed-is m b is h))
 
 -- the book's refusal is the open quantum's
-send-refusal : (m : Month) (b : Book) (e : Event) (o : Opened m b) → refusalOf paper b (Send e) ≡ eventRefusal (o .row) (o .events) e
+pub send-refusal : (m : Month) (b : Book) (e : Event) (o : Opened m b) → refusalOf paper b (Send e) ≡ eventRefusal (o .row) (o .events) e
 unfolding refusalOf causes eventRefusal
 send-refusal m b e o = ap (λ (r : Running). lowest (sendCauses r e)) (o .running)
 
@@ -170,24 +173,25 @@ module _ (m : Month) (e : Event) (sent : Sent) (h : m .running ≡ true) (a : S.
       (λ b g is.
       let o = opened m b g is h in
       ap shownAnswer (sym k)
-      ∙ a .answer (o .row) (o .told .sp .0) (o .events) (o .bounds .events-good) (o .quantum)
+      ∙ a .answer (o .row) (o .told .spread) (o .events) (o .bounds .events-good) (o .quantum)
       ∙ ap (λ (n : ℕ). outcomeBy n done) (sym (send-refusal m b e o)))
 
   pub send-done : sent .answer ≡ Accepted
-      → Answered m (Send e) (record { running = m .running; place = m .place; share = m .share; limit = m .limit; quantum = sent .quantum; cells = m .cells }) (accepted done)
+      → Answered m (Send e) (counted (record { running = m .running; place = m .place; share = m .share; limit = m .limit; count = m .count; quantum = sent .quantum; cells = m .cells }))
+      (accepted done)
   unfolding changed monthOf
   send-done k =
       went m _ (Send e) done
       (λ b g is.
       let o = opened m b g is h in
       let zero : eventRefusal (o .row) (o .events) e ≡ 0 =
-      accepted-by _ done done (ap shownAnswer (sym k) ∙ a .answer (o .row) (o .told .sp .0) (o .events) (o .bounds .events-good) (o .quantum)) .0 in
-      let next : sent .quantum ≡ standing (o .row) (o .told .sp .0) (o .events ++ (e ∷ [])) =
-      a .quantum (o .row) (o .told .sp .0) (o .events) (o .bounds .events-good) (o .quantum)
-      ∙ ap (λ (n : ℕ). standing (o .row) (o .told .sp .0) (taken n (o .events) e)) zero in (
+      accepted-by _ done done (ap shownAnswer (sym k) ∙ a .answer (o .row) (o .told .spread) (o .events) (o .bounds .events-good) (o .quantum)) .0 in
+      let next : sent .quantum ≡ standing (o .row) (o .told .spread) (o .events ++ (e ∷ [])) =
+      a .quantum (o .row) (o .told .spread) (o .events) (o .bounds .events-good) (o .quantum)
+      ∙ ap (λ (n : ℕ). standing (o .row) (o .told .spread) (taken n (o .events) e)) zero in (
         send-refusal m b e o ∙ zero,
-        same-month _ _ h (o .at) (o .share) (o .limit) next (cells-are m b is)
-            ∙ ap (λ (r : Running). monthOf (record { running = noted r e; cells = b .cells })) (sym (o .running)),
+        same-month _ _ h (o .at) (o .share) (o .limit) (ap following (count-is m b is)) next (cells-are m b is)
+            ∙ ap (λ (r : Running). monthOf (record { running = noted r e; cells = b .cells; count = following (b .count) })) (sym (o .running)),
         refl,
       ))
 
@@ -216,25 +220,25 @@ module _ (m : Month) (active passive : Kopecks) where
       }
 
   pub close-done : goodCharges paper active passive ≡ true → m .running ≡ true → (totals : Totals) (length : Millis)
-      → ((row : Row) (sp : ℤ) (events : List Event) → EventBounds row events → m .quantum ≡ standing row sp events
+      → ((row : Row) (sp : Spread) (events : List Event) → EventBounds row events → m .quantum ≡ standing row sp events
       → (totals .kept .0 ≡ keptBelow row sp events (row .length .0)) × (totals .lapses ≡ lapsesBelow row sp events (row .length .0)))
       → length ≡ m .quantum .duty .length
       → Answered m (Close active passive)
-      (withoutQuantum (withCell m (m .place) (filledBy totals length)))
+      (counted (withoutQuantum (withCell m (m .place) (filledBy totals length))))
       (accepted done)
   unfolding refusalOf causes changed monthOf
   close-done h k totals length l w =
       went m _ (Close active passive) done
       (λ b g is.
       let o = opened m b g is k in
-      let ends = l (o .row) (o .told .sp .0) (o .events) (o .bounds .events-good) (o .quantum) in
+      let ends = l (o .row) (o .told .spread) (o .events) (o .bounds .events-good) (o .quantum) in
       let cell : _≡_ {A = Cell} (filledBy totals length)
       (closedCell (o .row) (o .told) (o .events) active passive) =
       λ i.
       record {
         filled = true;
         kept = millis (ends .0 i);
-        length = (w ∙ whole-is (o .row) (o .told .sp .0) (o .events) (m .quantum) (o .quantum)) i;
+        length = (w ∙ whole-is (o .row) (o .told .spread) (o .events) (m .quantum) (o .quantum)) i;
         share = o .share i;
         limit = o .limit i;
         lapses = ends .1 i;
@@ -242,7 +246,7 @@ module _ (m : Month) (active passive : Kopecks) where
         passive = passive;
       } in (
         skip _ _ (ap not h) (skip _ _ (ap not (open-is m b is k)) clear),
-        same-month _ _ refl refl refl refl refl
+        same-month _ _ refl refl refl refl (ap following (count-is m b is)) refl
             ((λ i. set (cells-are m b is i) (o .at i) (cell i))
             ∙ ap (λ (r : Running). closed r active passive (b .cells)) (sym (o .running))),
         refl,
@@ -252,11 +256,11 @@ pub drop-idle : (m : Month) → m .running ≡ false → Answered m Drop m (refu
 unfolding refusalOf causes
 drop-idle m k = stopped m Drop 6 (λ b g is. stop _ _ (ap not (closed-is m b is k)))
 
-pub drop-done : (m : Month) → m .running ≡ true → Answered m Drop (withoutQuantum m) (accepted done)
+pub drop-done : (m : Month) → m .running ≡ true → Answered m Drop (counted (withoutQuantum m)) (accepted done)
 unfolding refusalOf causes changed monthOf
 drop-done m k =
     went m _ Drop done
-    (λ b g is. (skip _ _ (ap not (open-is m b is k)) clear, same-month _ _ refl refl refl refl refl (cells-are m b is), refl))
+    (λ b g is. (skip _ _ (ap not (open-is m b is k)) clear, same-month _ _ refl refl refl refl (ap following (count-is m b is)) refl (cells-are m b is), refl))
 
 -- ---- charge, withdraw and look: a named cell
 
@@ -284,13 +288,13 @@ module _ (m : Month) (day expiry quantum : ℕ) where
     pub charge-done : (goodCell day expiry quantum && goodCharges paper active passive) ≡ true
         → cellAt (m .cells) (placeOf day expiry quantum) .filled ≡ true
         → Answered m (Charge day expiry quantum active passive)
-        (withCell m (placeOf day expiry quantum) (charged active passive (cellAt (m .cells) (placeOf day expiry quantum)))) (accepted done)
+        (counted (withCell m (placeOf day expiry quantum) (charged active passive (cellAt (m .cells) (placeOf day expiry quantum))))) (accepted done)
     unfolding refusalOf causes changed monthOf
     charge-done h k =
         went m _ (Charge day expiry quantum active passive) done
         (λ b g is. (
           skip _ _ (ap not h) (skip _ _ (filled-is true k b is) clear),
-          ap (λ (n : Month). withCell n (placeOf day expiry quantum) (charged active passive (cellAt (n .cells) (placeOf day expiry quantum)))) is,
+          ap (λ (n : Month). counted (withCell n (placeOf day expiry quantum) (charged active passive (cellAt (n .cells) (placeOf day expiry quantum))))) is,
           refl,
         ))
 
@@ -312,13 +316,13 @@ module _ (m : Month) (day expiry quantum : ℕ) where
     look-blank k = stopped m (Look day expiry quantum) 4 (λ b g is. skip _ _ (ap not h) (stop _ _ (filled-is false k b is)))
 
     pub withdraw-done : cellAt (m .cells) (placeOf day expiry quantum) .filled ≡ true
-        → Answered m (Withdraw day expiry quantum) (withCell m (placeOf day expiry quantum) blankCell) (accepted done)
+        → Answered m (Withdraw day expiry quantum) (counted (withCell m (placeOf day expiry quantum) blankCell)) (accepted done)
     unfolding refusalOf causes changed monthOf
     withdraw-done k =
         went m _ (Withdraw day expiry quantum) done
         (λ b g is. (
           skip _ _ (ap not h) (skip _ _ (filled-is true k b is) clear),
-          ap (λ (n : Month). withCell n (placeOf day expiry quantum) blankCell) is,
+          ap (λ (n : Month). counted (withCell n (placeOf day expiry quantum) blankCell)) is,
           refl,
         ))
 
@@ -340,9 +344,9 @@ pub record ReadOff (q : Quantum) (time kept : Millis) (lapses orders : ℕ) (bid
   pub time-is : time ≡ q .clock .time
   pub kept-is : kept ≡ q .clock .kept
   pub lapses-are : lapses ≡ q .clock .lapses
-  pub orders-are : (row : Row) (sp : ℤ) (events : List Event) → EventBounds row events → q ≡ standing row sp events → orders ≡ length (live events)
-  pub bid-is : (row : Row) (sp : ℤ) (events : List Event) → EventBounds row events → q ≡ standing row sp events → bid ≡ bestBid row (live events)
-  pub ask-is : (row : Row) (sp : ℤ) (events : List Event) → EventBounds row events → q ≡ standing row sp events → ask ≡ bestAsk row (live events)
+  pub orders-are : (row : Row) (sp : Spread) (events : List Event) → EventBounds row events → q ≡ standing row sp events → orders ≡ length (live events)
+  pub bid-is : (row : Row) (sp : Spread) (events : List Event) → EventBounds row events → q ≡ standing row sp events → bid ≡ bestBid row (live events)
+  pub ask-is : (row : Row) (sp : Spread) (events : List Event) → EventBounds row events → q ≡ standing row sp events → ask ≡ bestAsk row (live events)
 
 -- it is what the book's report says, also where none is open
 record Shows (r : Running) (time kept : Millis) (lapses orders : ℕ) (bid ask : Quote) : Type 0 where
@@ -361,18 +365,18 @@ shows Idle q time kept lapses orders bid ask g is h =
       time-shown = h .time-is ∙ ap (λ (x : Quantum). x .clock .time) is;
       kept-shown = h .kept-is ∙ ap (λ (x : Quantum). x .clock .kept) is;
       lapses-shown = h .lapses-are ∙ ap (λ (x : Quantum). x .clock .lapses) is;
-      orders-shown = h .orders-are idleRow (pos 0) [] (event-bounds-none idleRow) is;
-      bid-shown = h .bid-is idleRow (pos 0) [] (event-bounds-none idleRow) is;
-      ask-shown = h .ask-is idleRow (pos 0) [] (event-bounds-none idleRow) is;
+      orders-shown = h .orders-are idleRow (Settled (steps (pos 0))) [] (event-bounds-none idleRow) is;
+      bid-shown = h .bid-is idleRow (Settled (steps (pos 0))) [] (event-bounds-none idleRow) is;
+      ask-shown = h .ask-is idleRow (Settled (steps (pos 0))) [] (event-bounds-none idleRow) is;
     }
 shows (Quoting place row told events) q time kept lapses orders bid ask g is h =
     record {
       time-shown = h .time-is ∙ ap (λ (x : Quantum). x .clock .time) is;
       kept-shown = h .kept-is ∙ ap (λ (x : Quantum). x .clock .kept) is;
       lapses-shown = h .lapses-are ∙ ap (λ (x : Quantum). x .clock .lapses) is;
-      orders-shown = h .orders-are row (told .sp .0) events (g .events-good) is;
-      bid-shown = h .bid-is row (told .sp .0) events (g .events-good) is;
-      ask-shown = h .ask-is row (told .sp .0) events (g .events-good) is;
+      orders-shown = h .orders-are row (told .spread) events (g .events-good) is;
+      bid-shown = h .bid-is row (told .spread) events (g .events-good) is;
+      ask-shown = h .ask-is row (told .spread) events (g .events-good) is;
     }
 
 pub report-done : (m : Month) (time kept : Millis) (lapses orders : ℕ) (bid ask : Quote) (failures : List ℕ) (charge : Kopecks)

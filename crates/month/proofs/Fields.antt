@@ -9,19 +9,22 @@ use lib.Dec.{leb}
 use lib.IntN.{pos}
 use lib.ListN.{length}
 use Rattle.rules.specs.declared.Row.{Row}
+use Rattle.rules.specs.declared.Spread.{Spread}
+use Rattle.rules.specs.declared.Spread.the-variants.{Settled}
 use Rattle.rules.specs.declared.Opening.{Opening}
 use Rattle.rules.specs.declared.Cell.{Cell}
 use Rattle.rules.specs.declared.Event.{Event}
 use Rattle.rules.specs.Lists.{within}
 use Rattle.rules.specs.Terms.{paper}
-use Rattle.rules.specs.Rows.{goodRow}
+use Rattle.rules.specs.Units.{steps}
+use Rattle.rules.specs.Rows.{goodRowFor}
 use Rattle.rules.specs.Cells.{goodCell, cellAt, blankCell, blankCells}
 use Rattle.rules.specs.Book.{Running, Idle, Quoting, Book, isOpen, freshBook, run, after}
 use Rattle.rules.specs.Bounds.{OpenBounds, RunningBounds, CellBounds, BookBounds}
 use Rattle.rules.proofs.Lists.{both, and}
 use Rattle.rules.proofs.Members.{getD-in}
 use Rattle.rules.proofs.Refusals.{within-parts}
-use Rattle.rules.proofs.Bounds.{bounds, event-bounds-none, row-bounds}
+use Rattle.rules.proofs.Bounds.{bounds, event-bounds-none, read-bounds}
 use Rattle.quantum.specs.declared.Quantum.{Quantum}
 use Rattle.quantum.specs.Standing as S
 use Rattle.quantum.specs.Standing.{standing}
@@ -49,6 +52,10 @@ module _ (m : Month) (b : Book) (is : m ≡ monthOf b) where
   unfolding monthOf
   limit-is = ap (λ (x : Month). x .limit) is
 
+  pub count-is : m .count ≡ b .count
+  unfolding monthOf
+  count-is = ap (λ (x : Month). x .count) is
+
   pub cells-are : m .cells ≡ b .cells
   unfolding monthOf
   cells-are = ap (λ (x : Month). x .cells) is
@@ -67,7 +74,7 @@ pub record Opened (m : Month) (b : Book) : Type 0 where
   pub events : List Event
   pub running : b .running ≡ Quoting place row told events
   pub bounds : OpenBounds paper place row told events
-  pub quantum : m .quantum ≡ standing row (told .sp .0) events
+  pub quantum : m .quantum ≡ standing row (told .spread) events
   pub at : m .place ≡ place
   pub share : m .share ≡ row .share
   pub limit : m .limit ≡ told .limit
@@ -93,13 +100,13 @@ opened m b g is h = go (b .running) refl (g .running)
 
 -- the quantum in the month is one that its calls handed back, also where none is open
 in-running : (q : Quantum) (r : Running) → q ≡ quantumIn r → RunningBounds paper r → S.Reached q
-in-running q Idle e s = record { row = idleRow; sp = pos 0; events = []; some = omega arith; bounds = event-bounds-none idleRow; is = e }
+in-running q Idle e s = record { row = idleRow; sp = Settled (steps (pos 0)); events = []; some = omega arith; bounds = event-bounds-none idleRow; is = e }
 in-running q (Quoting place row told events) e s =
     record {
       row = row;
-      sp = told .sp .0;
+      sp = told .spread;
       events = events;
-      some = row-bounds paper row (s .row-good) .least-least;
+      some = read-bounds paper (told .spread) row (s .row-good) .least-least;
       bounds = s .events-good;
       is = e;
     }
@@ -157,12 +164,12 @@ cell-good m r place h c e f =
 
 -- the fresh month
 pub fresh-is : (q : Quantum) (cells : List Cell) → q ≡ quantumIn Idle → cells ≡ blankCells
-    → _≡_ {A = Month} (record { running = false; place = 0; share = 0; limit = 0; quantum = q; cells = cells }) (monthOf (after paper []))
+    → _≡_ {A = Month} (record { running = false; place = 0; share = 0; limit = 0; count = 0; quantum = q; cells = cells }) (monthOf (after paper []))
 unfolding monthOf after run freshBook
-fresh-is q cells e f = λ i. record { running = false; place = 0; share = 0; limit = 0; quantum = e i; cells = f i }
+fresh-is q cells e f = λ i. record { running = false; place = 0; share = 0; limit = 0; count = 0; quantum = e i; cells = f i }
 
 -- a good row and a day name a cell
-pub row-names : (row : Row) (day : ℕ) → goodRow paper row ≡ true → within 1 31 day ≡ true → goodCell day (row .expiry) (row .quantum) ≡ true
-row-names row day g h =
-    let r = row-bounds paper row g in
+pub row-names : (row : Row) (day : ℕ) (spread : Spread) → goodRowFor paper spread row ≡ true → within 1 31 day ≡ true → goodCell day (row .expiry) (row .quantum) ≡ true
+row-names row day spread g h =
+    let r = read-bounds paper spread row g in
     and (and h (and (le-leb 1 (row .expiry) (r .expiry-least)) (le-leb (row .expiry) 2 (r .expiry-most)))) (le-leb (row .quantum) 2 (r .quantum-most))

@@ -2,3 +2,4 @@ pub mod Answers
 pub mod Fields
 pub mod CellNames
 pub mod Calls
+pub mod Asks

@@ -4,8 +4,9 @@ use mathlib.Core.Path.{_≡_}
 use mathlib.Core.List.{List, [], _∷_, _++_}
 use lib.IntN.{pos}
 use Rattle.rules.specs.declared.Row.{Row}
+use Rattle.rules.specs.declared.Spread.the-variants.{Settled}
 use Rattle.rules.specs.Terms.{paper}
-use Rattle.rules.specs.Units.{millis, contracts}
+use Rattle.rules.specs.Units.{millis, steps, contracts}
 use Rattle.rules.specs.Answers.{Outcome, Reply}
 use Rattle.rules.specs.Book.{Call, Running, Idle, Quoting, Book, isOpen, after, answerOf}
 use Rattle.quantum.specs.declared.Quantum.{Quantum}
@@ -26,8 +27,8 @@ idleRow =
     }
 
 abbrev pub quantumIn : Running → Quantum
-quantumIn Idle = standing idleRow (pos 0) []
-quantumIn (Quoting place row told events) = standing row (told .sp .0) events
+quantumIn Idle = standing idleRow (Settled (steps (pos 0))) []
+quantumIn (Quoting place row told events) = standing row (told .spread) events
 
 abbrev pub placeIn : Running → ℕ
 placeIn Idle = 0
@@ -48,6 +49,7 @@ monthOf b =
       place = placeIn (b .running);
       share = shareIn (b .running);
       limit = limitIn (b .running);
+      count = b .count;
       quantum = quantumIn (b .running);
       cells = b .cells;
     }

@@ -1,4 +1,4 @@
-// The month and its twelve calls. Each takes the month by value and hands back the month after it.
+// The month and its calls. Each takes the month by value and hands back the month after it.
 ghost use mathlib.Core.Path.{_≡_};
 ghost use mathlib.Core.List.{List, []};
 ghost use mathlib.Core.Bool.{true};
@@ -7,16 +7,20 @@ ghost use lib.ListN.{length};
 ghost use Rattle.rules.specs.declared.Event.{Event};
 ghost use Rattle.rules.specs.declared.Event.the-variants.{Add, Amend, Cancel, Deal, Tick};
 ghost use Rattle.rules.specs.Terms.{paper};
-ghost use Rattle.rules.specs.Rows.{goodRow, rowOf};
+ghost use Rattle.rules.specs.declared.Spread.the-variants.{OfStrike};
+ghost use Rattle.rules.specs.Rows.{goodRowFor, rowOf};
 ghost use Rattle.rules.specs.Cells.{goodCell, placeOf, blankCell, cellAt};
-ghost use Rattle.rules.specs.Answers.{shownAnswer, shownLooked, shownReport};
+ghost use Rattle.rules.specs.Answers.{shownAnswer, shownLooked, shownAsked, shownReport};
 ghost use Rattle.rules.specs.Book.{Idle, after, charged};
 ghost use Rattle.rules.specs.Book as B;
+ghost use Rattle.quantum.specs.Standing as Q;
 ghost use Rattle.month.specs.Represents.{monthOf, quantumIn, Reached, Answered};
-ghost use Rattle.month.specs.Parts.{withCell, withoutQuantum, namedIn};
+ghost use Rattle.month.specs.Parts.{withCell, withoutQuantum, counted, Previewed, namedIn};
 use quantum::Quantum;
 use ranges::both;
+use rules::Amendment;
 use rules::Answer;
+use rules::Asked;
 use rules::Cell;
 use rules::Contracts;
 use rules::Event;
@@ -24,18 +28,23 @@ use rules::Kopecks;
 use rules::Looked;
 use rules::Millis;
 use rules::Opening;
+use rules::Preview;
 use rules::Refusal;
 use rules::Report;
 use rules::Row;
 use rules::RowRead;
 use rules::Side;
+use rules::Spread;
 use rules::Steps;
+use rules::Strike;
+use rules::Ticket;
 
 pub struct Month {
     running: bool,
     place: usize,
     share: u32,
     limit: u32,
+    count: u64,
     quantum: Quantum,
     cells: [Cell; 186],
 }
@@ -50,6 +59,12 @@ pub struct AfterCall {
 pub struct LookedAt {
     pub month: Month,
     pub answer: Looked,
+}
+
+// What ask hands back.
+pub struct AskedAbout {
+    pub month: Month,
+    pub answer: Asked,
 }
 
 // What report hands back.
@@ -75,12 +90,15 @@ fn refused(month: Month, refusal: Refusal) -> AfterCall
     }
 }
 
-// .. and every accepted one here.
+// .. and every accepted one here, counted.
 fn accepted(month: Month) -> AfterCall
-    ensures { λ r. ⌜ (r .month ≡ month) × (r .answer ≡ Answer.Accepted) ⌝ }
+    ensures { λ r. ⌜ (r .month ≡ counted month) × (r .answer ≡ Answer.Accepted) ⌝ }
 {
+    let count = ticket::next(month.count);
+    let mut next = month;
+    next.count = count;
     AfterCall {
-        month,
+        month: next,
         answer: Answer::Accepted,
     }
 }
@@ -113,7 +131,7 @@ fn idle() -> Quantum
         b: 0,
         share: 1,
     };
-    Quantum::opened(row, Steps(0))
+    Quantum::opened(row, Spread::Settled(Steps(0)))
 }
 
 // Where a cell stands among the 186.
@@ -140,6 +158,33 @@ fn recharged(cell: Cell, active: Kopecks, passive: Kopecks) -> Cell
     next
 }
 
+// What an accepted ask shows: the quotes of the quantum with the amendment taken, and the ticket.
+fn preview(
+    after: Quantum,
+    t: Millis,
+    id: u32,
+    price: Steps,
+    volume: Contracts,
+    count: u64,
+) -> Preview
+    requires { ⌜ Q.Reached after ⌝ }
+    ensures { λ r. ⌜ Previewed after (record { t = t; id = id; price = price; volume = volume }) count r ⌝ }
+{
+    let bid = after.best_bid();
+    let ask = after.best_ask();
+    let amendment = Amendment {
+        t,
+        id,
+        price,
+        volume,
+    };
+    Preview {
+        bid,
+        ask,
+        ticket: Ticket { amendment, count },
+    }
+}
+
 impl Month {
     // The fresh month: no quantum open, 186 blank cells.
     pub fn fresh() -> Month
@@ -153,6 +198,7 @@ impl Month {
             place: 0,
             share: 0,
             limit: 0,
+            count: 0,
             quantum,
             cells,
         }
@@ -188,6 +234,7 @@ impl Month {
             place: 0,
             share: 0,
             limit: 0,
+            count: self.count,
             quantum,
             cells,
         }
@@ -195,11 +242,11 @@ impl Month {
 
     // A row that was read: the other causes of open, then the quantum opens.
     fn open_row(self, row: Row, day: u32, told: Opening) -> AfterCall
-        requires { ⌜ Reached self × (goodRow paper row ≡ true) ⌝ }
+        requires { ⌜ Reached self × (goodRowFor paper (told .spread) row ≡ true) ⌝ }
         ensures { λ r. ⌜ ((words : List ℕ) → length words ≡ 7 → rowOf words ≡ row → Answered self (B.Open words day told) (r .month) (shownAnswer (r .answer))) ⌝ }
     {
-        let sp = told.sp;
-        if !both(ranges::between(1, 31, day), ranges::price(sp)) {
+        let spread = told.spread;
+        if !both(ranges::between(1, 31, day), ranges::settlement(spread)) {
             return refused(self, Refusal::ArgumentOutOfRange);
         }
         let place = place_of(day, row.expiry, row.quantum);
@@ -213,13 +260,17 @@ impl Month {
         if !ranges::lapse_limit(told.limit) {
             return refused(self, Refusal::LapseLimitOutOfRange);
         }
-        let quantum = Quantum::opened(row, sp);
+        if !strike::in_range(spread) {
+            return refused(self, Refusal::StrikesOutOfRange);
+        }
+        let quantum = Quantum::opened(row, spread);
         let cells = self.cells;
         accepted(Month {
             running: true,
             place,
             share: row.share,
             limit: told.limit,
+            count: self.count,
             quantum,
             cells,
         })
@@ -230,11 +281,21 @@ impl Month {
         requires { ⌜ Reached self ⌝ }
         ensures { λ r. ⌜ Answered self (B.Open (now (words .entry)) day told) (r .month) (shownAnswer (r .answer)) ⌝ }
     {
-        let read = row::read(words);
+        let spread = told.spread;
+        let read = row::read(words, spread);
         match read {
             RowRead::Read(row) => self.open_row(row, day, told),
             RowRead::Refused(r) => refused(self, r),
         }
+    }
+
+    // The same for a strike, whose four numbers stand in place of SP.
+    pub fn open_strike(self, words: &[u32], day: u32, strike: Strike, limit: u32) -> AfterCall
+        requires { ⌜ Reached self ⌝ }
+        ensures { λ r. ⌜ Answered self (B.Open (now (words .entry)) day (record { spread = OfStrike strike; limit = limit })) (r .month) (shownAnswer (r .answer)) ⌝ }
+    {
+        let spread = Spread::OfStrike(strike);
+        self.open(words, day, Opening { spread, limit })
     }
 
     // An event of the open quantum.
@@ -283,6 +344,70 @@ impl Month {
             price,
             volume,
         })
+    }
+
+    // What that amend would do: its refusal, or both best quotes after it and a ticket. The month is as it was.
+    pub fn ask(self, t: Millis, id: u32, price: Steps, volume: Contracts) -> AskedAbout
+        requires { ⌜ Reached self ⌝ }
+        ensures { λ r. ⌜ (r .month ≡ self) × Answered self (B.Ask (record { t = t; id = id; price = price; volume = volume })) (r .month) (shownAsked (r .answer)) ⌝ }
+    {
+        if !self.running {
+            return AskedAbout {
+                month: self,
+                answer: Asked::Refused(Refusal::NoQuantumOpen),
+            };
+        }
+        let before = self.quantum;
+        let sent = before.send(Event::Amend {
+            t,
+            id,
+            price,
+            volume,
+        });
+        let answer = sent.answer;
+        let after = sent.quantum;
+        match answer {
+            Answer::Accepted => AskedAbout {
+                month: self,
+                answer: Asked::Shown(preview(after, t, id, price, volume, self.count)),
+            },
+            Answer::Refused(r) => AskedAbout {
+                month: self,
+                answer: Asked::Refused(r),
+            },
+        }
+    }
+
+    // Exactly that amend, if its ticket is the present one: amend's own causes first.
+    pub fn commit(
+        self,
+        t: Millis,
+        id: u32,
+        price: Steps,
+        volume: Contracts,
+        ticket: Ticket,
+    ) -> AfterCall
+        requires { ⌜ Reached self ⌝ }
+        ensures { λ r. ⌜ Answered self (B.Commit (record { t = t; id = id; price = price; volume = volume }) ticket) (r .month) (shownAnswer (r .answer)) ⌝ }
+    {
+        let amendment = Amendment {
+            t,
+            id,
+            price,
+            volume,
+        };
+        let present = ticket::is_present(ticket, amendment, self.count);
+        let amended = self.amend(t, id, price, volume);
+        let answer = amended.answer;
+        match answer {
+            Answer::Accepted => {
+                if present {
+                    return amended;
+                }
+                refused(self, Refusal::WrongTicket)
+            }
+            Answer::Refused(r) => refused(self, r),
+        }
     }
 
     pub fn cancel(self, t: Millis, id: u32) -> AfterCall

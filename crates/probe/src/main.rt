@@ -3,6 +3,7 @@ ghost use mathlib.Core.Path.{_≡_};
 ghost use Prim.Native.Nat.{_+_, _*_, _≤_};
 ghost use lib.ListN.{length};
 
+mod boards;
 mod days;
 mod maker_calls;
 mod safe;
@@ -259,6 +260,9 @@ fn run_case(input: &[u8]) -> bool {
     if kind == 3 {
         record_case(&input[4..]);
         return true;
+    }
+    if kind == 4 {
+        return boards::board_case(input);
     }
     if kind == 8 {
         return safe::safe_case(input);

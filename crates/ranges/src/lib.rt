@@ -33,7 +33,7 @@ pub fn between(low: u32, high: u32, n: u32) -> bool
     both(at_most(low, n), at_most(n, high))
 }
 
-fn price_at_most(p: Steps, q: Steps) -> bool
+pub fn price_at_most(p: Steps, q: Steps) -> bool
     ensures { λ r. ⌜ r ≡ leZ (p .0) (q .0) ⌝ }
 {
     p.0 <= q.0

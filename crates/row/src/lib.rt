@@ -18,7 +18,8 @@ use rules::Row;
 use rules::RowRead;
 use rules::Spread;
 
-fn is_length(l: u32) -> bool
+// Whether L is in a row's range.
+pub fn is_length(l: u32) -> bool
     ensures { λ r. ⌜ r ≡ goodLength l ⌝ }
 {
     both(between(1000, 86400000, l), l % 1000 == 0)

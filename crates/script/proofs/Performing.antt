@@ -16,6 +16,7 @@ use Rattle.rules.specs.Book.{Call}
 use Rattle.month.specs.declared.Month.{Month}
 use Rattle.month.specs.Represents.{Answered}
 use Rattle.script.specs.declared.Shown.{Shown}
+use Rattle.script.specs.declared.Done.{Done}
 use Rattle.script.specs.declared.Outcome.the-variants as O
 use Rattle.script.specs.Words.{blockSize, callOf}
 use Rattle.script.specs.Blocks.{showing, shownOf, Performed, Stepped}
@@ -37,22 +38,20 @@ module _ (m : Month) (ws : List ℕ) (at size : ℕ) (part : List ℕ) (p : part
   size-is : size ≡ blockSize (drop at ws)
   size-is = e ∙ ap blockSize p
 
-  pub stepped-none : (shown : Shown) → size ≡ 0 → shown ≡ showing O.Accepted
-      → Stepped m ws at (record { month = m; next = at; shown = shown })
-  stepped-none shown z s =
+  pub stepped-none : (r : Done) → size ≡ 0 → (r .month ≡ m) × (r .next ≡ at) × (r .shown ≡ showing O.Accepted) → Stepped m ws at r
+  stepped-none r z s =
       record {
-        next = omega (arith, size-is);
-        none = λ _. (refl, s);
+        next = omega (arith, size-is, s .1);
+        none = λ _. (s .0, s .2);
         some = λ h. absurd (h (sym size-is ∙ z));
       }
 
-  pub stepped-some : (next : Month) (shown : Shown) → (size ≡ 0 → ⊥) → Performed m (callOf part) next shown
-      → Stepped m ws at (record { month = next; next = at + size; shown = shown })
-  stepped-some next shown z d =
+  pub stepped-some : (r : Done) → (size ≡ 0 → ⊥) → r .next ≡ at + size → Performed m (callOf part) (r .month) (r .shown) → Stepped m ws at r
+  stepped-some r z n d =
       record {
-        next = ap (λ (n : ℕ). at + n) size-is;
+        next = n ∙ ap (λ (n : ℕ). at + n) size-is;
         none = λ h. absurd (z (size-is ∙ h));
-        some = λ _. subst (λ (l : List ℕ). Performed m (callOf l) next shown) p d;
+        some = λ _. subst (λ (l : List ℕ). Performed m (callOf l) (r .month) (r .shown)) p d;
       }
 
 -- ---- what the month's answers show

@@ -1,5 +1,5 @@
 -- Laws of reading a list of words, block by block. Assumes nothing.
-use Prim.Native.Nat.{ℕ, zero, suc, _+_, _≤_, _<_}
+use Prim.Native.Nat.{ℕ, zero, suc, _+_, _-_, _≤_, _<_}
 use native.Mathlib.Omega.{arith}
 use mathlib.Core.Path.{_≡_, refl, sym, ap, _∙_}
 use mathlib.Core.List.{List, [], _∷_}
@@ -29,6 +29,12 @@ size-by n l false e = omega arith
 pub size-fits : (ws : List ℕ) → blockSize ws ≤ length ws
 unfolding blockSize
 size-fits ws = size-by (dueAt ws) (length ws) (leb (dueAt ws) (length ws)) refl
+
+-- past the end of the words there is no block
+pub none-past : (ws : List ℕ) (at : ℕ) → length ws < at → 0 ≡ blockSize (drop at ws)
+none-past ws at h =
+    let s : blockSize (drop at ws) ≤ length ws - at = rw (length-drop at ws) at (size-fits (drop at ws)) in
+    omega arith
 
 -- ---- fuel
 

@@ -3,7 +3,7 @@ use Prim.Native.Nat.{ℕ, _+_, _-_, _*_, _≤_}
 use native.Mathlib.Omega.{arith}
 use mathlib.Core.Path.{_≡_, refl, sym, ap, _∙_}
 use mathlib.Core.List.{List}
-use mathlib.Core.Bool.{Bool, true, false}
+use mathlib.Core.Bool.{Bool, true, false, true≢false, false≢true, _&&_}
 use borrow.Author.Tests.{ne-eqb, leb-true, leb-false}
 use lib.Dec.{leb}
 use lib.ListN.{length, getD, take, drop}
@@ -16,7 +16,7 @@ use Rattle.rules.specs.declared.Event.the-variants.{Add, Amend, Cancel, Deal, T
 use Rattle.rules.specs.Lists.{if_then_else_}
 use Rattle.rules.specs.Units.{millis, contracts, kopecks}
 use Rattle.rules.specs.Book.{Open, Send, Close, Drop, Charge, Withdraw, Look, Report}
-use Rattle.script.specs.Words.{due, dueAt, blockSize, stepsAt, openingAt, chargeAt, sideOf, callOf}
+use Rattle.script.specs.Words.{due, dueAt, blockSize, stepsAt, openingAt, chargeAt, sideOf, isEvent, callOf}
 use Rattle.script.proofs.Sizes.{other-kind, other-due}
 
 -- ---- a block of some size
@@ -55,6 +55,23 @@ known-kind ws s =
     let n = getD ws 1 0 in
     let side = getD ws 3 0 in
     (from-one k n side (leb 1 k) refl d, to-twelve k n side (leb k 12) refl d)
+
+-- a kind of an event, or not
+event-by : (k : ℕ) (a b : Bool) → leb 2 k ≡ a → leb k 6 ≡ b → a && b ≡ true → (2 ≤ k) × (k ≤ 6)
+event-by k true true e f h = (leb-true 2 k e, leb-true k 6 f)
+event-by k true false e f h = absurd (false≢true h)
+event-by k false b e f h = absurd (false≢true h)
+
+pub event-kind : (k : ℕ) → isEvent k ≡ true → (2 ≤ k) × (k ≤ 6)
+event-kind k h = event-by k (leb 2 k) (leb k 6) refl refl h
+
+other-by : (k : ℕ) (a b : Bool) → leb 2 k ≡ a → leb k 6 ≡ b → a && b ≡ false → 2 ≤ k → 7 ≤ k
+other-by k false b e f h l = let g = leb-false 2 k e in omega arith
+other-by k true false e f h l = let g = leb-false k 6 f in omega arith
+other-by k true true e f h l = absurd (true≢false h)
+
+pub not-event : (k : ℕ) → isEvent k ≡ false → 2 ≤ k → 7 ≤ k
+not-event k h l = other-by k (leb 2 k) (leb k 6) refl refl h l
 
 open-is-due : (k n side : ℕ) → k ≡ 1 → due k n side ≡ 5 + n
 unfolding due

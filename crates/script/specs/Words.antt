@@ -2,7 +2,7 @@
 -- and words that are read from a list of words, what each call is answered, and the words of a list of calls.
 use Prim.Native.Nat.{ℕ, zero, suc, _+_, _*_, _/_, _%_, _<_}
 use mathlib.Core.List.{List, [], _∷_, _++_}
-use mathlib.Core.Bool.{_||_}
+use mathlib.Core.Bool.{Bool, _||_, _&&_}
 use lib.Dec.{leb, eqb}
 use lib.ListN.{length, getD, take, drop}
 use Rattle.rules.specs.declared.Side.{Side}
@@ -73,6 +73,10 @@ chargeAt ws i = kopecks (word ws i + 4294967296 * word ws (i + 1))
 
 abbrev pub sideOf : ℕ → Side
 sideOf s = if eqb s 1 then Buy else Sell
+
+-- the kinds of add, amend, cancel, deal and tick
+abbrev pub isEvent : ℕ → Bool
+isEvent kind = leb 2 kind && leb kind 6
 
 -- The call that the block at the front says, where there is one.
 unfoldable pub callOf : List ℕ → Call

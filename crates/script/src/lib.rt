@@ -1,10 +1,13 @@
 // A list of calls as 32-bit words: how many calls and words it has, and its calls run from a fresh month.
 ghost use mathlib.Core.Path.{_≡_};
+ghost use mathlib.Core.Bool.{false};
 ghost use Prim.Native.Nat.{_+_, _≤_, _<_};
 ghost use lib.ListN.{length, getD, drop};
 ghost use Rattle.rules.specs.Answers.{shownAnswer, shownLooked};
+ghost use Rattle.rules.specs.Book.{Send};
 ghost use Rattle.month.specs.Represents.{Reached, Answered};
-ghost use Rattle.script.specs.Words.{fixedDue, addDue, due, blockSize, stepsAt, openingAt, chargeAt, sideOf, callOf};
+ghost use Rattle.script.specs.declared.Outcome.the-variants as O;
+ghost use Rattle.script.specs.Words.{fixedDue, addDue, due, blockSize, stepsAt, openingAt, chargeAt, sideOf, isEvent, callOf};
 ghost use Rattle.script.specs.Measures.{Measures};
 ghost use Rattle.script.specs.Blocks.{blankReport, showing, shownOf, outcomeNumber, Performed, Stepped};
 ghost use Rattle.script.specs.Runs.{Runs};
@@ -13,6 +16,7 @@ use month::Month;
 use rules::Answer;
 use rules::CellView;
 use rules::Contracts;
+use rules::Event;
 use rules::Kopecks;
 use rules::Looked;
 use rules::Millis;
@@ -288,30 +292,62 @@ fn open_block(month: Month, words: &[u32]) -> AfterCall
     month.open(row, word(words, end), opening_at(words, end + 1))
 }
 
-// Kinds 2 to 6.
-fn event_block(month: Month, words: &[u32]) -> AfterCall
-    requires { ⌜ Reached month × (2 ≤ getD (now words) 0 0) × (getD (now words) 0 0 ≤ 6) ⌝ }
-    ensures { λ r. ⌜ Answered month (callOf (now (words .entry))) (r .month) (shownAnswer (r .answer)) ⌝ }
+fn is_event(kind: u32) -> bool
+    ensures { λ r. ⌜ r ≡ isEvent kind ⌝ }
+{
+    (2 <= kind) & (kind <= 6)
+}
+
+// The event of kinds 2 to 6.
+fn event_of(words: &[u32]) -> Event
+    requires { ⌜ (2 ≤ getD (now words) 0 0) × (getD (now words) 0 0 ≤ 6) ⌝ }
+    ensures { λ r. ⌜ Send r ≡ callOf (now (words .entry)) ⌝ }
 {
     let kind = word(words, 0);
     let t = Millis(word(words, 1));
     let id = word(words, 2);
     if kind == 2 {
         let side = side_of(word(words, 3));
+        let price = steps_at(words, 4);
         let volume = Contracts(word(words, 5));
-        return month.add(t, id, side, steps_at(words, 4), volume);
+        return Event::Add {
+            t,
+            id,
+            side,
+            price,
+            volume,
+        };
     }
     if kind == 3 {
+        let price = steps_at(words, 3);
         let volume = Contracts(word(words, 4));
-        return month.amend(t, id, steps_at(words, 3), volume);
+        return Event::Amend {
+            t,
+            id,
+            price,
+            volume,
+        };
     }
     if kind == 4 {
-        return month.cancel(t, id);
+        return Event::Cancel { t, id };
     }
     if kind == 5 {
-        return month.deal(t, id, Contracts(word(words, 3)));
+        let volume = Contracts(word(words, 3));
+        return Event::Deal { t, id, volume };
     }
-    month.tick(t)
+    Event::Tick { t }
+}
+
+// Kinds 2 to 6. One call for all five, and no choice between it and the end: each choice that a month passes through is a copy of it.
+fn event_block(month: Month, words: &[u32], next: usize) -> Done
+    requires { ⌜ Reached month × (2 ≤ getD (now words) 0 0) × (getD (now words) 0 0 ≤ 6) ⌝ }
+    ensures { λ r. ⌜ (r .next ≡ next) × Performed month (callOf (now (words .entry))) (r .month) (r .shown) ⌝ }
+{
+    let called = month.send(event_of(words));
+    let month = called.month;
+    let answer = called.answer;
+    let shown = show_answer(answer);
+    Done { month, next, shown }
 }
 
 // Kinds 7 to 10.
@@ -368,9 +404,9 @@ fn report_block(month: Month, words: &[u32]) -> AfterBlock
     AfterBlock { month, shown }
 }
 
-// The call that the block at the front says.
+// The call that the block at the front says, where it is no event.
 fn perform(month: Month, words: &[u32]) -> AfterBlock
-    requires { ⌜ Reached month × (blockSize (now words) ≡ 0 → ⊥) ⌝ }
+    requires { ⌜ Reached month × (blockSize (now words) ≡ 0 → ⊥) × (isEvent (getD (now words) 0 0) ≡ false) ⌝ }
     ensures { λ r. ⌜ Performed month (callOf (now (words .entry))) (r .month) (r .shown) ⌝ }
 {
     let kind = word(words, 0);
@@ -382,9 +418,6 @@ fn perform(month: Month, words: &[u32]) -> AfterBlock
     }
     if kind == 1 {
         return tell(open_block(month, words));
-    }
-    if kind <= 6 {
-        return tell(event_block(month, words));
     }
     tell(office_block(month, words))
 }
@@ -398,20 +431,32 @@ fn tell(called: AfterCall) -> AfterBlock
     AfterBlock { month, shown }
 }
 
+fn no_call(month: Month, at: usize) -> Done
+    ensures { λ r. ⌜ (r .month ≡ month) × (r .next ≡ at) × (r .shown ≡ showing O.Accepted) ⌝ }
+{
+    let shown = showing_only(Outcome::Accepted);
+    Done {
+        month,
+        next: at,
+        shown,
+    }
+}
+
 // One block of a list: the call that it says, run on the month. Where there is no call, the month and the place are as they were.
 pub fn block(month: Month, words: &[u32], at: usize) -> Done
-    requires { ⌜ Reached month × (at ≤ length (now words)) ⌝ }
+    requires { ⌜ Reached month ⌝ }
     ensures { λ r. ⌜ Stepped month (now (words .entry)) at r ⌝ }
 {
+    if words.len() < at {
+        return no_call(month, at);
+    }
     let rest = &words[at..];
     let size = front_size(rest);
     if size == 0 {
-        let shown = showing_only(Outcome::Accepted);
-        return Done {
-            month,
-            next: at,
-            shown,
-        };
+        return no_call(month, at);
+    }
+    if is_event(word(rest, 0)) {
+        return event_block(month, rest, at + size);
     }
     let told = perform(month, rest);
     let month = told.month;

@@ -2,3 +2,5 @@
 pub mod Greatest
 pub mod Squares
 pub mod Rounding
+-- the limit on examples
+pub mod Examples

@@ -4,8 +4,8 @@ ghost use mathlib.Core.Bool.{true};
 ghost use Prim.Native.Nat.{_+_, _-_, _*_, _^_, max, _≤_, _<_};
 ghost use lib.Dec.{leb};
 ghost use Rattle.rules.specs.Book.{goodSpread};
-ghost use Rattle.rules.specs.Strikes.{goodStrike, squareOf, Rounded};
-ghost use Rattle.strike.specs.Limit.{roundedOf, strikeLimit};
+ghost use Rattle.rules.specs.Strikes.{goodStrike, squareOf};
+ghost use Rattle.strike.specs.Limit.{strikeLimit};
 use rules::Spread;
 use rules::Strike;
 

@@ -1,13 +1,13 @@
 -- The row that stands in is a good one. Assumes nothing.
 use mathlib.Core.Path.{refl}
-use Rattle.rules.specs.Rows.{goodRow}
+use Rattle.rules.specs.Rows.{goodRow, goodRowFor}
 use borrow.Author.Needs.{needs}
 use Rattle.month.proofs.idle.Statement.{statement}
 use Rattle.month.proofs.idle.Tie as tie
 
 opened-requires : tie.Need-opened-requires
-unfolding goodRow
-opened-requires c κs = refl
+unfolding goodRow goodRowFor
+opened-requires c κs = (refl, refl)
 
 returns : tie.Need-returns
 returns c = search needs

@@ -21,9 +21,7 @@ loop-holds : tie.Need-loop-holds Inv-loop μ-loop
 loop-holds c = underway (c .before .before .args .words .now) (c .fresh .result) (c .fresh .ensures)
 
 block-requires : tie.Need-block-requires Inv-loop μ-loop
-block-requires c κs =
-    let l = c .loop in
-    (l .inv .reached, inside (c .before .before .before .args .words .now) (l .month) (l .at) (l .inv))
+block-requires c κs = c .loop .inv .reached
 
 returns : tie.Need-returns Inv-loop μ-loop
 returns c =

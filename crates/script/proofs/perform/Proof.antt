@@ -1,8 +1,9 @@
 -- `script::perform` meets its contract: a block of some size is of kind 1 to 12, and each kind has its function. Assumes nothing.
+use Prim.Native.Nat.{_≤_}
 use native.Mathlib.Omega.{arith}
 use mathlib.Core.Path.{_≡_}
 use lib.ListN.{getD}
-use Rattle.script.proofs.Said.{known-kind, whole-open}
+use Rattle.script.proofs.Said.{known-kind, not-event, whole-open}
 use Rattle.script.proofs.Performing.{copied}
 use borrow.Author.Needs.{needs}
 use Rattle.script.proofs.perform.Statement.{statement}
@@ -35,29 +36,19 @@ tell-requires c κs = search needs
 returns-3 : tie.Need-returns-3
 returns-3 c = copied (c .before .open-block .ensures) (c .tell .ensures .0) (c .tell .ensures .1)
 
-event-block-requires : tie.Need-event-block-requires
-event-block-requires c κs =
-    let s = c .before .before .before .before .before .before in
+office-block-requires : tie.Need-office-block-requires
+office-block-requires c κs =
+    let s = c .before .before .before .before .before in
     let k = known-kind (s .args .words .now) (s .pre .1) in
+    let two : 2 ≤ getD (s .args .words .now) 0 0 = omega arith in
+    let e = not-event (getD (s .args .words .now) 0 0) (s .pre .2) two in
     (s .pre .0, omega arith, omega arith)
 
 tell-requires-2 : tie.Need-tell-requires-2
 tell-requires-2 c κs = search needs
 
 returns-4 : tie.Need-returns-4
-returns-4 c = copied (c .before .event-block .ensures) (c .tell2 .ensures .0) (c .tell2 .ensures .1)
-
-office-block-requires : tie.Need-office-block-requires
-office-block-requires c κs =
-    let s = c .before .before .before .before .before .before in
-    let k = known-kind (s .args .words .now) (s .pre .1) in
-    (s .pre .0, omega arith, omega arith)
-
-tell-requires-3 : tie.Need-tell-requires-3
-tell-requires-3 c κs = search needs
-
-returns-5 : tie.Need-returns-5
-returns-5 c = copied (c .before .office-block .ensures) (c .tell3 .ensures .0) (c .tell3 .ensures .1)
+returns-4 c = copied (c .before .office-block .ensures) (c .tell2 .ensures .0) (c .tell2 .ensures .1)
 
 pub perform-spec : {M : Type 1} → statement M
 perform-spec =
@@ -71,9 +62,6 @@ perform-spec =
     open-block-requires
     tell-requires
     returns-3
-    event-block-requires
-    tell-requires-2
-    returns-4
     office-block-requires
-    tell-requires-3
-    returns-5)
+    tell-requires-2
+    returns-4)

@@ -39,10 +39,8 @@ loop-holds c =
 block-requires : tie.Need-block-requires Inv-loop μ-loop
 block-requires c κs =
     let s = c .before .before .before .before .before .before .before in
-    let l = c .before .loop in (
-      is-reached (s .args .words .now) (s .args .outcomes .now) (l .outcomes) (l .month) (l .at) (l .k) (l .inv .0),
-      omega (arith, l .inv .0 .passed .fits),
-    )
+    let l = c .before .loop in
+    is-reached (s .args .words .now) (s .args .outcomes .now) (l .outcomes) (l .month) (l .at) (l .k) (l .inv .0)
 
 number-requires : tie.Need-number-requires Inv-loop μ-loop
 number-requires c κs = search needs

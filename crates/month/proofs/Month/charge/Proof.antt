@@ -13,7 +13,7 @@ use Rattle.rules.proofs.Lists.{and}
 use Rattle.rules.proofs.Bounds.{cell-small}
 use Rattle.month.specs.declared.Month.{Month}
 use Rattle.month.specs.Represents.{Answered}
-use Rattle.month.specs.Parts.{withCell}
+use Rattle.month.specs.Parts.{withCell, counted}
 use Rattle.month.proofs.Answers.{handed}
 use Rattle.month.proofs.CellNames.{IsFilled, named-out, named-blank, named-filled}
 use Rattle.month.proofs.Calls.{charge-range, charge-blank, charge-done}
@@ -100,7 +100,7 @@ returns-4 c =
     let m = a .self in
     let f = found (c .before .before .before .before) in
     handed m (call s) (c .accepted .result) _ Accepted (c .accepted .ensures)
-    (subst (λ (n : Month). Answered m (call s) n (accepted done))
+    (subst (λ (n : Month). Answered m (call s) (counted n) (accepted done))
     (sym (c .before .with-cell .ensures ∙ λ i. withCell m (f .at i) ((c .before .before .recharged .ensures ∙ ap (charged (a .active) (a .passive)) (f .is)) i)))
     (charge-done m (a .day) (a .expiry) (a .quantum) (a .active) (a .passive) (and (f .good) (good (c .before .before .before .before .before .before .before))) (f .filled)))
 

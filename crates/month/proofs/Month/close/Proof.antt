@@ -9,7 +9,7 @@ use Rattle.rules.specs.Answers.{accepted, done}
 use Rattle.rules.specs.Book.{Close, goodCharges}
 use Rattle.month.specs.declared.Month.{Month}
 use Rattle.month.specs.Represents.{Answered}
-use Rattle.month.specs.Parts.{withoutQuantum}
+use Rattle.month.specs.Parts.{withoutQuantum, counted}
 use Rattle.month.proofs.Answers.{handed}
 use Rattle.month.proofs.Fields.{quantum-reached, place-inside}
 use Rattle.month.proofs.Calls.{close-range, close-idle, close-done}
@@ -63,7 +63,7 @@ returns-3 c =
     let a = k .before .before .before .before .args in
     let m = a .self in
     handed m (Close (a .active) (a .passive)) (c .accepted .result) _ Accepted (c .accepted .ensures)
-    (subst (λ (n : Month). Answered m (Close (a .active) (a .passive)) n (accepted done))
+    (subst (λ (n : Month). Answered m (Close (a .active) (a .passive)) (counted n) (accepted done))
     (sym (c .before .without-quantum .ensures ∙ ap withoutQuantum (c .before .before .with-cell .ensures)))
     (close-done m (a .active) (a .passive) (good (k .before .before)) (not-false _ (k .if2 .left)) (e .ended .result) (c .before .before .before .whole .result)
     (e .ended .ensures) (c .before .before .before .whole .ensures)))

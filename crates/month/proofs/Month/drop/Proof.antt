@@ -7,6 +7,7 @@ use Rattle.rules.specs.Answers.{accepted, done}
 use Rattle.rules.specs.Book.{Drop}
 use Rattle.month.specs.declared.Month.{Month}
 use Rattle.month.specs.Represents.{Answered}
+use Rattle.month.specs.Parts.{counted}
 use Rattle.month.proofs.Answers.{handed}
 use Rattle.month.proofs.Calls.{drop-idle, drop-done}
 use borrow.Author.Needs.{needs}
@@ -31,7 +32,7 @@ returns-2 : tie.Need-returns-2
 returns-2 c =
     let m = c .before .before .before .before .args .self in
     handed m Drop (c .accepted .result) _ Accepted (c .accepted .ensures)
-    (subst (λ (n : Month). Answered m Drop n (accepted done)) (sym (c .before .without-quantum .ensures)) (drop-done m (not-false _ (c .before .before .if1 .left))))
+    (subst (λ (n : Month). Answered m Drop (counted n) (accepted done)) (sym (c .before .without-quantum .ensures)) (drop-done m (not-false _ (c .before .before .if1 .left))))
 
 pub drop-spec : {M : Type 1} → statement M
 drop-spec =

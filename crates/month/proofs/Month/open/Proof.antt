@@ -9,8 +9,8 @@ use borrow.Author.Needs.{needs}
 use Rattle.month.proofs.Month.open.Statement.{statement}
 use Rattle.month.proofs.Month.open.Tie as tie
 
-was-read : (k : tie.After-read2) → ReadAs (now (k .before .before .before .before .args .words)) (k .read2 .given .0 .0)
-was-read k = read-as _ _ (ap shownRow (sym (k .read2 .given .1)) ∙ k .before .before .read .ensures)
+was-read : (k : tie.After-read2) → ReadAs (k .before .before .before .before .args .told .spread) (now (k .before .before .before .before .args .words)) (k .read2 .given .0 .0)
+was-read k = read-as _ _ _ (ap shownRow (sym (k .read2 .given .1)) ∙ k .before .before .read .ensures)
 
 read-requires : tie.Need-read-requires
 read-requires c κs = search needs

@@ -8,7 +8,7 @@ use Rattle.rules.specs.Book.{Withdraw}
 use Rattle.rules.proofs.Bounds.{cell-small}
 use Rattle.month.specs.declared.Month.{Month}
 use Rattle.month.specs.Represents.{Answered}
-use Rattle.month.specs.Parts.{withCell}
+use Rattle.month.specs.Parts.{withCell, counted}
 use Rattle.month.proofs.Answers.{handed}
 use Rattle.month.proofs.CellNames.{IsFilled, named-out, named-blank, named-filled}
 use Rattle.month.proofs.Calls.{withdraw-range, withdraw-blank, withdraw-done}
@@ -70,7 +70,7 @@ returns-3 c =
     let m = a .self in
     let f = found (c .before .before .before .before) in
     handed m (Withdraw (a .day) (a .expiry) (a .quantum)) (c .accepted .result) _ Accepted (c .accepted .ensures)
-    (subst (λ (n : Month). Answered m (Withdraw (a .day) (a .expiry) (a .quantum)) n (accepted done))
+    (subst (λ (n : Month). Answered m (Withdraw (a .day) (a .expiry) (a .quantum)) (counted n) (accepted done))
     (sym (c .before .with-cell .ensures ∙ λ i. withCell m (f .at i) (c .before .before .blank-cell .ensures i)))
     (withdraw-done m (a .day) (a .expiry) (a .quantum) (f .good) (f .filled)))
 

@@ -1,0 +1,70 @@
+-- What amend answers, then the ticket. Assumes nothing.
+use mathlib.Core.Path.{sym, _∙_}
+use Rattle.rules.specs.declared.Amendment.{Amendment}
+use Rattle.rules.specs.declared.Answer.the-variants.{Refused}
+use Rattle.rules.specs.declared.Refusal.the-variants.{WrongTicket}
+use Rattle.rules.specs.Book.{Commit}
+use Rattle.month.proofs.Answers.{handed}
+use Rattle.month.proofs.Asks.{commit-refused, commit-ticket, commit-done}
+use borrow.Author.Needs.{needs}
+use Rattle.month.proofs.Month.commit.Statement.{statement}
+use Rattle.month.proofs.Month.commit.Tie as tie
+
+-- the amendment that the arguments name
+abbrev named : tie.Start → Amendment
+named s = record { t = s .args .t; id = s .args .id; price = s .args .price; volume = s .args .volume }
+
+is-present-requires : tie.Need-is-present-requires
+is-present-requires c κs = search needs
+
+amend-requires : tie.Need-amend-requires
+amend-requires c κs = search needs
+
+enum-told : tie.Need-enum-told
+enum-told c = search needs
+
+returns : tie.Need-returns
+returns c =
+    let k = c .before .before .before in
+    let s = k .before .before in
+    commit-done (s .args .self) (named s) (s .args .ticket) (k .amend .result .month) (k .amend .result .answer) (k .amend .ensures)
+    (c .before .enum-told .given .1) (sym (k .before .is-present .ensures) ∙ c .if1 .taken)
+
+refused-requires : tie.Need-refused-requires
+refused-requires c κs = search needs
+
+enum-known-answer : tie.Need-enum-known-answer
+enum-known-answer c = search needs
+
+refused-requires-2 : tie.Need-refused-requires-2
+refused-requires-2 c κs = search needs
+
+returns-2 : tie.Need-returns-2
+returns-2 c =
+    let k = c .before .before .before .before in
+    let s = k .before .before in
+    handed (s .args .self) (Commit (named s) (s .args .ticket)) (c .refused .result) (s .args .self) (Refused WrongTicket) (c .refused .ensures)
+    (commit-ticket (s .args .self) (named s) (s .args .ticket) (k .amend .result .month) (k .amend .result .answer) (k .amend .ensures)
+    (c .before .before .enum-told .given .1) (sym (k .before .is-present .ensures) ∙ c .before .if1 .left))
+
+returns-3 : tie.Need-returns-3
+returns-3 c =
+    let k = c .before .before .before .before in
+    let s = k .before .before in
+    handed (s .args .self) (Commit (named s) (s .args .ticket)) (c .refused2 .result) (s .args .self) _ (c .refused2 .ensures)
+    (commit-refused (s .args .self) (named s) (s .args .ticket) (k .amend .result .month) (k .amend .result .answer) (k .amend .ensures) _
+    (c .before .before .answer .given .1))
+
+pub commit-spec : {M : Type 1} → statement M
+commit-spec =
+    tie.close
+    (tie.spec
+    is-present-requires
+    amend-requires
+    enum-told
+    returns
+    refused-requires
+    enum-known-answer
+    refused-requires-2
+    returns-2
+    returns-3)

@@ -1,0 +1,17 @@
+-- Nothing falls below 0, since d is 1 or more. Assumes nothing.
+use native.Mathlib.Omega.{arith}
+use borrow.Author.Needs.{needs}
+use Rattle.strike.proofs.doubled.Statement.{statement}
+use Rattle.strike.proofs.doubled.Tie as tie
+
+mul-result : tie.Need-mul-result
+mul-result c = search needs
+
+sub-result : tie.Need-sub-result
+sub-result c = search needs
+
+returns : tie.Need-returns
+returns c = (omega arith, omega arith)
+
+pub doubled-spec : {M : Type 1} → statement M
+doubled-spec = tie.close (tie.spec mul-result sub-result returns)

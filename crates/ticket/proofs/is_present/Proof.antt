@@ -1,0 +1,22 @@
+-- The amendment and the count. Assumes nothing.
+use Rattle.rules.specs.Book.{goodTicket}
+use borrow.Author.Needs.{needs}
+use Rattle.ticket.proofs.is_present.Statement.{statement}
+use Rattle.ticket.proofs.is_present.Tie as tie
+
+same-amendment-requires : tie.Need-same-amendment-requires
+same-amendment-requires c κs = search needs
+
+same-count-requires : tie.Need-same-count-requires
+same-count-requires c κs = search needs
+
+both-requires : tie.Need-both-requires
+both-requires c κs = search needs
+
+returns : tie.Need-returns
+unfolding goodTicket
+returns c = cc
+
+pub is-present-spec : {M : Type 1} → statement M
+is-present-spec =
+    tie.close (tie.spec same-amendment-requires same-count-requires both-requires returns)

@@ -1,0 +1,58 @@
+// Tickets: the month's count of accepted calls, and whether a ticket is the present one.
+ghost use mathlib.Core.Path.{_≡_};
+ghost use lib.Dec.{eqb};
+ghost use Rattle.rules.specs.Book.{following, samePrice, sameAmendment, goodTicket};
+use ranges::both;
+use rules::Amendment;
+use rules::Steps;
+use rules::Ticket;
+
+// The count with one more accepted call, modulo 2^64.
+pub fn next(count: u64) -> u64
+    ensures { λ r. ⌜ r ≡ following count ⌝ }
+{
+    if count < 18446744073709551615 {
+        return count + 1;
+    }
+    0
+}
+
+fn same(a: u32, b: u32) -> bool
+    ensures { λ r. ⌜ r ≡ eqb a b ⌝ }
+{
+    a == b
+}
+
+fn same_count(a: u64, b: u64) -> bool
+    ensures { λ r. ⌜ r ≡ eqb a b ⌝ }
+{
+    a == b
+}
+
+fn same_price(p: Steps, q: Steps) -> bool
+    ensures { λ r. ⌜ r ≡ samePrice (p .0) (q .0) ⌝ }
+{
+    both(ranges::price_at_most(p, q), ranges::price_at_most(q, p))
+}
+
+fn same_amendment(a: Amendment, b: Amendment) -> bool
+    ensures { λ r. ⌜ r ≡ sameAmendment a b ⌝ }
+{
+    let t = a.t;
+    let u = b.t;
+    let v = a.volume;
+    let w = b.volume;
+    let named = both(same(t.0, u.0), same(a.id, b.id));
+    let placed = both(named, same_price(a.price, b.price));
+    both(placed, same(v.0, w.0))
+}
+
+// Whether the ticket's amendment is the one named and its count the present one.
+pub fn is_present(ticket: Ticket, amendment: Amendment, count: u64) -> bool
+    ensures { λ r. ⌜ r ≡ goodTicket ticket amendment count ⌝ }
+{
+    both(
+        same_amendment(ticket.amendment, amendment),
+        same_count(ticket.count, count),
+    )
+}
