@@ -5,10 +5,10 @@ use mathlib.Core.Path.{_≡_, refl, sym, ap, _∙_}
 use mathlib.Core.List.{List, []}
 use mathlib.Core.Bool.{true}
 use borrow.Author.Tests.{eq-eqb}
-use lib.IntN.{ℤ}
 use lib.ListN.{length}
 use Rattle.rules.specs.declared.Opening.{Opening}
 use Rattle.rules.specs.declared.Row.{Row}
+use Rattle.rules.specs.declared.Spread.{Spread}
 use Rattle.rules.specs.declared.Event.{Event}
 use Rattle.rules.specs.Terms.{paper}
 use Rattle.rules.specs.Rows.{rowOf, goodRow}
@@ -17,7 +17,7 @@ use Rattle.rules.specs.Answers.{accepted}
 use Rattle.rules.specs.Cells.{placeOf}
 use Rattle.rules.specs.Book.{Open, Book, Quoting, lowest, readRow, changed}
 use Rattle.ease.specs.Easing.{easedRow, wordsOf, passes, eased}
-use Rattle.ease.proofs.Rows.{eased-good}
+use Rattle.ease.proofs.Rows.{good-for, eased-good}
 use Rattle.ease.proofs.Words.{seven, passed, eased-is}
 
 back : (row : Row) → rowOf (wordsOf row) ≡ row
@@ -36,13 +36,14 @@ module _ (words : List ℕ) (pass : passes words ≡ true) where
   still-good : goodRow paper (rowOf (eased words)) ≡ true
   still-good = ap (goodRow paper) row-is ∙ eased-good paper (rowOf words) (passed words pass .good)
 
-  -- 1 and 2 pass it again, and it is read as the altered row
+  -- 1 and 2 pass it again, and it is read as the altered row, at an open by SP and at a strike's
   pub passes-again : passes (eased words) ≡ true
   passes-again = sym (seven (eased words) still-seven) ∙ still-good
 
-  pub read-is : readRow paper (eased words) ≡ accepted (easedRow (rowOf words))
+  pub read-is : (spread : Spread) → readRow paper spread (eased words) ≡ accepted (easedRow (rowOf words))
   unfolding readRow lowest
-  read-is = simp (eq-eqb (length (eased words)) 7 still-seven, still-good) (ap accepted row-is)
+  read-is spread =
+      simp (eq-eqb (length (eased words)) 7 still-seven, good-for paper (rowOf (eased words)) spread still-good) (ap accepted row-is)
 
   -- open notes the altered row, in the cell of the words as they were
   pub opened : (b : Book) (day : ℕ) (told : Opening)
@@ -52,5 +53,5 @@ module _ (words : List ℕ) (pass : passes words ≡ true) where
   opened b day told = ap (λ (row : Row). Quoting (placeOf day (row .expiry) (row .quantum)) row told []) row-is
 
   -- "so kept time is worked out from the altered row"
-  pub kept-is : (sp : ℤ) (events : List Event) (n : ℕ) → keptBelow (rowOf (eased words)) sp events n ≡ keptBelow (easedRow (rowOf words)) sp events n
+  pub kept-is : (sp : Spread) (events : List Event) (n : ℕ) → keptBelow (rowOf (eased words)) sp events n ≡ keptBelow (easedRow (rowOf words)) sp events n
   kept-is sp events n = ap (λ (row : Row). keptBelow row sp events n) row-is

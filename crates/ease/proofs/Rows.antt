@@ -1,14 +1,16 @@
 -- A row in range is so test by test, and an eased one is in range again, whatever the terms. Assumes nothing.
 use Prim.Native.Nat.{ℕ, _+_, _*_, _/_, min, _≤_}
 use native.Mathlib.Omega.{arith}
-use mathlib.Core.Path.{_≡_}
+use mathlib.Core.Path.{_≡_, refl}
 use mathlib.Core.Bool.{Bool, true, _&&_}
 use borrow.Author.Tests.{le-leb, leb-true}
 use lib.Dec.{leb}
 use Rattle.rules.specs.declared.Row.{Row}
+use Rattle.rules.specs.declared.Spread.{Spread}
+use Rattle.rules.specs.declared.Spread.the-variants.{Settled, OfStrike}
 use Rattle.rules.specs.Lists.{within}
 use Rattle.rules.specs.Terms.{Terms}
-use Rattle.rules.specs.Rows.{goodExpiry, goodQuantum, goodLength, goodRow}
+use Rattle.rules.specs.Rows.{goodExpiry, goodQuantum, goodLength, goodRow, asRead, goodRowFor}
 use Rattle.volatile.proofs.Periods.{and-true}
 use Rattle.ease.specs.Easing.{easedRow}
 
@@ -44,6 +46,15 @@ module _ (terms : Terms) (row : Row) where
   pub together : Good terms row → goodRow terms row ≡ true
   unfolding goodRow
   together g = simp (g .expiry, g .quantum, g .length, g .least, g .a, g .b, g .share)
+
+-- what open reads of it is in range too
+pub good-for : (terms : Terms) (row : Row) (spread : Spread) → goodRow terms row ≡ true → goodRowFor terms spread row ≡ true
+unfolding goodRowFor
+good-for terms row (Settled sp) h = h
+good-for terms row (OfStrike s) h =
+    let g = apart terms row h in
+    together terms (asRead (OfStrike s) row)
+    (record { expiry = g .expiry; quantum = g .quantum; length = g .length; least = g .least; a = refl; b = refl; share = g .share })
 
 -- half of 1 to 100,000, rounded up, is again 1 to 100,000
 half-within : (m : ℕ) → within 1 100000 m ≡ true → within 1 100000 ((m + 1) / 2) ≡ true

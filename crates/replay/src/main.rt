@@ -8,9 +8,11 @@ use libc::STDOUT_FILENO;
 use month::Month;
 use rules::CellView;
 use rules::Kopecks;
+use rules::Preview;
 use rules::Quote;
 use rules::Report;
 use rules::Steps;
+use rules::Ticket;
 use script::Outcome;
 use script::Shown;
 
@@ -110,6 +112,30 @@ fn report_line(report: Report) {
     put(b"\n");
 }
 
+fn ticket_fields(ticket: Ticket) {
+    let a = ticket.amendment;
+    let t = a.t;
+    let volume = a.volume;
+    field(b" ticket ", t.0);
+    field(b" ", a.id);
+    put(b" ");
+    price(a.price);
+    field(b" ", volume.0);
+    put(b" count ");
+    put_number(ticket.count);
+}
+
+fn asked_line(preview: Preview) {
+    let bid = preview.bid;
+    let ask = preview.ask;
+    put(b"asked bid ");
+    quote(bid);
+    put(b" ask ");
+    quote(ask);
+    ticket_fields(preview.ticket);
+    put(b"\n");
+}
+
 fn refused_line(n: u32) {
     field(b"refused ", n);
     put(b"\n");
@@ -122,6 +148,7 @@ fn line(shown: Shown) {
         Outcome::Accepted => put(b"accepted\n"),
         Outcome::Refused(n) => refused_line(n),
         Outcome::Found(view) => cell_line(view),
+        Outcome::Asked(preview) => asked_line(preview),
         Outcome::Reported => report_line(report),
     }
 }

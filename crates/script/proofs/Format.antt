@@ -3,19 +3,23 @@ use Prim.Native.Nat.{ℕ, zero, suc, _+_, _*_, _<_}
 use native.Mathlib.Omega.{arith}
 use mathlib.Core.Path.{_≡_, refl, sym, ap, _∙_}
 use mathlib.Core.List.{List, [], _∷_, _++_, append-assoc}
+use lib.IntN.{ℤ}
 use lib.ListN.{length, getD, take, drop, length-append}
 use lib.Seq.{take-at, getD-append-add, drop-append-seam}
 use Rattle.rules.specs.declared.Side.{Side}
 use Rattle.rules.specs.declared.Side.the-variants.{Buy, Sell}
+use Rattle.rules.specs.declared.Spread.{Spread}
+use Rattle.rules.specs.declared.Spread.the-variants.{Settled, OfStrike}
+use Rattle.rules.specs.declared.Amendment.{Amendment}
 use Rattle.rules.specs.declared.Kopecks.{Kopecks}
 use Rattle.rules.specs.declared.Event.{Event}
 use Rattle.rules.specs.declared.Event.the-variants.{Add, Amend, Cancel, Deal, Tick}
 use Rattle.rules.specs.Units.{steps, kopecks}
-use Rattle.rules.specs.Records.{unsignedOf}
-use Rattle.rules.specs.Widths.{Word, Fits}
-use Rattle.rules.specs.Book.{Call, Open, Send, Close, Drop, Charge, Withdraw, Look, Report}
+use Rattle.rules.specs.Records.{signedOf, unsignedOf}
+use Rattle.rules.specs.Widths.{Word, SignedWord, Fits}
+use Rattle.rules.specs.Book.{Call, Open, Send, Ask, Commit, Close, Drop, Charge, Withdraw, Look, Report}
 use Rattle.rules.proofs.Records.{signed-unsigned, unsigned-fits}
-use Rattle.script.specs.Words.{fixedDue, addDue, due, dueAt, blockSize, callOf, callsOf, wordsRead, sideWord, eventWords, low, high, openingWords, wordsOf, scriptOf, Words, Wide, CallFits, AllFit}
+use Rattle.script.specs.Words.{fixedDue, addDue, due, dueAt, blockSize, callOf, callsOf, wordsRead, sideWord, eventWords, low, high, openKind, openingWords, wordsOf, scriptOf, Words, Wide, SpreadFits, AmendmentFits, CallFits, AllFit}
 use Rattle.script.proofs.Reading.{whole, short, calls-none, calls-more, words-none, words-more}
 
 -- ---- the size
@@ -29,10 +33,19 @@ event-due (Cancel t id) rest = refl
 event-due (Deal t id volume) rest = refl
 event-due (Tick t) rest = refl
 
+open-due : (words : List ℕ) (day : ℕ) (spread : Spread) (limit : ℕ) (rest : List ℕ)
+    → dueAt (openKind spread ∷ length words ∷ ((words ++ (day ∷ openingWords spread limit)) ++ rest))
+    ≡ suc (suc (length (words ++ (day ∷ openingWords spread limit))))
+unfolding due
+open-due words day (Settled sp) limit rest = rw (length-append words (day ∷ openingWords (Settled sp) limit)) (omega arith)
+open-due words day (OfStrike s) limit rest = rw (length-append words (day ∷ openingWords (OfStrike s) limit)) (omega arith)
+
 call-due : (c : Call) (rest : List ℕ) → dueAt (wordsOf c ++ rest) ≡ length (wordsOf c)
 unfolding wordsOf due fixedDue
-call-due (Open words day told) rest = rw (length-append words (day ∷ openingWords told)) (omega arith)
+call-due (Open words day told) rest = open-due words day (told .spread) (told .limit) rest
 call-due (Send e) rest = event-due e rest
+call-due (Ask a) rest = refl
+call-due (Commit a ticket) rest = refl
 call-due (Close active passive) rest = refl
 call-due Drop rest = refl
 call-due (Charge day expiry quantum active passive) rest = refl
@@ -57,6 +70,8 @@ call-some : (c : Call) → 0 < length (wordsOf c)
 unfolding wordsOf
 call-some (Open words day told) = omega arith
 call-some (Send e) = event-some e
+call-some (Ask a) = omega arith
+call-some (Commit a ticket) = omega arith
 call-some (Close active passive) = omega arith
 call-some Drop = omega arith
 call-some (Charge day expiry quantum active passive) = omega arith
@@ -66,8 +81,16 @@ call-some Report = omega arith
 
 -- ---- the call
 
-charge-back : (k : Kopecks) → kopecks (low k + 4294967296 * high k) ≡ k
-charge-back k = let e : low k + 4294967296 * high k ≡ k .0 = omega arith in ap kopecks e
+wide-back : (n : ℕ) → low n + 4294967296 * high n ≡ n
+wide-back n = omega arith
+
+charge-back : (k : Kopecks) → kopecks (low (k .0) + 4294967296 * high (k .0)) ≡ k
+charge-back k = ap kopecks (wide-back (k .0))
+
+-- an amendment whose price comes back
+amendment-back : (a : Amendment) → SignedWord (a .price .0)
+    → _≡_ {A = Amendment} (record { t = a .t; id = a .id; price = steps (signedOf (unsignedOf (a .price .0))); volume = a .volume }) a
+amendment-back a h = ap (λ (z : ℤ). record { t = a .t; id = a .id; price = steps z; volume = a .volume }) (signed-unsigned (a .price .0) h)
 
 event-back : (e : Event) → Fits e → (rest : List ℕ) → callOf (eventWords e ++ rest) ≡ Send e
 unfolding eventWords callOf
@@ -78,47 +101,63 @@ event-back (Cancel t id) h rest = refl
 event-back (Deal t id volume) h rest = refl
 event-back (Tick t) h rest = refl
 
--- the words of an open: the row's, the day, SP, the lapse limit
-module _ (words : List ℕ) (day sp limit : ℕ) (rest : List ℕ) where
+-- the words of an open: the kind, the row's words, the day, what else it is told
+module _ (kind : ℕ) (words : List ℕ) (day : ℕ) (told rest : List ℕ) where
   abbrev behind : List ℕ
-  behind = (words ++ (day ∷ sp ∷ limit ∷ [])) ++ rest
+  behind = (words ++ (day ∷ told)) ++ rest
 
-  behind-is : behind ≡ words ++ (day ∷ sp ∷ limit ∷ rest)
-  behind-is = append-assoc words (day ∷ sp ∷ limit ∷ []) rest
+  behind-is : behind ≡ words ++ (day ∷ (told ++ rest))
+  behind-is = append-assoc words (day ∷ told) rest
 
   row-words : take (length words) behind ≡ words
-  row-words = rw behind-is (take-at words (day ∷ sp ∷ limit ∷ rest) (length words) refl)
+  row-words = rw behind-is (take-at words (day ∷ (told ++ rest)) (length words) refl)
 
-  day-word : (n : ℕ) → getD (1 ∷ n ∷ behind) (2 + length words) 0 ≡ day
-  day-word n =
-      let e : 2 + length words ≡ suc (suc (length words + 0)) = omega arith in
-      rw (e, behind-is) (getD-append-add words (day ∷ sp ∷ limit ∷ rest) 0 0)
+  -- the i-th word behind the row: the day, then what open is told
+  told-word : (i : ℕ) → getD (kind ∷ length words ∷ behind) (2 + length words + i) 0 ≡ getD (day ∷ (told ++ rest)) i 0
+  told-word i =
+      let e : 2 + length words + i ≡ suc (suc (length words + i)) = omega arith in
+      rw (e, behind-is) (getD-append-add words (day ∷ (told ++ rest)) i 0)
 
-  sp-word : (n : ℕ) → getD (1 ∷ n ∷ behind) (3 + length words) 0 ≡ sp
-  sp-word n =
-      let e : 3 + length words ≡ suc (suc (length words + 1)) = omega arith in
-      rw (e, behind-is) (getD-append-add words (day ∷ sp ∷ limit ∷ rest) 1 0)
+  -- the same, at a place that is so many behind the row
+  word-at : (j i : ℕ) → j ≡ 2 + length words + i → getD (kind ∷ length words ∷ behind) j 0 ≡ getD (day ∷ (told ++ rest)) i 0
+  word-at j i e = ap (λ (k : ℕ). getD (kind ∷ length words ∷ behind) k 0) e ∙ told-word i
 
-  limit-word : (n : ℕ) → getD (1 ∷ n ∷ behind) (3 + length words + 1) 0 ≡ limit
-  limit-word n =
-      let e : 3 + length words + 1 ≡ suc (suc (length words + 2)) = omega arith in
-      rw (e, behind-is) (getD-append-add words (day ∷ sp ∷ limit ∷ rest) 2 0)
+open-back : (words : List ℕ) (day : ℕ) (spread : Spread) (limit : ℕ) → SpreadFits spread → (rest : List ℕ)
+    → callOf (openKind spread ∷ length words ∷ ((words ++ (day ∷ openingWords spread limit)) ++ rest)) ≡ Open words day (record { spread = spread; limit = limit })
+unfolding callOf
+open-back words day (Settled sp) limit h rest =
+    let n = length words in
+    let told = unsignedOf (sp .0) ∷ limit ∷ [] in
+    let price = ap (λ (w : ℕ). steps (signedOf w)) (word-at 1 words day told rest (3 + n) 1 (omega arith)) ∙ ap steps (signed-unsigned (sp .0) h) in
+    λ i.
+    Open (row-words 1 words day told rest i) (word-at 1 words day told rest (2 + n) 0 (omega arith) i)
+    (record { spread = Settled (price i); limit = word-at 1 words day told rest (3 + n + 1) 2 (omega arith) i })
+open-back words day (OfStrike s) limit h rest =
+    let n = length words in
+    let told = s .a ∷ s .difference ∷ s .days ∷ s .b ∷ limit ∷ [] in
+    λ i.
+    Open (row-words 13 words day told rest i) (word-at 13 words day told rest (2 + n) 0 (omega arith) i)
+    (record {
+      spread =
+          OfStrike
+          (record {
+            a = word-at 13 words day told rest (3 + n) 1 (omega arith) i;
+            difference = word-at 13 words day told rest (3 + n + 1) 2 (omega arith) i;
+            days = word-at 13 words day told rest (3 + n + 2) 3 (omega arith) i;
+            b = word-at 13 words day told rest (3 + n + 3) 4 (omega arith) i;
+          });
+      limit = word-at 13 words day told rest (3 + n + 4) 5 (omega arith) i;
+    })
 
 pub call-back : (c : Call) → CallFits c → (rest : List ℕ) → callOf (wordsOf c ++ rest) ≡ c
 unfolding wordsOf callOf
-call-back (Open words day told) h rest =
-    let n = length words in
-    let sp = unsignedOf (told .sp .0) in
-    let limit = told .limit in
-    rw (
-      row-words words day sp limit rest,
-      day-word words day sp limit rest n,
-      sp-word words day sp limit rest n,
-      limit-word words day sp limit rest n,
-      signed-unsigned (told .sp .0) (h .3),
-    )
-    refl
+call-back (Open words day told) h rest = open-back words day (told .spread) (told .limit) (h .3) rest
 call-back (Send e) h rest = event-back e h rest
+call-back (Ask a) h rest = ap Ask (amendment-back a (h .2))
+call-back (Commit a ticket) h rest =
+    λ i.
+    Commit (amendment-back a (h .0 .2) i)
+    (record { amendment = amendment-back (ticket .amendment) (h .1 .2) i; count = wide-back (ticket .count) i })
 call-back (Close active passive) h rest = rw (charge-back active, charge-back passive) refl
 call-back Drop h rest = refl
 call-back (Charge day expiry quantum active passive) h rest = rw (charge-back active, charge-back passive) refl
@@ -181,8 +220,19 @@ side-fits : (side : Side) → Word (sideWord side)
 side-fits Buy = omega arith
 side-fits Sell = omega arith
 
-charge-words : {k : Kopecks} {ws : List ℕ} → Wide k → Fine ws → Fine (low k ∷ high k ∷ ws)
-charge-words h w = put (omega arith) (put (omega arith) w)
+wide-words : {n : ℕ} {ws : List ℕ} → Wide n → Fine ws → Fine (low n ∷ high n ∷ ws)
+wide-words h w = put (omega arith) (put (omega arith) w)
+
+spread-words : (spread : Spread) (limit : ℕ) → SpreadFits spread → Word limit → Fine (openingWords spread limit)
+spread-words (Settled sp) limit h l = put (unsigned-fits (sp .0) h) (put l none)
+spread-words (OfStrike s) limit h l = put (h .0) (put (h .1) (put (h .2) (put (h .3) (put l none))))
+
+kind-fits : (spread : Spread) → Word (openKind spread)
+kind-fits (Settled sp) = omega arith
+kind-fits (OfStrike s) = omega arith
+
+amendment-words : (a : Amendment) {ws : List ℕ} → AmendmentFits a → Fine ws → Fine (a .t .0 ∷ a .id ∷ unsignedOf (a .price .0) ∷ a .volume .0 ∷ ws)
+amendment-words a h w = put (h .0) (put (h .1) (put (unsigned-fits (a .price .0) (h .2)) (put (h .3) w)))
 
 event-fits : (e : Event) → Fits e → Fine (eventWords e)
 unfolding eventWords
@@ -197,13 +247,16 @@ event-fits (Tick t) h = put (omega arith) (put h none)
 call-fits : (c : Call) → CallFits c → Fine (wordsOf c)
 unfolding wordsOf
 call-fits (Open words day told) h =
-    put (omega arith)
-    (put (h .0) (joined words (day ∷ openingWords told) (h .1) (put (h .2) (put (unsigned-fits (told .sp .0) (h .3)) (put (h .4) none)))))
+    put (kind-fits (told .spread))
+    (put (h .0) (joined words (day ∷ openingWords (told .spread) (told .limit)) (h .1) (put (h .2) (spread-words (told .spread) (told .limit) (h .3) (h .4)))))
 call-fits (Send e) h = event-fits e h
-call-fits (Close active passive) h = put (omega arith) (charge-words (h .0) (charge-words (h .1) none))
+call-fits (Ask a) h = put (omega arith) (amendment-words a h none)
+call-fits (Commit a ticket) h =
+    put (omega arith) (amendment-words a (h .0) (amendment-words (ticket .amendment) (h .1) (wide-words (h .2) none)))
+call-fits (Close active passive) h = put (omega arith) (wide-words (h .0) (wide-words (h .1) none))
 call-fits Drop h = put (omega arith) none
 call-fits (Charge day expiry quantum active passive) h =
-    put (omega arith) (put (h .0) (put (h .1) (put (h .2) (charge-words (h .3) (charge-words (h .4) none)))))
+    put (omega arith) (put (h .0) (put (h .1) (put (h .2) (wide-words (h .3) (wide-words (h .4) none)))))
 call-fits (Withdraw day expiry quantum) h = put (omega arith) (put (h .0) (put (h .1) (put (h .2) none)))
 call-fits (Look day expiry quantum) h = put (omega arith) (put (h .0) (put (h .1) (put (h .2) none)))
 call-fits Report h = put (omega arith) none

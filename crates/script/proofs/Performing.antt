@@ -9,8 +9,11 @@ use Rattle.rules.specs.declared.Answer.the-variants as AA
 use Rattle.rules.specs.declared.CellView.{CellView}
 use Rattle.rules.specs.declared.Looked.{Looked}
 use Rattle.rules.specs.declared.Looked.the-variants as LL
+use Rattle.rules.specs.declared.Preview.{Preview}
+use Rattle.rules.specs.declared.Asked.{Asked}
+use Rattle.rules.specs.declared.Asked.the-variants as KK
 use Rattle.rules.specs.declared.Refusal.{Refusal}
-use Rattle.rules.specs.Answers.{Reply, numberOf, shownAnswer, shownLooked}
+use Rattle.rules.specs.Answers.{Reply, numberOf, shownAnswer, shownLooked, shownAsked}
 use Rattle.rules.specs.Answers as A
 use Rattle.rules.specs.Book.{Call}
 use Rattle.month.specs.declared.Month.{Month}
@@ -65,6 +68,13 @@ refused-shown e n f = f ∙ ap (λ (k : ℕ). showing (O.Refused k)) n ∙ ap (�
 
 pub found-shown : {a : Looked} {v : CellView} {s : Shown} → a ≡ LL.Found v → s ≡ showing (O.Found v) → s ≡ shownOf (shownLooked a)
 found-shown e f = f ∙ ap (λ (a : Looked). shownOf (shownLooked a)) (sym e)
+
+pub asked-shown : {a : Asked} {p : Preview} {s : Shown} → a ≡ KK.Shown p → s ≡ showing (O.Asked p) → s ≡ shownOf (shownAsked a)
+asked-shown e f = f ∙ ap (λ (a : Asked). shownOf (shownAsked a)) (sym e)
+
+pub ask-refused-shown : {a : Asked} {r : Refusal} {n : ℕ} {s : Shown} → a ≡ KK.Refused r → n ≡ numberOf r → s ≡ showing (O.Refused n)
+    → s ≡ shownOf (shownAsked a)
+ask-refused-shown e n f = f ∙ ap (λ (k : ℕ). showing (O.Refused k)) n ∙ ap (λ (a : Asked). shownOf (shownAsked a)) (sym e)
 
 pub look-refused-shown : {a : Looked} {r : Refusal} {n : ℕ} {s : Shown} → a ≡ LL.Refused r → n ≡ numberOf r → s ≡ showing (O.Refused n)
     → s ≡ shownOf (shownLooked a)

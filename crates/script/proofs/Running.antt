@@ -9,7 +9,7 @@ use borrow.Author.Tests.{le-leb, lt-leb}
 use lib.ListN.{length, getD, take, drop, set, length-append, length-drop}
 use lib.Seq.{length-take-le, take-length, take-add, drop-cons, set-at}
 use Rattle.rules.specs.Terms.{paper}
-use Rattle.rules.specs.Answers.{Reply, done, cell, report, outcomeBy}
+use Rattle.rules.specs.Answers.{Reply, done, cell, asked, report, outcomeBy}
 use Rattle.rules.specs.Book.{Call, Book, refusalOf, replyOf, answerOf, after}
 use Rattle.month.specs.declared.Month.{Month}
 use Rattle.month.specs.Represents.{monthOf, Reached}
@@ -41,9 +41,11 @@ replaced front l k n e h =
 reply-number : (r : Reply) (n : ℕ) → outcomeNumber (shownOf (outcomeBy n r) .outcome) ≡ n
 reply-number done zero = refl
 reply-number (cell v) zero = refl
+reply-number (asked p) zero = refl
 reply-number (report r) zero = refl
 reply-number done (suc n) = refl
 reply-number (cell v) (suc n) = refl
+reply-number (asked p) (suc n) = refl
 reply-number (report r) (suc n) = refl
 
 -- the number of what is shown is the plain book's refusal, or 0

@@ -10,13 +10,17 @@ use lib.ListN.{length, getD, take, drop}
 use Rattle.rules.specs.declared.Side.{Side}
 use Rattle.rules.specs.declared.Side.the-variants.{Buy, Sell}
 use Rattle.rules.specs.declared.Steps.{Steps}
+use Rattle.rules.specs.declared.Strike.{Strike}
+use Rattle.rules.specs.declared.Spread.the-variants.{OfStrike}
 use Rattle.rules.specs.declared.Opening.{Opening}
+use Rattle.rules.specs.declared.Amendment.{Amendment}
+use Rattle.rules.specs.declared.Ticket.{Ticket}
 use Rattle.rules.specs.declared.Kopecks.{Kopecks}
 use Rattle.rules.specs.declared.Event.the-variants.{Add, Amend, Cancel, Deal, Tick}
 use Rattle.rules.specs.Lists.{if_then_else_}
-use Rattle.rules.specs.Units.{millis, contracts, kopecks}
-use Rattle.rules.specs.Book.{Open, Send, Close, Drop, Charge, Withdraw, Look, Report}
-use Rattle.script.specs.Words.{due, dueAt, blockSize, stepsAt, openingAt, chargeAt, sideOf, isEvent, callOf}
+use Rattle.rules.specs.Units.{millis, contracts}
+use Rattle.rules.specs.Book.{Open, Send, Ask, Commit, Close, Drop, Charge, Withdraw, Look, Report}
+use Rattle.script.specs.Words.{due, dueAt, blockSize, stepsAt, openingAt, strikeAt, wideAt, chargeAt, amendmentAt, ticketAt, sideOf, isEvent, callOf}
 use Rattle.script.proofs.Sizes.{other-kind, other-due}
 
 -- ---- a block of some size
@@ -30,31 +34,31 @@ unfolding blockSize
 some-due ws s = due-by (dueAt ws) (length ws) (leb (dueAt ws) (length ws)) refl s
 
 -- another kind is due no words
-not-due : (k n side : ℕ) → ((i : ℕ) → 1 ≤ i → i ≤ 12 → k ≡ i → ⊥) → due k n side ≡ 0
+not-due : (k n side : ℕ) → ((i : ℕ) → 1 ≤ i → i ≤ 15 → k ≡ i → ⊥) → due k n side ≡ 0
 not-due k n side h =
     sym
-    (other-due k n side 0 (h 1 (omega arith) (omega arith)) (h 2 (omega arith) (omega arith))
+    (other-due k n side 0 (h 1 (omega arith) (omega arith)) (h 13 (omega arith) (omega arith)) (h 2 (omega arith) (omega arith))
     (other-kind k (h 3 (omega arith) (omega arith)) (h 4 (omega arith) (omega arith)) (h 5 (omega arith) (omega arith))
     (h 6 (omega arith) (omega arith)) (h 7 (omega arith) (omega arith)) (h 8 (omega arith) (omega arith))
     (h 9 (omega arith) (omega arith)) (h 10 (omega arith) (omega arith)) (h 11 (omega arith) (omega arith))
-    (h 12 (omega arith) (omega arith))))
+    (h 12 (omega arith) (omega arith)) (h 14 (omega arith) (omega arith)) (h 15 (omega arith) (omega arith))))
 
 from-one : (k n side : ℕ) (b : Bool) → leb 1 k ≡ b → (due k n side ≡ 0 → ⊥) → 1 ≤ k
 from-one k n side true e s = leb-true 1 k e
 from-one k n side false e s = let h = leb-false 1 k e in absurd (s (not-due k n side (λ i a b q. omega arith)))
 
-to-twelve : (k n side : ℕ) (b : Bool) → leb k 12 ≡ b → (due k n side ≡ 0 → ⊥) → k ≤ 12
-to-twelve k n side true e s = leb-true k 12 e
-to-twelve k n side false e s = let h = leb-false k 12 e in absurd (s (not-due k n side (λ i a b q. omega arith)))
+to-fifteen : (k n side : ℕ) (b : Bool) → leb k 15 ≡ b → (due k n side ≡ 0 → ⊥) → k ≤ 15
+to-fifteen k n side true e s = leb-true k 15 e
+to-fifteen k n side false e s = let h = leb-false k 15 e in absurd (s (not-due k n side (λ i a b q. omega arith)))
 
--- a block of some size is of kind 1 to 12 ..
-pub known-kind : (ws : List ℕ) → (blockSize ws ≡ 0 → ⊥) → (1 ≤ getD ws 0 0) × (getD ws 0 0 ≤ 12)
+-- a block of some size is of kind 1 to 15 ..
+pub known-kind : (ws : List ℕ) → (blockSize ws ≡ 0 → ⊥) → (1 ≤ getD ws 0 0) × (getD ws 0 0 ≤ 15)
 known-kind ws s =
     let d = some-due ws s .1 in
     let k = getD ws 0 0 in
     let n = getD ws 1 0 in
     let side = getD ws 3 0 in
-    (from-one k n side (leb 1 k) refl d, to-twelve k n side (leb k 12) refl d)
+    (from-one k n side (leb 1 k) refl d, to-fifteen k n side (leb k 15) refl d)
 
 -- a kind of an event, or not
 event-by : (k : ℕ) (a b : Bool) → leb 2 k ≡ a → leb k 6 ≡ b → a && b ≡ true → (2 ≤ k) × (k ≤ 6)
@@ -83,6 +87,15 @@ whole-open ws s e =
     let d = some-due ws s .0 in
     omega (arith, open-is-due (getD ws 0 0) (getD ws 1 0) (getD ws 3 0) e)
 
+strike-is-due : (k n side : ℕ) → k ≡ 13 → due k n side ≡ 8 + n
+unfolding due
+strike-is-due k n side e = rw e refl
+
+pub whole-strike : (ws : List ℕ) → (blockSize ws ≡ 0 → ⊥) → getD ws 0 0 ≡ 13 → 8 + getD ws 1 0 ≤ length ws
+whole-strike ws s e =
+    let d = some-due ws s .0 in
+    omega (arith, strike-is-due (getD ws 0 0) (getD ws 1 0) (getD ws 3 0) e)
+
 -- ---- a block's arguments
 
 pub is-buy : (w : ℕ) → w ≡ 1 → Buy ≡ sideOf w
@@ -91,9 +104,9 @@ is-buy w e = rw e refl
 pub is-sell : (w : ℕ) → (w ≡ 1 → ⊥) → Sell ≡ sideOf w
 is-sell w h = rw (ne-eqb w 1 h) refl
 
-pub charge-is : (ws : List ℕ) (i : ℕ) {a b low high : ℕ} → a ≡ getD ws i 0 → b ≡ getD ws (i + 1) 0 → low ≡ a → high ≡ b
-    → kopecks (low + 4294967296 * high) ≡ chargeAt ws i
-charge-is ws i a b l h = λ j. kopecks ((l ∙ a) j + 4294967296 * (h ∙ b) j)
+pub wide-is : (ws : List ℕ) (i : ℕ) {a b low high : ℕ} → a ≡ getD ws i 0 → b ≡ getD ws (i + 1) 0 → low ≡ a → high ≡ b
+    → low + 4294967296 * high ≡ wideAt ws i
+wide-is ws i a b l h = λ j. (l ∙ a) j + 4294967296 * (h ∙ b) j
 
 -- ---- the call of each kind
 
@@ -157,6 +170,28 @@ module _ (ws : List ℕ) where
       → Look day expiry quantum ≡ callOf ws
   unfolding callOf
   look-is k d e q = (λ i. Look (d i) (e i) (q i)) ∙ rw k refl
+
+  pub strike-is : (end : ℕ) {row : List ℕ} {day limit : ℕ} {s : Strike} → getD ws 0 0 ≡ 13 → end ≡ 2 + getD ws 1 0
+      → row ≡ take (end - 2) (drop 2 ws) → day ≡ getD ws end 0 → s ≡ strikeAt ws (end + 1) → limit ≡ getD ws (end + 5) 0
+      → Open row day (record { spread = OfStrike s; limit = limit }) ≡ callOf ws
+  unfolding callOf
+  strike-is end {row} {day} {limit} {s} k e r d f l =
+      let n : end - 2 ≡ getD ws 1 0 = omega arith in
+      let m : end + 1 ≡ 3 + getD ws 1 0 = omega arith in
+      let p : end + 5 ≡ 3 + getD ws 1 0 + 4 = omega arith in
+      let r′ : row ≡ take (getD ws 1 0) (drop 2 ws) = r ∙ ap (λ (j : ℕ). take j (drop 2 ws)) n in
+      let d′ : day ≡ getD ws (2 + getD ws 1 0) 0 = d ∙ ap (λ (j : ℕ). getD ws j 0) e in
+      let f′ : s ≡ strikeAt ws (3 + getD ws 1 0) = f ∙ ap (strikeAt ws) m in
+      let l′ : limit ≡ getD ws (3 + getD ws 1 0 + 4) 0 = l ∙ ap (λ (j : ℕ). getD ws j 0) p in
+      (λ i. Open (r′ i) (d′ i) (record { spread = OfStrike (f′ i); limit = l′ i })) ∙ rw k refl
+
+  pub ask-is : {a : Amendment} → getD ws 0 0 ≡ 14 → a ≡ amendmentAt ws 1 → Ask a ≡ callOf ws
+  unfolding callOf
+  ask-is k a = (λ i. Ask (a i)) ∙ rw k refl
+
+  pub commit-is : {a : Amendment} {t : Ticket} → getD ws 0 0 ≡ 15 → a ≡ amendmentAt ws 1 → t ≡ ticketAt ws 5 → Commit a t ≡ callOf ws
+  unfolding callOf
+  commit-is k a t = (λ i. Commit (a i) (t i)) ∙ rw k refl
 
   pub report-is : getD ws 0 0 ≡ 12 → Report ≡ callOf ws
   unfolding callOf

@@ -21,9 +21,9 @@ other-side side a b = rw (ne-eqb side 1 a, ne-eqb side 2 b) refl
 -- ---- a kind
 
 pub other-kind : (kind : ℕ) → (kind ≡ 3 → ⊥) → (kind ≡ 4 → ⊥) → (kind ≡ 5 → ⊥) → (kind ≡ 6 → ⊥) → (kind ≡ 7 → ⊥) → (kind ≡ 8 → ⊥)
-    → (kind ≡ 9 → ⊥) → (kind ≡ 10 → ⊥) → (kind ≡ 11 → ⊥) → (kind ≡ 12 → ⊥) → 0 ≡ fixedDue kind
+    → (kind ≡ 9 → ⊥) → (kind ≡ 10 → ⊥) → (kind ≡ 11 → ⊥) → (kind ≡ 12 → ⊥) → (kind ≡ 14 → ⊥) → (kind ≡ 15 → ⊥) → 0 ≡ fixedDue kind
 unfolding fixedDue
-other-kind kind a b c d e f g h i j =
+other-kind kind a b c d e f g h i j k l =
     rw (
       ne-eqb kind 3 a,
       ne-eqb kind 4 b,
@@ -35,6 +35,8 @@ other-kind kind a b c d e f g h i j =
       ne-eqb kind 10 h,
       ne-eqb kind 11 i,
       ne-eqb kind 12 j,
+      ne-eqb kind 14 k,
+      ne-eqb kind 15 l,
     )
     refl
 
@@ -42,13 +44,17 @@ pub open-due : (kind n side r : ℕ) → kind ≡ 1 → r ≡ n → 5 + r ≡ du
 unfolding due
 open-due kind n side r e f = rw (e, f) refl
 
+pub strike-due : (kind n side r : ℕ) → kind ≡ 13 → r ≡ n → 8 + r ≡ due kind n side
+unfolding due
+strike-due kind n side r e f = rw (e, f) refl
+
 pub add-due : (kind n side r : ℕ) → kind ≡ 2 → r ≡ addDue side → r ≡ due kind n side
 unfolding due
 add-due kind n side r e f = f ∙ rw e refl
 
-pub other-due : (kind n side r : ℕ) → (kind ≡ 1 → ⊥) → (kind ≡ 2 → ⊥) → r ≡ fixedDue kind → r ≡ due kind n side
+pub other-due : (kind n side r : ℕ) → (kind ≡ 1 → ⊥) → (kind ≡ 13 → ⊥) → (kind ≡ 2 → ⊥) → r ≡ fixedDue kind → r ≡ due kind n side
 unfolding due
-other-due kind n side r a b f = f ∙ rw (ne-eqb kind 1 a, ne-eqb kind 2 b) refl
+other-due kind n side r a s b f = f ∙ rw (ne-eqb kind 1 a, ne-eqb kind 13 s, ne-eqb kind 2 b) refl
 
 -- ---- a block
 

@@ -5,14 +5,18 @@ use mathlib.Core.List.{List, [], _++_}
 use lib.Dec.{leb}
 use lib.ListN.{length, drop}
 use Rattle.rules.specs.declared.Report.{Report}
+use Rattle.rules.specs.declared.Amendment.{Amendment}
+use Rattle.rules.specs.declared.Ticket.{Ticket}
 use Rattle.rules.specs.Lists.{if_then_else_}
 use Rattle.rules.specs.Terms.{paper}
 use Rattle.rules.specs.Units.{millis, kopecks}
 use Rattle.rules.specs.Pay.{allFailures, fee}
-use Rattle.rules.specs.Answers.{shownLooked, shownReport}
+use Rattle.rules.specs.Answers.{shownAnswer, shownLooked, shownAsked, shownReport}
 use Rattle.rules.specs.Book.{Book, bidIn, askIn, keptIn, lapsesIn, reportOf, answerOf, after}
 use Rattle.rules.specs.Book as B
+use Rattle.month.specs.declared.AfterCall.{AfterCall}
 use Rattle.month.specs.declared.LookedAt.{LookedAt}
+use Rattle.month.specs.declared.AskedAbout.{AskedAbout}
 use Rattle.month.specs.declared.Reported.{Reported}
 use Rattle.month.specs.Represents.{monthOf, Reached, Answered}
 use Rattle.script.specs.declared.Ran.{Ran}
@@ -50,3 +54,10 @@ pub record Afresh (ws before behind : List ℕ) (ran : Ran) : Type 0 where
   pub look : (day expiry quantum : ℕ) (r : LookedAt)
       → Answered (ran .month) (B.Look day expiry quantum) (r .month) (shownLooked (r .answer))
       → shownLooked (r .answer) ≡ answerOf paper (after paper (callsOf ws)) (B.Look day expiry quantum)
+  -- document 02, W5: any amendment asked about: the refusal, or both quotes after it and the ticket with the book's count
+  pub ask : (a : Amendment) (r : AskedAbout) → Answered (ran .month) (B.Ask a) (r .month) (shownAsked (r .answer))
+      → shownAsked (r .answer) ≡ answerOf paper (after paper (callsOf ws)) (B.Ask a)
+  -- any commit: "19 is judged by" the book's count
+  pub commit : (a : Amendment) (ticket : Ticket) (r : AfterCall)
+      → Answered (ran .month) (B.Commit a ticket) (r .month) (shownAnswer (r .answer))
+      → shownAnswer (r .answer) ≡ answerOf paper (after paper (callsOf ws)) (B.Commit a ticket)

@@ -8,7 +8,12 @@ use lib.ListN.{length, getD, take, drop}
 use Rattle.rules.specs.declared.Side.{Side}
 use Rattle.rules.specs.declared.Side.the-variants.{Buy, Sell}
 use Rattle.rules.specs.declared.Steps.{Steps}
+use Rattle.rules.specs.declared.Strike.{Strike}
+use Rattle.rules.specs.declared.Spread.{Spread}
+use Rattle.rules.specs.declared.Spread.the-variants.{Settled, OfStrike}
 use Rattle.rules.specs.declared.Opening.{Opening}
+use Rattle.rules.specs.declared.Amendment.{Amendment}
+use Rattle.rules.specs.declared.Ticket.{Ticket}
 use Rattle.rules.specs.declared.Kopecks.{Kopecks}
 use Rattle.rules.specs.declared.Event.{Event}
 use Rattle.rules.specs.declared.Event.the-variants.{Add, Amend, Cancel, Deal, Tick}
@@ -17,7 +22,7 @@ use Rattle.rules.specs.Terms.{paper}
 use Rattle.rules.specs.Units.{millis, steps, contracts, kopecks}
 use Rattle.rules.specs.Records.{signedOf, unsignedOf}
 use Rattle.rules.specs.Widths.{Word, SignedWord, Fits}
-use Rattle.rules.specs.Book.{Call, Open, Send, Close, Drop, Charge, Withdraw, Look, Report, Book, freshBook, refusalOf, step}
+use Rattle.rules.specs.Book.{Call, Open, Send, Ask, Commit, Close, Drop, Charge, Withdraw, Look, Report, Book, freshBook, refusalOf, step}
 
 -- ---- one block
 
@@ -27,7 +32,8 @@ word ws i = getD ws i 0
 
 -- The number of words that a block of a kind is due: `3 t id price volume` amend; `4 t id` cancel; `5 t id volume` deal; `6 t` tick;
 -- `7 Alow Ahigh Plow Phigh` close; `8` drop; `9 day expiry quantum Alow Ahigh Plow Phigh` charge; `10 day expiry quantum` withdraw;
--- `11 day expiry quantum` look; `12` report. It is 0 for another kind.
+-- `11 day expiry quantum` look; `12` report; by document 02, W5, `14 t id price volume` ask, and `15 t id price volume` commit, then
+-- the ticket, `t id price volume countlow counthigh`. It is 0 for another kind.
 unfoldable pub fixedDue : ℕ → ℕ
 fixedDue kind =
     if eqb kind 3 then 5
@@ -40,15 +46,22 @@ fixedDue kind =
     else if eqb kind 10 then 4
     else if eqb kind 11 then 4
     else if eqb kind 12 then 1
+    else if eqb kind 14 then 5
+    else if eqb kind 15 then 11
     else 0
 
 -- `2 t id side price volume` add, side 1 for buy and 2 for sell; 0 with another side
 unfoldable pub addDue : ℕ → ℕ
 addDue side = if eqb side 1 || eqb side 2 then 6 else 0
 
--- `1 n w1..wn day SP limit` open with n row words, an add, or one of the others
+-- `1 n w1..wn day SP limit` open with n row words; by document 02, W4, `13 n w1..wn day a difference days b limit` open a strike; an add;
+-- or one of the others
 unfoldable pub due : ℕ → ℕ → ℕ → ℕ
-due kind n side = if eqb kind 1 then 5 + n else if eqb kind 2 then addDue side else fixedDue kind
+due kind n side =
+    if eqb kind 1 then 5 + n
+    else if eqb kind 13 then 8 + n
+    else if eqb kind 2 then addDue side
+    else fixedDue kind
 
 -- The kind is the block's first word.
 abbrev pub dueAt : List ℕ → ℕ
@@ -65,11 +78,29 @@ stepsAt ws i = steps (signedOf (word ws i))
 
 -- what open is told besides the row and the day: SP, then the lapse limit
 abbrev pub openingAt : List ℕ → ℕ → Opening
-openingAt ws i = record { sp = stepsAt ws i; limit = word ws (i + 1) }
+openingAt ws i = record { spread = Settled (stepsAt ws i); limit = word ws (i + 1) }
 
--- each charge is two words, the low one first
+-- what a strike's open is told: its four numbers, then the lapse limit
+abbrev pub strikeAt : List ℕ → ℕ → Strike
+strikeAt ws i = record { a = word ws i; difference = word ws (i + 1); days = word ws (i + 2); b = word ws (i + 3) }
+
+abbrev pub strikeOpeningAt : List ℕ → ℕ → Opening
+strikeOpeningAt ws i = record { spread = OfStrike (strikeAt ws i); limit = word ws (i + 4) }
+
+-- each charge and each count is two words, the low one first
+abbrev pub wideAt : List ℕ → ℕ → ℕ
+wideAt ws i = word ws i + 4294967296 * word ws (i + 1)
+
 abbrev pub chargeAt : List ℕ → ℕ → Kopecks
-chargeAt ws i = kopecks (word ws i + 4294967296 * word ws (i + 1))
+chargeAt ws i = kopecks (wideAt ws i)
+
+-- an amendment, and a ticket
+abbrev pub amendmentAt : List ℕ → ℕ → Amendment
+amendmentAt ws i =
+    record { t = millis (word ws i); id = word ws (i + 1); price = stepsAt ws (i + 2); volume = contracts (word ws (i + 3)) }
+
+abbrev pub ticketAt : List ℕ → ℕ → Ticket
+ticketAt ws i = record { amendment = amendmentAt ws i; count = wideAt ws (i + 4) }
 
 abbrev pub sideOf : ℕ → Side
 sideOf s = if eqb s 1 then Buy else Sell
@@ -96,6 +127,9 @@ callOf ws =
     else if eqb kind 9 then Charge (word ws 1) (word ws 2) (word ws 3) (chargeAt ws 4) (chargeAt ws 6)
     else if eqb kind 10 then Withdraw (word ws 1) (word ws 2) (word ws 3)
     else if eqb kind 11 then Look (word ws 1) (word ws 2) (word ws 3)
+    else if eqb kind 13 then Open (take n (drop 2 ws)) (word ws (2 + n)) (strikeOpeningAt ws (3 + n))
+    else if eqb kind 14 then Ask (amendmentAt ws 1)
+    else if eqb kind 15 then Commit (amendmentAt ws 1) (ticketAt ws 5)
     else Report
 
 -- ---- the whole list
@@ -142,22 +176,32 @@ eventWords (Cancel t id) = 4 ∷ t .0 ∷ id ∷ []
 eventWords (Deal t id volume) = 5 ∷ t .0 ∷ id ∷ volume .0 ∷ []
 eventWords (Tick t) = 6 ∷ t .0 ∷ []
 
-abbrev pub low : Kopecks → ℕ
-low k = k .0 % 4294967296
+abbrev pub low : ℕ → ℕ
+low n = n % 4294967296
 
-abbrev pub high : Kopecks → ℕ
-high k = k .0 / 4294967296
+abbrev pub high : ℕ → ℕ
+high n = n / 4294967296
 
-abbrev pub openingWords : Opening → List ℕ
-openingWords told = unsignedOf (told .sp .0) ∷ told .limit ∷ []
+abbrev pub openKind : Spread → ℕ
+openKind (Settled sp) = 1
+openKind (OfStrike s) = 13
+
+abbrev pub openingWords : Spread → ℕ → List ℕ
+openingWords (Settled sp) limit = unsignedOf (sp .0) ∷ limit ∷ []
+openingWords (OfStrike s) limit = s .a ∷ s .difference ∷ s .days ∷ s .b ∷ limit ∷ []
 
 unfoldable pub wordsOf : Call → List ℕ
-wordsOf (Open words day told) = 1 ∷ length words ∷ (words ++ (day ∷ openingWords told))
+wordsOf (Open words day told) = openKind (told .spread) ∷ length words ∷ (words ++ (day ∷ openingWords (told .spread) (told .limit)))
 wordsOf (Send e) = eventWords e
-wordsOf (Close active passive) = 7 ∷ low active ∷ high active ∷ low passive ∷ high passive ∷ []
+wordsOf (Ask a) = 14 ∷ a .t .0 ∷ a .id ∷ unsignedOf (a .price .0) ∷ a .volume .0 ∷ []
+wordsOf (Commit a ticket) =
+    let b = ticket .amendment in
+    15 ∷ a .t .0 ∷ a .id ∷ unsignedOf (a .price .0) ∷ a .volume .0 ∷ b .t .0 ∷ b .id ∷ unsignedOf (b .price .0) ∷ b .volume .0
+    ∷ low (ticket .count) ∷ high (ticket .count) ∷ []
+wordsOf (Close active passive) = 7 ∷ low (active .0) ∷ high (active .0) ∷ low (passive .0) ∷ high (passive .0) ∷ []
 wordsOf Drop = 8 ∷ []
 wordsOf (Charge day expiry quantum active passive) =
-    9 ∷ day ∷ expiry ∷ quantum ∷ low active ∷ high active ∷ low passive ∷ high passive ∷ []
+    9 ∷ day ∷ expiry ∷ quantum ∷ low (active .0) ∷ high (active .0) ∷ low (passive .0) ∷ high (passive .0) ∷ []
 wordsOf (Withdraw day expiry quantum) = 10 ∷ day ∷ expiry ∷ quantum ∷ []
 wordsOf (Look day expiry quantum) = 11 ∷ day ∷ expiry ∷ quantum ∷ []
 wordsOf Report = 12 ∷ []
@@ -171,16 +215,26 @@ abbrev pub Words : List ℕ → Type 0
 Words ws = (i : ℕ) → Word (getD ws i 0)
 
 -- an unsigned 64-bit number
-abbrev pub Wide : Kopecks → Type 0
-Wide k = k .0 < 18446744073709551616
+abbrev pub Wide : ℕ → Type 0
+Wide n = n < 18446744073709551616
+
+-- SP, or a strike's four numbers
+abbrev pub SpreadFits : Spread → Type 0
+SpreadFits (Settled sp) = SignedWord (sp .0)
+SpreadFits (OfStrike s) = Word (s .a) × Word (s .difference) × Word (s .days) × Word (s .b)
+
+abbrev pub AmendmentFits : Amendment → Type 0
+AmendmentFits a = Word (a .t .0) × Word (a .id) × SignedWord (a .price .0) × Word (a .volume .0)
 
 -- each number of the call fits its type, and the number of an open's row words fits its word
 abbrev pub CallFits : Call → Type 0
-CallFits (Open words day told) = Word (length words) × Words words × Word day × SignedWord (told .sp .0) × Word (told .limit)
+CallFits (Open words day told) = Word (length words) × Words words × Word day × SpreadFits (told .spread) × Word (told .limit)
 CallFits (Send e) = Fits e
-CallFits (Close active passive) = Wide active × Wide passive
+CallFits (Ask a) = AmendmentFits a
+CallFits (Commit a ticket) = AmendmentFits a × AmendmentFits (ticket .amendment) × Wide (ticket .count)
+CallFits (Close active passive) = Wide (active .0) × Wide (passive .0)
 CallFits Drop = Unit {0}
-CallFits (Charge day expiry quantum active passive) = Word day × Word expiry × Word quantum × Wide active × Wide passive
+CallFits (Charge day expiry quantum active passive) = Word day × Word expiry × Word quantum × Wide (active .0) × Wide (passive .0)
 CallFits (Withdraw day expiry quantum) = Word day × Word expiry × Word quantum
 CallFits (Look day expiry quantum) = Word day × Word expiry × Word quantum
 CallFits Report = Unit {0}

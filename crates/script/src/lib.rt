@@ -3,17 +3,19 @@ ghost use mathlib.Core.Path.{_≡_};
 ghost use mathlib.Core.Bool.{false};
 ghost use Prim.Native.Nat.{_+_, _≤_, _<_};
 ghost use lib.ListN.{length, getD, drop};
-ghost use Rattle.rules.specs.Answers.{shownAnswer, shownLooked};
+ghost use Rattle.rules.specs.Answers.{shownAnswer, shownLooked, shownAsked};
 ghost use Rattle.rules.specs.Book.{Send};
 ghost use Rattle.month.specs.Represents.{Reached, Answered};
 ghost use Rattle.script.specs.declared.Outcome.the-variants as O;
-ghost use Rattle.script.specs.Words.{fixedDue, addDue, due, blockSize, stepsAt, openingAt, chargeAt, sideOf, isEvent, callOf};
+ghost use Rattle.script.specs.Words.{fixedDue, addDue, due, blockSize, stepsAt, openingAt, strikeAt, wideAt, chargeAt, amendmentAt, ticketAt, sideOf, isEvent, callOf};
 ghost use Rattle.script.specs.Measures.{Measures};
 ghost use Rattle.script.specs.Blocks.{blankReport, showing, shownOf, outcomeNumber, Performed, Stepped};
 ghost use Rattle.script.specs.Runs.{Runs};
 use month::AfterCall;
 use month::Month;
+use rules::Amendment;
 use rules::Answer;
+use rules::Asked;
 use rules::CellView;
 use rules::Contracts;
 use rules::Event;
@@ -21,10 +23,14 @@ use rules::Kopecks;
 use rules::Looked;
 use rules::Millis;
 use rules::Opening;
+use rules::Preview;
 use rules::Quote;
 use rules::Report;
 use rules::Side;
+use rules::Spread;
 use rules::Steps;
+use rules::Strike;
+use rules::Ticket;
 
 // A list's number of calls, and of words that they take.
 pub struct Measured {
@@ -37,6 +43,7 @@ pub enum Outcome {
     Accepted,
     Refused(u32),
     Found(CellView),
+    Asked(Preview),
     Reported,
 }
 
@@ -96,7 +103,7 @@ fn add_due(side: u32) -> usize
     0
 }
 
-// How many words a block of a kind other than 1 and 2 has.
+// How many words a block of a kind other than 1, 2 and 13 has.
 fn fixed_due(kind: u32) -> usize
     ensures { λ r. ⌜ r ≡ fixedDue kind ⌝ }
 {
@@ -130,6 +137,12 @@ fn fixed_due(kind: u32) -> usize
     if kind == 12 {
         return 1;
     }
+    if kind == 14 {
+        return 5;
+    }
+    if kind == 15 {
+        return 11;
+    }
     0
 }
 
@@ -139,6 +152,9 @@ fn due_words(kind: u32, n: u32, side: u32) -> usize
 {
     if kind == 1 {
         return 5 + wide(n);
+    }
+    if kind == 13 {
+        return 8 + wide(n);
     }
     if kind == 2 {
         return add_due(side);
@@ -225,6 +241,15 @@ fn show_looked(looked: Looked) -> Shown
     }
 }
 
+fn show_asked(asked: Asked) -> Shown
+    ensures { λ r. ⌜ r ≡ shownOf (shownAsked asked) ⌝ }
+{
+    match asked {
+        Asked::Shown(preview) => showing_only(Outcome::Asked(preview)),
+        Asked::Refused(r) => showing_only(Outcome::Refused(rules::number(r))),
+    }
+}
+
 // 0 accepted, else the refusal's number.
 fn number(outcome: Outcome) -> u32
     ensures { λ r. ⌜ r ≡ outcomeNumber outcome ⌝ }
@@ -233,6 +258,7 @@ fn number(outcome: Outcome) -> u32
         Outcome::Accepted => 0,
         Outcome::Refused(n) => n,
         Outcome::Found(_) => 0,
+        Outcome::Asked(_) => 0,
         Outcome::Reported => 0,
     }
 }
@@ -252,7 +278,25 @@ fn opening_at(words: &[u32], i: usize) -> Opening
 {
     let sp = steps_at(words, i);
     let limit = word(words, i + 1);
-    Opening { sp, limit }
+    let spread = Spread::Settled(sp);
+    Opening { spread, limit }
+}
+
+// A strike's four numbers.
+fn strike_at(words: &[u32], i: usize) -> Strike
+    requires { ⌜ i < length (now words) ⌝ }
+    ensures { λ r. ⌜ r ≡ strikeAt (now (words .entry)) i ⌝ }
+{
+    let a = word(words, i);
+    let difference = word(words, i + 1);
+    let days = word(words, i + 2);
+    let b = word(words, i + 3);
+    Strike {
+        a,
+        difference,
+        days,
+        b,
+    }
 }
 
 fn wide_word(w: u32) -> u64
@@ -261,14 +305,46 @@ fn wide_word(w: u32) -> u64
     w as u64
 }
 
-// A charge from its two words, the low one first.
-fn charge_at(words: &[u32], i: usize) -> Kopecks
-    requires { ⌜ i < 8 ⌝ }
-    ensures { λ r. ⌜ r ≡ chargeAt (now (words .entry)) i ⌝ }
+// A number of 64 bits from its two words, the low one first.
+fn wide_at(words: &[u32], i: usize) -> u64
+    requires { ⌜ i < 16 ⌝ }
+    ensures { λ r. ⌜ r ≡ wideAt (now (words .entry)) i ⌝ }
 {
     let low = wide_word(word(words, i));
     let high = wide_word(word(words, i + 1));
-    Kopecks(low + 4294967296 * high)
+    low + 4294967296 * high
+}
+
+fn charge_at(words: &[u32], i: usize) -> Kopecks
+    requires { ⌜ i < 16 ⌝ }
+    ensures { λ r. ⌜ r ≡ chargeAt (now (words .entry)) i ⌝ }
+{
+    Kopecks(wide_at(words, i))
+}
+
+fn amendment_at(words: &[u32], i: usize) -> Amendment
+    requires { ⌜ i < 16 ⌝ }
+    ensures { λ r. ⌜ r ≡ amendmentAt (now (words .entry)) i ⌝ }
+{
+    let t = Millis(word(words, i));
+    let id = word(words, i + 1);
+    let price = steps_at(words, i + 2);
+    let volume = Contracts(word(words, i + 3));
+    Amendment {
+        t,
+        id,
+        price,
+        volume,
+    }
+}
+
+fn ticket_at(words: &[u32], i: usize) -> Ticket
+    requires { ⌜ i < 8 ⌝ }
+    ensures { λ r. ⌜ r ≡ ticketAt (now (words .entry)) i ⌝ }
+{
+    let amendment = amendment_at(words, i);
+    let count = wide_at(words, i + 4);
+    Ticket { amendment, count }
 }
 
 fn side_of(w: u32) -> Side
@@ -290,6 +366,39 @@ fn open_block(month: Month, words: &[u32]) -> AfterCall
     let end = 2 + wide(word(words, 1));
     let row = &words[2..end];
     month.open(row, word(words, end), opening_at(words, end + 1))
+}
+
+// Kind 13.
+fn strike_block(month: Month, words: &[u32]) -> AfterCall
+    requires { ⌜ Reached month × (getD (now words) 0 0 ≡ 13) × (8 + getD (now words) 1 0 ≤ length (now words)) ⌝ }
+    ensures { λ r. ⌜ Answered month (callOf (now (words .entry))) (r .month) (shownAnswer (r .answer)) ⌝ }
+{
+    let end = 2 + wide(word(words, 1));
+    let row = &words[2..end];
+    let limit = word(words, end + 5);
+    month.open_strike(row, word(words, end), strike_at(words, end + 1), limit)
+}
+
+// Kind 14.
+fn ask_block(month: Month, words: &[u32]) -> AfterBlock
+    requires { ⌜ Reached month × (getD (now words) 0 0 ≡ 14) ⌝ }
+    ensures { λ r. ⌜ Performed month (callOf (now (words .entry))) (r .month) (r .shown) ⌝ }
+{
+    let a = amendment_at(words, 1);
+    let asked = month.ask(a.t, a.id, a.price, a.volume);
+    let month = asked.month;
+    let answer = asked.answer;
+    let shown = show_asked(answer);
+    AfterBlock { month, shown }
+}
+
+// Kind 15.
+fn commit_block(month: Month, words: &[u32]) -> AfterCall
+    requires { ⌜ Reached month × (getD (now words) 0 0 ≡ 15) ⌝ }
+    ensures { λ r. ⌜ Answered month (callOf (now (words .entry))) (r .month) (shownAnswer (r .answer)) ⌝ }
+{
+    let a = amendment_at(words, 1);
+    month.commit(a.t, a.id, a.price, a.volume, ticket_at(words, 5))
 }
 
 fn is_event(kind: u32) -> bool
@@ -418,6 +527,15 @@ fn perform(month: Month, words: &[u32]) -> AfterBlock
     }
     if kind == 1 {
         return tell(open_block(month, words));
+    }
+    if kind == 13 {
+        return tell(strike_block(month, words));
+    }
+    if kind == 14 {
+        return ask_block(month, words);
+    }
+    if kind == 15 {
+        return tell(commit_block(month, words));
     }
     tell(office_block(month, words))
 }

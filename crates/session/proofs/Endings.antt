@@ -11,6 +11,7 @@ use borrow.Author.Tests.{lt-ltb, le-ltb, eq-eqb, ne-eqb, ltb-false}
 use Rattle.rules.specs.declared.Millis.{Millis}
 use Rattle.rules.specs.declared.Steps.{Steps}
 use Rattle.rules.specs.declared.Row.{Row}
+use Rattle.rules.specs.declared.Spread.the-variants.{Settled}
 use Rattle.rules.specs.declared.Refusal.{Refusal}
 use Rattle.rules.specs.declared.Refusal.the-variants.{ArgumentOutOfRange, BufferShort}
 use Rattle.rules.specs.declared.SessionAnswer.{SessionAnswer}
@@ -132,7 +133,7 @@ bytes-whole limit head bytes h = rw (eq-eqb (length head) 32 h) refl
 
 -- ---- the row and the quantum's opening
 
-module _ (limit : ℕ) (words : List ℕ) (sp : Steps) (bytes : List ℕ) (row : Row) (is : accepted row ≡ readRow paper words) where
+module _ (limit : ℕ) (words : List ℕ) (sp : Steps) (bytes : List ℕ) (row : Row) (is : accepted row ≡ readRow paper (Settled sp) words) where
   pub opens-good : goodPrice (sp .0) ≡ true → goodRow paper row ≡ true
   opens-good f =
       let (same, good, runs) = session-opens limit words sp bytes row is f in
@@ -151,7 +152,7 @@ module _ (limit : ℕ) (words : List ℕ) (sp : Steps) (bytes : List ℕ) (row :
   passed-price f entry exit =
       passed-halted (session paper limit words sp bytes) ArgumentOutOfRange 0 entry exit (session-price limit words sp bytes row is f)
 
-pub passed-row : (limit : ℕ) (words : List ℕ) (sp : Steps) (bytes : List ℕ) (f : Refusal) → refused (numberOf f) ≡ readRow paper words → (entry exit : List ℕ)
+pub passed-row : (limit : ℕ) (words : List ℕ) (sp : Steps) (bytes : List ℕ) (f : Refusal) → refused (numberOf f) ≡ readRow paper (Settled sp) words → (entry exit : List ℕ)
     → Passed (session paper limit words sp bytes) entry exit (S.Refused f 0)
 passed-row limit words sp bytes f e entry exit =
     passed-halted (session paper limit words sp bytes) f 0 entry exit (session-row limit words sp bytes (numberOf f) e)

@@ -6,11 +6,12 @@ use mathlib.Core.Path.{_≡_, refl, sym, ap, _∙_}
 use mathlib.Core.List.{List, [], _∷_, _++_}
 use mathlib.Core.Bool.{Bool, true, false}
 use lib.Dec.{ltb}
-use lib.IntN.{ℤ}
 use lib.ListN.{length, length-append}
 use borrow.Author.Tests.{ltb-true, ltb-false}
 use Rattle.rules.specs.declared.Steps.{Steps}
 use Rattle.rules.specs.declared.Row.{Row}
+use Rattle.rules.specs.declared.Spread.{Spread}
+use Rattle.rules.specs.declared.Spread.the-variants.{Settled}
 use Rattle.rules.specs.declared.Event.{Event}
 use Rattle.rules.specs.Lists.{if_then_else_, keep}
 use Rattle.rules.specs.Terms.{paper}
@@ -80,18 +81,18 @@ judged n false false false = omega arith
 -- ---- event by event
 
 -- the pairs so far cost no more than the events, and one
-abbrev Few : Row → ℤ → List Event → Type 0
+abbrev Few : Row → Spread → List Event → Type 0
 Few row sp es = costBelow (keptAt row sp es) (present es) (ordersKeep row sp (live es)) ≤ length es + 1
 
-nothing-keeps : (row : Row) (sp : ℤ) → ordersKeep row sp (live []) ≡ false
+nothing-keeps : (row : Row) (sp : Spread) → ordersKeep row sp (live []) ≡ false
 unfolding ordersKeep quotesKeep best lead keep live applyAll
 nothing-keeps row sp = refl
 
-few-none : (row : Row) (sp : ℤ) → Few row sp []
+few-none : (row : Row) (sp : Spread) → Few row sp []
 unfolding present timeFrom stretches
 few-none row sp = omega (arith, ap (costBelow (keptAt row sp []) (present [])) (nothing-keeps row sp))
 
-module _ (row : Row) (sp : ℤ) (es : List Event) (g : EventBounds row es) where
+module _ (row : Row) (sp : Spread) (es : List Event) (g : EventBounds row es) where
   -- time runs on to t
   onward : (t : ℕ) → present es ≤ t → costBelow (keptAt row sp es) t (ordersKeep row sp (live es)) ≤ costBelow (keptAt row sp es) (present es) (ordersKeep row sp (live es))
   onward t h = go (ltb (present es) t) refl
@@ -134,17 +135,17 @@ module _ (limit cell : ℕ) (row : Row) (sp : Steps) (inside : cell < 186) (k w 
   Halves place es rs = (2 * length ss ≤ length es + length rs + 1) × (place + length rs ≤ limit + 1)
 
   abbrev Counts : ℕ → List (List ℕ) → Type 0
-  Counts place rs = (es : List Event) → EventBounds row es → Few row (sp .0) es → place ≤ limit + 1 → Ran place es rs → Halves place es rs
+  Counts place rs = (es : List Event) → EventBounds row es → Few row (Settled sp) es → place ≤ limit + 1 → Ran place es rs → Halves place es rs
 
   none-left : (place : ℕ) → Counts place []
   none-left place es g few small h =
-      let same : keptStretches row (sp .0) es ≡ ss = parts (sym (runs-end limit cell row sp place es inside) ∙ h) in
-      (omega (arith, ap length same, few-end row (sp .0) es g few), omega arith)
+      let same : keptStretches row (Settled sp) es ≡ ss = parts (sym (runs-end limit cell row sp place es inside) ∙ h) in
+      (omega (arith, ap length same, few-end row (Settled sp) es g few), omega arith)
     where
       parts : {a b : ℕ} {ts : List Stretch} → whole a b ts ≡ whole k w ss → ts ≡ ss
       parts e = cc
 
-  module _ (place : ℕ) (r : List ℕ) (rs : List (List ℕ)) (further : Counts (suc place) rs) (es : List Event) (g : EventBounds row es) (few : Few row (sp .0) es)
+  module _ (place : ℕ) (r : List ℕ) (rs : List (List ℕ)) (further : Counts (suc place) rs) (es : List Event) (g : EventBounds row es) (few : Few row (Settled sp) es)
       (h : Ran place es (r ∷ rs)) where
     taken : (o : Outcome Event) → readRecord r ≡ o → place ≤ limit → refusalBy row es (readRecord r) ≡ 0 → Halves place es (r ∷ rs)
     taken (accepted e) o l z =
@@ -153,7 +154,7 @@ module _ (limit cell : ℕ) (row : Row) (sp : Steps) (inside : cell < 186) (k w 
         ap (λ (x : Outcome Event). runRecords paper limit cell (suc place) (bookWith cell row sp (followed es x)) rs) (sym o)
         ∙ sym (runs-taken limit cell row sp place es r rs l z)
         ∙ h in
-        let f = further (es ++ (e ∷ [])) (event-bounds-more row es e g passes) (few-more row (sp .0) es g e passes few) (omega arith) runs in
+        let f = further (es ++ (e ∷ [])) (event-bounds-more row es e g passes) (few-more row (Settled sp) es g e passes few) (omega arith) runs in
         (omega (arith, f .0, length-append es (e ∷ [])), omega (arith, f .1))
     taken (refused n) o l z = absurd (let a = unread r n o in let b : n ≡ 0 = sym (ap (refusalBy row es) o) ∙ z in omega arith)
 
@@ -177,7 +178,7 @@ few-pairs limit words sp bytes k w ss h =
     let cell = placeOf 1 (row .expiry) (row .quantum) in
     let (seven, good, price, runs) = session-begun limit words sp bytes k w ss h in
     let c =
-    counts limit cell row sp (cell-inside limit words sp bytes good) k w ss 1 (recordsOf bytes) [] (event-bounds-none row) (few-none row (sp .0)) (omega arith)
+    counts limit cell row sp (cell-inside limit words sp bytes good) k w ss 1 (recordsOf bytes) [] (event-bounds-none row) (few-none row (Settled sp)) (omega arith)
     runs in
     (omega (arith, c .0), omega (arith, c .1))
 

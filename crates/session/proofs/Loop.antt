@@ -10,6 +10,7 @@ use lib.Seq.{drop-drop}
 use borrow.Author.Tests.{lt-leb, ltb-true, ltb-false}
 use Rattle.rules.specs.declared.Steps.{Steps}
 use Rattle.rules.specs.declared.Row.{Row}
+use Rattle.rules.specs.declared.Spread.the-variants.{Settled}
 use Rattle.rules.specs.declared.Event.{Event}
 use Rattle.rules.specs.declared.Refusal.{Refusal}
 use Rattle.rules.specs.declared.Refusal.the-variants.{BadRecord}
@@ -99,7 +100,7 @@ module _ (limit : ℕ) (row : Row) (sp : Steps) (bytes base : List ℕ) where
   abbrev Run : ℕ → Session
   Run cell = runRecords paper limit cell 1 (bookWith cell row sp []) (recordsOf bytes)
 
-  pub going-start : (w : Walk) (table : List ℕ) → w ≡ walkAt row (sp .0) [] → table ≡ tableAfter row [] → Going limit row sp bytes base w 0 1 table base
+  pub going-start : (w : Walk) (table : List ℕ) → w ≡ walkAt row (Settled sp) [] → table ≡ tableAfter row [] → Going limit row sp bytes base w 0 1 table base
   unfolding present timeFrom stretches pairWords
   going-start w table is t =
       record {
@@ -114,11 +115,11 @@ module _ (limit : ℕ) (row : Row) (sp : Steps) (bytes base : List ℕ) where
       }
 
   module _ (w : Walk) (at place : ℕ) (table buffer : List ℕ) (g : Going limit row sp bytes base w at place table buffer) where
-    pub going-walking : (duty : Duty) (hints : List ℕ) → goodRow paper row ≡ true → duty ≡ dutyOf row (sp .0) → length hints ≡ 1024 → Walking w duty table hints
+    pub going-walking : (duty : Duty) (hints : List ℕ) → goodRow paper row ≡ true → duty ≡ dutyOf row (Settled sp) → length hints ≡ 1024 → Walking w duty table hints
     going-walking duty hints good d h =
         record {
           row = row;
-          sp = sp .0;
+          sp = Settled sp;
           events = g .events;
           good = good;
           bounds = g .bounds;
@@ -129,16 +130,16 @@ module _ (limit : ℕ) (row : Row) (sp : Steps) (bytes base : List ℕ) where
         }
 
     pub going-ending : goodRow paper row ≡ true → Ending w row
-    going-ending good = record { sp = sp .0; events = g .events; good = good; bounds = g .bounds; is = g .is }
+    going-ending good = record { sp = Settled sp; events = g .events; good = good; bounds = g .bounds; is = g .is }
 
     -- no record is left
     pub going-end : (r : SessionAnswer) (exit : List ℕ) → length bytes ≤ at → Ends w row r buffer exit
         → (cell : ℕ) → cell < 186 → Passed (Run cell) base exit r
     going-end r exit l ends cell c =
-        let e = ends (sp .0) (g .events) base (g .bounds) (g .is) (g .holds) in
+        let e = ends (Settled sp) (g .events) base (g .bounds) (g .is) (g .holds) in
         let none : recordsOf (drop at bytes) ≡ [] = records-none (drop at bytes) (omega (arith, length-drop at bytes)) in
         let run = g .runs cell ∙ ap (runRecords paper limit cell place (bookWith cell row sp (g .events))) none ∙ runs-end limit cell row sp place (g .events) c in
-        passed-whole (Run cell) _ _ (keptStretches row (sp .0) (g .events)) base exit r run (e .0) (e .1)
+        passed-whole (Run cell) _ _ (keptStretches row (Settled sp) (g .events)) base exit r run (e .0) (e .1)
 
     -- a record is there
     module _ (l : at < length bytes) where
@@ -174,13 +175,13 @@ module _ (limit : ℕ) (row : Row) (sp : Steps) (bytes base : List ℕ) where
           go false e =
               stops exit BadRecord 14 refl (ltb-false limit place e) (ap (refusalBy row (g .events)) (short-record (take 20 (drop at bytes)) few)) cell
 
-      module _ (p : place ≤ limit) (duty : Duty) (d : duty ≡ dutyOf row (sp .0)) (r : Stepped) (next exit : List ℕ) (part : List ℕ) (cut : part ≡ take 20 (drop at bytes))
+      module _ (p : place ≤ limit) (duty : Duty) (d : duty ≡ dutyOf row (Settled sp)) (r : Stepped) (next exit : List ℕ) (part : List ℕ) (cut : part ≡ take 20 (drop at bytes))
           (adv : Advanced w duty (readRecord part) r table next buffer exit) where
-        stood : Walked row (sp .0) (g .events) w duty table
+        stood : Walked row (Settled sp) (g .events) w duty table
         stood = record { bounds = g .bounds; is = g .is; duty-is = d; table-is = g .table-is }
 
         judged : r .refusal ≡ refusalBy row (g .events) (readRecord (take 20 (drop at bytes)))
-        judged = adv .number row (sp .0) (g .events) stood ∙ ap (λ (l : List ℕ). refusalBy row (g .events) (readRecord l)) cut
+        judged = adv .number row (Settled sp) (g .events) stood ∙ ap (λ (l : List ℕ). refusalBy row (g .events) (readRecord l)) cut
 
         pub going-numbered : 0 < r .refusal → (8 ≤ r .refusal) × (r .refusal ≤ 15)
         going-numbered h =
@@ -200,15 +201,15 @@ module _ (limit : ℕ) (row : Row) (sp : Steps) (bytes base : List ℕ) where
             let zero : refusalBy row (g .events) o ≡ 0 = omega (arith, judged, e) in
             let same = ap readRecord cut in
             let zero′ : refusalBy row (g .events) (readRecord part) ≡ 0 = ap (refusalBy row (g .events)) same ∙ zero in
-            let (walk, held) = adv .walk row (sp .0) (g .events) base stood (g .holds) zero′ in
+            let (walk, held) = adv .walk row (Settled sp) (g .events) base stood (g .holds) zero′ in
             let more = ap (followed (g .events)) same in
             let rest : drop 20 (drop at bytes) ≡ drop (at + 20) bytes = drop-drop 20 at bytes in
             record {
               events = followed (g .events) o;
               bounds = followed-bounds row (g .events) o (g .bounds) zero;
-              is = walk ∙ ap (walkAt row (sp .0)) more;
-              table-is = adv .orders row (sp .0) (g .events) stood zero′ ∙ ap (tableAfter row) more;
-              holds = subst (λ (es : List Event). Holds base (pairsOf row (sp .0) es) exit) more held;
+              is = walk ∙ ap (walkAt row (Settled sp)) more;
+              table-is = adv .orders row (Settled sp) (g .events) stood zero′ ∙ ap (tableAfter row) more;
+              holds = subst (λ (es : List Event). Holds base (pairsOf row (Settled sp) es) exit) more held;
               inside = room;
               small = omega arith;
               runs = λ cell.

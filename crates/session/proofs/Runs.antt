@@ -12,24 +12,25 @@ use lib.Seq.{drop-drop, getD-set-same}
 use borrow.Author.Tests.{lt-ltb, le-ltb, leb-true, leb-false, eqb-true}
 use Rattle.rules.specs.declared.Steps.{Steps}
 use Rattle.rules.specs.declared.Row.{Row}
+use Rattle.rules.specs.declared.Spread.the-variants.{Settled}
 use Rattle.rules.specs.declared.Cell.{Cell}
 use Rattle.rules.specs.declared.Event.{Event}
 use Rattle.rules.specs.Lists.{below}
 use Rattle.rules.specs.Terms.{paper}
 use Rattle.rules.specs.Units.{kopecks, goodPrice, goodCharge}
-use Rattle.rules.specs.Rows.{rowOf, goodRow}
+use Rattle.rules.specs.Rows.{rowOf, goodRow, goodRowFor}
 use Rattle.rules.specs.Cells.{blankCell, blankCells, placeOf, cellAt}
 use Rattle.rules.specs.Kept.{keptBelow}
 use Rattle.rules.specs.Lapses.{noLimit, lapsesBelow, goodLimit, withinLimit}
 use Rattle.rules.specs.Pay.{met, weightBy, weight, cellWeight}
 use Rattle.rules.specs.Stretches.{Stretch, keptStretches}
 use Rattle.rules.specs.Answers.{Outcome, accepted, refused, outcomeBy}
-use Rattle.rules.specs.Book.{Open, Send, Close, Book, freshBook, isOpen, Cause, lowest, cause, causes, eventRefusal, readRow, refusalOf, closedCell, changed, step}
+use Rattle.rules.specs.Book.{Open, Send, Close, Quoting, Book, freshBook, isOpen, Cause, lowest, cause, causes, eventRefusal, readRow, refusalOf, closedCell, following, changed, step}
 use Rattle.rules.specs.Records.{readRecord}
 use Rattle.rules.specs.Session.{Session, whole, halted, withoutLimit, unless, recordsOf, readRefusal, recordRefusal, readStep, closing, runRecords, session}
 use Rattle.rules.proofs.Refusals.{stop, call-passes, passes-call, step-accepted, OpenPasses}
 use Rattle.rules.proofs.Bounds.{row-bounds, place-small}
-use Rattle.session.specs.Walks.{bookWith, refusalBy, followed}
+use Rattle.session.specs.Walks.{countFrom, bookWith, refusalBy, followed}
 
 -- ---- the records of some bytes, from the first on
 
@@ -84,6 +85,11 @@ no-limit : (b : Bool) (lapses : ℕ) → b && withinLimit noLimit lapses ≡ b
 unfolding withinLimit
 no-limit b lapses = and-true b
 
+-- an accepted event is counted
+count-snoc : (n : ℕ) (es : List Event) (e : Event) → following (countFrom n es) ≡ countFrom n (es ++ (e ∷ []))
+count-snoc n [] e = refl
+count-snoc n (x ∷ es) e = count-snoc (following n) es e
+
 -- ---- a record
 
 module _ (limit cell : ℕ) (row : Row) (sp : Steps) where
@@ -94,7 +100,9 @@ module _ (limit cell : ℕ) (row : Row) (sp : Steps) where
   pub step-send : (es : List Event) (e : Event) → eventRefusal row es e ≡ 0
       → step paper (bookWith cell row sp es) (Send e) ≡ bookWith cell row sp (es ++ (e ∷ []))
   unfolding changed
-  step-send es e h = step-accepted paper (bookWith cell row sp es) (Send e) (send-refusal es e ∙ h)
+  step-send es e h =
+      step-accepted paper (bookWith cell row sp es) (Send e) (send-refusal es e ∙ h)
+      ∙ ap (λ (n : ℕ). record { running = Quoting cell row (withoutLimit sp) (es ++ (e ∷ [])); cells = blankCells; count = n }) (count-snoc (following 0) es e)
 
   read-refusal : (es : List Event) (o : Outcome Event) → readRefusal paper o (bookWith cell row sp es) ≡ refusalBy row es o
   read-refusal es (refused n) = refl
@@ -142,20 +150,20 @@ module _ (limit cell : ℕ) (row : Row) (sp : Steps) where
   -- the cell's weight is the share's
   pub closed-weight : (es : List Event)
       → cellWeight paper (closedCell row (withoutLimit sp) es (kopecks 0) (kopecks 0))
-      ≡ weight paper (keptBelow row (sp .0) es (row .length .0)) (row .length .0) (row .share)
+      ≡ weight paper (keptBelow row (Settled sp) es (row .length .0)) (row .length .0) (row .share)
   unfolding weight
   closed-weight es =
-      let kept = keptBelow row (sp .0) es (row .length .0) in
+      let kept = keptBelow row (Settled sp) es (row .length .0) in
       ap (λ (b : Bool). weightBy paper b kept (row .length .0) (row .share))
-      (no-limit (met paper kept (row .length .0) (row .share)) (lapsesBelow row (sp .0) es (row .length .0)))
+      (no-limit (met paper kept (row .length .0) (row .share)) (lapsesBelow row (Settled sp) es (row .length .0)))
 
   pub runs-end : (place : ℕ) (es : List Event) → cell < 186
       → runRecords paper limit cell place (bookWith cell row sp es) []
-      ≡ whole (keptBelow row (sp .0) es (row .length .0)) (weight paper (keptBelow row (sp .0) es (row .length .0)) (row .length .0) (row .share)) (keptStretches row (sp .0) es)
+      ≡ whole (keptBelow row (Settled sp) es (row .length .0)) (weight paper (keptBelow row (Settled sp) es (row .length .0)) (row .length .0) (row .share)) (keptStretches row (Settled sp) es)
   unfolding runRecords closing
   runs-end place es l =
       rw (closed-cell es l)
-      (ap (λ (w : ℕ). whole (keptBelow row (sp .0) es (row .length .0)) w (keptStretches row (sp .0) es)) (closed-weight es))
+      (ap (λ (w : ℕ). whole (keptBelow row (Settled sp) es (row .length .0)) w (keptStretches row (Settled sp) es)) (closed-weight es))
 
 -- ---- the start
 
@@ -179,14 +187,14 @@ module _ (limit : ℕ) (words : List ℕ) (sp : Steps) (bytes : List ℕ) where
   unfolding session
   session-stops n e = rw e refl
 
-  pub session-row : (n : ℕ) → refused n ≡ readRow paper words → session paper limit words sp bytes ≡ halted n 0
-  unfolding readRow refusalOf causes
+  pub session-row : (n : ℕ) → refused n ≡ readRow paper (Settled sp) words → session paper limit words sp bytes ≡ halted n 0
+  unfolding readRow refusalOf causes goodRowFor
   session-row n e =
       let (m, is, by) = first-refused (eqb (length words) 7) (goodRow paper (rowOf words)) _ (rowOf words) n e in
       session-stops m by ∙ ap (λ (k : ℕ). halted k 0) (sym is)
 
-  pub session-price : (row : Row) → accepted row ≡ readRow paper words → goodPrice (sp .0) ≡ false → session paper limit words sp bytes ≡ halted 3 0
-  unfolding readRow refusalOf causes
+  pub session-price : (row : Row) → accepted row ≡ readRow paper (Settled sp) words → goodPrice (sp .0) ≡ false → session paper limit words sp bytes ≡ halted 3 0
+  unfolding readRow refusalOf causes goodRowFor
   session-price row e f =
       let (a, b, is, by) = first-accepted (eqb (length words) 7) (goodRow paper (rowOf words)) _ (rowOf words) row e in
       session-stops 2 (by ∙ stop 3 _ (ap not f))
@@ -207,6 +215,7 @@ module _ (limit : ℕ) (words : List ℕ) (sp : Steps) (bytes : List ℕ) where
   cellOf = placeOf 1 (rowOf words .expiry) (rowOf words .quantum)
 
   open-passes : length words ≡ 7 → goodRow paper (rowOf words) ≡ true → goodPrice (sp .0) ≡ true → OpenPasses paper freshBook words 1 (withoutLimit sp)
+  unfolding goodRowFor
   open-passes l g f =
       let r = row-bounds paper (rowOf words) g in
       record {
@@ -217,6 +226,7 @@ module _ (limit : ℕ) (words : List ℕ) (sp : Steps) (bytes : List ℕ) where
         blank = blank-cell cellOf (place-small 1 (rowOf words .expiry) (rowOf words .quantum) (omega arith) (r .expiry-most) (r .quantum-most));
         idle = idle;
         limit-good = none-good;
+        spread-good = refl;
       }
 
   opened : step paper freshBook (Open words 1 (withoutLimit sp)) ≡ bookWith cellOf (rowOf words) sp []
@@ -234,10 +244,10 @@ module _ (limit : ℕ) (words : List ℕ) (sp : Steps) (bytes : List ℕ) where
   open-accepted l g f =
       step-accepted paper freshBook (Open words 1 (withoutLimit sp)) (passes-call paper freshBook (Open words 1 (withoutLimit sp)) (open-passes l g f)) ∙ changed-open
 
-  pub session-opens : (row : Row) → accepted row ≡ readRow paper words → goodPrice (sp .0) ≡ true
+  pub session-opens : (row : Row) → accepted row ≡ readRow paper (Settled sp) words → goodPrice (sp .0) ≡ true
       → (row ≡ rowOf words) × (goodRow paper (rowOf words) ≡ true)
       × (session paper limit words sp bytes ≡ runRecords paper limit cellOf 1 (bookWith cellOf (rowOf words) sp []) (recordsOf bytes))
-  unfolding readRow
+  unfolding readRow goodRowFor
   session-opens row e f =
       let (a, b, is, by) = first-accepted (eqb (length words) 7) (goodRow paper (rowOf words)) [] (rowOf words) row e in
       let zero = passes-call paper freshBook (Open words 1 (withoutLimit sp)) (open-passes (eqb-true (length words) 7 a) b f) in
@@ -256,7 +266,7 @@ module _ (limit : ℕ) (words : List ℕ) (sp : Steps) (bytes : List ℕ) where
   pub session-begun : (k w : ℕ) (ss : List Stretch) → session paper limit words sp bytes ≡ whole k w ss
       → (length words ≡ 7) × (goodRow paper (rowOf words) ≡ true) × (goodPrice (sp .0) ≡ true)
       × (runRecords paper limit cellOf 1 (bookWith cellOf (rowOf words) sp []) (recordsOf bytes) ≡ whole k w ss)
-  unfolding session
+  unfolding session goodRowFor
   session-begun k w ss e =
       let (none, next) = unless-whole (refusalOf paper freshBook (Open words 1 (withoutLimit sp))) 0 _ k w ss e in
       let p = call-passes paper freshBook (Open words 1 (withoutLimit sp)) none in

@@ -5,10 +5,10 @@ use mathlib.Core.Path.{_≡_, refl, sym, ap, _∙_, subst}
 use mathlib.Core.List.{List, [], _∷_, _++_}
 use mathlib.Core.Bool.{Bool, true, false}
 use lib.Dec.{eqb}
-use lib.IntN.{ℤ}
 use lib.ListN.{length}
 use Rattle.rules.specs.declared.Millis.{Millis}
 use Rattle.rules.specs.declared.Row.{Row}
+use Rattle.rules.specs.declared.Spread.{Spread}
 use Rattle.rules.specs.declared.Event.{Event}
 use Rattle.rules.specs.Lists.{if_then_else_}
 use Rattle.rules.specs.Terms.{paper}
@@ -38,7 +38,7 @@ use Rattle.session.proofs.Pairs.{marks-ext, pairs-are, pairs-few, start
 
 -- ---- the fields
 
-module _ (row : Row) (sp : ℤ) (es : List Event) (w : Walk) (is : w ≡ walkAt row sp es) where
+module _ (row : Row) (sp : Spread) (es : List Event) (w : Walk) (is : w ≡ walkAt row sp es) where
   pub clock-is : w .clock ≡ clockOf row sp es
   unfolding walkAt
   clock-is = ap (λ (x : Walk). x .clock) is
@@ -122,7 +122,7 @@ module _ (row : Row) (sp : ℤ) (es : List Event) (w : Walk) (is : w ≡ walkAt 
 
 -- ---- opening
 
-pub begins : (row : Row) (sp : ℤ) (clock : Clock) → clock ≡ clockOf row sp []
+pub begins : (row : Row) (sp : Spread) (clock : Clock) → clock ≡ clockOf row sp []
     → _≡_ {A = Walk} (record { clock = clock; marks = record { pairs = 0; start = 0 } }) (walkAt row sp [])
 unfolding walkAt marksAt present timeFrom stretches lastOffset
 begins row sp clock is = ap (λ (x : Clock). record { clock = x; marks = record { pairs = 0; start = 0 } }) is
@@ -143,7 +143,7 @@ running w duty table hints h =
       hinted = h .hinted;
     }
 
-stands : (row : Row) (sp : ℤ) (es : List Event) (w : Walk) (duty : Duty) (table : List ℕ) → Walked row sp es w duty table → Stands row sp es duty (w .clock) table
+stands : (row : Row) (sp : Spread) (es : List Event) (w : Walk) (duty : Duty) (table : List ℕ) → Walked row sp es w duty table → Stands row sp es duty (w .clock) table
 stands row sp es w duty table h =
     record { bounds = h .bounds; duty-is = h .duty-is; clock-is = clock-is row sp es w (h .is); table-is = h .table-is }
 
@@ -151,7 +151,7 @@ abbrev pub walked : (w : Walk) (duty : Duty) (table hints : List ℕ) (h : Walki
 walked w duty table hints h = record { bounds = h .bounds; is = h .is; duty-is = h .duty-is; table-is = h .table-is }
 
 module _ (w : Walk) (duty : Duty) (e : Event) (table next : List ℕ) (stepped : SteppedOn) (steps : Stepping duty (w .clock) e table next stepped) where
-  number-is : (row : Row) (sp : ℤ) (es : List Event) → Walked row sp es w duty table → stepped .refusal ≡ eventRefusal row es e
+  number-is : (row : Row) (sp : Spread) (es : List Event) → Walked row sp es w duty table → stepped .refusal ≡ eventRefusal row es e
   number-is row sp es h = steps .number row sp es (stands row sp es w duty table h)
 
   pub advanced-refused : (entry exit : List ℕ) → 0 < stepped .refusal
@@ -164,10 +164,10 @@ module _ (w : Walk) (duty : Duty) (e : Event) (table next : List ℕ) (stepped :
       }
 
   module _ (l : stepped .refusal ≤ 0) where
-    passes : (row : Row) (sp : ℤ) (es : List Event) → Walked row sp es w duty table → eventRefusal row es e ≡ 0
+    passes : (row : Row) (sp : Spread) (es : List Event) → Walked row sp es w duty table → eventRefusal row es e ≡ 0
     passes row sp es h = omega (arith, number-is row sp es h)
 
-    next-is : (row : Row) (sp : ℤ) (es : List Event) → Walked row sp es w duty table → stepped .clock ≡ clockOf row sp (es ++ (e ∷ []))
+    next-is : (row : Row) (sp : Spread) (es : List Event) → Walked row sp es w duty table → stepped .clock ≡ clockOf row sp (es ++ (e ∷ []))
     next-is row sp es h =
         steps .clock-after row sp es (stands row sp es w duty table h) ∙ ap (λ (n : ℕ). clockOf row sp (taken n es e)) (passes row sp es h)
 
@@ -200,7 +200,7 @@ advanced-unread w duty o table next entry exit n e =
       walk = λ row sp es base h b z. absurd (omega (arith, z));
     })
 
-module _ (row : Row) (sp : ℤ) (es : List Event) (w : Walk) (is : w ≡ walkAt row sp es) (g : EventBounds row es) where
+module _ (row : Row) (sp : Spread) (es : List Event) (w : Walk) (is : w ≡ walkAt row sp es) (g : EventBounds row es) where
   pub may-end : Onward (w .clock) (row .length)
   may-end =
       onward row sp es (w .clock) (clock-is row sp es w is) (row .length) (omega (arith, from-is row sp es w is, g .ends))

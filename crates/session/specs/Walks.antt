@@ -5,11 +5,12 @@ use mathlib.Core.Path.{_≡_}
 use mathlib.Core.List.{List, [], _∷_, _++_}
 use mathlib.Core.Bool.{Bool, true}
 use lib.Dec.{leb, eqb}
-use lib.IntN.{ℤ}
 use lib.ListN.{length, drop, set}
 use Rattle.rules.specs.declared.Millis.{Millis}
 use Rattle.rules.specs.declared.Steps.{Steps}
 use Rattle.rules.specs.declared.Row.{Row}
+use Rattle.rules.specs.declared.Spread.{Spread}
+use Rattle.rules.specs.declared.Spread.the-variants.{Settled}
 use Rattle.rules.specs.declared.Event.{Event}
 use Rattle.rules.specs.declared.SessionAnswer.{SessionAnswer}
 use Rattle.rules.specs.declared.SessionAnswer.the-variants as S
@@ -23,7 +24,7 @@ use Rattle.rules.specs.Stretches.{Stretch, stretches, keptStretches, pairWords}
 use Rattle.rules.specs.Runs.{before}
 use Rattle.rules.specs.Pay.{weight}
 use Rattle.rules.specs.Answers.{Outcome, accepted, refused, Ran, finished, stopped, shownSession}
-use Rattle.rules.specs.Book.{Quoting, Book, eventRefusal}
+use Rattle.rules.specs.Book.{Quoting, Book, eventRefusal, following}
 use Rattle.rules.specs.Bounds.{EventBounds}
 use Rattle.rules.specs.Session.{Session, whole, halted, recordsOf, withoutLimit, runRecords}
 use Rattle.quantum.specs.declared.Duty.{Duty}
@@ -73,10 +74,10 @@ Grows m from to keeps reaches r entry exit =
 
 -- ---- a run so far
 
-unfoldable pub walkAt : Row → ℤ → List Event → Walk
+unfoldable pub walkAt : Row → Spread → List Event → Walk
 walkAt row sp es = record { clock = clockOf row sp es; marks = marksAt (keptAt row sp es) (present es) }
 
-abbrev pub pairsOf : Row → ℤ → List Event → List Stretch
+abbrev pub pairsOf : Row → Spread → List Event → List Stretch
 pairsOf row sp es = stretches (keptAt row sp es) (present es)
 
 -- what a record says: the number that refuses it, and the events with it
@@ -91,7 +92,7 @@ followed es (accepted e) = es ++ (e ∷ [])
 -- a run that some accepted events led to, with the table of their live orders
 pub record Walking (w : Walk) (duty : Duty) (table hints : List ℕ) : Type 0 where
   pub row : Row
-  pub sp : ℤ
+  pub sp : Spread
   pub events : List Event
   pub good : goodRow paper row ≡ true
   pub bounds : EventBounds row events
@@ -101,7 +102,7 @@ pub record Walking (w : Walk) (duty : Duty) (table hints : List ℕ) : Type 0 wh
   pub hinted : length hints ≡ 1024
 
 -- they stand for these events
-pub record Walked (row : Row) (sp : ℤ) (es : List Event) (w : Walk) (duty : Duty) (table : List ℕ) : Type 0 where
+pub record Walked (row : Row) (sp : Spread) (es : List Event) (w : Walk) (duty : Duty) (table : List ℕ) : Type 0 where
   pub bounds : EventBounds row es
   pub is : w ≡ walkAt row sp es
   pub duty-is : duty ≡ dutyOf row sp
@@ -109,14 +110,14 @@ pub record Walked (row : Row) (sp : ℤ) (es : List Event) (w : Walk) (duty : Du
 
 -- what a record promises
 pub record Advanced (w : Walk) (duty : Duty) (o : Outcome Event) (r : Stepped) (table next entry exit : List ℕ) : Type 0 where
-  pub number : (row : Row) (sp : ℤ) (es : List Event) → Walked row sp es w duty table → r .refusal ≡ refusalBy row es o
-  pub orders : (row : Row) (sp : ℤ) (es : List Event) → Walked row sp es w duty table → refusalBy row es o ≡ 0 → next ≡ tableAfter row (followed es o)
-  pub walk : (row : Row) (sp : ℤ) (es : List Event) (base : List ℕ) → Walked row sp es w duty table → Holds base (pairsOf row sp es) entry
+  pub number : (row : Row) (sp : Spread) (es : List Event) → Walked row sp es w duty table → r .refusal ≡ refusalBy row es o
+  pub orders : (row : Row) (sp : Spread) (es : List Event) → Walked row sp es w duty table → refusalBy row es o ≡ 0 → next ≡ tableAfter row (followed es o)
+  pub walk : (row : Row) (sp : Spread) (es : List Event) (base : List ℕ) → Walked row sp es w duty table → Holds base (pairsOf row sp es) entry
       → refusalBy row es o ≡ 0 → (r .walk ≡ walkAt row sp (followed es o)) × Holds base (pairsOf row sp (followed es o)) exit
 
 -- a run at its last record, of that row
 pub record Ending (w : Walk) (row : Row) : Type 0 where
-  pub sp : ℤ
+  pub sp : Spread
   pub events : List Event
   pub good : goodRow paper row ≡ true
   pub bounds : EventBounds row events
@@ -125,15 +126,21 @@ pub record Ending (w : Walk) (row : Row) : Type 0 where
 -- what the end promises
 abbrev pub Ends : Walk → Row → SessionAnswer → List ℕ → List ℕ → Type 0
 Ends w row r entry exit =
-    (sp : ℤ) (es : List Event) (base : List ℕ) → EventBounds row es → w ≡ walkAt row sp es → Holds base (pairsOf row sp es) entry
+    (sp : Spread) (es : List Event) (base : List ℕ) → EventBounds row es → w ≡ walkAt row sp es → Holds base (pairsOf row sp es) entry
     → (shownSession r ≡ finished (keptBelow row sp es (row .length .0)) (weight paper (keptBelow row sp es (row .length .0)) (row .length .0) (row .share)) (length (keptStretches row sp es)))
     × Holds base (keptStretches row sp es) exit
 
 -- ---- a whole pass
 
+-- the count of accepted calls, from n on, when these events are accepted
+abbrev pub countFrom : ℕ → List Event → ℕ
+countFrom n [] = n
+countFrom n (e ∷ es) = countFrom (following n) es
+
 -- the book with an open quantum of a fresh month
 abbrev pub bookWith : ℕ → Row → Steps → List Event → Book
-bookWith cell row sp es = record { running = Quoting cell row (withoutLimit sp) es; cells = blankCells }
+bookWith cell row sp es =
+    record { running = Quoting cell row (withoutLimit sp) es; cells = blankCells; count = countFrom (following 0) es }
 
 -- K, w and the number of pairs, or the refusal and its place, whatever the buffer
 unfoldable pub counted : Session → Ran
@@ -144,9 +151,9 @@ counted (halted number place) = stopped number place
 pub record Going (limit : ℕ) (row : Row) (sp : Steps) (bytes base : List ℕ) (w : Walk) (at place : ℕ) (table buffer : List ℕ) : Type 0 where
   pub events : List Event
   pub bounds : EventBounds row events
-  pub is : w ≡ walkAt row (sp .0) events
+  pub is : w ≡ walkAt row (Settled sp) events
   pub table-is : table ≡ tableAfter row events
-  pub holds : Holds base (pairsOf row (sp .0) events) buffer
+  pub holds : Holds base (pairsOf row (Settled sp) events) buffer
   pub inside : at ≤ length bytes
   pub small : place ≤ limit + 1
   pub runs : (cell : ℕ)

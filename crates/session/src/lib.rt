@@ -3,9 +3,9 @@ ghost use mathlib.Core.Path.{_≡_};
 ghost use Prim.Native.Nat.{ℕ, _+_, _*_, _-_, _≤_, _<_};
 ghost use mathlib.Core.Bool.{true};
 ghost use mathlib.Core.List.{[]};
-ghost use lib.IntN.{ℤ};
 ghost use lib.ListN.{length};
 ghost use Rattle.rules.specs.declared.Row.{Row};
+ghost use Rattle.rules.specs.declared.Spread.{Spread};
 ghost use Rattle.rules.specs.Terms.{paper};
 ghost use Rattle.rules.specs.Rows.{goodRow};
 ghost use Rattle.rules.specs.Answers.{accepted, shownSession};
@@ -21,6 +21,7 @@ use rules::Refusal;
 use rules::Row;
 use rules::RowRead;
 use rules::SessionAnswer;
+use rules::Spread;
 use rules::Steps;
 
 // The pairs so far: how many, and where the last one starts. The clock says whether it reaches the present.
@@ -172,7 +173,7 @@ fn finish(walk: Walk, row: Row, buffer: &mut [u32]) -> SessionAnswer
 
 // A quantum opens, and no pair is there.
 fn begin() -> Walk
-    ensures { λ r. ⌜ ((row : Row) (sp : ℤ) → r ≡ walkAt row sp []) ⌝ }
+    ensures { λ r. ⌜ ((row : Row) (sp : Spread) → r ≡ walkAt row sp []) ⌝ }
 {
     Walk {
         clock: quantum::started(),
@@ -185,7 +186,7 @@ fn walked(limit: u32, row: Row, sp: Steps, records: &[u8], buffer: &mut [u32]) -
     requires { ⌜ (limit ≤ 4000000) × (goodRow paper row ≡ true) ⌝ }
     ensures { λ r. ⌜ ((cell : ℕ) → cell < 186 → Passed (runRecords paper limit cell 1 (bookWith cell row sp []) (recordsOf (now (records .entry)))) (now (buffer .entry)) (now (buffer .exit)) r) ⌝ }
 {
-    let duty = quantum::duty_of(row, sp);
+    let duty = quantum::duty_of(row, Spread::Settled(sp));
     let mut table = book::empty();
     let mut hints = [0u8; 1024];
     let mut walk = begin();
@@ -232,7 +233,7 @@ fn pass(limit: u32, row: &[u32], sp: Steps, records: &[u8], buffer: &mut [u32]) 
     requires { ⌜ limit ≤ 4000000 ⌝ }
     ensures { λ r. ⌜ Passed (session paper limit (now (row .entry)) sp (now (records .entry))) (now (buffer .entry)) (now (buffer .exit)) r ⌝ }
 {
-    let read = row::read(row);
+    let read = row::read(row, Spread::Settled(sp));
     match read {
         RowRead::Refused(refusal) => SessionAnswer::Refused { refusal, place: 0 },
         RowRead::Read(good) => {

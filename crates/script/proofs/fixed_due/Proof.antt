@@ -46,7 +46,15 @@ unfolding fixedDue
 returns-10 c = ap fixedDue (sym (c .if10 .taken))
 
 returns-11 : tie.Need-returns-11
-returns-11 c = other-kind (c .before .before .before .before .before .before .before .before .before .before .args .kind) (c .before .before .before .before .before .before .before .before .before .if1 .left) (c .before .before .before .before .before .before .before .before .if2 .left) (c .before .before .before .before .before .before .before .if3 .left) (c .before .before .before .before .before .before .if4 .left) (c .before .before .before .before .before .if5 .left) (c .before .before .before .before .if6 .left) (c .before .before .before .if7 .left) (c .before .before .if8 .left) (c .before .if9 .left) (c .if10 .left)
+unfolding fixedDue
+returns-11 c = ap fixedDue (sym (c .if11 .taken))
+
+returns-12 : tie.Need-returns-12
+unfolding fixedDue
+returns-12 c = ap fixedDue (sym (c .if12 .taken))
+
+returns-13 : tie.Need-returns-13
+returns-13 c = other-kind (c .before .before .before .before .before .before .before .before .before .before .before .before .args .kind) (c .before .before .before .before .before .before .before .before .before .before .before .if1 .left) (c .before .before .before .before .before .before .before .before .before .before .if2 .left) (c .before .before .before .before .before .before .before .before .before .if3 .left) (c .before .before .before .before .before .before .before .before .if4 .left) (c .before .before .before .before .before .before .before .if5 .left) (c .before .before .before .before .before .before .if6 .left) (c .before .before .before .before .before .if7 .left) (c .before .before .before .before .if8 .left) (c .before .before .before .if9 .left) (c .before .before .if10 .left) (c .before .if11 .left) (c .if12 .left)
 
 pub fixed-due-spec : {M : Type 1} → statement M
 fixed-due-spec =
@@ -62,4 +70,6 @@ fixed-due-spec =
     returns-8
     returns-9
     returns-10
-    returns-11)
+    returns-11
+    returns-12
+    returns-13)

@@ -6,6 +6,8 @@ use mathlib.Core.Path.{_≡_, refl, sym}
 use lib.ListN.{length}
 use borrow.Author.Needs.{needs}
 use Rattle.rules.specs.declared.Steps.{Steps}
+use Rattle.rules.specs.declared.Spread.the-variants.{Settled}
+use Rattle.rules.specs.Rows.{goodRowFor}
 use Rattle.quantum.specs.Standing.{dutyOf}
 use Rattle.session.specs.Walks.{Going}
 use Rattle.session.proofs.Loop.{going-start, going-walking, going-ending, going-end, going-past, going-short, going-numbered, going-refused, going-on, part-is, none-live}
@@ -14,13 +16,14 @@ use Rattle.session.proofs.walked.Tie as tie
 
 abbrev Inv-loop : tie.InvT-loop
 Inv-loop limit row records buffer₀ duty table₀ hints₀ walk₀ at₀ place₀ full buffer table hints walk at place = (at + 20 ≡ 20 * place) × (at ≤ full) × (full ≤ length records) × (length records < full + 20) × (place ≤ limit + 1) × (length buffer ≡ length buffer₀) × (length table ≡ 512) × (length hints ≡ 1024)
-    × ((sp : Steps) → duty ≡ dutyOf row (sp .0) → Going limit row sp records buffer₀ walk at place table buffer)
+    × ((sp : Steps) → duty ≡ dutyOf row (Settled sp) → Going limit row sp records buffer₀ walk at place table buffer)
 
 abbrev μ-loop : tie.MeasureT-loop
 μ-loop limit row records buffer₀ duty table₀ hints₀ walk₀ at₀ place₀ full buffer table hints walk at place = length records - at
 
 duty-of-requires : tie.Need-duty-of-requires Inv-loop μ-loop
-duty-of-requires c κs = c .before .before .pre .1
+unfolding goodRowFor
+duty-of-requires c κs = (c .before .before .pre .1, refl)
 
 empty-requires : tie.Need-empty-requires Inv-loop μ-loop
 empty-requires c κs = search needs
@@ -43,7 +46,7 @@ loop-holds c =
       search needs,
       refl,
       λ sp is.
-          going-start (s .args .limit) (s .args .row) sp (s .args .records .now) (s .args .buffer .now) (c .begin .result) (c .before .empty .result) (c .begin .ensures (s .args .row) (sp .0))
+          going-start (s .args .limit) (s .args .row) sp (s .args .records .now) (s .args .buffer .now) (c .begin .result) (c .before .empty .result) (c .begin .ensures (s .args .row) (Settled sp))
           (none-live (s .args .row) (c .before .empty .result) (c .before .empty .ensures (s .args .row .least .0))),
     )
 
@@ -147,7 +150,7 @@ loop-again c =
     let few : l .loop .place ≤ s .args .limit = omega (arith, k .before .before .before .before .before .if1 .left) in
     let cut = part-is (s .args .records .now) (l .loop .at) in
     let whole : l .loop .at + 20 ≤ length (s .args .records .now) / 20 * 20 = omega (arith, l .loop .inv .0, i .loop-test .taken) in
-    let next : (sp : Steps) → d .result ≡ dutyOf (s .args .row) (sp .0) → Going (s .args .limit) (s .args .row) sp (s .args .records .now) (s .args .buffer .now) (k .step .result .walk) (l .loop .at + 20) (l .loop .place + 1) (k .step .last .1 .1 .1 .0) (k .step .last .1 .1 .1 .1 .1 .0) =
+    let next : (sp : Steps) → d .result ≡ dutyOf (s .args .row) (Settled sp) → Going (s .args .limit) (s .args .row) sp (s .args .records .now) (s .args .buffer .now) (k .step .result .walk) (l .loop .at + 20) (l .loop .place + 1) (k .step .last .1 .1 .1 .0) (k .step .last .1 .1 .1 .1 .1 .0) =
     λ sp is.
     going-on (s .args .limit) (s .args .row) sp (s .args .records .now) (s .args .buffer .now) (l .loop .walk) (l .loop .at) (l .loop .place) (l .loop .table) (l .loop .buffer) (l .loop .inv .8 sp is)
     inside few (d .result) is (k .step .result) (k .step .last .1 .1 .1 .0) (k .step .last .1 .1 .1 .1 .1 .0) _ cut (k .step .ensures) (omega (arith, whole, l .loop .inv .2)) (c .before .if2 .left) in
