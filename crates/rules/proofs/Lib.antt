@@ -13,6 +13,9 @@ pub mod Kept
 pub mod Lapses
 pub mod Refusals
 pub mod Bounds
+pub mod Percents
+pub mod Charges
+pub mod Rearranged
 pub mod Choosing
 pub mod Records
 pub mod Written

@@ -22,6 +22,7 @@ pub mod Pay
 -- "Refused calls" and "Afresh"
 pub mod Answers
 pub mod Book
+pub mod Histories
 pub mod Bounds
 -- document 02, W4: boards
 pub mod Boards
@@ -31,6 +32,12 @@ pub mod Choosing
 pub mod Records
 pub mod Widths
 pub mod Session
+-- document 02, W6: half percents, old months
+pub mod Percents
+-- document 02, W8: larger charges
+pub mod Charges
+-- document 02, W9: days filled in another order
+pub mod Rearranged
 -- document 02, W10: fewest pairs
 pub mod Fewest
 -- "Checks on paper"

@@ -40,10 +40,10 @@ module _ (ws before behind : List ℕ) (ran : Ran) (promise : Runs ws before beh
   fits : ran .fits ≡ true
   fits = promise .fits ∙ le-leb (length (callsOf ws)) (length before) room
 
-  month-is : ran .month ≡ monthOf (after paper (callsOf ws))
+  pub month-is : ran .month ≡ monthOf (after paper (callsOf ws))
   month-is = promise .month ∙ ap (λ (b : Bool). monthOf (after paper (if b then callsOf ws else []))) fits
 
-  outcomes-are : behind ≡ outcomesOf (callsOf ws) ++ drop (length (callsOf ws)) before
+  pub outcomes-are : behind ≡ outcomesOf (callsOf ws) ++ drop (length (callsOf ws)) before
   outcomes-are =
       promise .outcomes
       ∙ ap {B = List ℕ} (λ (b : Bool). if b then outcomesOf (callsOf ws) ++ drop (length (callsOf ws)) before else before) fits

@@ -2,9 +2,10 @@
 use Prim.Native.Nat.{ℕ, suc}
 use mathlib.Core.Path.{_≡_, refl, ap}
 use mathlib.Core.List.{List, [], _∷_, _++_}
-use lib.ListN.{length}
+use lib.ListN.{length, take}
 use Rattle.rules.specs.Terms.{paper}
 use Rattle.rules.specs.Book.{Call, Book, freshBook, refusalOf, step, run, after}
+use Rattle.rules.specs.Histories.{refusalsFrom}
 use Rattle.script.specs.Words.{outcomesFrom, outcomesOf}
 
 pub outcomes-snoc : (b : Book) (cs : List Call) (c : Call)
@@ -27,3 +28,22 @@ from-length b (c ∷ cs) = ap suc (from-length (step paper b c) cs)
 pub outcomes-length : (cs : List Call) → length (outcomesOf cs) ≡ length cs
 unfolding outcomesOf
 outcomes-length cs = from-length freshBook cs
+
+-- they are the plain book's numbers
+from-refusals : (b : Book) (cs : List Call) → outcomesFrom b cs ≡ refusalsFrom paper b cs
+unfolding outcomesFrom refusalsFrom
+from-refusals b [] = refl
+from-refusals b (c ∷ cs) = ap {B = List ℕ} (λ l. refusalOf paper b c ∷ l) (from-refusals (step paper b c) cs)
+
+pub outcomes-refusals : (cs : List Call) → outcomesOf cs ≡ refusalsFrom paper freshBook cs
+unfolding outcomesOf
+outcomes-refusals cs = from-refusals freshBook cs
+
+from-front : (b : Book) (cs : List Call) (rest : List ℕ) → take (length cs) (outcomesFrom b cs ++ rest) ≡ refusalsFrom paper b cs
+unfolding outcomesFrom refusalsFrom
+from-front b [] rest = refl
+from-front b (c ∷ cs) rest = ap {B = List ℕ} (λ l. refusalOf paper b c ∷ l) (from-front (step paper b c) cs rest)
+
+pub outcomes-front : (cs : List Call) (rest : List ℕ) → take (length cs) (outcomesOf cs ++ rest) ≡ refusalsFrom paper freshBook cs
+unfolding outcomesOf
+outcomes-front cs rest = from-front freshBook cs rest

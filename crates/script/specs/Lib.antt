@@ -2,3 +2,5 @@ pub mod Words
 pub mod Measures
 pub mod Blocks
 pub mod Runs
+pub mod Percents
+pub mod Rearranged
