@@ -13,30 +13,31 @@ sys.path.insert(0, str(ROOT))
 
 from recount import card
 
-LINES = [card.line(f) for f in range(card.LAST + 1)]
+COLUMNS = dict(zip(card.SHARES, zip(*(card.line(f) for f in range(card.LAST + 1)))))
+A_LINE = 10  # numbers of a list
 
 
 def code():
-    """The constant, one number a line; f stands behind the first of its numbers."""
-    numbers = ""
-    for f, (first, *others) in enumerate(LINES):
-        numbers += f"    {first}, // {f}\n" + "".join(f"    {weight},\n" for weight in others)
-    return (
-        "// The constants of the weight card, written by tools/card_table.py: for each f from 0 to 1,000, which stands behind the first\n"
-        "// of them, the weights by p of 600, 700 and 750.\n"
-        f"pub const CARD: [u32; {len(card.SHARES) * len(LINES)}] = [\n{numbers}];\n"
-    )
+    """A constant for each share, one number a line."""
+    text = "// The constants of the weight card, written by tools/card_table.py: for each p the weights of f from 0 to 1,000.\n"
+    for share, weights in COLUMNS.items():
+        numbers = "".join(f"    {weight}, // p {share}, f {f}\n" for f, weight in enumerate(weights))
+        text += f"pub const CARD_{share}: [u16; {len(weights)}] = [\n{numbers}];\n\n"
+    return text[:-1]
 
 
 def proof():
-    """The same numbers as a list, a line for each f."""
-    numbers = "".join(f"    {' ∷ '.join(map(str, line))} ∷\n" for line in LINES)
-    return (
-        "-- The constants of the weight card once more, written by tools/card_table.py. Assumes nothing.\n"
-        "use Prim.Native.Nat.{ℕ}\n"
-        "use mathlib.Core.List.{List, [], _∷_}\n\n"
-        f"abbrev pub card : List ℕ\ncard =\n{numbers}    []\n"
-    )
+    """The same numbers as lists."""
+    text = """\
+-- The constants of the weight card once more, written by tools/card_table.py. Assumes nothing.
+use Prim.Native.Nat.{ℕ}
+use mathlib.Core.List.{List, [], _∷_}
+"""
+    for share, weights in COLUMNS.items():
+        lines = [weights[at : at + A_LINE] for at in range(0, len(weights), A_LINE)]
+        numbers = "".join(f"    {' ∷ '.join(map(str, line))} ∷\n" for line in lines)
+        text += f"\nabbrev pub card{share} : List ℕ\ncard{share} =\n{numbers}    []\n"
+    return text
 
 
 FILES = {

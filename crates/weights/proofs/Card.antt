@@ -1,16 +1,15 @@
--- The card's shares, where its numbers stand, and what is past its last line. Assumes nothing.
-use Prim.Native.Nat.{ℕ, _+_, _*_, _/_, _%_, _≤_, _<_, min}
-use native.Mathlib.Nat.{one-mul, add-zero}
+-- The card's shares, and what is past its last line. Assumes nothing.
+use Prim.Native.Nat.{ℕ, _≤_, min}
+use native.Mathlib.Nat.{one-mul}
 use native.Mathlib.Omega.{arith}
 use mathlib.Core.Path.{_≡_, refl, sym, ap, _∙_}
 use mathlib.Core.Bool.{Bool, true, false, _||_}
 use borrow.Author.Tests.{leb-true, leb-false, le-leb, eqb-true, ne-eqb}
 use lib.Dec.{eqb, leb}
-use lib.ListN.{getD}
 use Rattle.rules.specs.Lists.{any}
 use Rattle.rules.specs.Terms.{paper}
 use Rattle.rules.specs.Pay.{weightMet, weightAt}
-use Rattle.weights.specs.Card.{shares, onCard, entryOf}
+use Rattle.weights.specs.Card.{onCard}
 
 -- ---- the three shares
 
@@ -53,20 +52,6 @@ past-card f share h = go (leb f 1000) refl
         let is : min f 1000 ≡ 1000 = omega arith in
         ap (λ (n : ℕ). weightAt paper n share) is ∙ full 1000 share (omega arith) (omega arith) ∙ sym (full f share (omega arith) (omega arith))
 
--- ---- where a number stands
-
-entry-at : (line column : ℕ) → column < 3 → entryOf (3 * line + column) ≡ weightAt paper line (getD shares column 0)
-entry-at line column h =
-    let q : (3 * line + column) / 3 ≡ line = omega arith in
-    let r : (3 * line + column) % 3 ≡ column = omega arith in
-    rw (q, r) refl
-
--- the number in the column of p, of the line for f, is the weight of f by p
-pub found : (f share line column p : ℕ) → column < 3 → line ≡ min f 1000 → share ≡ p → getD shares column 0 ≡ p → p ≤ 800
-    → entryOf (3 * line + column) ≡ weightAt paper f share
-found f share line column p c e h s m =
-    entry-at line column c ∙ ap (weightAt paper line) s ∙ ap (λ (n : ℕ). weightAt paper n p) e ∙ past-card f p m ∙ ap (weightAt paper f) (sym h)
-
-pub found-first : (f share line : ℕ) → line ≡ min f 1000 → share ≡ 600 → entryOf (3 * line) ≡ weightAt paper f share
-found-first f share line e h =
-    ap entryOf (sym (add-zero (3 * line))) ∙ found f share line 0 600 (omega arith) e h refl (omega arith)
+-- the number of the line for f, by p, is the weight of f by p
+pub found : (f share line p : ℕ) → line ≡ min f 1000 → share ≡ p → p ≤ 800 → weightAt paper line p ≡ weightAt paper f share
+found f share line p e h m = ap (λ (n : ℕ). weightAt paper n p) e ∙ past-card f p m ∙ ap (weightAt paper f) (sym h)

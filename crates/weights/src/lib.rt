@@ -4,11 +4,13 @@ ghost use mathlib.Core.Bool.{true};
 ghost use Prim.Native.Nat.{_<_, min};
 ghost use Rattle.rules.specs.Terms.{paper};
 ghost use Rattle.rules.specs.Pay.{weightAt};
-ghost use Rattle.weights.specs.Card.{onCard, entryOf};
+ghost use Rattle.weights.specs.Card.{onCard};
 
 mod table;
 
-use table::CARD;
+use table::CARD_600;
+use table::CARD_700;
+use table::CARD_750;
 
 // Whether the card has that share.
 pub fn has(share: u32) -> bool
@@ -23,12 +25,32 @@ pub fn has(share: u32) -> bool
     share == 750
 }
 
-// The card's numbers, three for each f.
-fn entry(k: usize) -> u32
-    requires { ⌜ k < 3003 ⌝ }
-    ensures { λ r. ⌜ r ≡ entryOf k ⌝ }
+fn wide(weight: u16) -> u32
+    ensures { λ r. ⌜ r ≡ weight ⌝ }
 {
-    CARD[k]
+    weight as u32
+}
+
+// A constant is put on the stack where it is read, so each share has its own, a third of the card.
+fn at_600(f: usize) -> u32
+    requires { ⌜ f < 1001 ⌝ }
+    ensures { λ r. ⌜ r ≡ weightAt paper f 600 ⌝ }
+{
+    wide(CARD_600[f])
+}
+
+fn at_700(f: usize) -> u32
+    requires { ⌜ f < 1001 ⌝ }
+    ensures { λ r. ⌜ r ≡ weightAt paper f 700 ⌝ }
+{
+    wide(CARD_700[f])
+}
+
+fn at_750(f: usize) -> u32
+    requires { ⌜ f < 1001 ⌝ }
+    ensures { λ r. ⌜ r ≡ weightAt paper f 750 ⌝ }
+{
+    wide(CARD_750[f])
 }
 
 // Where the card ends, the weight stays the same: what is past it has the last line.
@@ -43,12 +65,12 @@ pub fn look_up(f: u64, share: u32) -> u32
     requires { ⌜ onCard share ≡ true ⌝ }
     ensures { λ r. ⌜ r ≡ weightAt paper f share ⌝ }
 {
-    let at = 3 * line_of(f);
+    let line = line_of(f);
     if share == 600 {
-        return entry(at);
+        return at_600(line);
     }
     if share == 700 {
-        return entry(at + 1);
+        return at_700(line);
     }
-    entry(at + 2)
+    at_750(line)
 }
