@@ -42,6 +42,7 @@ def check_page():
     weights = card_page.read(card.card())
     curves = ElementTree.fromstring(card_page.svg(weights))
     assert len(curves.findall("{http://www.w3.org/2000/svg}path")) == len(card.SHARES)
+    assert (ROOT / "docs" / "card.svg").read_text() == card_page.svg(weights), "docs/card.svg is old"
     body = ElementTree.fromstring(card_page.page(weights).split("\n", 1)[1])
     shown = {}
     for row in body.iter("tr"):
