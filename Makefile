@@ -1,5 +1,5 @@
 # Every target needs the Rattle kit (`rt` on the path) and Python 3; `test` and `client` also a C compiler, `bench` Rust with cargo.
-.PHONY: test demo client bench
+.PHONY: test demo card client bench
 
 test:
 	bash .ci/run
@@ -9,6 +9,11 @@ demo:
 	rt check sheet replay
 	python3 tools/session.py to-bytes examples/brent.session | target/bin/sheet
 	python3 tools/calls.py to-bytes examples/month.calls | target/bin/replay
+
+# The weight card as a page that can be printed: target/card.html
+card:
+	rt check card
+	target/bin/card | python3 tools/card_page.py > target/card.html
 
 # The C client of examples/client.c, over the proved session run: target/client FILE
 client:

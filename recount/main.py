@@ -4,6 +4,7 @@
     python3 recount/main.py sheet < bytes        as the program sheet
     python3 recount/main.py probe < bytes        as the program probe
     python3 recount/main.py safe_table < word    as the program safe_table
+    python3 recount/main.py card < /dev/null     as the program card
     python3 recount/main.py ccall HEAD RECORDS   the C call's number for two files
     python3 recount/main.py selftest             the recount held against itself and the paper
 """
@@ -13,12 +14,13 @@ from pathlib import Path
 
 sys.path.insert(0, str(Path(__file__).resolve().parent.parent))
 
-from recount import game, programs, selftest, session
+from recount import card, game, programs, selftest, session
 
 
 def main(words):
     inputs = {"replay": programs.replay, "sheet": programs.sheet, "probe": programs.probe}
     inputs["safe_table"] = game.safe_table
+    inputs["card"] = card.card
     if len(words) == 1 and words[0] in inputs:
         sys.stdout.write(inputs[words[0]](sys.stdin.buffer.read()))
     elif len(words) == 3 and words[0] == "ccall":

@@ -84,13 +84,17 @@ fn weight_met(f: u64, share: u32) -> u32
     10000 + (10000 * top / bottom) as u32
 }
 
-// The weight of a kept time K in a length L with a required share p, with no lapse limit.
+// The weight of a kept time K in a length L with a required share p, with no lapse limit. On the shares of the card it is looked up.
 pub fn weight_of(kept: Millis, length: Millis, share: u32) -> u32
     requires { ⌜ (1 ≤ length .0) × (share ≤ 799) ⌝ }
     ensures { λ r. ⌜ r ≡ P.weight paper (kept .0) (length .0) share ⌝ }
 {
+    let f = thousandths(kept, length);
+    if weights::has(share) {
+        return weights::look_up(f, share);
+    }
     if reaches(kept, length, share) {
-        weight_met(thousandths(kept, length), share)
+        weight_met(f, share)
     } else {
         0
     }

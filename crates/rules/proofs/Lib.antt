@@ -11,6 +11,7 @@ pub mod Members
 pub mod Orders
 pub mod Kept
 pub mod Lapses
+pub mod Weights
 pub mod Refusals
 pub mod Bounds
 pub mod Percents

@@ -37,6 +37,11 @@ module _ (terms : Terms) where
   unfoldable pub weight : ℕ → ℕ → ℕ → ℕ
   weight kept length share = weightBy (met kept length share) kept length share
 
+  -- document 02, W7: the weight by f alone, 0 where f is below p and the quantum failed; `weight-by-f` (proofs/Weights) says that it is
+  -- the weight
+  unfoldable pub weightAt : ℕ → ℕ → ℕ
+  weightAt f share = if leb (required share) f then weightMet f share else 0
+
   -- document 02, W1: "A quantum with more lapses than its limit is failed, with weight 0."
   abbrev pub cellMet : Cell → Bool
   cellMet c = met (c .kept .0) (c .length .0) (c .share) && withinLimit (c .limit) (c .lapses)

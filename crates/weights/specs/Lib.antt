@@ -1,0 +1,2 @@
+-- What the weight card holds.
+pub mod Card
