@@ -4,12 +4,13 @@
 
 It times lists of calls that differ in one thing: how many calls went before, how many cells are filled, how many orders are live and
 what the calls are. The time of a list includes reading it and writing its lines; the difference of two lists of different length is
-what the further calls cost.
+what the further calls cost. A time is processor time, the least of several rounds, so that what runs beside it counts little.
 """
 
+import os
 import struct
 import subprocess
-import time
+import tempfile
 from pathlib import Path
 
 REPLAY = Path(__file__).resolve().parent.parent / "target" / "bin" / "replay"
@@ -47,17 +48,23 @@ def ticks(count):
     return [w for k in range(count) for w in (6, k)]
 
 
+def processor_time(list_of_calls):
+    list_of_calls.seek(0)
+    child = subprocess.Popen([REPLAY], stdin=list_of_calls, stdout=subprocess.DEVNULL)
+    _, status, used = os.wait4(child.pid, 0)
+    child.returncode = os.waitstatus_to_exitcode(status)
+    return used.ru_utime + used.ru_stime
+
+
 def seconds(words):
     data = struct.pack(f"<{len(words)}I", *words)
-    best = None
-    for _ in range(7):
-        start = time.perf_counter()
-        out = subprocess.run([REPLAY], input=data, stdout=subprocess.PIPE, check=True).stdout
-        took = time.perf_counter() - start
-        best = took if best is None else min(best, took)
+    out = subprocess.run([REPLAY], input=data, stdout=subprocess.PIPE, check=True).stdout
     if b"refused" in out or b"stopped" in out:
         raise SystemExit("a list that is to be accepted is refused")
-    return best
+    with tempfile.TemporaryFile() as list_of_calls:
+        list_of_calls.write(data)
+        list_of_calls.flush()
+        return min(processor_time(list_of_calls) for _ in range(20))
 
 
 def a_call(cells, live, calls, short, long):

@@ -1,11 +1,11 @@
 -- What the search starts from and finds. Assumes nothing.
-use Prim.Native.Nat.{ℕ, suc, _≤_}
+use Prim.Native.Nat.{ℕ, suc, _-_, _≤_, _<_}
 use native.Mathlib.Omega.{arith}
 use mathlib.Core.Path.{_≡_, refl, sym, ap, _∙_}
 use mathlib.Core.List.{List, [], _∷_}
 use mathlib.Core.Bool.{Bool, true, false}
 use borrow.Author.Tests.{leb-true}
-use lib.Dec.{leb}
+use lib.Dec.{leb, ltb, eqb}
 use lib.ListN.{length, getD}
 use lib.Seq.{take-length}
 use Rattle.rules.specs.declared.Side.{Side}
@@ -16,9 +16,9 @@ use Rattle.rules.specs.Lists.{if_then_else_, keep}
 use Rattle.rules.specs.Units.{goodPrice}
 use Rattle.quote.specs.declared.Level.{Level}
 use Rattle.quote.specs.Keys.{quoteKey, quoteAt}
-use Rattle.quote.specs.Levels.{enough, greatest, foundBy, bestKey, levelAt, levelOf, Searchable}
+use Rattle.quote.specs.Levels.{held, enough, greatest, foundBy, bestKey, levelAt, levelOf, Searchable}
 use Rattle.quote.proofs.Keys.{key-quote, good-quote, say-good}
-use Rattle.quote.proofs.Levels.{start-below, found-end}
+use Rattle.quote.proofs.Levels.{level-split, start-below, found-end}
 use Rattle.side.specs.declared.Change.{Change}
 use Rattle.side.specs.Slots.{Slot, keysOf, volumesOf, GoodSlots}
 use Rattle.side.specs.Moves.{Moving}
@@ -84,3 +84,24 @@ module _ (side : Side) (ks vs : List ℕ) (start least : ℕ) (s : Searchable ks
   found-level l key f g h =
       let k = foundBy start least ks vs (length ks) in
       g ∙ ap (levelAt ks vs) (f ∙ ap (quoteKey side) e ∙ key-quote side k found-most ∙ found-end least ks vs start h)
+
+  module _ (before depth key : ℕ) (f : key ≡ quoteKey side q) (other : key ≡ start → ⊥)
+      (b : before ≡ held (ltb (foundBy start least ks vs (length ks))) ks vs)
+      (d : start < foundBy start least ks vs (length ks) → depth ≡ held (leb (foundBy start least ks vs (length ks))) ks vs) where
+    is-found : key ≡ foundBy start least ks vs (length ks)
+    is-found = f ∙ ap (quoteKey side) e ∙ key-quote side (foundBy start least ks vs (length ks)) found-most
+
+    deep : depth ≡ held (leb (foundBy start least ks vs (length ks))) ks vs
+    deep = d (let n = other in omega (arith, is-found))
+
+    -- fewer at better keys than with those at it
+    pub carried-less : before ≤ depth
+    carried-less = omega (arith, b, deep, level-split (foundBy start least ks vs (length ks)) ks vs)
+
+    -- a key better than the start has its level by the two sums
+    pub carried-level : record { key = key; before = before; at = depth - before } ≡ levelAt ks vs key
+    unfolding levelAt
+    carried-level =
+        let k = foundBy start least ks vs (length ks) in
+        let at : depth - before ≡ held (eqb k) ks vs = omega (arith, b, deep, level-split k ks vs) in
+        (λ i. record { key = is-found i; before = b i; at = at i }) ∙ ap (levelAt ks vs) (sym is-found)

@@ -259,14 +259,23 @@ fn guessed(words: &[u32], change: Change, least: Contracts) -> Level
     near(&words[64..64 + to], &words[128..128 + to], old, least)
 }
 
-// The level by the search, from a key that the best one is not below.
+// The level by the search, from a key that the best one is not below. Only where it finds nothing better is the start's own level
+// measured: that of no quote, since where enough stand before the start there is a better one.
 fn by_search(side: Side, keys: &[u32], volumes: &[u32], start: u32, least: Contracts) -> Level
     requires { ⌜ Searchable (now keys) (now volumes) start × (1 ≤ least .0) ⌝ }
     ensures { λ r. ⌜ (start ≤ bestKey (least .0) (now (keys .entry)) (now (volumes .entry)) → r ≡ levelOf (least .0) (now (keys .entry)) (now (volumes .entry))) ⌝ }
 {
     let found = quote::search(side, keys, volumes, start, least);
     let quote = found.quote;
-    quote::measured(keys, volumes, quote::quote_key(side, quote))
+    let key = quote::quote_key(side, quote);
+    if key == start {
+        return quote::measured(keys, volumes, key);
+    }
+    Level {
+        key,
+        before: found.before,
+        at: found.depth - found.before,
+    }
 }
 
 // A key below which the best one cannot be: a level's, where enough stand before it.

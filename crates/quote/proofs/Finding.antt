@@ -23,10 +23,11 @@ use Rattle.rules.proofs.Best.{depth-append, depth-one, sided, one-side}
 use Rattle.rules.proofs.Counting.{count-stretch}
 use Rattle.quote.specs.declared.Searched.{Searched}
 use Rattle.quote.specs.Keys.{keyOf, priceAt, keyIn, quoteKey, quoteAt}
-use Rattle.quote.specs.Levels.{held, enough, greatest, bestKey, foundBy, triedBy}
+use Rattle.quote.specs.Levels.{held, enough, greatest, bestKey, foundBy, triedBy, shortBy}
 use Rattle.quote.specs.Searches.{Finds}
 use Rattle.quote.proofs.Keys.{key-least, key-most, key-order, key-price, good-price, key-quote, quote-key, better-at}
 use Rattle.quote.proofs.Levels.{enough-blanks, bestKey-blanks}
+use Rattle.quote.proofs.Short.{short-all}
 
 -- orders of prices in their range, and all of one side
 abbrev pub Good : List Order → Type 0
@@ -268,10 +269,14 @@ module _ (s : Side) (orders : List Order) (good : Good orders) (one : Sided s or
 
 pub finds : (side : Side) (ks vs : List ℕ) (start least : ℕ) (r : Searched) → start ≤ 2000000001
     → r .quote ≡ quoteAt side (foundBy start least ks vs (length ks)) → r .sums ≡ triedBy start least ks vs (length ks)
+    → r .before ≡ shortBy start least ks vs (length ks)
+    → (start < foundBy start least ks vs (length ks) → r .depth ≡ held (leb (foundBy start least ks vs (length ks))) ks vs)
     → Finds side ks vs start least r
-finds side ks vs start least r most e f =
+finds side ks vs start least r most e f b d =
     record {
       found = e;
+      before = b ∙ short-all start least ks vs;
+      depth = d;
       quote = λ orders c. e ∙ rw (c .keys, c .volumes) (found side orders (c .prices) (c .sided) (c .blanks) least start most);
       sums = λ orders c. f ∙ rw (c .keys, c .volumes) (sums side orders (c .prices) (c .sided) (c .blanks) least start most);
     }

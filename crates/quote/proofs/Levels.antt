@@ -63,7 +63,7 @@ held-some t u (k ∷ ks) (v ∷ vs) h = go (t k) (u k) refl refl (λ l. held-som
     go false true e f r l = (k, List·Memᴰ·head refl, f, e)
     go false false e f r l = later (r (omega (arith, l)))
 
-held-none : (ks vs : List ℕ) → held (λ k. false) ks vs ≡ 0
+pub held-none : (ks vs : List ℕ) → held (λ k. false) ks vs ≡ 0
 unfolding held
 held-none [] vs = refl
 held-none (k ∷ ks) [] = refl
@@ -216,7 +216,7 @@ module _ (least : ℕ) (ks vs : List ℕ) where
 -- ---- where the search may start
 
 -- no key is better than k, or one of them is the nearest
-nearest : (k : ℕ) (ks : List ℕ)
+pub nearest : (k : ℕ) (ks : List ℕ)
     → ((x : ℕ) → List·Memᴰ x ks → x ≤ k) ⊎ ((n : ℕ) × List·Memᴰ n ks × (k < n) × ((x : ℕ) → List·Memᴰ x ks → k < x → n ≤ x))
 nearest k [] = inl (λ x m. absurd (List·Memᴰ·not-nil m))
 nearest k (y ∷ ys) = go (nearest k ys) (ltb k y) refl

@@ -4,5 +4,6 @@ pub mod Finding
 pub mod Keys
 pub mod Levels
 pub mod Loops
+pub mod Short
 pub mod Spread
 pub mod Widths

@@ -2,8 +2,8 @@
 -- for nothing in them.
 use Prim.Native.Nat.{ℕ, _+_, _≤_, max}
 use mathlib.Core.Path.{_≡_}
-use mathlib.Core.List.{List, [], _∷_}
-use mathlib.Core.Bool.{Bool, _&&_, _||_}
+use mathlib.Core.List.{List, [], _∷_, map}
+use mathlib.Core.Bool.{Bool, not, _&&_, _||_}
 use lib.Dec.{leb, ltb, eqb}
 use lib.ListN.{length, getD, take}
 use Rattle.rules.specs.Lists.{if_then_else_, sum, keep, count}
@@ -60,3 +60,11 @@ foundBy start least ks vs i = max start (greatest (keep (enough least ks vs) (ta
 -- how many of the first i were better than what was found before them
 unfoldable pub triedBy : ℕ → ℕ → List ℕ → List ℕ → ℕ → ℕ
 triedBy start least ks vs i = count (λ (j : ℕ). ltb (foundBy start least ks vs j) (getD ks j 0)) i
+
+-- what a key better than the start holds with those better than it, where it is not enough
+unfoldable pub shortAt : ℕ → ℕ → List ℕ → List ℕ → ℕ → ℕ
+shortAt start least ks vs k = if ltb start k && not (enough least ks vs k) then held (leb k) ks vs else 0
+
+-- the most of these among the first i
+abbrev pub shortBy : ℕ → ℕ → List ℕ → List ℕ → ℕ → ℕ
+shortBy start least ks vs i = greatest (map (shortAt start least ks vs) (take i ks))

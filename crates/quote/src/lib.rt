@@ -1,7 +1,7 @@
 // Prices as keys, a side's depth in lent columns of keys and volumes, the search for a best quote, and the spread test.
 ghost use mathlib.Core.Path.{_≡_};
 ghost use mathlib.Core.Bool.{true};
-ghost use Prim.Native.Nat.{_+_, _≤_};
+ghost use Prim.Native.Nat.{_+_, _≤_, max};
 ghost use lib.IntN.{pos};
 ghost use lib.Signed.{leZ};
 ghost use Rattle.rules.specs.declared.Steps.{Steps};
@@ -24,9 +24,11 @@ pub struct Level {
     pub at: u32,
 }
 
-// What a search finds, and for how many orders it added up volumes.
+// What a search finds, the contracts at better prices, those at it or better, and for how many orders it added up volumes.
 pub struct Searched {
     pub quote: Quote,
+    pub before: u32,
+    pub depth: u32,
     pub sums: u32,
 }
 
@@ -112,15 +114,27 @@ pub fn is_best(level: Level, least: Contracts) -> bool
     (level.before < m) & ((level.key == 0) | (m <= level.before + level.at))
 }
 
+fn most(sum: u32, other: u32) -> u32
+    ensures { λ r. ⌜ r ≡ max sum other ⌝ }
+{
+    if sum < other {
+        return other;
+    }
+    sum
+}
+
 // The best quote of a side, from a key that it is better than or that is it: the best price of an order for which those at that
 // price or better hold `least` contracts or more together. Volumes are added up for an order only if its price is better than
-// every one already found to qualify.
+// every one already found to qualify. The sums that were too small are those of all better prices than what is found, so the most
+// of them is what stands before it, and nothing is added up again for it.
 pub fn search(side: Side, keys: &[u32], volumes: &[u32], start: u32, least: Contracts) -> Searched
     requires { ⌜ Searchable (now keys) (now volumes) start ⌝ }
     ensures { λ r. ⌜ Finds side (now (keys .entry)) (now (volumes .entry)) start (least .0) r ⌝ }
 {
     let m = least.0;
     let mut found: u32 = start;
+    let mut enough: u32 = 0;
+    let mut short: u32 = 0;
     let mut sums: u32 = 0;
     let mut i: usize = 0;
     let quote = 'candidates: loop {
@@ -142,10 +156,18 @@ pub fn search(side: Side, keys: &[u32], volumes: &[u32], start: u32, least: Cont
             sums += 1;
             if m <= depth {
                 found = key;
+                enough = depth;
+            } else {
+                short = most(short, depth);
             }
         }
     };
-    Searched { quote, sums }
+    Searched {
+        quote,
+        before: short,
+        depth: enough,
+        sums,
+    }
 }
 
 // ---- the spread test

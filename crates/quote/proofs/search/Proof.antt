@@ -1,6 +1,6 @@
--- `quote::search` meets its contract. The outer loop's invariant: the best key found, and the number of keys tried, among those passed. The
--- inner loop's: what was added up is held at the candidate's key or better in the part of the columns that was passed. Assumes nothing.
-use Prim.Native.Nat.{ℕ, _+_, _-_, _≤_, _<_}
+-- `quote::search` meets its contract. The outer loop's invariant: the best key found, the number of keys tried and the most of the sums that
+-- were not enough, among those passed, and what stands at the found key or better. The inner loop's: what was added up is held at the candidate's key or better in the part of the columns that was passed. Assumes nothing.
+use Prim.Native.Nat.{ℕ, _+_, _-_, _≤_, _<_, max}
 use native.Mathlib.Omega.{arith}
 use mathlib.Core.Path.{_≡_, refl, sym, ap, _∙_}
 use mathlib.Core.List.{List}
@@ -10,27 +10,29 @@ use lib.Dec.{leb}
 use lib.ListN.{length, getD, take}
 use Rattle.rules.specs.Lists.{count, keep}
 use Rattle.quote.specs.Keys.{quoteAt}
-use Rattle.quote.specs.Levels.{enough, greatest, foundBy, triedBy}
+use Rattle.quote.specs.Levels.{enough, greatest, foundBy, triedBy, shortBy}
 use Rattle.quote.specs.Levels as L
 use Rattle.quote.proofs.Loops.{held-next, held-fits, held-all, found-better, found-few, found-worse, tried-one, tried-none}
+use Rattle.quote.proofs.Short.{short-enough, short-few, short-worse, short-next}
 use Rattle.quote.proofs.Finding.{finds}
 use Rattle.quote.proofs.search.Statement.{statement}
 use Rattle.quote.proofs.search.Tie as tie
 
 abbrev Inv-volumes : tie.InvT-volumes
-Inv-volumes side keys volumes start m found sums i key held₀ j₀ held j =
+Inv-volumes side keys volumes start m found enough short sums i key held₀ j₀ held j =
     (j ≤ length keys) × (held ≡ L.held (leb key) (take j keys) (take j volumes))
 
 abbrev μ-volumes : tie.MeasureT-volumes
-μ-volumes side keys volumes start m found sums i key held₀ j₀ held j = length keys - j
+μ-volumes side keys volumes start m found enough short sums i key held₀ j₀ held j = length keys - j
 
 abbrev Inv-candidates : tie.InvT-candidates
-Inv-candidates side keys volumes start m found₀ sums₀ i₀ found sums i =
+Inv-candidates side keys volumes start m found₀ enough₀ short₀ sums₀ i₀ found enough short sums i =
     (i ≤ length keys) × (found ≤ 2000000001) × (sums ≤ i) × (found ≡ foundBy start m keys volumes i)
-    × (sums ≡ triedBy start m keys volumes i)
+    × (sums ≡ triedBy start m keys volumes i) × (short ≡ shortBy start m keys volumes i)
+    × (start < found → enough ≡ L.held (leb found) keys volumes)
 
 abbrev μ-candidates : tie.MeasureT-candidates
-μ-candidates side keys volumes start m found₀ sums₀ i₀ found sums i = length keys - i
+μ-candidates side keys volumes start m found₀ enough₀ short₀ sums₀ i₀ found enough short sums i = length keys - i
 
 abbrev Candidates : Type 0
 Candidates = tie.At-candidates Inv-volumes μ-volumes Inv-candidates μ-candidates
@@ -57,55 +59,72 @@ leastOf u = u .before .before .before .args .least .0
 abbrev even : (u : Candidates) → length (keysOf u) ≡ length (volumesOf u)
 even u = u .before .before .before .pre .columns .even
 
+-- where the inner loop is left, what stands at the candidate's key or better
+whole : (w : tie.Then3 Inv-volumes μ-volumes Inv-candidates μ-candidates)
+    → let u = outer (w .before) in
+    w .before .volumes .held ≡ L.held (leb (candidate u)) (keysOf u) (volumesOf u)
+whole w =
+    let v = w .before in
+    let u = outer v in
+    let n = v .volumes in
+    let end : n .j ≡ length (keysOf u) = omega arith in
+    held-all (leb (candidate u)) (n .j) (keysOf u) (volumesOf u) (n .held) end (even u) (n .inv .1)
+
 -- where the inner loop is left, whether enough stand at the candidate's key or better
 judged : (w : tie.Then3 Inv-volumes μ-volumes Inv-candidates μ-candidates) (b : Bool)
     → let u = outer (w .before) in
     leb (leastOf u) (w .before .volumes .held) ≡ b → enough (leastOf u) (keysOf u) (volumesOf u) (candidate u) ≡ b
 unfolding enough
-judged w b h =
-    let v = w .before in
-    let u = outer v in
-    let n = v .volumes in
-    let end : n .j ≡ length (keysOf u) = omega arith in
-    ap (leb (leastOf u)) (sym (held-all (leb (candidate u)) (n .j) (keysOf u) (volumesOf u) (n .held) end (even u) (n .inv .1))) ∙ h
+judged w b h = ap (leb (leastOf (outer (w .before)))) (sym (whole w)) ∙ h
 
 -- what the search has come to after a turn
-abbrev After : Candidates → ℕ → ℕ → Type 0
-After u found sums =
+abbrev After : Candidates → ℕ → ℕ → ℕ → Type 0
+After u found sums short =
     let a = u .before .before .before .args in
     let i = u .candidates .i + 1 in
     (found ≡ foundBy (a .start) (leastOf u) (keysOf u) (volumesOf u) i) × (sums ≡ triedBy (a .start) (leastOf u) (keysOf u) (volumesOf u) i)
+    × (short ≡ shortBy (a .start) (leastOf u) (keysOf u) (volumesOf u) i)
 
 module _ (u : Candidates) (more : u .candidates .i < length (keysOf u)) where
   better : u .candidates .found < candidate u → enough (leastOf u) (keysOf u) (volumesOf u) (candidate u) ≡ true
-      → After u (candidate u) (u .candidates .sums + 1)
+      → After u (candidate u) (u .candidates .sums + 1) (u .candidates .short)
   better h e =
       let a = u .before .before .before .args in
-      let n = u .candidates in (
+      let n = u .candidates in
+      let s = short-next (a .start) (leastOf u) (keysOf u) (volumesOf u) (n .i) more in
+      let z = short-enough (a .start) (leastOf u) (keysOf u) (volumesOf u) (candidate u) e in (
         found-better (a .start) (leastOf u) (keysOf u) (volumesOf u) (n .i) (n .found) more (n .inv .3) h e,
         tried-one (a .start) (leastOf u) (keysOf u) (volumesOf u) (n .i) (n .found) (n .sums) (n .inv .3) (n .inv .4) h,
+        omega (arith, n .inv .5, s, z),
       )
 
   few : u .candidates .found < candidate u → enough (leastOf u) (keysOf u) (volumesOf u) (candidate u) ≡ false
-      → After u (u .candidates .found) (u .candidates .sums + 1)
-  few h e =
+      → (d short : ℕ) → d ≡ L.held (leb (candidate u)) (keysOf u) (volumesOf u) → short ≡ max (u .candidates .short) d
+      → After u (u .candidates .found) (u .candidates .sums + 1) short
+  few h e d short q r =
       let a = u .before .before .before .args in
-      let n = u .candidates in (
+      let n = u .candidates in
+      let s = short-next (a .start) (leastOf u) (keysOf u) (volumesOf u) (n .i) more in
+      let z = short-few (a .start) (leastOf u) (keysOf u) (volumesOf u) (candidate u) (omega (arith, n .inv .3, h)) e in (
         found-few (a .start) (leastOf u) (keysOf u) (volumesOf u) (n .i) (n .found) more (n .inv .3) e,
         tried-one (a .start) (leastOf u) (keysOf u) (volumesOf u) (n .i) (n .found) (n .sums) (n .inv .3) (n .inv .4) h,
+        omega (arith, n .inv .5, s, z, q, r),
       )
 
-  worse : candidate u ≤ u .candidates .found → After u (u .candidates .found) (u .candidates .sums)
+  worse : candidate u ≤ u .candidates .found → After u (u .candidates .found) (u .candidates .sums) (u .candidates .short)
   worse h =
       let a = u .before .before .before .args in
-      let n = u .candidates in (
+      let n = u .candidates in
+      let s = short-next (a .start) (leastOf u) (keysOf u) (volumesOf u) (n .i) more in
+      let z = short-worse (a .start) (leastOf u) (keysOf u) (volumesOf u) (n .i) (candidate u) (omega (arith, n .inv .3, h)) in (
         found-worse (a .start) (leastOf u) (keysOf u) (volumesOf u) (n .i) (n .found) more (n .inv .3) h,
         tried-none (a .start) (leastOf u) (keysOf u) (volumesOf u) (n .i) (n .found) (n .sums) (n .inv .3) (n .inv .4) h,
+        omega (arith, n .inv .5, s, z),
       )
 
 candidates-holds : tie.Need-candidates-holds Inv-volumes μ-volumes Inv-candidates μ-candidates
 unfolding greatest keep triedBy count
-candidates-holds c = (omega arith, omega (arith, c .before .before .pre .start-most), omega arith, omega arith, refl)
+candidates-holds c = (omega arith, omega (arith, c .before .before .pre .start-most), omega arith, omega arith, refl, refl, λ h. absurd (omega (arith, h)))
 
 quote-at-requires : tie.Need-quote-at-requires Inv-volumes μ-volumes Inv-candidates μ-candidates
 quote-at-requires c κs = omega arith
@@ -177,18 +196,21 @@ candidates-again c =
     let u = outer (w .before) in
     let e = judged w true (le-leb (leastOf u) (w .before .volumes .held) (omega arith)) in
     let next = better u (omega arith) (omega arith) e in
-    (omega arith, u .before .before .before .pre .keys (u .candidates .i), omega arith, next .0, next .1)
+    (omega arith, u .before .before .before .pre .keys (u .candidates .i), omega arith, next .0, next .1, next .2, λ h. whole w)
+
+most-requires : tie.Need-most-requires Inv-volumes μ-volumes Inv-candidates μ-candidates
+most-requires c κs = tt
 
 candidates-less-2 : tie.Need-candidates-less-2 Inv-volumes μ-volumes Inv-candidates μ-candidates
 candidates-less-2 c = omega arith
 
 candidates-again-2 : tie.Need-candidates-again-2 Inv-volumes μ-volumes Inv-candidates μ-candidates
 candidates-again-2 c =
-    let w = c .before in
+    let w = c .before .before in
     let u = outer (w .before) in
     let e = judged w false (lt-leb (leastOf u) (w .before .volumes .held) (omega arith)) in
-    let next = few u (omega arith) (omega arith) e in
-    (omega arith, omega arith, omega arith, next .0, next .1)
+    let next = few u (omega arith) (omega arith) e (w .before .volumes .held) (c .most .result) (whole w) (c .most .ensures) in
+    (omega arith, omega arith, omega arith, next .0, next .1, next .2, u .candidates .inv .6)
 
 candidates-less-3 : tie.Need-candidates-less-3 Inv-volumes μ-volumes Inv-candidates μ-candidates
 candidates-less-3 c = omega arith
@@ -197,7 +219,7 @@ candidates-again-3 : tie.Need-candidates-again-3 Inv-volumes μ-volumes Inv-cand
 candidates-again-3 c =
     let u = c .before .before .before in
     let next = worse u (omega arith) (omega arith) in
-    (omega arith, omega arith, omega arith, next .0, next .1)
+    (omega arith, omega arith, omega arith, next .0, next .1, next .2, u .candidates .inv .6)
 
 returns : tie.Need-returns Inv-volumes μ-volumes Inv-candidates μ-candidates
 returns c =
@@ -205,10 +227,13 @@ returns c =
     let n = u .candidates in
     let a = u .before .before .before .args in
     let end : n .i ≡ length (keysOf u) = omega arith in
-    finds (a .side) (keysOf u) (volumesOf u) (a .start) (leastOf u) (record { quote = c .quote-at .result; sums = n .sums })
+    let last = n .inv .3 ∙ ap (foundBy (a .start) (leastOf u) (keysOf u) (volumesOf u)) end in
+    finds (a .side) (keysOf u) (volumesOf u) (a .start) (leastOf u)
+    (record { quote = c .quote-at .result; before = n .short; depth = n .enough; sums = n .sums })
     (u .before .before .before .pre .start-most)
-    (c .quote-at .ensures ∙ ap (quoteAt (a .side)) (n .inv .3 ∙ ap (foundBy (a .start) (leastOf u) (keysOf u) (volumesOf u)) end))
-    (n .inv .4 ∙ ap (triedBy (a .start) (leastOf u) (keysOf u) (volumesOf u)) end)
+    (c .quote-at .ensures ∙ ap (quoteAt (a .side)) last) (n .inv .4 ∙ ap (triedBy (a .start) (leastOf u) (keysOf u) (volumesOf u)) end)
+    (n .inv .5 ∙ ap (shortBy (a .start) (leastOf u) (keysOf u) (volumesOf u)) end)
+    (λ h. n .inv .6 (omega (arith, h, last)) ∙ ap (λ (k : ℕ). L.held (leb k) (keysOf u) (volumesOf u)) last)
 
 pub search-spec : {M : Type 1} → statement M
 search-spec =
@@ -236,6 +261,7 @@ search-spec =
     add-sums
     candidates-less
     candidates-again
+    most-requires
     candidates-less-2
     candidates-again-2
     candidates-less-3
