@@ -111,7 +111,7 @@ met-least kept length share l h =
 
 -- ---- what a cell earns
 
-pub earned-most : (active passive w : ℕ) → active ≤ 1000000000 → passive ≤ 1000000000 → w ≤ 20000
-    → (2 * active + 3 * passive) * w ≤ 100000000000000
+pub earned-most : (active passive w : ℕ) → active ≤ 100000000000 → passive ≤ 100000000000 → w ≤ 20000
+    → (2 * active + 3 * passive) * w ≤ 10000000000000000
 earned-most active passive w a p h =
-    mul-le-mul {n₁ = 2 * active + 3 * passive} {m₁ = w} {n₂ = 5000000000} {m₂ = 20000} (omega arith) h
+    mul-le-mul {n₁ = 2 * active + 3 * passive} {m₁ = w} {n₂ = 500000000000} {m₂ = 20000} (omega arith) h

@@ -179,7 +179,7 @@ fn too_many(counts: [u32; 6]) -> bool
 // (2A + 3P) × w of a filled cell, 0 of a blank one.
 fn earned(cell: Cell) -> u64
     requires { ⌜ (cell .filled ≡ true → CellBounds paper cell) ⌝ }
-    ensures { λ r. ⌜ (r ≡ P.earned paper cell) × (r ≤ 100000000000000) ⌝ }
+    ensures { λ r. ⌜ (r ≡ P.earned paper cell) × (r ≤ 10000000000000000) ⌝ }
 {
     let filled = cell.filled;
     if filled {

@@ -69,7 +69,7 @@ pub fn volume(v: Contracts) -> bool
 pub fn charge(k: Kopecks) -> bool
     ensures { λ r. ⌜ r ≡ goodCharge paper (k .0) ⌝ }
 {
-    k.0 <= 1000000000
+    k.0 <= 100000000000
 }
 
 // A lapse limit: 0 to 1,000, or 65,535 for none.

@@ -31,6 +31,6 @@ goodPrice p = withinZ (negℤ (pos 1000000000)) (pos 1000000000) p
 unfoldable pub goodVolume : ℕ → Bool
 goodVolume v = within 1 1000000 v
 
--- "Active and passive charges A and P ..: 0 to 1,000,000,000 kopecks each."
+-- "Active and passive charges A and P ..: 0 to 1,000,000,000 kopecks each"; document 02, W8: "to 100,000,000,000"
 unfoldable pub goodCharge : Terms → ℕ → Bool
 goodCharge terms c = leb c (terms .most-charge)

@@ -7,6 +7,7 @@ pub mod Said
 pub mod Performing
 pub mod Running
 pub mod Demand
+pub mod Charges
 pub mod Percents
 pub mod Rearranged
 pub mod Playing

@@ -10,6 +10,7 @@ use Rattle.rules.specs.Book.{Call, freshBook, reportOf, answerOf, after}
 use Rattle.rules.specs.Book as B
 use Rattle.rules.specs.Histories.{refusalsFrom}
 use Rattle.rules.specs.Percents.{AtMost79, tenfold, tenfoldAnswer}
+use Rattle.rules.specs.Charges.{NotPast}
 use Rattle.month.specs.declared.Month.{Month}
 use Rattle.month.specs.declared.LookedAt.{LookedAt}
 use Rattle.month.specs.declared.Reported.{Reported}
@@ -27,6 +28,6 @@ pub record AsInPercents (old : List Call) (before behind : List ℕ) (ran : Ran)
   pub look : (day expiry quantum : ℕ) (r : LookedAt)
       → Answered (ran .month) (B.Look day expiry quantum) (r .month) (shownLooked (r .answer))
       → shownLooked (r .answer) ≡ tenfoldAnswer (answerOf percents (after percents old) (B.Look day expiry quantum))
-  -- any call
-  pub answer : (c : Call) → AtMost79 c → (next : Month) (shown : Outcome Reply) → Answered (ran .month) (tenfold c) next shown
+  -- any call with no A or P past the limit of before (W8)
+  pub answer : (c : Call) → AtMost79 c → NotPast (percents .most-charge) c → (next : Month) (shown : Outcome Reply) → Answered (ran .month) (tenfold c) next shown
       → shown ≡ tenfoldAnswer (answerOf percents (after percents old) c)

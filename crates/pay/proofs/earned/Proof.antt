@@ -34,7 +34,7 @@ cast-result c = search needs
 abbrev cell : tie.After-weight → Cell
 cell c = c .before .before .before .before .before .before .args .cell
 
-most : (c : tie.After-weight) → (2 * cell c .active .0 + 3 * cell c .passive .0) * c .weight .result ≤ 100000000000000
+most : (c : tie.After-weight) → (2 * cell c .active .0 + 3 * cell c .passive .0) * c .weight .result ≤ 10000000000000000
 most c =
     let b = bounds (c .before) in
     let w = weightBy-most (cellMet paper (cell c)) (cell c .kept .0) (cell c .length .0) (cell c .share) (b .share-most) in

@@ -18,7 +18,7 @@ use Rattle.pay.proofs.earned_in.Tie as tie
 
 abbrev Inv-loop : tie.InvT-loop
 Inv-loop cells total₀ i₀ total i =
-    (i ≤ 186) × (total ≡ sum (map (earned paper) (take i cells))) × (total ≤ 100000000000000 * i)
+    (i ≤ 186) × (total ≡ sum (map (earned paper) (take i cells))) × (total ≤ 10000000000000000 * i)
 
 abbrev μ-loop : tie.MeasureT-loop
 μ-loop cells total₀ i₀ total i = 186 - i
