@@ -17,7 +17,7 @@ BUY, SELL = 1, 2
 
 PRICE_LIMIT = 1_000_000_000  # either way; SP has the same range
 VOLUME_LIMIT = 1_000_000
-CHARGE_LIMIT = 1_000_000_000
+CHARGE_LIMIT = 100_000_000_000
 DAYS, EXPIRIES, QUANTA = range(1, 32), range(1, 3), range(0, 3)
 LIVE_LIMIT = 64
 MOST_LAPSES = 1_000  # the greatest lapse limit

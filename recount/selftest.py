@@ -9,10 +9,11 @@ import random
 
 from recount import game, programs, records, session, standing, strikes, volatile
 from recount.book import (
-    BUY, NO_LIMIT, SELL, Accepted, Add, Amend, Ask, Book, Cancel, Cell, Charge, Close, Commit, Deal, Look, Open, Order,
-    Refused, Report, Row, Strike, Tick, Ticket, Withdraw, best_ask, best_bid, cell_met, cell_weight, choose,
-    fee, keeps, kept_time, lapses_by_milliseconds, lapses_by_stretches, live_after, row_fits, stretches_by_events, stretches_by_milliseconds, weight, widest,
-    within,
+    BUY, CHARGE_LIMIT, DAYS, EXPIRIES, NO_LIMIT, QUANTA, SELL, Accepted, Add, Amend, Ask, Book,
+    Cancel, Cell, Charge, Close, Commit, Deal, Look, Open, Order, Refused, Report, Row, Strike,
+    Tick, Ticket, Withdraw, best_ask, best_bid, cell_met, cell_weight, choose, fee, keeps,
+    kept_time, lapses_by_milliseconds, lapses_by_stretches, live_after, row_fits,
+    stretches_by_events, stretches_by_milliseconds, weight, widest, within,
 )
 
 EXAMPLE_ROW = [1, 1, 10_000, 500, 100, 1, 600]
@@ -71,6 +72,9 @@ def check_paper():
     assert fee({(1, 1, 1): Cell(22_050_000, 31_500_000, 600, NO_LIMIT, 0, 10_000, 20_000)}) == 10_312
     top = Cell(31_500_000, 31_500_000, 600, NO_LIMIT, 0, 10**9, 10**9)
     assert fee({(1, 1, 1): top}) == 120_000_000
+    # Document 02, W8: 186 cells with the greatest charges.
+    most = top._replace(active=CHARGE_LIMIT, passive=CHARGE_LIMIT)
+    assert fee({(d, e, q): most for d in DAYS for e in EXPIRIES for q in QUANTA}) == 120_000_000
     # 15 failed cells in a series leave the fee, 16 make it 0.
     paid = {(31, 1, 1): Cell(22_050_000, 31_500_000, 600, NO_LIMIT, 0, 10_000, 20_000)}
     failed = Cell(0, 1_000, 600, NO_LIMIT, 1, 5, 5)

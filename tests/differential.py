@@ -118,7 +118,7 @@ class Replay(Program):
         "a fee at its limit": r"fee 120000000$",
         "64 live orders": r"orders 64 ",
         "a price at each limit": r"bid 1000000000 ask -1000000000 ",
-        "charges at their limit": r"active 1000000000 passive 1000000000 ",
+        "charges at their limit": r"active 100000000000 passive 100000000000 ",
         "as many lapses as the limit": r"lapses ([1-9]\d*) limit \1 active .* verdict met",
         "a lapse too many": r"^cell kept 8\d{7} .* lapses 3 limit 2 .* verdict failed weight 0$",
         "1001 lapses, limit 1000": r"lapses 1001 limit 1000 .* verdict failed weight 0$",
@@ -131,7 +131,7 @@ class Replay(Program):
 
     def special(self):
         for calls in (
-            known.paper_calls, known.every_refusal, known.edge_calls, known.lapse_calls, known.strike_calls,
+            known.paper_calls, known.greatest_charges, known.every_refusal, known.edge_calls, known.lapse_calls, known.strike_calls,
             known.ask_calls, known.share_calls,
         ):
             yield calls_text.calls_bytes(calls())

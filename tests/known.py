@@ -131,6 +131,20 @@ def paper_calls():
     return calls + [Withdraw(6, 1, 1), Report(), Charge(5, 1, 1, 10_000, 20_000), Report()]
 
 
+CELLS = [(day, expiry, quantum) for day in range(1, 32) for expiry in (1, 2) for quantum in range(3)]
+
+
+def greatest_charges():
+    """Document 02, W8: all 186 cells met, with the greatest charges; then one kopeck more, and less than the cap again."""
+    calls = []
+    for day, expiry, quantum in CELLS:
+        row = list(Row(expiry, quantum, 1_000, 1, 0, 1, 1))
+        calls += [Open(row, day, 0), Add(0, 1, BUY, 100, 1), Add(0, 2, SELL, 101, 1), Close(CHARGE_LIMIT, CHARGE_LIMIT)]
+    calls += [Report(), Charge(31, 2, 2, CHARGE_LIMIT + 1, 0), Charge(31, 2, 2, 0, CHARGE_LIMIT + 1), Look(31, 2, 2)]
+    calls += [Charge(*cell, 0, 0) for cell in CELLS[1:]] + [Report()]
+    return calls + [Charge(*CELLS[0], 240_000_000, 0), Report(), Charge(*CELLS[0], 239_999_999, 0), Report()]
+
+
 def every_refusal():
     """A list of calls that meets each number from 1 to 14 and 17, mostly with higher causes beside it."""
     row, id = list(Row(1, 1, 10_000, 500, 100, 1, 600)), 65
@@ -167,7 +181,7 @@ def edge_calls():
         0, 1, MOST_LAPSES, MOST_LAPSES + 1, NO_LIMIT - 1, NO_LIMIT, NO_LIMIT + 1, WORD_END - 1,
     ):
         calls += [Open(row, 1, 0, limit), Drop()]
-    for charge in (0, CHARGE_LIMIT, CHARGE_LIMIT + 1, WORD_END, 2**64 - 1):
+    for charge in (0, 10**9, 10**9 + 1, WORD_END, CHARGE_LIMIT, CHARGE_LIMIT + 1, 24 * WORD_END, 2**64 - 1):
         for charges in ((charge, 0), (0, charge)):
             calls += [Open(row, 1, 2_000), Close(*charges), Look(1, 1, 1), Withdraw(1, 1, 1)]
             calls += [Drop()]

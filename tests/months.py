@@ -42,7 +42,7 @@ class Month:
         ])
 
     def wrong_charge(self):
-        return self.rng.choice([CHARGE_LIMIT + 1, WORD_END, WORD_END + 5, 2**64 - 1])
+        return self.rng.choice([CHARGE_LIMIT + 1, 24 * WORD_END, 24 * WORD_END + 5, 2**64 - 1])
 
     def events(self, count, wrong):
         """Events into the open quantum, with wrong ones and reports among them."""
