@@ -152,7 +152,7 @@ def check_refusals():
     assert refusal(book, Open([3] + good[1:], 32, 0)) == 2
     assert refusal(book, Open(good, 32, 0)) == 3
     assert refusal(book, Open(good, 1, 1_000_000_001)) == 3
-    assert refusal(book, Close(1_000_000_001, 0)) == 3
+    assert refusal(book, Close(100_000_000_001, 0)) == 3
     assert refusal(book, Close(0, 0)) == 7
     assert refusal(book, Tick(0)) == 7
     assert refusal(book, Look(1, 1, 1)) == 5
@@ -174,8 +174,8 @@ def check_refusals():
     assert refusal(book, Deal(5, 0, 500)) == 11
     assert refusal(book, Close(0, 0)) == 0
     assert refusal(book, Open(good, 1, 2_000)) == 4
-    assert refusal(book, Charge(1, 1, 1, 0, 1_000_000_001)) == 3
-    assert refusal(book, Charge(1, 1, 2, 0, 1_000_000_001)) == 3
+    assert refusal(book, Charge(1, 1, 1, 0, 100_000_000_001)) == 3
+    assert refusal(book, Charge(1, 1, 2, 0, 100_000_000_001)) == 3
     assert refusal(book, Withdraw(1, 1, 1)) == 0
     assert refusal(book, Withdraw(1, 1, 1)) == 5
     records_of_example = example_bytes()[32:]

@@ -103,6 +103,13 @@ fn accepted(month: Month) -> AfterCall
     }
 }
 
+// An ask ends here, with the month as it was whatever the answer.
+fn asked(month: Month, answer: Asked) -> AskedAbout
+    ensures { λ r. ⌜ (r .month ≡ month) × (r .answer ≡ answer) ⌝ }
+{
+    AskedAbout { month, answer }
+}
+
 fn blank_cell() -> Cell
     ensures { λ r. ⌜ r ≡ blankCell ⌝ }
 {
@@ -352,10 +359,7 @@ impl Month {
         ensures { λ r. ⌜ (r .month ≡ self) × Answered self (B.Ask (record { t = t; id = id; price = price; volume = volume })) (r .month) (shownAsked (r .answer)) ⌝ }
     {
         if !self.running {
-            return AskedAbout {
-                month: self,
-                answer: Asked::Refused(Refusal::NoQuantumOpen),
-            };
+            return asked(self, Asked::Refused(Refusal::NoQuantumOpen));
         }
         let before = self.quantum;
         let sent = before.send(Event::Amend {
@@ -367,14 +371,11 @@ impl Month {
         let answer = sent.answer;
         let after = sent.quantum;
         match answer {
-            Answer::Accepted => AskedAbout {
-                month: self,
-                answer: Asked::Shown(preview(after, t, id, price, volume, self.count)),
-            },
-            Answer::Refused(r) => AskedAbout {
-                month: self,
-                answer: Asked::Refused(r),
-            },
+            Answer::Accepted => {
+                let shown = preview(after, t, id, price, volume, self.count);
+                asked(self, Asked::Shown(shown))
+            }
+            Answer::Refused(r) => asked(self, Asked::Refused(r)),
         }
     }
 
@@ -406,7 +407,7 @@ impl Month {
                 }
                 refused(self, Refusal::WrongTicket)
             }
-            Answer::Refused(r) => refused(self, r),
+            Answer::Refused(own) => refused(self, own),
         }
     }
 
