@@ -1,0 +1,44 @@
+-- `script::wide_at` meets its contract: the two words and their places. Assumes nothing.
+use Rattle.script.proofs.Said.{wide-is}
+use borrow.Author.Needs.{needs}
+use Rattle.script.proofs.wide_at.Statement.{statement}
+use Rattle.script.proofs.wide_at.Tie as tie
+
+word-requires : tie.Need-word-requires
+word-requires c κs = search needs
+
+wide-word-requires : tie.Need-wide-word-requires
+wide-word-requires c κs = search needs
+
+add-word : tie.Need-add-word
+add-word c = search needs
+
+word-requires-2 : tie.Need-word-requires-2
+word-requires-2 c κs = search needs
+
+wide-word-requires-2 : tie.Need-wide-word-requires-2
+wide-word-requires-2 c κs = search needs
+
+mul-result : tie.Need-mul-result
+mul-result c = search needs
+
+add-result : tie.Need-add-result
+add-result c = search needs
+
+returns : tie.Need-returns
+returns c =
+    let a = c .before .before .before .before .before .args in
+    wide-is (a .words .now) (a .i) (c .before .before .before .word .ensures) (c .before .word2 .ensures) (c .before .before .wide-word .ensures .0) (c .wide-word2 .ensures .0)
+
+pub wide-at-spec : {M : Type 1} → statement M
+wide-at-spec =
+    tie.close
+    (tie.spec
+    word-requires
+    wide-word-requires
+    add-word
+    word-requires-2
+    wide-word-requires-2
+    mul-result
+    add-result
+    returns)
