@@ -23,7 +23,7 @@ use Rattle.rules.specs.Strikes.{strikeWithin}
 abbrev pub gap : ℤ → ℤ → ℤ
 gap bid ask = ask -ℤ bid
 
--- "D × 100,000 ≤ a × SP or D ≤ b"; document 02, W4: "for a strike", "whether D is within" its limit, the row's a and b unread
+-- "D × 100,000 ≤ a × SP or D ≤ b"; document 02, W4: for a strike, "Whether D is within it", its own limit, "is decided exactly"
 abbrev pub spreadWithin : Row → Spread → ℤ → Bool
 spreadWithin row (Settled sp) d = leZ (d *ℤ pos 100000) (pos (row .a) *ℤ (sp .0)) || leZ d (pos (row .b))
 spreadWithin row (OfStrike s) d = strikeWithin s d

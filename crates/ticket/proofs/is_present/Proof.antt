@@ -1,4 +1,6 @@
 -- The amendment and the count. Assumes nothing.
+use mathlib.Core.Path.{_∙_}
+use mathlib.Core.Bool.{_&&_}
 use Rattle.rules.specs.Book.{goodTicket}
 use borrow.Author.Needs.{needs}
 use Rattle.ticket.proofs.is_present.Statement.{statement}
@@ -15,7 +17,7 @@ both-requires c κs = search needs
 
 returns : tie.Need-returns
 unfolding goodTicket
-returns c = cc
+returns c = c .both .ensures ∙ λ i. c .before .before .same-amendment .ensures i && c .before .same-count .ensures i
 
 pub is-present-spec : {M : Type 1} → statement M
 is-present-spec =
