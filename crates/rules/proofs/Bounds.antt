@@ -101,8 +101,12 @@ pub record ReadBounds (terms : Terms) (row : Row) : Type 0 where
   pub share-least : 1 ≤ row .share
   pub share-most : row .share ≤ terms .most-share
 
-read-part : (terms : Terms) (row : Row) → RowBounds terms row → ReadBounds terms row
-read-part terms row r =
+-- whatever a and b stand in place of the row's
+read-part : (terms : Terms) (row : Row) (a b : ℕ)
+    → RowBounds terms
+    (record { expiry = row .expiry; quantum = row .quantum; length = row .length; least = row .least; a = a; b = b; share = row .share })
+    → ReadBounds terms row
+read-part terms row a b r =
     record {
       expiry-least = r .expiry-least;
       expiry-most = r .expiry-most;
@@ -116,19 +120,8 @@ read-part terms row r =
 
 pub read-bounds : (terms : Terms) (spread : Spread) (row : Row) → goodRowFor terms spread row ≡ true → ReadBounds terms row
 unfolding goodRowFor
-read-bounds terms (Settled sp) row e = read-part terms row (row-bounds terms row e)
-read-bounds terms (OfStrike s) row e =
-    let r = row-bounds terms (asRead (OfStrike s) row) e in
-    record {
-      expiry-least = r .expiry-least;
-      expiry-most = r .expiry-most;
-      quantum-most = r .quantum-most;
-      length-least = r .length-least;
-      length-most = r .length-most;
-      least-least = r .least-least;
-      share-least = r .share-least;
-      share-most = r .share-most;
-    }
+read-bounds terms (Settled sp) row e = read-part terms row (row .a) (row .b) (row-bounds terms row e)
+read-bounds terms (OfStrike s) row e = read-part terms row 0 0 (row-bounds terms (asRead (OfStrike s) row) e)
 
 -- the cells' places
 pub place-small : (day expiry quantum : ℕ) → day ≤ 31 → expiry ≤ 2 → quantum ≤ 2 → placeOf day expiry quantum < 186

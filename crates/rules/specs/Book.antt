@@ -121,6 +121,7 @@ sendCauses (Quoting place row told events) e = eventCauses row events e
 abbrev pub amendOf : Amendment → Event
 amendOf a = Amend (a .t) (a .id) (a .price) (a .volume)
 
+-- neither price is below the other
 abbrev pub samePrice : ℤ → ℤ → Bool
 samePrice p q = leZ p q && leZ q p
 
@@ -156,8 +157,8 @@ module _ (terms : Terms) where
 
   -- 3 day, expiry, quantum, SP, A or P outside its range; 4 open on a filled cell; 5 charge, withdraw or look on a blank cell;
   -- 6 open while a quantum is open; 7 an event, close or drop with none open; document 02, W1: "17, lapse limit outside its values, at
-  -- open"; W4: "18, .. a number outside the ranges above"; W5: "19, a ticket whose
-  -- amendment or count is not the present one, after amend's own"
+  -- open"; W4: "18, .. a number outside the ranges above"; W5: "19, a ticket whose amendment or count is not the present one, after
+  -- amend's own"
   unfoldable pub causes : Book → Call → List Cause
   causes b (Open words day told) =
       rowCauses (told .spread) words
@@ -283,8 +284,8 @@ abbrev pub lapsesIn : Running → ℕ
 lapsesIn Idle = 0
 lapsesIn (Quoting place row told events) = lapsesBelow row (told .spread) events (present events)
 
--- document 02, W5: asking answers "both best quotes after it and a ticket": those of the quantum with that amend taken, and the ticket "holds the
--- amendment and the month's count"
+-- document 02, W5: asking answers "both best quotes after it and a ticket": those of the quantum with that amend taken, and the ticket
+-- "holds the amendment and the month's count"
 unfoldable pub previewOf : Book → Amendment → Preview
 previewOf b a =
     record {
