@@ -19,7 +19,7 @@ use Rattle.rules.proofs.Answers.{not-refused}
 use Rattle.board.specs.declared.BoardAnswer.{BoardAnswer}
 use Rattle.board.specs.declared.BoardAnswer.the-variants.{Met, Failed, Refused}
 use Rattle.board.specs.Answers.{shownBoard}
-use Rattle.board.specs.Tests.{every, numbersGood, sharesMet}
+use Rattle.board.specs.Internal.{every, numbersGood, sharesMet}
 
 -- ---- the number of strikes
 

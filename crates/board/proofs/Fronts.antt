@@ -10,7 +10,7 @@ use lib.Seq.{take-suc, take-length}
 use Rattle.rules.specs.Lists.{sum, any}
 use Rattle.rules.proofs.Lists.{sum-append}
 use Rattle.rules.proofs.Members.{any-append}
-use Rattle.board.specs.Tests.{every}
+use Rattle.board.specs.Internal.{every}
 
 module _ {A : Type 0} (xs : List A) (i : ℕ) (d : A) (h : i < length xs) where
   front : take (i + 1) xs ≡ take i xs ++ (getD xs i d ∷ [])

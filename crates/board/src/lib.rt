@@ -8,7 +8,7 @@ ghost use lib.ListN.{length, getD};
 ghost use Rattle.rules.specs.Lists.{within, sum};
 ghost use Rattle.rules.specs.Boards.{keptOf, lengthIn, goodQuantumOf, reaches, judged};
 ghost use Rattle.board.specs.Answers.{shownBoard};
-ghost use Rattle.board.specs.Tests.{every, numbersGood, sharesMet};
+ghost use Rattle.board.specs.Internal.{every, numbersGood, sharesMet};
 use ranges::at_most;
 use ranges::between;
 use ranges::both;

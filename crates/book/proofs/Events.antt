@@ -26,7 +26,7 @@ use Rattle.side.specs.Slots.{Slot, slot, blankSlot, GoodSlots}
 use Rattle.side.proofs.Lists.{map-set, map-take, map-drop}
 use Rattle.side.proofs.Changes.{GoodSlot, all-good}
 use Rattle.book.specs.Table.{ofSide, slotOf, slotsIn, GoodOrders}
-use Rattle.book.specs.Steps.{other}
+use Rattle.book.specs.Internal.{other}
 use Rattle.book.proofs.Sides.{names, side-add, side-named, unnamed, other-unlive, left-in, few-side, distinct-side, in-side}
 use Rattle.book.proofs.Slots.{blankOrder, Has}
 use Rattle.book.proofs.Table.{slot-at}

@@ -4,6 +4,6 @@ pub mod Slots
 pub mod Table
 pub mod Events
 pub mod Causes
-pub mod Turns
+pub mod Applied
 pub mod Quotes
 pub mod Sent

@@ -9,7 +9,7 @@ use Rattle.rules.specs.declared.Side.{Side}
 use Rattle.rules.specs.declared.Side.the-variants.{Buy, Sell}
 use Rattle.rules.specs.declared.Order.{Order}
 use Rattle.rules.specs.declared.Row.{Row}
-use Rattle.rules.specs.declared.Spread.{Spread}
+use Rattle.rules.specs.declared.SpreadRule.{SpreadRule}
 use Rattle.rules.specs.Lists.{if_then_else_}
 use Rattle.rules.specs.Quotes.{best}
 use Rattle.rules.specs.Kept.{quotesKeep, ordersKeep}
@@ -17,55 +17,55 @@ use Rattle.rules.proofs.Lists.{kept-in}
 use Rattle.rules.proofs.Best.{sided}
 use Rattle.quote.specs.Keys.{keyIn, quoteKey, quoteAt}
 use Rattle.quote.specs.Levels.{levelAt, levelOf, bestKey}
-use Rattle.quote.specs.Limit.{LimitFor, keysKeep}
+use Rattle.quote.specs.Widest.{WidestFor, keysKeep}
 use Rattle.quote.proofs.Keys.{GoodQuote, good-quote}
 use Rattle.quote.proofs.Finding.{bestOf, side-most, best-key, key-best}
 use Rattle.quote.proofs.Spread.{keys-law}
 use Rattle.side.specs.Slots.{Slot, volumesOf, bestIn}
 use Rattle.book.specs.Table.{ofSide, slotOf, slotsIn, tableOf, GoodOrders}
-use Rattle.book.specs.Steps.{sideAt, Standing}
+use Rattle.book.specs.Internal.{sideAt, Represents}
 use Rattle.book.proofs.Table.{side-best}
 
 -- the columns of the slots are those of the orders
-best-of : (s : Side) (least : ℕ) (live : List Order) → bestIn least (slotsIn s live) .key ≡ bestOf s least (ofSide s live)
+best-of : (s : Side) (minimum : ℕ) (live : List Order) → bestIn minimum (slotsIn s live) .key ≡ bestOf s minimum (ofSide s live)
 unfolding levelOf levelAt
-best-of s least live =
-    ap (λ (ks : List ℕ). bestKey least ks (volumesOf (slotsIn s live))) (map-map (λ (x : Slot). x .key) (slotOf s) (ofSide s live))
-    ∙ ap (bestKey least (map (keyIn s) (ofSide s live))) (map-map (λ (x : Slot). x .volume) (slotOf s) (ofSide s live))
+best-of s minimum live =
+    ap (λ (ks : List ℕ). bestKey minimum ks (volumesOf (slotsIn s live))) (map-map (λ (x : Slot). x .key) (slotOf s) (ofSide s live))
+    ∙ ap (bestKey minimum (map (keyIn s) (ofSide s live))) (map-map (λ (x : Slot). x .volume) (slotOf s) (ofSide s live))
 
-module _ (table : List ℕ) (least : ℕ) (live : List Order) (stands : Standing table least live) where
-  word-is : (n : ℕ) → n < 2 → getD table (256 * n + 193) 0 ≡ bestOf (sideAt n) least (ofSide (sideAt n) live)
-  word-is n h = side-best table least live stands n h ∙ best-of (sideAt n) least live
+module _ (table : List ℕ) (minimum : ℕ) (live : List Order) (represents : Represents table minimum live) where
+  word-is : (n : ℕ) → n < 2 → getD table (256 * n + 193) 0 ≡ bestOf (sideAt n) minimum (ofSide (sideAt n) live)
+  word-is n h = side-best table minimum live represents n h ∙ best-of (sideAt n) minimum live
 
-  most : (s : Side) → bestOf s least (ofSide s live) ≤ 2000000001
+  most : (s : Side) → bestOf s minimum (ofSide s live) ≤ 2000000001
   most s =
-      side-most s least (ofSide s live) (λ o m. stands .good .prices o (kept-in (sided s) live m .0)) (λ o m. kept-in (sided s) live m .1)
+      side-most s minimum (ofSide s live) (λ o m. represents .good .prices o (kept-in (sided s) live m .0)) (λ o m. kept-in (sided s) live m .1)
 
   pub word-most : (n : ℕ) → n < 2 → getD table (256 * n + 193) 0 ≤ 2000000001
   word-most n h = omega (arith, word-is n h, most (sideAt n))
 
-  pub word-quote : (n : ℕ) → n < 2 → (side : Side) → sideAt n ≡ side → quoteAt side (getD table (256 * n + 193) 0) ≡ best side least live
+  pub word-quote : (n : ℕ) → n < 2 → (side : Side) → sideAt n ≡ side → quoteAt side (getD table (256 * n + 193) 0) ≡ best side minimum live
   word-quote n h side e =
-      ap (quoteAt side) (word-is n h ∙ ap (λ (s : Side). bestOf s least (ofSide s live)) e) ∙ sym (best-key side least live (stands .good .prices))
+      ap (quoteAt side) (word-is n h ∙ ap (λ (s : Side). bestOf s minimum (ofSide s live)) e) ∙ sym (best-key side minimum live (represents .good .prices))
 
-  word-key : (n : ℕ) → n < 2 → getD table (256 * n + 193) 0 ≡ quoteKey (sideAt n) (best (sideAt n) least live)
-  word-key n h = word-is n h ∙ sym (key-best (sideAt n) least live (stands .good .prices))
+  word-key : (n : ℕ) → n < 2 → getD table (256 * n + 193) 0 ≡ quoteKey (sideAt n) (best (sideAt n) minimum live)
+  word-key n h = word-is n h ∙ sym (key-best (sideAt n) minimum live (represents .good .prices))
 
   -- a best quote has a price in its range
-  good-best : (s : Side) → GoodQuote (best s least live)
+  good-best : (s : Side) → GoodQuote (best s minimum live)
   good-best s =
-      subst GoodQuote (sym (best-key s least live (stands .good .prices))) (good-quote s (bestOf s least (ofSide s live)) (most s))
+      subst GoodQuote (sym (best-key s minimum live (represents .good .prices))) (good-quote s (bestOf s minimum (ofSide s live)) (most s))
 
-  pub words-keep : (row : Row) (sp : Spread) (limit : ℕ) → LimitFor row sp limit
-      → keysKeep limit (getD table 193 0) (getD table 449 0) ≡ quotesKeep row sp (best Buy least live) (best Sell least live)
-  words-keep row sp limit law =
-      ap (λ (k : ℕ). keysKeep limit k (getD table 449 0)) (word-key 0 (omega arith))
-      ∙ ap (keysKeep limit (quoteKey Buy (best Buy least live))) (word-key 1 (omega arith))
-      ∙ keys-law row sp limit law (best Buy least live) (best Sell least live) (good-best Buy) (good-best Sell)
+  pub words-filter : (row : Row) (sp : SpreadRule) (widest : ℕ) → WidestFor row sp widest
+      → keysKeep widest (getD table 193 0) (getD table 449 0) ≡ quotesKeep row sp (best Buy minimum live) (best Sell minimum live)
+  words-filter row sp widest law =
+      ap (λ (k : ℕ). keysKeep widest k (getD table 449 0)) (word-key 0 (omega arith))
+      ∙ ap (keysKeep widest (quoteKey Buy (best Buy minimum live))) (word-key 1 (omega arith))
+      ∙ keys-law row sp widest law (best Buy minimum live) (best Sell minimum live) (good-best Buy) (good-best Sell)
 
-pub keeps-is : (table : List ℕ) (row : Row) (sp : Spread) (live : List Order) → GoodOrders live → table ≡ tableOf (row .least .0) live
-    → (limit r : ℕ) → LimitFor row sp limit → r ≡ (if keysKeep limit (getD table 193 0) (getD table 449 0) then 1 else 0)
+pub keeps-is : (table : List ℕ) (row : Row) (sp : SpreadRule) (live : List Order) → GoodOrders live → table ≡ tableOf (row .minimum .0) live
+    → (widest r : ℕ) → WidestFor row sp widest → r ≡ (if keysKeep widest (getD table 193 0) (getD table 449 0) then 1 else 0)
     → r ≡ (if ordersKeep row sp live then 1 else 0)
 unfolding ordersKeep
-keeps-is table row sp live good is limit r l e =
-    e ∙ ap (λ (b : Bool). if b then 1 else 0) (words-keep table (row .least .0) live (record { good = good; is = is }) row sp limit l)
+keeps-is table row sp live good is widest r l e =
+    e ∙ ap (λ (b : Bool). if b then 1 else 0) (words-filter table (row .minimum .0) live (record { good = good; is = is }) row sp widest l)

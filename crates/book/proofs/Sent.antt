@@ -7,48 +7,48 @@ use lib.ListN.{length}
 use Rattle.rules.specs.declared.Order.{Order}
 use Rattle.rules.specs.declared.Event.{Event}
 use Rattle.side.specs.Slots.{sideOf, bestIn}
-use Rattle.side.specs.Moves.{Moving}
+use Rattle.side.specs.Internal.{StaleLevel}
 use Rattle.side.proofs.Words.{words-length}
 use Rattle.book.specs.declared.Answer.{Answer}
 use Rattle.book.specs.Table.{slotsIn, sideIn, tableOf, sentTo, GoodOrders}
-use Rattle.book.specs.Steps.{sideAt, other, joined, turnedTo, Turned}
+use Rattle.book.specs.Internal.{sideAt, other, joined, appliedTo, Applied}
 use Rattle.book.proofs.Table.{joined-part, joined-put}
 use Rattle.book.proofs.Events.{good-slots}
-use Rattle.book.proofs.Turns.{lent, putBack}
+use Rattle.book.proofs.Applied.{lent, putBack}
 
 -- the two halves by the number of either
-pub both-halves : (n least : ℕ) (live : List Order) → n < 2 → joined n (sideIn least (sideAt n) live) (sideIn least (other (sideAt n)) live) ≡ tableOf least live
+pub both-halves : (n minimum : ℕ) (live : List Order) → n < 2 → joined n (sideIn minimum (sideAt n) live) (sideIn minimum (other (sideAt n)) live) ≡ tableOf minimum live
 unfolding tableOf
-both-halves zero least live h = refl
-both-halves (suc zero) least live h = refl
-both-halves (suc (suc n)) least live h = absurd (omega arith)
+both-halves zero minimum live h = refl
+both-halves (suc zero) minimum live h = refl
+both-halves (suc (suc n)) minimum live h = absurd (omega arith)
 
-module _ (e : Event) (least : ℕ) (live : List Order) (good : GoodOrders live) (mid : List ℕ) (r : Answer) (t : Turned e least live mid r) where
+module _ (e : Event) (minimum : ℕ) (live : List Order) (good : GoodOrders live) (mid : List ℕ) (r : Answer) (t : Applied e minimum live mid r) where
   few-others : length (slotsIn (other (sideAt (r .s))) (sentTo (r .refusal) live e)) ≤ 64
   few-others = omega (arith, ap length (t .others), good-slots (other (sideAt (r .s))) live good .few)
 
   own : List ℕ
-  own = sideOf (slotsIn (sideAt (r .s)) (sentTo (r .refusal) live e)) (bestIn least (slotsIn (sideAt (r .s)) live))
+  own = sideOf (slotsIn (sideAt (r .s)) (sentTo (r .refusal) live e)) (bestIn minimum (slotsIn (sideAt (r .s)) live))
 
   others : List ℕ
-  others = sideIn least (other (sideAt (r .s))) (sentTo (r .refusal) live e)
+  others = sideIn minimum (other (sideAt (r .s))) (sentTo (r .refusal) live e)
 
   size-own : length own ≡ 256
   unfolding own
-  size-own = words-length own (slotsIn (sideAt (r .s)) (sentTo (r .refusal) live e)) (bestIn least (slotsIn (sideAt (r .s)) live)) (t .good .few) refl
+  size-own = words-length own (slotsIn (sideAt (r .s)) (sentTo (r .refusal) live e)) (bestIn minimum (slotsIn (sideAt (r .s)) live)) (t .good .few) refl
 
   size-others : length others ≡ 256
   unfolding others
   size-others =
-      words-length others (slotsIn (other (sideAt (r .s))) (sentTo (r .refusal) live e)) (bestIn least (slotsIn (other (sideAt (r .s))) (sentTo (r .refusal) live e)))
+      words-length others (slotsIn (other (sideAt (r .s))) (sentTo (r .refusal) live e)) (bestIn minimum (slotsIn (other (sideAt (r .s))) (sentTo (r .refusal) live e)))
       few-others refl
 
   mid-is : mid ≡ joined (r .s) own others
-  unfolding own others turnedTo
+  unfolding own others appliedTo
   mid-is = t .table
 
   -- the half to requote
-  pub moving : Moving (lent (r .s) mid) (r .change) least
+  pub moving : StaleLevel (lent (r .s) mid) (r .change) minimum
   unfolding own
   moving =
       record {
@@ -56,27 +56,27 @@ module _ (e : Event) (least : ℕ) (live : List Order) (good : GoodOrders live) 
         after = slotsIn (sideAt (r .s)) (sentTo (r .refusal) live e);
         good-before = good-slots (sideAt (r .s)) live good;
         good = t .good;
-        changed = t .told;
+        changed = t .answers;
         is = ap (lent (r .s)) mid-is ∙ joined-part own others size-own size-others (r .s) (t .number);
       }
 
-  pub sent-is : (half : List ℕ) → ((m : Moving (lent (r .s) mid) (r .change) least) → half ≡ sideOf (m .after) (bestIn least (m .after)))
-      → putBack (r .s) mid half ≡ tableOf least (sentTo (r .refusal) live e)
+  pub sent-is : (half : List ℕ) → ((m : StaleLevel (lent (r .s) mid) (r .change) minimum) → half ≡ sideOf (m .after) (bestIn minimum (m .after)))
+      → putBack (r .s) mid half ≡ tableOf minimum (sentTo (r .refusal) live e)
   unfolding moving others
   sent-is half moved =
       ap (λ (w : List ℕ). putBack (r .s) w half) mid-is
       ∙ joined-put own others size-own size-others (r .s) half (t .number)
       ∙ ap (λ (w : List ℕ). joined (r .s) w others) (moved moving)
-      ∙ both-halves (r .s) least (sentTo (r .refusal) live e) (t .number)
+      ∙ both-halves (r .s) minimum (sentTo (r .refusal) live e) (t .number)
 
   -- a refused event leaves the table
-  pub stays-is : 0 < r .refusal → mid ≡ tableOf least (sentTo (r .refusal) live e)
-  unfolding turnedTo
+  pub stays-is : 0 < r .refusal → mid ≡ tableOf minimum (sentTo (r .refusal) live e)
+  unfolding appliedTo
   stays-is h = t .table ∙ go (r .refusal) h
     where
       go : (n : ℕ) → 0 < n
-          → joined (r .s) (sideOf (slotsIn (sideAt (r .s)) (sentTo n live e)) (bestIn least (slotsIn (sideAt (r .s)) live)))
-          (sideIn least (other (sideAt (r .s))) (sentTo n live e))
-          ≡ tableOf least (sentTo n live e)
+          → joined (r .s) (sideOf (slotsIn (sideAt (r .s)) (sentTo n live e)) (bestIn minimum (slotsIn (sideAt (r .s)) live)))
+          (sideIn minimum (other (sideAt (r .s))) (sentTo n live e))
+          ≡ tableOf minimum (sentTo n live e)
       go zero h = absurd (omega arith)
-      go (suc n) h = both-halves (r .s) least live (t .number)
+      go (suc n) h = both-halves (r .s) minimum live (t .number)

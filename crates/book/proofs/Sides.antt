@@ -14,38 +14,38 @@ use Rattle.rules.specs.declared.Steps.{Steps}
 use Rattle.rules.specs.declared.Contracts.{Contracts}
 use Rattle.rules.specs.declared.Event.{Event}
 use Rattle.rules.specs.declared.Event.the-variants.{Add, Amend, Cancel, Deal, Tick}
-use Rattle.rules.specs.Lists.{if_then_else_, keep, any}
+use Rattle.rules.specs.Lists.{if_then_else_, filter, any}
 use Rattle.rules.specs.Units.{contracts, goodVolume}
 use Rattle.rules.specs.Orders.{hasId, isLive, left, amendedOrder, lessenedOrder, somethingLeft, apply}
 use Rattle.rules.specs.Quotes.{same}
 use Rattle.rules.specs.Bounds.{Distinct}
-use Rattle.rules.proofs.Lists.{keep-append, keep-one, kept-in}
-use Rattle.rules.proofs.Members.{any-none, none-any, length-keep, keep-all, map-same}
-use Rattle.rules.proofs.Orders.{distinct-keep, amended-other, lessened-other}
+use Rattle.rules.proofs.Lists.{filter-append, filter-one, kept-in}
+use Rattle.rules.proofs.Members.{any-none, none-any, length-filter, filter-all, map-same}
+use Rattle.rules.proofs.Orders.{distinct-filter, amended-other, lessened-other}
 use Rattle.rules.proofs.Bounds.{volume-bounds}
 use Rattle.book.specs.Table.{ofSide, GoodOrders}
-use Rattle.book.specs.Steps.{other}
+use Rattle.book.specs.Internal.{other}
 
 -- ---- two lists of one: those that pass, and the others
 
 -- what keeps a test's answer comes before or after the test
-keep-map : (f : Order → Order) (t : Order → Bool) → ((o : Order) → t (f o) ≡ t o) → (xs : List Order) → keep t (map f xs) ≡ map f (keep t xs)
-unfolding keep
-keep-map f t h [] = refl
-keep-map f t h (x ∷ xs) = rw (h x, keep-map f t h xs) (go (t x))
+filter-map : (f : Order → Order) (t : Order → Bool) → ((o : Order) → t (f o) ≡ t o) → (xs : List Order) → filter t (map f xs) ≡ map f (filter t xs)
+unfolding filter
+filter-map f t h [] = refl
+filter-map f t h (x ∷ xs) = rw (h x, filter-map f t h xs) (go (t x))
   where
-    go : (b : Bool) → (if b then f x ∷ map f (keep t xs) else map f (keep t xs)) ≡ map f (if b then x ∷ keep t xs else keep t xs)
+    go : (b : Bool) → (if b then f x ∷ map f (filter t xs) else map f (filter t xs)) ≡ map f (if b then x ∷ filter t xs else filter t xs)
     go true = refl
     go false = refl
 
 -- two tests, in either order
-keep-comm : (t u : Order → Bool) (xs : List Order) → keep t (keep u xs) ≡ keep u (keep t xs)
-unfolding keep
-keep-comm t u [] = refl
-keep-comm t u (x ∷ xs) = go (t x) (u x) refl refl (keep-comm t u xs)
+filter-comm : (t u : Order → Bool) (xs : List Order) → filter t (filter u xs) ≡ filter u (filter t xs)
+unfolding filter
+filter-comm t u [] = refl
+filter-comm t u (x ∷ xs) = go (t x) (u x) refl refl (filter-comm t u xs)
   where
-    go : (a b : Bool) → t x ≡ a → u x ≡ b → keep t (keep u xs) ≡ keep u (keep t xs)
-        → keep t (if b then x ∷ keep u xs else keep u xs) ≡ keep u (if a then x ∷ keep t xs else keep t xs)
+    go : (a b : Bool) → t x ≡ a → u x ≡ b → filter t (filter u xs) ≡ filter u (filter t xs)
+        → filter t (if b then x ∷ filter u xs else filter u xs) ≡ filter u (if a then x ∷ filter t xs else filter t xs)
     go true true e f r = rw (e, f, r) refl
     go true false e f r = rw (f, r) refl
     go false true e f r = rw (e, r) refl
@@ -85,17 +85,17 @@ module _ (s : Side) (os : List Order) where
   side-add t id side price volume =
       let o : Order = record { id = id; side = side; price = price; volume = volume } in
       let test : Order → Bool = λ (o : Order). same s (o .side) in
-      keep-append test os (o ∷ []) ∙ ap (λ (l : List Order). ofSide s os ++ l) (keep-one test o)
+      filter-append test os (o ∷ []) ∙ ap (λ (l : List Order). ofSide s os ++ l) (filter-one test o)
 
   -- an event that names an order changes the sides one by one
   pub side-named : (id : ℕ) (e : Event) → names id e → ofSide s (apply os e) ≡ apply (ofSide s os) e
   unfolding apply
   side-named id (Add t i side price volume) n = absurd n
-  side-named id (Amend t i price volume) n = keep-map (amendedOrder i price volume) (λ (o : Order). same s (o .side)) (amended-side s i price volume) os
-  side-named id (Cancel t i) n = keep-comm (λ (o : Order). same s (o .side)) (λ (o : Order). not (hasId i o)) os
+  side-named id (Amend t i price volume) n = filter-map (amendedOrder i price volume) (λ (o : Order). same s (o .side)) (amended-side s i price volume) os
+  side-named id (Cancel t i) n = filter-comm (λ (o : Order). same s (o .side)) (λ (o : Order). not (hasId i o)) os
   side-named id (Deal t i volume) n =
-      keep-comm (λ (o : Order). same s (o .side)) somethingLeft (map (lessenedOrder i (volume .0)) os)
-      ∙ ap (keep somethingLeft) (keep-map (lessenedOrder i (volume .0)) (λ (o : Order). same s (o .side)) (lessened-side s i (volume .0)) os)
+      filter-comm (λ (o : Order). same s (o .side)) somethingLeft (map (lessenedOrder i (volume .0)) os)
+      ∙ ap (filter somethingLeft) (filter-map (lessenedOrder i (volume .0)) (λ (o : Order). same s (o .side)) (lessened-side s i (volume .0)) os)
   side-named id (Tick t) n = absurd n
 
 -- and nothing where no order has the id
@@ -106,11 +106,11 @@ unnamed os id (Add t i side price volume) n none good = absurd n
 unnamed os id (Amend t i price volume) n none good =
     map-same (amendedOrder i price volume) os (λ o m. amended-other i price volume o (ap (λ (i : ℕ). hasId i o) n ∙ none-any (hasId id) m none))
 unnamed os id (Cancel t i) n none good =
-    keep-all (λ (o : Order). not (hasId i o)) os (λ o m. ap (λ (i : ℕ). not (hasId i o)) n ∙ ap not (none-any (hasId id) m none))
+    filter-all (λ (o : Order). not (hasId i o)) os (λ o m. ap (λ (i : ℕ). not (hasId i o)) n ∙ ap not (none-any (hasId id) m none))
 unnamed os id (Deal t i volume) n none good =
-    ap (keep somethingLeft)
+    ap (filter somethingLeft)
     (map-same (lessenedOrder i (volume .0)) os (λ o m. lessened-other i (volume .0) o (ap (λ (i : ℕ). hasId i o) n ∙ none-any (hasId id) m none)))
-    ∙ keep-all somethingLeft os (λ o m. lt-ltb 0 (o .volume .0) (volume-bounds (o .volume .0) (good o m) .0))
+    ∙ filter-all somethingLeft os (λ o m. lt-ltb 0 (o .volume .0) (volume-bounds (o .volume .0) (good o m) .0))
 unnamed os id (Tick t) n none good = absurd n
 
 -- ---- all live orders, read off the sides
@@ -124,7 +124,7 @@ one-side o = go (o .side)
     go Sell = refl
 
 pub length-sides : (os : List Order) → length os ≡ length (ofSide Buy os) + length (ofSide Sell os)
-unfolding keep
+unfolding filter
 length-sides [] = omega arith
 length-sides (o ∷ os) = rw (one-side o) (go (same Buy (o .side)) (length-sides os))
   where
@@ -134,7 +134,7 @@ length-sides (o ∷ os) = rw (one-side o) (go (same Buy (o .side)) (length-sides
     go false h = omega arith
 
 pub live-sides : (id : ℕ) (os : List Order) → isLive id os ≡ (isLive id (ofSide Buy os) || isLive id (ofSide Sell os))
-unfolding keep isLive any
+unfolding filter isLive any
 live-sides id [] = refl
 live-sides id (o ∷ os) = rw (one-side o, live-sides id os) (go (same Buy (o .side)) (hasId id o) refl)
   where
@@ -206,10 +206,10 @@ other-unlive s id os d {a} m h =
 
 module _ (s : Side) (os : List Order) (good : GoodOrders os) where
   pub few-side : length (ofSide s os) ≤ 64
-  few-side = omega (arith, good .few, length-keep (λ (o : Order). same s (o .side)) os)
+  few-side = omega (arith, good .few, length-filter (λ (o : Order). same s (o .side)) os)
 
   pub distinct-side : Distinct (ofSide s os)
-  distinct-side = distinct-keep (λ (o : Order). same s (o .side)) os (good .distinct)
+  distinct-side = distinct-filter (λ (o : Order). same s (o .side)) os (good .distinct)
 
   pub in-side : {o : Order} → List·Memᴰ o (ofSide s os) → List·Memᴰ o os
   in-side m = kept-in (λ (o : Order). same s (o .side)) os m .0

@@ -20,7 +20,7 @@ use Rattle.rules.proofs.Members.{or-false, getD-in}
 use Rattle.rules.proofs.Orders.{live-at}
 use Rattle.side.specs.Slots.{idsOf, seenFrom, seen}
 use Rattle.book.specs.Table.{ofSide, slotOf, slotsIn, slotIn, GoodOrders}
-use Rattle.book.specs.Steps.{sideAt, other}
+use Rattle.book.specs.Internal.{sideAt, other}
 use Rattle.book.proofs.Sides.{other-unlive, live-sides, few-side, distinct-side}
 
 abbrev pub blankOrder : Order
@@ -104,8 +104,8 @@ module _ (live : List Order) (good : GoodOrders live) (id : ℕ) where
       rw (none-there Buy b, none-there Sell s) refl
 
   -- where a live order stands
-  pub stands : isLive id live ≡ true → (n : ℕ) × (k : ℕ) × (n < 2) × Has id (ofSide (sideAt n) live) k
-  stands h = go (isLive id (ofSide Buy live)) refl
+  pub represents : isLive id live ≡ true → (n : ℕ) × (k : ℕ) × (n < 2) × Has id (ofSide (sideAt n) live) k
+  represents h = go (isLive id (ofSide Buy live)) refl
     where
       go : (b : Bool) → isLive id (ofSide Buy live) ≡ b → (n : ℕ) × (k : ℕ) × (n < 2) × Has id (ofSide (sideAt n) live) k
       go true e =
@@ -121,13 +121,13 @@ module _ (live : List Order) (good : GoodOrders live) (id : ℕ) where
     where
       go : (b : Bool) → isLive id live ≡ b → ltb (slotIn id live) 128 ≡ b
       go true e =
-          let (n, k, l, p) = stands e in
+          let (n, k, l, p) = represents e in
           lt-ltb (slotIn id live) 128 (omega (arith, slot-there n k l p, p .inside, few-side (sideAt n) live good))
       go false e = rw (slot-none e) refl
 
-  pub slot-stands : slotIn id live < 128 → (slotIn id live / 64 < 2) × Has id (ofSide (sideAt (slotIn id live / 64)) live) (slotIn id live % 64)
-  slot-stands h =
-      let (n, k, l, p) = stands (sym slot-live ∙ lt-ltb (slotIn id live) 128 h) in
+  pub slot-represents : slotIn id live < 128 → (slotIn id live / 64 < 2) × Has id (ofSide (sideAt (slotIn id live / 64)) live) (slotIn id live % 64)
+  slot-represents h =
+      let (n, k, l, p) = represents (sym slot-live ∙ lt-ltb (slotIn id live) 128 h) in
       let is = slot-there n k l p in
       let side : n ≡ slotIn id live / 64 = omega (arith, is, l, p .inside, few-side (sideAt n) live good) in
       let place : k ≡ slotIn id live % 64 = omega (arith, is, l, p .inside, few-side (sideAt n) live good) in
@@ -138,6 +138,6 @@ module _ (live : List Order) (good : GoodOrders live) (id : ℕ) where
     where
       go : (b : Bool) → isLive id live ≡ b → slotIn id live ≤ 128
       go true e =
-          let (n, k, l, p) = stands e in
+          let (n, k, l, p) = represents e in
           omega (arith, slot-there n k l p, p .inside, few-side (sideAt n) live good)
       go false e = omega (arith, slot-none e)

@@ -14,14 +14,14 @@ use Rattle.rules.specs.declared.Side.the-variants.{Buy, Sell}
 use Rattle.rules.specs.declared.Order.{Order}
 use Rattle.rules.specs.Quotes.{same}
 use Rattle.rules.proofs.Lists.{both}
-use Rattle.rules.proofs.Members.{length-keep}
+use Rattle.rules.proofs.Members.{length-filter}
 use Rattle.quote.specs.declared.Level.{Level}
 use Rattle.side.specs.Slots.{Slot, blankSlot, sideOf, bestIn, seen}
-use Rattle.side.specs.Moves.{Sized}
+use Rattle.side.specs.Internal.{Sized}
 use Rattle.side.proofs.Lists.{behind-at}
 use Rattle.side.proofs.Words.{words-length, count-is, key-is, sized, id-at, key-at, volume-at}
 use Rattle.book.specs.Table.{ofSide, slotOf, slotsIn, sideIn, tableOf, slotBy, slotIn, Held}
-use Rattle.book.specs.Steps.{sideAt, other, joined, Standing}
+use Rattle.book.specs.Internal.{sideAt, other, joined, Represents}
 use Rattle.book.proofs.Sides.{few-side, length-sides}
 use Rattle.book.proofs.Slots.{blankOrder, Has, slot-there}
 
@@ -78,84 +78,84 @@ module _ (own others : List ℕ) (long : length own ≡ 256) (rest : length othe
 
 -- ---- the table of live orders
 
-module _ (table : List ℕ) (least : ℕ) (live : List Order) (stands : Standing table least live) where
+module _ (table : List ℕ) (minimum : ℕ) (live : List Order) (represents : Represents table minimum live) where
   few-slots : (s : Side) → length (slotsIn s live) ≤ 64
-  few-slots s = omega (arith, few-side s live (stands .good), length-map (ofSide s live) (slotOf s))
+  few-slots s = omega (arith, few-side s live (represents .good), length-map (ofSide s live) (slotOf s))
 
-  pub half-length : (s : Side) → length (sideIn least s live) ≡ 256
-  half-length s = words-length (sideIn least s live) (slotsIn s live) (bestIn least (slotsIn s live)) (few-slots s) refl
+  pub half-length : (s : Side) → length (sideIn minimum s live) ≡ 256
+  half-length s = words-length (sideIn minimum s live) (slotsIn s live) (bestIn minimum (slotsIn s live)) (few-slots s) refl
 
-  pub halves : (n : ℕ) → n < 2 → table ≡ joined n (sideIn least (sideAt n) live) (sideIn least (other (sideAt n)) live)
+  pub halves : (n : ℕ) → n < 2 → table ≡ joined n (sideIn minimum (sideAt n) live) (sideIn minimum (other (sideAt n)) live)
   unfolding tableOf
-  halves zero h = stands .is
-  halves (suc zero) h = stands .is
+  halves zero h = represents .is
+  halves (suc zero) h = represents .is
   halves (suc (suc n)) h = absurd (omega arith)
 
   pub table-length : length table ≡ 512
   table-length =
-      ap length (halves 0 (omega arith)) ∙ joined-length (sideIn least Buy live) (sideIn least Sell live) (half-length Buy) (half-length Sell) 0 (omega arith)
+      ap length (halves 0 (omega arith)) ∙ joined-length (sideIn minimum Buy live) (sideIn minimum Sell live) (half-length Buy) (half-length Sell) 0 (omega arith)
 
   module _ (n : ℕ) (h : n < 2) where
-    at : (i : ℕ) → i < 256 → getD table (256 * n + i) 0 ≡ getD (sideIn least (sideAt n) live) i 0
+    at : (i : ℕ) → i < 256 → getD table (256 * n + i) 0 ≡ getD (sideIn minimum (sideAt n) live) i 0
     at i k =
         ap (λ (t : List ℕ). getD t (256 * n + i) 0) (halves n h)
-        ∙ joined-at (sideIn least (sideAt n) live) (sideIn least (other (sideAt n)) live) (half-length (sideAt n)) (half-length (other (sideAt n))) n i h k
+        ∙ joined-at (sideIn minimum (sideAt n) live) (sideIn minimum (other (sideAt n)) live) (half-length (sideAt n)) (half-length (other (sideAt n))) n i h k
 
-    pub part-is : take (256 * n + 256 - 256 * n) (drop (256 * n) table) ≡ sideIn least (sideAt n) live
+    pub part-is : take (256 * n + 256 - 256 * n) (drop (256 * n) table) ≡ sideIn minimum (sideAt n) live
     part-is =
         ap (λ (t : List ℕ). take (256 * n + 256 - 256 * n) (drop (256 * n) t)) (halves n h)
-        ∙ joined-part (sideIn least (sideAt n) live) (sideIn least (other (sideAt n)) live) (half-length (sideAt n)) (half-length (other (sideAt n))) n h
+        ∙ joined-part (sideIn minimum (sideAt n) live) (sideIn minimum (other (sideAt n)) live) (half-length (sideAt n)) (half-length (other (sideAt n))) n h
 
     pub put-is : (half : List ℕ)
-        → take (256 * n) table ++ (half ++ drop (256 * n + 256 - 256 * n) (drop (256 * n) table)) ≡ joined n half (sideIn least (other (sideAt n)) live)
+        → take (256 * n) table ++ (half ++ drop (256 * n + 256 - 256 * n) (drop (256 * n) table)) ≡ joined n half (sideIn minimum (other (sideAt n)) live)
     put-is half =
         ap (λ (t : List ℕ). take (256 * n) t ++ (half ++ drop (256 * n + 256 - 256 * n) (drop (256 * n) t))) (halves n h)
-        ∙ joined-put (sideIn least (sideAt n) live) (sideIn least (other (sideAt n)) live) (half-length (sideAt n)) (half-length (other (sideAt n))) n half h
+        ∙ joined-put (sideIn minimum (sideAt n) live) (sideIn minimum (other (sideAt n)) live) (half-length (sideAt n)) (half-length (other (sideAt n))) n half h
 
     -- the half that is lent is a side's words
     pub part-sized : Sized (take (256 * n + 256 - 256 * n) (drop (256 * n) table))
     part-sized =
-        sized (take (256 * n + 256 - 256 * n) (drop (256 * n) table)) (slotsIn (sideAt n) live) (bestIn least (slotsIn (sideAt n) live)) (few-slots (sideAt n)) part-is
+        sized (take (256 * n + 256 - 256 * n) (drop (256 * n) table)) (slotsIn (sideAt n) live) (bestIn minimum (slotsIn (sideAt n) live)) (few-slots (sideAt n)) part-is
 
     pub part-count : getD (take (256 * n + 256 - 256 * n) (drop (256 * n) table)) 192 0 ≡ length (ofSide (sideAt n) live)
     part-count =
-        count-is (take (256 * n + 256 - 256 * n) (drop (256 * n) table)) (slotsIn (sideAt n) live) (bestIn least (slotsIn (sideAt n) live)) (few-slots (sideAt n)) part-is
+        count-is (take (256 * n + 256 - 256 * n) (drop (256 * n) table)) (slotsIn (sideAt n) live) (bestIn minimum (slotsIn (sideAt n) live)) (few-slots (sideAt n)) part-is
         ∙ length-map (ofSide (sideAt n) live) (slotOf (sideAt n))
 
     -- what a side's words say
     pub side-count : getD table (256 * n + 192) 0 ≡ length (ofSide (sideAt n) live)
     side-count =
         at 192 (omega arith)
-        ∙ count-is (sideIn least (sideAt n) live) (slotsIn (sideAt n) live) (bestIn least (slotsIn (sideAt n) live)) (few-slots (sideAt n)) refl
+        ∙ count-is (sideIn minimum (sideAt n) live) (slotsIn (sideAt n) live) (bestIn minimum (slotsIn (sideAt n) live)) (few-slots (sideAt n)) refl
         ∙ length-map (ofSide (sideAt n) live) (slotOf (sideAt n))
 
     pub side-few : getD table (256 * n + 192) 0 ≤ 64
-    side-few = omega (arith, side-count, few-side (sideAt n) live (stands .good))
+    side-few = omega (arith, side-count, few-side (sideAt n) live (represents .good))
 
     -- room for one more
     pub part-room : length live < 64 → getD (take (256 * n + 256 - 256 * n) (drop (256 * n) table)) 192 0 < 64
-    part-room room = omega (arith, part-count, length-keep (λ (o : Order). same (sideAt n) (o .side)) live)
+    part-room room = omega (arith, part-count, length-filter (λ (o : Order). same (sideAt n) (o .side)) live)
 
-    pub side-best : getD table (256 * n + 193) 0 ≡ bestIn least (slotsIn (sideAt n) live) .key
+    pub side-best : getD table (256 * n + 193) 0 ≡ bestIn minimum (slotsIn (sideAt n) live) .key
     side-best =
         at 193 (omega arith)
-        ∙ key-is (sideIn least (sideAt n) live) (slotsIn (sideAt n) live) (bestIn least (slotsIn (sideAt n) live)) (few-slots (sideAt n)) refl
+        ∙ key-is (sideIn minimum (sideAt n) live) (slotsIn (sideAt n) live) (bestIn minimum (slotsIn (sideAt n) live)) (few-slots (sideAt n)) refl
 
     module _ (k : ℕ) (l : k < 64) where
       pub side-id : getD table (256 * n + k) 0 ≡ getD (slotsIn (sideAt n) live) k blankSlot .id
       side-id =
           at k (omega arith)
-          ∙ id-at (sideIn least (sideAt n) live) (slotsIn (sideAt n) live) (bestIn least (slotsIn (sideAt n) live)) (few-slots (sideAt n)) refl k l
+          ∙ id-at (sideIn minimum (sideAt n) live) (slotsIn (sideAt n) live) (bestIn minimum (slotsIn (sideAt n) live)) (few-slots (sideAt n)) refl k l
 
       pub side-key : getD table (256 * n + (64 + k)) 0 ≡ getD (slotsIn (sideAt n) live) k blankSlot .key
       side-key =
           at (64 + k) (omega arith)
-          ∙ key-at (sideIn least (sideAt n) live) (slotsIn (sideAt n) live) (bestIn least (slotsIn (sideAt n) live)) (few-slots (sideAt n)) refl k l
+          ∙ key-at (sideIn minimum (sideAt n) live) (slotsIn (sideAt n) live) (bestIn minimum (slotsIn (sideAt n) live)) (few-slots (sideAt n)) refl k l
 
       pub side-volume : getD table (256 * n + (128 + k)) 0 ≡ getD (slotsIn (sideAt n) live) k blankSlot .volume
       side-volume =
           at (128 + k) (omega arith)
-          ∙ volume-at (sideIn least (sideAt n) live) (slotsIn (sideAt n) live) (bestIn least (slotsIn (sideAt n) live)) (few-slots (sideAt n)) refl k l
+          ∙ volume-at (sideIn minimum (sideAt n) live) (slotsIn (sideAt n) live) (bestIn minimum (slotsIn (sideAt n) live)) (few-slots (sideAt n)) refl k l
 
   pub all-count : getD table 192 0 + getD table 448 0 ≡ length live
   all-count = omega (arith, side-count 0 (omega arith), side-count 1 (omega arith), length-sides live)
@@ -167,7 +167,7 @@ module _ (table : List ℕ) (least : ℕ) (live : List Order) (stands : Standing
       let place : h % 64 < 64 = omega arith in
       let s = sideAt (h / 64) in
       let there = has-at s (ofSide s live) (h % 64) id some (sym (side-id (h / 64) side (h % 64) place) ∙ e) in
-      omega (arith, slot-there live (stands .good) id (h / 64) (h % 64) side there)
+      omega (arith, slot-there live (represents .good) id (h / 64) (h % 64) side there)
 
   pub word-is : (id h : ℕ) (b : Bool) → h < 128 → b ≡ (eqb (getD table (256 * (h / 64) + h % 64) 0) id && not (eqb id 0)) → b ≡ true → h ≡ slotIn id live
   word-is id h b l e t =
@@ -181,20 +181,20 @@ module _ (table : List ℕ) (least : ℕ) (live : List Order) (stands : Standing
       → r ≡ slotBy buys sells → r ≡ slotIn id live
   asked-is id buys sells r b s is =
       is
-      ∙ ap (λ (n : ℕ). slotBy n sells) (b (slotsIn Buy live) (bestIn least (slotsIn Buy live)) (few-slots Buy) (part-is 0 (omega arith)))
-      ∙ ap (slotBy (seen id (slotsIn Buy live))) (s (slotsIn Sell live) (bestIn least (slotsIn Sell live)) (few-slots Sell) (part-is 1 (omega arith)))
+      ∙ ap (λ (n : ℕ). slotBy n sells) (b (slotsIn Buy live) (bestIn minimum (slotsIn Buy live)) (few-slots Buy) (part-is 0 (omega arith)))
+      ∙ ap (slotBy (seen id (slotsIn Buy live))) (s (slotsIn Sell live) (bestIn minimum (slotsIn Sell live)) (few-slots Sell) (part-is 1 (omega arith)))
 
 -- ---- a table that stands for some live orders
 
 module _ (table : List ℕ) (held : Held table) where
-  pub held-stands : Standing table (held .least) (held .live)
-  held-stands = record { good = held .good; is = held .is }
+  pub held-represents : Represents table (held .minimum) (held .live)
+  held-represents = record { good = held .good; is = held .is }
 
   pub held-length : length table ≡ 512
-  held-length = table-length table (held .least) (held .live) held-stands
+  held-length = table-length table (held .minimum) (held .live) held-represents
 
   pub held-count : getD table 192 0 + getD table 448 0 ≤ 64
-  held-count = omega (arith, all-count table (held .least) (held .live) held-stands, held .good .few)
+  held-count = omega (arith, all-count table (held .minimum) (held .live) held-represents, held .good .few)
 
   pub held-sized : (n : ℕ) → n < 2 → Sized (take (256 * n + 256 - 256 * n) (drop (256 * n) table))
-  held-sized n h = part-sized table (held .least) (held .live) held-stands n h
+  held-sized n h = part-sized table (held .minimum) (held .live) held-represents n h

@@ -9,7 +9,7 @@ use Rattle.rules.specs.declared.Side.{Side}
 use Rattle.rules.specs.declared.Side.the-variants.{Buy, Sell}
 use Rattle.rules.specs.declared.Order.{Order}
 use Rattle.rules.specs.declared.Event.{Event}
-use Rattle.rules.specs.Lists.{if_then_else_, keep}
+use Rattle.rules.specs.Lists.{if_then_else_, filter}
 use Rattle.rules.specs.Units.{goodPrice, goodVolume}
 use Rattle.rules.specs.Orders.{apply}
 use Rattle.rules.specs.Quotes.{same}
@@ -20,7 +20,7 @@ use Rattle.side.specs.Slots.{Slot, slot, sideOf, bestIn, seen}
 
 -- the orders of a side, in their order
 abbrev pub ofSide : Side → List Order → List Order
-ofSide side live = keep (λ (o : Order). same side (o .side)) live
+ofSide side live = filter (λ (o : Order). same side (o .side)) live
 
 abbrev pub slotOf : Side → Order → Slot
 slotOf side o = slot (o .id) (keyIn side o) (o .volume .0)
@@ -30,10 +30,10 @@ slotsIn side live = map (slotOf side) (ofSide side live)
 
 -- a side's words: its orders, and its best level for the least volume of a quote
 abbrev pub sideIn : ℕ → Side → List Order → List ℕ
-sideIn least side live = sideOf (slotsIn side live) (bestIn least (slotsIn side live))
+sideIn minimum side live = sideOf (slotsIn side live) (bestIn minimum (slotsIn side live))
 
 unfoldable pub tableOf : ℕ → List Order → List ℕ
-tableOf least live = sideIn least Buy live ++ sideIn least Sell live
+tableOf minimum live = sideIn minimum Buy live ++ sideIn minimum Sell live
 
 -- live orders as the plain book's bounds have them
 pub record GoodOrders (live : List Order) : Type 0 where
@@ -44,18 +44,18 @@ pub record GoodOrders (live : List Order) : Type 0 where
 
 -- a table that stands for live orders
 pub record Held (table : List ℕ) : Type 0 where
-  pub least : ℕ
+  pub minimum : ℕ
   pub live : List Order
   pub good : GoodOrders live
-  pub is : table ≡ tableOf least live
+  pub is : table ≡ tableOf minimum live
 
 -- and for this least volume, with hints of their size
-pub record Holding (table hints : List ℕ) (least : ℕ) : Type 0 where
+pub record Holding (table hints : List ℕ) (minimum : ℕ) : Type 0 where
   pub live : List Order
   pub good : GoodOrders live
-  pub is : table ≡ tableOf least live
+  pub is : table ≡ tableOf minimum live
   pub hinted : length hints ≡ 1024
-  pub some : 1 ≤ least
+  pub some : 1 ≤ minimum
 
 -- the slot of the order with an id: a buy's place, 64 + a sell's, or 128 where no live order has it
 abbrev pub slotBy : ℕ → ℕ → ℕ
@@ -70,6 +70,6 @@ sentTo zero live e = apply live e
 sentTo (suc n) live e = live
 
 -- what an event promises: for all live orders that the table stands for, the trader's refusal and the table after it
-pub record Sends (e : Event) (least : ℕ) (entry exit : List ℕ) (r : ℕ) : Type 0 where
-  pub refusal : (live : List Order) → GoodOrders live → entry ≡ tableOf least live → r ≡ lowest (traderCauses live e)
-  pub table : (live : List Order) → GoodOrders live → entry ≡ tableOf least live → exit ≡ tableOf least (sentTo r live e)
+pub record Sends (e : Event) (minimum : ℕ) (entry exit : List ℕ) (r : ℕ) : Type 0 where
+  pub refusal : (live : List Order) → GoodOrders live → entry ≡ tableOf minimum live → r ≡ lowest (traderCauses live e)
+  pub table : (live : List Order) → GoodOrders live → entry ≡ tableOf minimum live → exit ≡ tableOf minimum (sentTo r live e)

@@ -9,15 +9,15 @@ ghost use lib.ListN.{length};
 ghost use Rattle.rules.specs.declared.Order.{Order};
 ghost use Rattle.rules.specs.declared.Millis.{Millis};
 ghost use Rattle.rules.specs.declared.Row.{Row};
-ghost use Rattle.rules.specs.declared.Spread.{Spread};
+ghost use Rattle.rules.specs.declared.SpreadRule.{SpreadRule};
 ghost use Rattle.rules.specs.declared.Event.the-variants.{Add, Amend, Cancel, Deal};
 ghost use Rattle.rules.specs.Lists.{if_then_else_};
 ghost use Rattle.rules.specs.Units.{goodPrice, goodVolume};
 ghost use Rattle.rules.specs.Quotes.{best as bestQuote};
 ghost use Rattle.rules.specs.Kept.{ordersKeep};
-ghost use Rattle.quote.specs.Limit.{LimitFor};
+ghost use Rattle.quote.specs.Widest.{WidestFor};
 ghost use Rattle.book.specs.Table.{tableOf, slotBy, slotIn, GoodOrders, Held, Holding, Sends};
-ghost use Rattle.book.specs.Steps.{Numbers, sideAt, idOf, Standing, Located, Placed, answer, noChange, Turned};
+ghost use Rattle.book.specs.Internal.{Numbers, sideAt, idOf, Represents, Located, Placed, answer, noChange, Applied};
 use ranges::both;
 use rules::Contracts;
 use rules::Event;
@@ -81,7 +81,7 @@ fn side_at(s: usize) -> Side
 // The number of live orders.
 pub fn count(table: &[u32]) -> u32
     requires { ⌜ Held (now table) ⌝ }
-    ensures { λ r. ⌜ ((least : ℕ) (live : List Order) → GoodOrders live → now (table .entry) ≡ tableOf least live → r ≡ length live) ⌝ }
+    ensures { λ r. ⌜ ((minimum : ℕ) (live : List Order) → GoodOrders live → now (table .entry) ≡ tableOf minimum live → r ≡ length live) ⌝ }
 {
     table[192] + table[448]
 }
@@ -116,7 +116,7 @@ fn note(hints: &mut [u8], id: u32, slot: usize)
 // The slot of the order with the id, or 128: the one that was last found for an id like this, where it stands there.
 fn find(table: &[u32], hints: &mut [u8], id: u32) -> usize
     requires { ⌜ Held (now table) × (length (now hints) ≡ 1024) ⌝ }
-    ensures { λ r. ⌜ ((least : ℕ) (live : List Order) → Standing (now (table .entry)) least live → r ≡ slotIn id live) ⌝ }
+    ensures { λ r. ⌜ ((minimum : ℕ) (live : List Order) → Represents (now (table .entry)) minimum live → r ≡ slotIn id live) ⌝ }
 {
     let hint = (hints[(id % 1024) as usize] % 128) as usize;
     let word = table[256 * (hint / 64) + hint % 64];
@@ -161,7 +161,7 @@ fn add(
     volume: Contracts,
 ) -> Answer
     requires { ⌜ Located (now table) slot × (length (now hints) ≡ 1024) ⌝ }
-    ensures { λ r. ⌜ ((t : Millis) (least : ℕ) (live : List Order) → Standing (now (table .entry)) least live → slot ≡ slotIn id live → Turned (Add t id side price volume) least live (now (table .exit)) r) ⌝ }
+    ensures { λ r. ⌜ ((t : Millis) (minimum : ℕ) (live : List Order) → Represents (now (table .entry)) minimum live → slot ≡ slotIn id live → Applied (Add t id side price volume) minimum live (now (table .exit)) r) ⌝ }
 {
     if slot < 128 {
         return refused(10);
@@ -183,7 +183,7 @@ fn add(
 
 fn amend(table: &mut [u32], slot: usize, price: Steps, volume: Contracts) -> Answer
     requires { ⌜ Located (now table) slot ⌝ }
-    ensures { λ r. ⌜ ((t : Millis) (id least : ℕ) (live : List Order) → Standing (now (table .entry)) least live → slot ≡ slotIn id live → Turned (Amend t id price volume) least live (now (table .exit)) r) ⌝ }
+    ensures { λ r. ⌜ ((t : Millis) (id minimum : ℕ) (live : List Order) → Represents (now (table .entry)) minimum live → slot ≡ slotIn id live → Applied (Amend t id price volume) minimum live (now (table .exit)) r) ⌝ }
 {
     if 128 <= slot {
         return refused(11);
@@ -201,7 +201,7 @@ fn amend(table: &mut [u32], slot: usize, price: Steps, volume: Contracts) -> Ans
 
 fn cancel(table: &mut [u32], hints: &mut [u8], slot: usize) -> Answer
     requires { ⌜ Located (now table) slot × (length (now hints) ≡ 1024) ⌝ }
-    ensures { λ r. ⌜ ((t : Millis) (id least : ℕ) (live : List Order) → Standing (now (table .entry)) least live → slot ≡ slotIn id live → Turned (Cancel t id) least live (now (table .exit)) r) ⌝ }
+    ensures { λ r. ⌜ ((t : Millis) (id minimum : ℕ) (live : List Order) → Represents (now (table .entry)) minimum live → slot ≡ slotIn id live → Applied (Cancel t id) minimum live (now (table .exit)) r) ⌝ }
 {
     if 128 <= slot {
         return refused(11);
@@ -216,7 +216,7 @@ fn cancel(table: &mut [u32], hints: &mut [u8], slot: usize) -> Answer
 // What is left of the order stands in its place, or the order goes where nothing is.
 fn deal(table: &mut [u32], hints: &mut [u8], slot: usize, volume: Contracts) -> Answer
     requires { ⌜ Located (now table) slot × (length (now hints) ≡ 1024) ⌝ }
-    ensures { λ r. ⌜ ((t : Millis) (id least : ℕ) (live : List Order) → Standing (now (table .entry)) least live → slot ≡ slotIn id live → Turned (Deal t id volume) least live (now (table .exit)) r) ⌝ }
+    ensures { λ r. ⌜ ((t : Millis) (id minimum : ℕ) (live : List Order) → Represents (now (table .entry)) minimum live → slot ≡ slotIn id live → Applied (Deal t id volume) minimum live (now (table .exit)) r) ⌝ }
 {
     if 128 <= slot {
         return refused(11);
@@ -277,7 +277,7 @@ fn id_of(e: Event) -> u32
 // The answer to an event, and the orders after it; the best level of its side is still that of before.
 fn changed(table: &mut [u32], hints: &mut [u8], e: Event) -> Answer
     requires { ⌜ Held (now table) × (length (now hints) ≡ 1024) ⌝ }
-    ensures { λ r. ⌜ ((least : ℕ) (live : List Order) → Standing (now (table .entry)) least live → Turned e least live (now (table .exit)) r) ⌝ }
+    ensures { λ r. ⌜ ((minimum : ℕ) (live : List Order) → Represents (now (table .entry)) minimum live → Applied e minimum live (now (table .exit)) r) ⌝ }
 {
     let slot = find(table, hints, id_of(e));
     match e {
@@ -305,9 +305,9 @@ fn changed(table: &mut [u32], hints: &mut [u8], e: Event) -> Answer
 }
 
 // An event: the number of the trader's refusal, or 0, and then the orders and the best level of its side are those after it.
-pub fn send(table: &mut [u32], hints: &mut [u8], e: Event, least: Contracts) -> u32
-    requires { ⌜ Holding (now table) (now hints) (least .0) ⌝ }
-    ensures { λ r. ⌜ Sends e (least .0) (now (table .entry)) (now (table .exit)) r ⌝ }
+pub fn send(table: &mut [u32], hints: &mut [u8], e: Event, minimum: Contracts) -> u32
+    requires { ⌜ Holding (now table) (now hints) (minimum .0) ⌝ }
+    ensures { λ r. ⌜ Sends e (minimum .0) (now (table .entry)) (now (table .exit)) r ⌝ }
 {
     let answer = changed(table, hints, e);
     let refusal = answer.refusal;
@@ -319,7 +319,7 @@ pub fn send(table: &mut [u32], hints: &mut [u8], e: Event, least: Contracts) -> 
         &mut table[256 * s..256 * s + 256],
         side_at(s),
         answer.change,
-        least,
+        minimum,
     );
     0
 }
@@ -327,17 +327,17 @@ pub fn send(table: &mut [u32], hints: &mut [u8], e: Event, least: Contracts) -> 
 // ---- the quotes
 
 // Whether the live orders keep the quote, 1 or 0, by the row's spread limit.
-pub fn keeps(table: &[u32], limit: u32) -> u32
+pub fn keeps(table: &[u32], widest: u32) -> u32
     requires { ⌜ length (now table) ≡ 512 ⌝ }
-    ensures { λ r. ⌜ ((row : Row) (sp : Spread) (live : List Order) → GoodOrders live → now (table .entry) ≡ tableOf (row .least .0) live → LimitFor row sp limit → r ≡ (if ordersKeep row sp live then 1 else 0)) ⌝ }
+    ensures { λ r. ⌜ ((row : Row) (sp : SpreadRule) (live : List Order) → GoodOrders live → now (table .entry) ≡ tableOf (row .minimum .0) live → WidestFor row sp widest → r ≡ (if ordersKeep row sp live then 1 else 0)) ⌝ }
 {
-    quote::keys_keep(limit, table[193], table[449])
+    quote::keys_keep(widest, table[193], table[449])
 }
 
 // The best quote of a side.
 pub fn best(table: &[u32], side: Side) -> Quote
     requires { ⌜ Held (now table) ⌝ }
-    ensures { λ r. ⌜ ((least : ℕ) (live : List Order) → GoodOrders live → now (table .entry) ≡ tableOf least live → r ≡ bestQuote side least live) ⌝ }
+    ensures { λ r. ⌜ ((minimum : ℕ) (live : List Order) → GoodOrders live → now (table .entry) ≡ tableOf minimum live → r ≡ bestQuote side minimum live) ⌝ }
 {
     let s = side_number(side);
     quote::quote_at(side, table[256 * s + 193])
@@ -345,7 +345,7 @@ pub fn best(table: &[u32], side: Side) -> Quote
 
 // The table of no orders.
 pub fn empty() -> [u32; 512]
-    ensures { λ r. ⌜ ((least : ℕ) → r ≡ tableOf least []) ⌝ }
+    ensures { λ r. ⌜ ((minimum : ℕ) → r ≡ tableOf minimum []) ⌝ }
 {
     [0u32; 512]
 }

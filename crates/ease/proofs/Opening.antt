@@ -8,7 +8,7 @@ use borrow.Author.Tests.{eq-eqb}
 use lib.ListN.{length}
 use Rattle.rules.specs.declared.Opening.{Opening}
 use Rattle.rules.specs.declared.Row.{Row}
-use Rattle.rules.specs.declared.Spread.{Spread}
+use Rattle.rules.specs.declared.SpreadRule.{SpreadRule}
 use Rattle.rules.specs.declared.Event.{Event}
 use Rattle.rules.specs.Terms.{paper}
 use Rattle.rules.specs.Rows.{rowOf, goodRow}
@@ -40,18 +40,18 @@ module _ (words : List ℕ) (pass : passes words ≡ true) where
   pub passes-again : passes (eased words) ≡ true
   passes-again = sym (seven (eased words) still-seven) ∙ still-good
 
-  pub read-is : (spread : Spread) → readRow paper spread (eased words) ≡ accepted (easedRow (rowOf words))
+  pub read-is : (spread : SpreadRule) → readRow paper spread (eased words) ≡ accepted (easedRow (rowOf words))
   unfolding readRow lowest
   read-is spread =
       simp (eq-eqb (length (eased words)) 7 still-seven, good-for paper (rowOf (eased words)) spread still-good) (ap accepted row-is)
 
   -- open notes the altered row, in the cell of the words as they were
-  pub opened : (b : Book) (day : ℕ) (told : Opening)
-      → changed b (Open (eased words) day told) .running
-      ≡ Quoting (placeOf day (rowOf words .expiry) (rowOf words .quantum)) (easedRow (rowOf words)) told []
+  pub opened : (b : Book) (day : ℕ) (opening : Opening)
+      → changed b (Open (eased words) day opening) .running
+      ≡ Quoting (placeOf day (rowOf words .expiry) (rowOf words .quantum)) (easedRow (rowOf words)) opening []
   unfolding changed easedRow
-  opened b day told = ap (λ (row : Row). Quoting (placeOf day (row .expiry) (row .quantum)) row told []) row-is
+  opened b day opening = ap (λ (row : Row). Quoting (placeOf day (row .expiry) (row .quantum)) row opening []) row-is
 
   -- "so kept time is worked out from the altered row"
-  pub kept-is : (sp : Spread) (events : List Event) (n : ℕ) → keptBelow (rowOf (eased words)) sp events n ≡ keptBelow (easedRow (rowOf words)) sp events n
+  pub kept-is : (sp : SpreadRule) (events : List Event) (n : ℕ) → keptBelow (rowOf (eased words)) sp events n ≡ keptBelow (easedRow (rowOf words)) sp events n
   kept-is sp events n = ap (λ (row : Row). keptBelow row sp events n) row-is

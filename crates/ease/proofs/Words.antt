@@ -31,7 +31,7 @@ module _ (words : List ℕ) where
   pub record Passed : Type 0 where
     pub seven : length words ≡ 7
     pub good : goodRow paper (rowOf words) ≡ true
-    pub least : getD words 3 0 ≤ 100000
+    pub minimum : getD words 3 0 ≤ 100000
     pub a : getD words 4 0 ≤ 100000
     pub b : getD words 5 0 ≤ 1000000
 
@@ -43,7 +43,7 @@ module _ (words : List ℕ) where
       record {
         seven = eqb-true (length words) 7 (t .0);
         good = t .1;
-        least = leb-true (getD words 3 0) 100000 (and-true (leb 1 (getD words 3 0)) (leb (getD words 3 0) 100000) (g .least) .1);
+        minimum = leb-true (getD words 3 0) 100000 (and-true (leb 1 (getD words 3 0)) (leb (getD words 3 0) 100000) (g .minimum) .1);
         a = leb-true (getD words 4 0) 100000 (g .a);
         b = leb-true (getD words 5 0) 1000000 (g .b);
       }
@@ -68,9 +68,9 @@ module _ (words : List ℕ) where
   unfolding eased
   eased-is h = rw h refl
 
-  pub eased-words : (least a b : ℕ) → passes words ≡ true → least ≡ (getD words 3 0 + 1) / 2 → a ≡ min (2 * getD words 4 0) 100000
-      → b ≡ min (2 * getD words 5 0) 1000000 → set (set (set words 3 least) 4 a) 5 b ≡ eased words
-  eased-words least a b h e f g =
+  pub eased-words : (minimum a b : ℕ) → passes words ≡ true → minimum ≡ (getD words 3 0 + 1) / 2 → a ≡ min (2 * getD words 4 0) 100000
+      → b ≡ min (2 * getD words 5 0) 1000000 → set (set (set words 3 minimum) 4 a) 5 b ≡ eased words
+  eased-words minimum a b h e f g =
       let three = set-three words (passed words h .seven) in
       let done = eased-is h in
       cc

@@ -20,7 +20,7 @@ easedRow row =
       expiry = row .expiry;
       quantum = row .quantum;
       length = row .length;
-      least = contracts ((row .least .0 + 1) / 2);
+      minimum = contracts ((row .minimum .0 + 1) / 2);
       a = min (2 * row .a) 100000;
       b = min (2 * row .b) 1000000;
       share = row .share;
@@ -29,7 +29,7 @@ easedRow row =
 -- the row's seven words, in their order
 unfoldable pub wordsOf : Row → List ℕ
 wordsOf row =
-    row .expiry ∷ row .quantum ∷ row .length .0 ∷ row .least .0 ∷ row .a ∷ row .b ∷ row .share ∷ []
+    row .expiry ∷ row .quantum ∷ row .length .0 ∷ row .minimum .0 ∷ row .a ∷ row .b ∷ row .share ∷ []
 
 -- 1 row not seven words; 2 a word outside its range: neither applies
 unfoldable pub passes : List ℕ → Bool

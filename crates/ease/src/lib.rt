@@ -18,7 +18,7 @@ fn row_of(words: &[u32]) -> Row
         expiry: words[0],
         quantum: words[1],
         length: Millis(words[2]),
-        least: Contracts(words[3]),
+        minimum: Contracts(words[3]),
         a: words[4],
         b: words[5],
         share: words[6],
@@ -44,14 +44,14 @@ fn half(n: u32) -> u32
 }
 
 // Doubled, and set to the limit past it.
-fn twice(n: u32, limit: u32) -> u32
+fn twice(n: u32, allowed: u32) -> u32
     requires { ⌜ n ≤ 1000000 ⌝ }
-    ensures { λ r. ⌜ r ≡ min (2 * n) limit ⌝ }
+    ensures { λ r. ⌜ r ≡ min (2 * n) allowed ⌝ }
 {
-    if 2 * n <= limit {
+    if 2 * n <= allowed {
         return 2 * n;
     }
-    limit
+    allowed
 }
 
 // Easing the lent words of a row that 1 and 2 pass; any others stay as they are.
@@ -59,10 +59,10 @@ pub fn ease(row: &mut [u32])
     ensures { λ _. ⌜ now (row .exit) ≡ eased (now (row .entry)) ⌝ }
 {
     if is_passed(&row[..]) {
-        let least = half(row[3]);
+        let minimum = half(row[3]);
         let a = twice(row[4], 100000);
         let b = twice(row[5], 1000000);
-        row[3] = least;
+        row[3] = minimum;
         row[4] = a;
         row[5] = b;
     }

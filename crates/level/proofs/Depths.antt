@@ -12,8 +12,8 @@ use Rattle.quote.specs.Levels.{held, levelAt, Columns}
 use Rattle.quote.proofs.Levels.{held-most, level-split}
 use Rattle.side.specs.declared.Change.{Change}
 use Rattle.side.specs.Slots.{Slot, keysOf, volumesOf, heldIn, levelIn, GoodSlots}
-use Rattle.side.specs.Moves.{part, Changed}
-use Rattle.level.specs.Steps.{IsLevel, Lasting}
+use Rattle.side.specs.Internal.{volumeWhere, Changed}
+use Rattle.level.specs.Internal.{IsLevel, SumFits}
 
 -- ---- a level of some columns
 
@@ -57,8 +57,8 @@ held-small t slots g = omega (arith, held-most t (keysOf slots) (volumesOf slots
 
 -- what a sum of the orders gains and loses
 module _ (t : ℕ → Bool) (c : Change) (before after : List Slot) (n gained lost : ℕ) (good : GoodSlots after) (h : Changed c before after)
-    (was : n ≡ heldIn t before) (g : gained ≡ part t (c .key) (c .volume .0)) (l : lost ≡ part t (c .old) (c .held .0)) where
-  pub lasting : Lasting n gained lost
+    (was : n ≡ heldIn t before) (g : gained ≡ volumeWhere t (c .key) (c .volume .0)) (l : lost ≡ volumeWhere t (c .old) (c .held .0)) where
+  pub lasting : SumFits n gained lost
   lasting = record { enough = omega (arith, h t, was, g, l); small = omega (arith, h t, was, g, l, held-small t after good) }
 
   pub changed-held : n + gained - lost ≡ heldIn t after

@@ -12,10 +12,10 @@ use Rattle.quote.specs.Levels.{levelAt, levelOf, bestKey, Columns, Searchable}
 use Rattle.quote.proofs.Levels.{levelAt-blanks, levelOf-blanks, bestKey-blanks}
 use Rattle.side.specs.declared.Change.{Change}
 use Rattle.side.specs.Slots.{Slot, keysOf, volumesOf, levelIn, bestIn, GoodSlots}
-use Rattle.side.specs.Moves.{Moving}
+use Rattle.side.specs.Internal.{StaleLevel}
 use Rattle.side.proofs.Columns.{padded-at}
 use Rattle.side.proofs.Words.{words-length, count-is, key-is, before-is, at-is, keys-taken, volumes-taken}
-use Rattle.level.specs.Steps.{levelRead, IsLevel}
+use Rattle.level.specs.Internal.{levelRead, IsLevel}
 use Rattle.level.proofs.Depths.{own-level, slots-columns}
 
 -- ---- the columns of the orders, with blanks behind them
@@ -51,20 +51,20 @@ module _ (slots : List Slot) (g : GoodSlots slots) (n : ℕ) where
 
 -- ---- the words of the orders after a change
 
-module _ (words : List ℕ) (c : Change) (least : ℕ) (m : Moving words c least) where
+module _ (words : List ℕ) (c : Change) (minimum : ℕ) (m : StaleLevel words c minimum) where
   pub moving-length : length words ≡ 256
-  moving-length = words-length words (m .after) (bestIn least (m .before)) (m .good .few) (m .is)
+  moving-length = words-length words (m .after) (bestIn minimum (m .before)) (m .good .few) (m .is)
 
   moving-count : getD words 192 0 ≡ length (m .after)
-  moving-count = count-is words (m .after) (bestIn least (m .before)) (m .good .few) (m .is)
+  moving-count = count-is words (m .after) (bestIn minimum (m .before)) (m .good .few) (m .is)
 
   pub moving-few : getD words 192 0 ≤ 64
   moving-few = omega (arith, moving-count, m .good .few)
 
   -- what stands in them is a level of the orders before it
-  pub moving-level : levelRead words ≡ bestIn least (m .before)
+  pub moving-level : levelRead words ≡ bestIn minimum (m .before)
   moving-level =
-      let l = bestIn least (m .before) in
+      let l = bestIn minimum (m .before) in
       λ i. record {
         key = key-is words (m .after) l (m .good .few) (m .is) i;
         before = before-is words (m .after) l (m .good .few) (m .is) i;
@@ -76,19 +76,19 @@ module _ (words : List ℕ) (c : Change) (least : ℕ) (m : Moving words c least
   carried l e =
       let ks = keysOf (m .before) in
       let vs = volumesOf (m .before) in
-      own-level ks vs (bestKey least ks vs) l (e ∙ moving-level)
+      own-level ks vs (bestKey minimum ks vs) l (e ∙ moving-level)
 
   -- the front of the columns, of n and k words that are as many
   module _ (to n k : ℕ) (en : n ≡ to) (ek : k ≡ to) (more : getD words 192 0 ≤ to) (most : to ≤ 64) where
     keys-part : take n (drop 64 words) ≡ keysOf (m .after) ++ replicate (to - length (m .after)) 0
     keys-part =
         ap (λ (j : ℕ). take j (drop 64 words)) en
-        ∙ keys-taken words (m .after) (bestIn least (m .before)) (m .good .few) (m .is) to (omega (arith, moving-count)) most
+        ∙ keys-taken words (m .after) (bestIn minimum (m .before)) (m .good .few) (m .is) to (omega (arith, moving-count)) most
 
     volumes-part : take k (drop 128 words) ≡ volumesOf (m .after) ++ replicate (to - length (m .after)) 0
     volumes-part =
         ap (λ (j : ℕ). take j (drop 128 words)) ek
-        ∙ volumes-taken words (m .after) (bestIn least (m .before)) (m .good .few) (m .is) to (omega (arith, moving-count)) most
+        ∙ volumes-taken words (m .after) (bestIn minimum (m .before)) (m .good .few) (m .is) to (omega (arith, moving-count)) most
 
     even : length (keysOf (m .after)) ≡ length (volumesOf (m .after))
     even = slots-columns (m .after) (m .good) .even
@@ -104,10 +104,10 @@ module _ (words : List ℕ) (c : Change) (least : ℕ) (m : Moving words c least
     part-level key =
         rw (keys-part, volumes-part) (levelAt-blanks (keysOf (m .after)) (volumesOf (m .after)) even (to - length (m .after)) key)
 
-    pub part-best-key : bestKey least (take n (drop 64 words)) (take k (drop 128 words)) ≡ bestKey least (keysOf (m .after)) (volumesOf (m .after))
+    pub part-best-key : bestKey minimum (take n (drop 64 words)) (take k (drop 128 words)) ≡ bestKey minimum (keysOf (m .after)) (volumesOf (m .after))
     part-best-key =
-        rw (keys-part, volumes-part) (bestKey-blanks (keysOf (m .after)) (volumesOf (m .after)) even (to - length (m .after)) least)
+        rw (keys-part, volumes-part) (bestKey-blanks (keysOf (m .after)) (volumesOf (m .after)) even (to - length (m .after)) minimum)
 
-    pub part-best : levelOf least (take n (drop 64 words)) (take k (drop 128 words)) ≡ bestIn least (m .after)
+    pub part-best : levelOf minimum (take n (drop 64 words)) (take k (drop 128 words)) ≡ bestIn minimum (m .after)
     part-best =
-        rw (keys-part, volumes-part) (levelOf-blanks (keysOf (m .after)) (volumesOf (m .after)) even (to - length (m .after)) least)
+        rw (keys-part, volumes-part) (levelOf-blanks (keysOf (m .after)) (volumesOf (m .after)) even (to - length (m .after)) minimum)

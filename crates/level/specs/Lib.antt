@@ -1,2 +1,2 @@
 -- What the functions on the best level promise to each other.
-pub mod Steps
+pub mod Internal

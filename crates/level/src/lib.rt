@@ -7,8 +7,8 @@ ghost use lib.ListN.{length, getD};
 ghost use Rattle.rules.specs.Lists.{if_then_else_};
 ghost use Rattle.quote.specs.Levels.{levelAt, levelOf, bestKey, Columns, Searchable};
 ghost use Rattle.side.specs.Slots.{Slot, sideOf, levelIn, bestIn, GoodSlots};
-ghost use Rattle.side.specs.Moves.{Moving, Changed};
-ghost use Rattle.level.specs.Steps.{IsLevel, Lasting, Mobile, levelRead};
+ghost use Rattle.side.specs.Internal.{StaleLevel, Changed};
+ghost use Rattle.level.specs.Internal.{IsLevel, SumFits, LevelBefore, levelRead};
 use quote::Level;
 use rules::Contracts;
 use rules::Side;
@@ -25,7 +25,7 @@ const AT: usize = 195;
 
 // A sum of contracts that gains and loses: in 64 bits, since what it gains may be what it loses.
 fn changed(sum: u32, gained: u32, lost: u32) -> u32
-    requires { ⌜ Lasting sum gained lost ⌝ }
+    requires { ⌜ SumFits sum gained lost ⌝ }
     ensures { λ r. ⌜ r ≡ sum + gained - lost ⌝ }
 {
     (sum as u64 + gained as u64 - lost as u64) as u32
@@ -33,7 +33,7 @@ fn changed(sum: u32, gained: u32, lost: u32) -> u32
 
 // A level after a change of one order.
 fn moved(level: Level, change: Change) -> Level
-    requires { ⌜ Mobile level change ⌝ }
+    requires { ⌜ LevelBefore level change ⌝ }
     ensures { λ r. ⌜ ((before after : List Slot) → GoodSlots before → GoodSlots after → IsLevel before level → Changed change before after → r ≡ levelIn after (level .key)) ⌝ }
 {
     let best = level.key;
@@ -43,13 +43,13 @@ fn moved(level: Level, change: Change) -> Level
     let volume = change.volume;
     let before = changed(
         level.before,
-        quote::share(best < key, volume.0),
-        quote::share(best < old, held.0),
+        quote::volume_where(best < key, volume.0),
+        quote::volume_where(best < old, held.0),
     );
     let at = changed(
         level.at,
-        quote::share(best == key, volume.0),
-        quote::share(best == old, held.0),
+        quote::volume_where(best == key, volume.0),
+        quote::volume_where(best == old, held.0),
     );
     Level {
         key: best,
@@ -127,37 +127,37 @@ fn below(keys: &[u32], key: u32) -> u32
     next
 }
 
-fn neighbour(keys: &[u32], level: Level, least: Contracts) -> u32
+fn neighbour(keys: &[u32], level: Level, minimum: Contracts) -> u32
     requires { ⌜ ((i : ℕ) → getD (now keys) i 0 ≤ 2000000001) × (level .key ≤ 2000000001) ⌝ }
     ensures { λ r. ⌜ r ≤ 2000000001 ⌝ }
 {
-    if least.0 <= level.before {
+    if minimum.0 <= level.before {
         return above(keys, level.key);
     }
     below(keys, level.key)
 }
 
 // The level next to one, on the side where the best one is.
-fn stepped(keys: &[u32], volumes: &[u32], level: Level, least: Contracts) -> Level
+fn stepped(keys: &[u32], volumes: &[u32], level: Level, minimum: Contracts) -> Level
     requires { ⌜ Searchable (now keys) (now volumes) (level .key) ⌝ }
     ensures { λ r. ⌜ (r ≡ levelAt (now (keys .entry)) (now (volumes .entry)) (r .key)) × (r .key ≤ 2000000001) ⌝ }
 {
-    quote::measured(keys, volumes, neighbour(keys, level, least))
+    quote::measured(keys, volumes, neighbour(keys, level, minimum))
 }
 
 // The level near the old one: itself after the change, or one or two steps from it.
-fn near(keys: &[u32], volumes: &[u32], old: Level, least: Contracts) -> Level
+fn near(keys: &[u32], volumes: &[u32], old: Level, minimum: Contracts) -> Level
     requires { ⌜ Searchable (now keys) (now volumes) (old .key) × (old ≡ levelAt (now keys) (now volumes) (old .key)) ⌝ }
     ensures { λ r. ⌜ r ≡ levelAt (now (keys .entry)) (now (volumes .entry)) (r .key) ⌝ }
 {
-    if quote::is_best(old, least) {
+    if quote::is_best(old, minimum) {
         return old;
     }
-    let next = stepped(keys, volumes, old, least);
-    if quote::is_best(next, least) {
+    let next = stepped(keys, volumes, old, minimum);
+    if quote::is_best(next, minimum) {
         return next;
     }
-    stepped(keys, volumes, next, least)
+    stepped(keys, volumes, next, minimum)
 }
 
 // An order as one number, by which orders compare: its key, then its volume.
@@ -180,8 +180,8 @@ fn worse(a: u64, b: u64) -> u64 {
 }
 
 // The depth with one more order's volume, where it was not enough without it.
-fn deeper(depth: u64, order: u64, least: Contracts) -> u64 {
-    if depth < least.0 as u64 {
+fn deeper(depth: u64, order: u64, minimum: Contracts) -> u64 {
+    if depth < minimum.0 as u64 {
         return depth + order % 4294967296;
     }
     depth
@@ -195,12 +195,12 @@ fn order_where(counts: bool, order: u64, other: u64) -> u64 {
 }
 
 // The key at which the depth of four orders, from the best one down, is first enough; 0 where it never is.
-fn enough_at(first: u64, second: u64, third: u64, last: u64, least: Contracts) -> u32 {
-    let m = least.0 as u64;
-    let one = deeper(0, first, least);
-    let two = deeper(one, second, least);
-    let three = deeper(two, third, least);
-    let four = deeper(three, last, least);
+fn enough_at(first: u64, second: u64, third: u64, last: u64, minimum: Contracts) -> u32 {
+    let m = minimum.0 as u64;
+    let one = deeper(0, first, minimum);
+    let two = deeper(one, second, minimum);
+    let three = deeper(two, third, minimum);
+    let four = deeper(three, last, minimum);
     let in_four = order_where(m <= four, last, 0);
     let in_three = order_where(m <= three, third, in_four);
     let in_two = order_where(m <= two, second, in_three);
@@ -208,7 +208,7 @@ fn enough_at(first: u64, second: u64, third: u64, last: u64, least: Contracts) -
 }
 
 // The best key of four slots: sorted by five exchanges, the volumes added up from the best one down until they are enough.
-fn of_four(keys: &[u32], volumes: &[u32], least: Contracts) -> u32
+fn of_four(keys: &[u32], volumes: &[u32], minimum: Contracts) -> u32
     requires { ⌜ (length (now keys) ≡ 4) × Columns (now keys) (now volumes) ⌝ }
 {
     let a = packed(keys[0], volumes[0]);
@@ -221,15 +221,21 @@ fn of_four(keys: &[u32], volumes: &[u32], least: Contracts) -> u32
     let s = worse(c, d);
     let u = worse(p, r);
     let v = better(q, s);
-    enough_at(better(p, r), better(u, v), worse(u, v), worse(q, s), least)
+    enough_at(
+        better(p, r),
+        better(u, v),
+        worse(u, v),
+        worse(q, s),
+        minimum,
+    )
 }
 
 // The level that a small side has, of its first four slots.
-fn few(keys: &[u32], volumes: &[u32], least: Contracts) -> Level
+fn few(keys: &[u32], volumes: &[u32], minimum: Contracts) -> Level
     requires { ⌜ (length (now keys) ≡ 4) × Columns (now keys) (now volumes) ⌝ }
     ensures { λ r. ⌜ r ≡ levelAt (now (keys .entry)) (now (volumes .entry)) (r .key) ⌝ }
 {
-    quote::measured(keys, volumes, of_four(keys, volumes, least))
+    quote::measured(keys, volumes, of_four(keys, volumes, minimum))
 }
 
 // The side's best level as it was last put.
@@ -246,26 +252,26 @@ fn level_of(words: &[u32]) -> Level
 
 // A guess at the best level after a change: of a small side afresh, of a greater one from the old level on. It is a level of the
 // side, its depths as they are; whether it is the best is for `is_best` to say.
-fn guessed(words: &[u32], change: Change, least: Contracts) -> Level
-    requires { ⌜ Moving (now words) change (least .0) ⌝ }
-    ensures { λ r. ⌜ ((m : Moving (now (words .entry)) change (least .0)) → IsLevel (m .after) r) ⌝ }
+fn guessed(words: &[u32], change: Change, minimum: Contracts) -> Level
+    requires { ⌜ StaleLevel (now words) change (minimum .0) ⌝ }
+    ensures { λ r. ⌜ ((m : StaleLevel (now (words .entry)) change (minimum .0)) → IsLevel (m .after) r) ⌝ }
 {
     let count = words[COUNT];
     if count <= 4 {
-        return few(&words[64..68], &words[128..132], least);
+        return few(&words[64..68], &words[128..132], minimum);
     }
     let to = side::room(count);
     let old = moved(level_of(words), change);
-    near(&words[64..64 + to], &words[128..128 + to], old, least)
+    near(&words[64..64 + to], &words[128..128 + to], old, minimum)
 }
 
 // The level by the search, from a key that the best one is not below. Only where it finds nothing better is the start's own level
 // measured: that of no quote, since where enough stand before the start there is a better one.
-fn by_search(side: Side, keys: &[u32], volumes: &[u32], start: u32, least: Contracts) -> Level
-    requires { ⌜ Searchable (now keys) (now volumes) start × (1 ≤ least .0) ⌝ }
-    ensures { λ r. ⌜ (start ≤ bestKey (least .0) (now (keys .entry)) (now (volumes .entry)) → r ≡ levelOf (least .0) (now (keys .entry)) (now (volumes .entry))) ⌝ }
+fn by_search(side: Side, keys: &[u32], volumes: &[u32], start: u32, minimum: Contracts) -> Level
+    requires { ⌜ Searchable (now keys) (now volumes) start × (1 ≤ minimum .0) ⌝ }
+    ensures { λ r. ⌜ (start ≤ bestKey (minimum .0) (now (keys .entry)) (now (volumes .entry)) → r ≡ levelOf (minimum .0) (now (keys .entry)) (now (volumes .entry))) ⌝ }
 {
-    let found = quote::search(side, keys, volumes, start, least);
+    let found = quote::search(side, keys, volumes, start, minimum);
     let quote = found.quote;
     let key = quote::quote_key(side, quote);
     if key == start {
@@ -279,22 +285,22 @@ fn by_search(side: Side, keys: &[u32], volumes: &[u32], start: u32, least: Contr
 }
 
 // A key below which the best one cannot be: a level's, where enough stand before it.
-fn start_from(level: Level, least: Contracts) -> u32
-    ensures { λ r. ⌜ r ≡ (if leb (least .0) (level .before) then level .key else 0) ⌝ }
+fn start_from(level: Level, minimum: Contracts) -> u32
+    ensures { λ r. ⌜ r ≡ (if leb (minimum .0) (level .before) then level .key else 0) ⌝ }
 {
-    if least.0 <= level.before {
+    if minimum.0 <= level.before {
         return level.key;
     }
     0
 }
 
 // The best level after a change: the guess, or by the search.
-fn settled(words: &[u32], side: Side, change: Change, least: Contracts) -> Level
-    requires { ⌜ Moving (now words) change (least .0) × (1 ≤ least .0) ⌝ }
-    ensures { λ r. ⌜ ((m : Moving (now (words .entry)) change (least .0)) → r ≡ bestIn (least .0) (m .after)) ⌝ }
+fn settled(words: &[u32], side: Side, change: Change, minimum: Contracts) -> Level
+    requires { ⌜ StaleLevel (now words) change (minimum .0) × (1 ≤ minimum .0) ⌝ }
+    ensures { λ r. ⌜ ((m : StaleLevel (now (words .entry)) change (minimum .0)) → r ≡ bestIn (minimum .0) (m .after)) ⌝ }
 {
-    let guess = guessed(words, change, least);
-    if quote::is_best(guess, least) {
+    let guess = guessed(words, change, minimum);
+    if quote::is_best(guess, minimum) {
         return guess;
     }
     let to = side::room(words[COUNT]);
@@ -302,17 +308,17 @@ fn settled(words: &[u32], side: Side, change: Change, least: Contracts) -> Level
         side,
         &words[64..64 + to],
         &words[128..128 + to],
-        start_from(guess, least),
-        least,
+        start_from(guess, minimum),
+        minimum,
     )
 }
 
 // The best level moves to where it belongs after a change.
-pub fn requote(words: &mut [u32], side: Side, change: Change, least: Contracts)
-    requires { ⌜ Moving (now words) change (least .0) × (1 ≤ least .0) ⌝ }
-    ensures { λ r. ⌜ ((m : Moving (now (words .entry)) change (least .0)) → now (words .exit) ≡ sideOf (m .after) (bestIn (least .0) (m .after))) ⌝ }
+pub fn requote(words: &mut [u32], side: Side, change: Change, minimum: Contracts)
+    requires { ⌜ StaleLevel (now words) change (minimum .0) × (1 ≤ minimum .0) ⌝ }
+    ensures { λ r. ⌜ ((m : StaleLevel (now (words .entry)) change (minimum .0)) → now (words .exit) ≡ sideOf (m .after) (bestIn (minimum .0) (m .after))) ⌝ }
 {
-    let level = settled(words, side, change, least);
+    let level = settled(words, side, change, minimum);
     words[BEST] = level.key;
     words[BEFORE] = level.before;
     words[AT] = level.at;

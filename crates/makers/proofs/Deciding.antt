@@ -8,7 +8,7 @@ use borrow.Author.Tests.{eq-eqb, ne-eqb}
 use Rattle.rules.specs.Lists.{if_then_else_}
 use Rattle.makers.specs.declared.Seen.{Seen}
 use Rattle.makers.specs.declared.Plan.{Plan}
-use Rattle.makers.specs.Moves.{judged, planned}
+use Rattle.makers.specs.Internal.{judged, planned}
 
 not-zero : {A : Type 0} (n : ℕ) → suc n ≡ 0 → A
 not-zero n e = absurd (omega arith)

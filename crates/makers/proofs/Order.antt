@@ -8,9 +8,9 @@ use mathlib.Core.List.{List, [], _∷_, _++_, List·Memᴰ, List·Memᴰ·head, 
 use mathlib.Core.Bool.{Bool, true, false, true≢false, not, _&&_, _||_}
 use lib.Dec.{eqb, ltb}
 use borrow.Author.Tests.{ltb-true, ltb-false, lt-ltb, eqb-true, eqb-false, eq-eqb, ne-eqb, not-true}
-use Rattle.rules.specs.Lists.{if_then_else_, any, keep}
+use Rattle.rules.specs.Lists.{if_then_else_, any, filter}
 use Rattle.rules.proofs.Lists.{both, and, kept-in}
-use Rattle.rules.proofs.Members.{any-append, any-none, none-any, any-keep, or-false}
+use Rattle.rules.proofs.Members.{any-append, any-none, none-any, any-filter, or-false}
 use Rattle.makers.specs.declared.Maker.{Maker}
 use Rattle.makers.specs.Order.{above, every, sorted, isOf, present, once}
 
@@ -159,20 +159,20 @@ once-more (x ∷ xs) m =
     (and-swap (not (present (x .number) xs)) (not (isOf (m .number) x)) (once xs) (not (present (m .number) xs)))
 
 -- what is kept of a sorted list is sorted, of one with each maker once has each once
-pub sorted-keep : (p : Maker → Bool) (xs : List Maker) → sorted xs ≡ true → sorted (keep p xs) ≡ true
-unfolding keep
-sorted-keep p [] e = e
-sorted-keep p (x ∷ xs) e = go (p x) (sorted-parts x xs e) (sorted-keep p xs (sorted-parts x xs e .rest))
+pub sorted-filter : (p : Maker → Bool) (xs : List Maker) → sorted xs ≡ true → sorted (filter p xs) ≡ true
+unfolding filter
+sorted-filter p [] e = e
+sorted-filter p (x ∷ xs) e = go (p x) (sorted-parts x xs e) (sorted-filter p xs (sorted-parts x xs e .rest))
   where
-    go : (b : Bool) → Sorted x xs → sorted (keep p xs) ≡ true → sorted (if b then x ∷ keep p xs else keep p xs) ≡ true
-    go true s r = sorted-cons x (keep p xs) (record { first = λ r k. s .first r (kept-in p xs k .0); rest = r })
+    go : (b : Bool) → Sorted x xs → sorted (filter p xs) ≡ true → sorted (if b then x ∷ filter p xs else filter p xs) ≡ true
+    go true s r = sorted-cons x (filter p xs) (record { first = λ r k. s .first r (kept-in p xs k .0); rest = r })
     go false s r = r
 
-pub once-keep : (p : Maker → Bool) (xs : List Maker) → once xs ≡ true → once (keep p xs) ≡ true
-unfolding keep
-once-keep p [] e = e
-once-keep p (x ∷ xs) e = go (p x) (once-parts x xs e) (once-keep p xs (once-parts x xs e .rest))
+pub once-filter : (p : Maker → Bool) (xs : List Maker) → once xs ≡ true → once (filter p xs) ≡ true
+unfolding filter
+once-filter p [] e = e
+once-filter p (x ∷ xs) e = go (p x) (once-parts x xs e) (once-filter p xs (once-parts x xs e .rest))
   where
-    go : (b : Bool) → Once x xs → once (keep p xs) ≡ true → once (if b then x ∷ keep p xs else keep p xs) ≡ true
-    go true o r = once-cons x (keep p xs) (record { other = any-keep (isOf (x .number)) p xs (o .other); rest = r })
+    go : (b : Bool) → Once x xs → once (filter p xs) ≡ true → once (if b then x ∷ filter p xs else filter p xs) ≡ true
+    go true o r = once-cons x (filter p xs) (record { other = any-filter (isOf (x .number)) p xs (o .other); rest = r })
     go false o r = r

@@ -10,14 +10,14 @@ use lib.Dec.{eqb}
 use lib.ListN.{length, take, drop, length-append}
 use lib.Seq.{take-append-le, drop-append-le, take-at, drop-at}
 use borrow.Author.Tests.{eqb-true, eqb-false, eq-eqb, ne-eqb, not-true}
-use Rattle.rules.specs.Lists.{if_then_else_, any, keep, howMany}
+use Rattle.rules.specs.Lists.{if_then_else_, any, filter, howMany}
 use Rattle.rules.proofs.Lists.{kept-in, in-kept}
-use Rattle.rules.proofs.Members.{any-none, none-any, or-false, some-any, keep-all}
+use Rattle.rules.proofs.Members.{any-none, none-any, or-false, some-any, filter-all}
 use Rattle.makers.specs.declared.Maker.{Maker}
 use Rattle.makers.specs.Order.{above, every, sorted, isOf, present, once}
 use Rattle.makers.specs.Calls.{placed, without}
-use Rattle.makers.specs.Moves.{inserted, removed}
-use Rattle.makers.proofs.Order.{above-trans, above-total, Sorted, sorted-parts, sorted-cons, Once, once-parts, once-cons, sorted-keep, once-keep}
+use Rattle.makers.specs.Internal.{inserted, removed}
+use Rattle.makers.proofs.Order.{above-trans, above-total, Sorted, sorted-parts, sorted-cons, Once, once-parts, once-cons, sorted-filter, once-filter}
 
 -- ---- how many pass
 
@@ -27,13 +27,13 @@ module _ {A : Type 0} where
   many-none p [] h = refl
   many-none p (x ∷ xs) h = rw (h x (List·Memᴰ·head refl), many-none p xs (λ y k. h y (List·Memᴰ·tail k))) refl
 
-  pub many-keep : (q p : A → Bool) (xs : List A) → howMany (λ x. q x && p x) xs ≡ howMany p (keep q xs)
-  unfolding howMany keep
-  many-keep q p [] = refl
-  many-keep q p (x ∷ xs) = go (q x) (many-keep q p xs)
+  pub many-filter : (q p : A → Bool) (xs : List A) → howMany (λ x. q x && p x) xs ≡ howMany p (filter q xs)
+  unfolding howMany filter
+  many-filter q p [] = refl
+  many-filter q p (x ∷ xs) = go (q x) (many-filter q p xs)
     where
-      go : (b : Bool) → howMany (λ y. q y && p y) xs ≡ howMany p (keep q xs)
-          → (if b && p x then 1 else 0) + howMany (λ y. q y && p y) xs ≡ howMany p (if b then x ∷ keep q xs else keep q xs)
+      go : (b : Bool) → howMany (λ y. q y && p y) xs ≡ howMany p (filter q xs)
+          → (if b && p x then 1 else 0) + howMany (λ y. q y && p y) xs ≡ howMany p (if b then x ∷ filter q xs else filter q xs)
       go true e = ap (λ (n : ℕ). (if p x then 1 else 0) + n) e
       go false e = omega (arith, e)
 
@@ -163,22 +163,22 @@ without-in n k e = in-kept (λ r. not (isOf n r)) k (ap not e)
 
 pub without-absent : (n : ℕ) (xs : List Maker) → present n xs ≡ false → without n xs ≡ xs
 unfolding without
-without-absent n xs e = keep-all (λ r. not (isOf n r)) xs (λ x k. ap not (none-any (isOf n) k e))
+without-absent n xs e = filter-all (λ r. not (isOf n r)) xs (λ x k. ap not (none-any (isOf n) k e))
 
 pub absent-without : (n : ℕ) (xs : List Maker) → present n (without n xs) ≡ false
 absent-without n xs = any-none (isOf n) (without n xs) (λ x k. in-without n xs k .1)
 
 pub sorted-without : (n : ℕ) (xs : List Maker) → sorted xs ≡ true → sorted (without n xs) ≡ true
 unfolding without
-sorted-without n xs e = sorted-keep (λ r. not (isOf n r)) xs e
+sorted-without n xs e = sorted-filter (λ r. not (isOf n r)) xs e
 
 pub once-without : (n : ℕ) (xs : List Maker) → once xs ≡ true → once (without n xs) ≡ true
 unfolding without
-once-without n xs e = once-keep (λ r. not (isOf n r)) xs e
+once-without n xs e = once-filter (λ r. not (isOf n r)) xs e
 
 -- with each maker once, one record goes
 pub length-without : (n : ℕ) (xs : List Maker) → once xs ≡ true → present n xs ≡ true → length (without n xs) + 1 ≡ length xs
-unfolding without keep any
+unfolding without filter any
 length-without n [] e p = absurd (true≢false (sym p))
 length-without n (x ∷ xs) e p = go (isOf n x) refl p (λ q. length-without n xs (once-parts x xs e .rest) q)
   where

@@ -9,14 +9,14 @@ use lib.Dec.{eqb}
 use lib.ListN.{length, take, drop, getD, length-append, drop-of-length-le}
 use lib.Seq.{take-suc, take-at, drop-at, take-append-le, drop-append-le, length-take-le}
 use borrow.Author.Tests.{eqb-true, not-true}
-use Rattle.rules.specs.Lists.{if_then_else_, any, keep, howMany}
-use Rattle.rules.proofs.Lists.{both, keep-append, keep-one}
+use Rattle.rules.specs.Lists.{if_then_else_, any, filter, howMany}
+use Rattle.rules.proofs.Lists.{both, filter-append, filter-one}
 use Rattle.rules.proofs.Members.{any-append}
 use Rattle.makers.specs.declared.Maker.{Maker}
 use Rattle.makers.specs.declared.Seen.{Seen}
 use Rattle.makers.specs.Order.{above, every, sorted, isOf, present, once}
 use Rattle.makers.specs.Calls.{without}
-use Rattle.makers.specs.Moves.{none, lookOf, seenIn, soundIn, removed}
+use Rattle.makers.specs.Internal.{none, lookOf, seenIn, soundIn, removed}
 use Rattle.makers.proofs.Order.{every-append, sorted-more, once-more}
 use Rattle.makers.proofs.Placing.{without-absent}
 
@@ -136,7 +136,7 @@ pub record Place (n : ℕ) (xs : List Maker) (at : ℕ) : Type 0 where
 
 without-more : (n : ℕ) (xs : List Maker) (r : Maker) → without n (xs ++ (r ∷ [])) ≡ without n xs ++ (if not (isOf n r) then r ∷ [] else [])
 unfolding without
-without-more n xs r = keep-append (λ x. not (isOf n x)) xs (r ∷ []) ∙ ap (λ (l : List Maker). keep (λ x. not (isOf n x)) xs ++ l) (keep-one (λ x. not (isOf n x)) r)
+without-more n xs r = filter-append (λ x. not (isOf n x)) xs (r ∷ []) ∙ ap (λ (l : List Maker). filter (λ x. not (isOf n x)) xs ++ l) (filter-one (λ x. not (isOf n x)) r)
 
 module _ (n : ℕ) (xs : List Maker) (r : Maker) where
   abbrev more : List Maker

@@ -11,7 +11,7 @@ use lib.ListN.{length, take, drop, set, getD, length-append, length-take, length
 use lib.Seq.{take-suc, drop-cons, append-snoc, split-at, set-at, getD-at, length-take-le, getD-append-add, getD-take, set-append-left, take-at, drop-at}
 use borrow.Author.Tests.{ltb-true, ltb-false}
 use Rattle.rules.specs.Lists.{if_then_else_}
-use Rattle.makers.specs.Moves.{inserted, removed, shifted, nearer}
+use Rattle.makers.specs.Internal.{inserted, removed, shifted, nearer}
 use Rattle.makers.proofs.Placing.{inserted-between}
 
 module _ {A : Type 0} (d : A) where

@@ -8,7 +8,7 @@ use lib.Dec.{eqb, leb, ltb}
 use lib.ListN.{length, take, drop, take-append-drop, length-append}
 use lib.Seq.{take-append-le, drop-append-le, length-take-le}
 use borrow.Author.Tests.{ltb-true, ltb-false, le-ltb, lt-ltb, leb-false, eqb-true, eqb-false, eq-eqb, ne-eqb, not-false}
-use Rattle.rules.specs.Lists.{if_then_else_, keep, howMany}
+use Rattle.rules.specs.Lists.{if_then_else_, filter, howMany}
 use Rattle.rules.specs.Answers.{outcomeBy}
 use Rattle.rules.specs.Book.{Cause, cause, lowest}
 use Rattle.rules.proofs.Lists.{both}
@@ -20,8 +20,8 @@ use Rattle.makers.specs.declared.Plan.{Plan}
 use Rattle.makers.specs.declared.Answer.{Answer}
 use Rattle.makers.specs.Order.{above, sorted, isOf, present, once}
 use Rattle.makers.specs.Calls.{Standing, standing, used, Call, Join, Change, Leave, wrong, causes, refusalOf, placed, without, left, changed, step, answerOf, shown}
-use Rattle.makers.specs.Moves.{seenIn, soundIn, removed, inserted, shifted, callOf, judged, planned}
-use Rattle.makers.proofs.Placing.{many-keep, many-le, inserted-append, inserted-between, placed-at, without-absent, sorted-without, length-without}
+use Rattle.makers.specs.Internal.{seenIn, soundIn, removed, inserted, shifted, callOf, judged, planned}
+use Rattle.makers.proofs.Placing.{many-filter, many-le, inserted-append, inserted-between, placed-at, without-absent, sorted-without, length-without}
 use Rattle.makers.proofs.Seeing.{Found, found, othersAbove, Place, place, sound-is, above-le}
 
 -- ---- refused or not
@@ -109,7 +109,7 @@ module _ (l : List Maker) (c : ℕ) (m : Maker) where
 
   others : Right s → seen .above ≡ howMany (λ r. above r m) (without (m .number) us)
   unfolding without
-  others r = found l m c (r .within) .above ∙ many-keep (λ r. not (isOf (m .number) r)) (λ r. above r m) us
+  others r = found l m c (r .within) .above ∙ many-filter (λ r. not (isOf (m .number) r)) (λ r. above r m) us
 
   join-moves : JoinPasses s m → Moved l c (seen .above) m (placed m us ++ drop (c + 1) l)
   unfolding shifted

@@ -5,7 +5,7 @@ use mathlib.Core.List.{List, [], _∷_, _++_}
 use mathlib.Core.Bool.{Bool, not, _&&_, _||_}
 use lib.Dec.{eqb, leb, ltb}
 use lib.ListN.{length, take, drop}
-use Rattle.rules.specs.Lists.{if_then_else_, keep}
+use Rattle.rules.specs.Lists.{if_then_else_, filter}
 use Rattle.rules.specs.Answers.{Outcome, outcomeBy}
 use Rattle.rules.specs.Book.{Cause, cause, lowest}
 use Rattle.makers.specs.declared.Maker.{Maker}
@@ -55,7 +55,7 @@ placed m (r ∷ rest) = let later = placed m rest in if above r m then r ∷ lat
 
 -- the records of the other makers, in their order
 unfoldable pub without : ℕ → List Maker → List Maker
-without n records = keep (λ r. not (isOf n r)) records
+without n records = filter (λ r. not (isOf n r)) records
 
 -- "records past the count may hold anything": the one that a leave gives up holds the maker who left, with no rating; the others are as
 -- they were

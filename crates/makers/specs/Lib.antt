@@ -1,4 +1,4 @@
 pub mod Order
 pub mod Calls
 pub mod Roll
-pub mod Moves
+pub mod Internal

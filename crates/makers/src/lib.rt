@@ -6,7 +6,7 @@ ghost use Prim.Native.Nat.{ℕ, _+_, _-_, _≤_, _<_, _^_};
 ghost use lib.Dec.{eqb, leb, ltb};
 ghost use Rattle.rules.specs.Lists.{if_then_else_};
 ghost use Rattle.makers.specs.Order.{above};
-ghost use Rattle.makers.specs.Moves.{lookOf, nearer, judged, planned};
+ghost use Rattle.makers.specs.Internal.{lookOf, nearer, judged, planned};
 
 pub struct Maker {
     pub number: u32,

@@ -18,12 +18,12 @@ use Rattle.rules.proofs.Answers.{accepted-by, refused-by}
 use Rattle.rules.proofs.Refusals.{skip, stop, clear, first-stops, first-passes, send-numbered, step-accepted, step-refused, answer-accepted, answer-refused}
 use Rattle.rules.proofs.Bounds.{bounds, event-bounds-more, read-bounds, after-snoc}
 use Rattle.quantum.specs.declared.Sent.{Sent}
-use Rattle.quantum.specs.Standing as S
-use Rattle.quantum.specs.Standing.{standing, taken}
+use Rattle.quantum.specs.Represents as S
+use Rattle.quantum.specs.Represents.{quantumOf, taken}
 use Rattle.month.specs.declared.Month.{Month}
 use Rattle.month.specs.declared.AskedAbout.{AskedAbout}
 use Rattle.month.specs.Represents.{monthOf, Reached, Answered}
-use Rattle.month.specs.Parts.{Previewed}
+use Rattle.month.specs.Internal.{Previewed}
 use Rattle.month.proofs.Answers.{answered-after, stopped, stopped-by, went}
 use Rattle.month.proofs.Fields.{closed-is, count-is, Opened, opened}
 use Rattle.month.proofs.Calls.{send-refusal, idle-send}
@@ -47,18 +47,18 @@ module _ (m : Month) (a : Amendment) where
         (λ b g is.
         let o = opened m b g is h in
         ap shownAnswer (sym k)
-        ∙ s .answer (o .row) (o .told .spread) (o .events) (o .bounds .events-good) (o .quantum)
+        ∙ s .answer (o .row) (o .opening .spread) (o .events) (o .bounds .events-good) (o .quantum)
         ∙ ap (λ (n : ℕ). outcomeBy n done) (sym (ask-refusal b ∙ send-refusal m b (amendOf a) o)))
 
     module _ (k : sent .answer ≡ Accepted) where
       passes : (b : Book) (o : Opened m b) → eventRefusal (o .row) (o .events) (amendOf a) ≡ 0
       passes b o =
-          accepted-by _ done done (ap shownAnswer (sym k) ∙ s .answer (o .row) (o .told .spread) (o .events) (o .bounds .events-good) (o .quantum)) .0
+          accepted-by _ done done (ap shownAnswer (sym k) ∙ s .answer (o .row) (o .opening .spread) (o .events) (o .bounds .events-good) (o .quantum)) .0
 
-      after-is : (b : Book) (o : Opened m b) → sent .quantum ≡ standing (o .row) (o .told .spread) (o .events ++ (amendOf a ∷ []))
+      after-is : (b : Book) (o : Opened m b) → sent .quantum ≡ quantumOf (o .row) (o .opening .spread) (o .events ++ (amendOf a ∷ []))
       after-is b o =
-          s .quantum (o .row) (o .told .spread) (o .events) (o .bounds .events-good) (o .quantum)
-          ∙ ap (λ (n : ℕ). standing (o .row) (o .told .spread) (taken n (o .events) (amendOf a))) (passes b o)
+          s .quantum (o .row) (o .opening .spread) (o .events) (o .bounds .events-good) (o .quantum)
+          ∙ ap (λ (n : ℕ). quantumOf (o .row) (o .opening .spread) (taken n (o .events) (amendOf a))) (passes b o)
 
       more : (b : Book) (o : Opened m b) → EventBounds (o .row) (o .events ++ (amendOf a ∷ []))
       more b o = event-bounds-more (o .row) (o .events) (amendOf a) (o .bounds .events-good) (passes b o)
@@ -70,9 +70,9 @@ module _ (m : Month) (a : Amendment) where
           let o = opened m b (bounds paper (r .calls)) (r .is) h in
           record {
             row = o .row;
-            sp = o .told .spread;
+            sp = o .opening .spread;
             events = o .events ++ (amendOf a ∷ []);
-            some = read-bounds paper (o .told .spread) (o .row) (o .bounds .row-good) .least-least;
+            some = read-bounds paper (o .opening .spread) (o .row) (o .bounds .row-good) .minimum-least;
             bounds = more b o;
             is = after-is b o;
           }
@@ -88,9 +88,9 @@ module _ (m : Month) (a : Amendment) where
             λ i.
                 asked
                 (record {
-                  bid = (v .bid (o .row) (o .told .spread) (o .events ++ (amendOf a ∷ [])) (more b o) (after-is b o)
+                  bid = (v .bid (o .row) (o .opening .spread) (o .events ++ (amendOf a ∷ [])) (more b o) (after-is b o)
                       ∙ ap (λ (r : Running). bidIn (noted r (amendOf a))) (sym (o .running))) i;
-                  ask = (v .ask (o .row) (o .told .spread) (o .events ++ (amendOf a ∷ [])) (more b o) (after-is b o)
+                  ask = (v .ask (o .row) (o .opening .spread) (o .events ++ (amendOf a ∷ [])) (more b o) (after-is b o)
                       ∙ ap (λ (r : Running). askIn (noted r (amendOf a))) (sym (o .running))) i;
                   ticket = (v .ticket ∙ ap (λ (n : ℕ). record { amendment = a; count = n }) (count-is m b is)) i;
                 }),

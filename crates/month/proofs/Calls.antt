@@ -8,8 +8,8 @@ use borrow.Author.Tests.{eq-eqb, eqb-true, not-false}
 use lib.IntN.{pos}
 use lib.ListN.{length, set}
 use Rattle.rules.specs.declared.Millis.{Millis}
-use Rattle.rules.specs.declared.Spread.{Spread}
-use Rattle.rules.specs.declared.Spread.the-variants.{Settled}
+use Rattle.rules.specs.declared.SpreadRule.{SpreadRule}
+use Rattle.rules.specs.declared.SpreadRule.the-variants.{Settled}
 use Rattle.rules.specs.declared.Opening.{Opening}
 use Rattle.rules.specs.declared.Kopecks.{Kopecks}
 use Rattle.rules.specs.declared.Row.{Row}
@@ -19,7 +19,7 @@ use Rattle.rules.specs.declared.Event.{Event}
 use Rattle.rules.specs.declared.Answer.the-variants.{Accepted, Refused}
 use Rattle.rules.specs.declared.Refusal.{Refusal}
 use Rattle.rules.specs.declared.Quote.{Quote}
-use Rattle.rules.specs.Lists.{if_then_else_, within, keep, count}
+use Rattle.rules.specs.Lists.{if_then_else_, within, filter, count}
 use Rattle.rules.specs.Terms.{paper}
 use Rattle.rules.specs.Units.{millis, steps, kopecks}
 use Rattle.rules.specs.Rows.{rowOf, goodRowFor}
@@ -28,10 +28,10 @@ use Rattle.rules.specs.Orders.{live, applyAll, present, timeFrom}
 use Rattle.rules.specs.Quotes.{best, lead}
 use Rattle.rules.specs.Kept.{bestBid, bestAsk, keptBelow}
 use Rattle.rules.specs.Stretches.{stretches}
-use Rattle.rules.specs.Lapses.{lapses as lapsesOf, lapsesBelow, goodLimit}
+use Rattle.rules.specs.Lapses.{lapses as lapsesOf, lapsesBelow, goodLapseLimit}
 use Rattle.rules.specs.Pay.{viewOf, allFailures, fee}
 use Rattle.rules.specs.Answers.{accepted, refused, outcomeBy, done, cell, report, numberOf, shownAnswer}
-use Rattle.rules.specs.Book.{Open, Send, Close, Drop, Charge, Withdraw, Look, Running, Idle, Quoting, Book, isOpen, Cause, lowest, rowCauses, readRow, goodCharges, sendCauses, goodSettlement, goodSpread, following, eventRefusal, causes, refusalOf, noted, closed, closedCell, charged, changed, timeIn, ordersIn, bidIn, askIn, keptIn, lapsesIn, reportOf}
+use Rattle.rules.specs.Book.{Open, Send, Close, Drop, Charge, Withdraw, Look, Running, Idle, Quoting, Book, isOpen, Cause, lowest, rowCauses, readRow, goodCharges, sendCauses, goodSettlement, goodSpreadRule, following, eventRefusal, causes, refusalOf, noted, closed, closedCell, charged, changed, timeIn, ordersIn, bidIn, askIn, keptIn, lapsesIn, reportOf}
 use Rattle.rules.specs.Book as B
 use Rattle.rules.specs.Bounds.{EventBounds, RunningBounds}
 use Rattle.rules.proofs.Answers.{refused-by, accepted-by}
@@ -40,37 +40,37 @@ use Rattle.rules.proofs.Bounds.{event-bounds-none}
 use Rattle.quantum.specs.declared.Quantum.{Quantum}
 use Rattle.quantum.specs.declared.Sent.{Sent}
 use Rattle.quantum.specs.declared.Totals.{Totals}
-use Rattle.quantum.specs.Standing as S
-use Rattle.quantum.specs.Standing.{clockOf, standing, taken}
+use Rattle.quantum.specs.Represents as S
+use Rattle.quantum.specs.Represents.{clockOf, quantumOf, taken}
 use Rattle.quantum.proofs.Answers.{whole-is}
 use Rattle.month.specs.declared.Month.{Month}
 use Rattle.month.specs.Represents.{idleRow, quantumIn, monthOf, Answered}
-use Rattle.month.specs.Parts.{withCell, withoutQuantum, counted}
+use Rattle.month.specs.Internal.{withCell, withoutQuantum, counted}
 use Rattle.month.proofs.Answers.{stopped, stopped-by, went}
 use Rattle.month.proofs.Fields.{running-is, quantum-is, cells-are, count-is, closed-is, open-is, Opened, opened}
 
 -- months with the same fields are the same
-same-month : (m n : Month) → m .running ≡ n .running → m .place ≡ n .place → m .share ≡ n .share → m .limit ≡ n .limit
+same-month : (m n : Month) → m .running ≡ n .running → m .place ≡ n .place → m .share ≡ n .share → m .allowed ≡ n .allowed
     → m .count ≡ n .count → m .quantum ≡ n .quantum → m .cells ≡ n .cells → m ≡ n
 same-month m n p q r l c s t =
-    λ i. record { running = p i; place = q i; share = r i; limit = l i; count = c i; quantum = s i; cells = t i }
+    λ i. record { running = p i; place = q i; share = r i; allowed = l i; count = c i; quantum = s i; cells = t i }
 
 -- ---- open
 
 -- the words were read as a row, or refused
-pub open-unread : (m : Month) (words : List ℕ) (day : ℕ) (told : Opening) (k : ℕ) → refused k ≡ readRow paper (told .spread) words → Answered m (Open words day told) m (refused k)
+pub open-unread : (m : Month) (words : List ℕ) (day : ℕ) (opening : Opening) (k : ℕ) → refused k ≡ readRow paper (opening .spread) words → Answered m (Open words day opening) m (refused k)
 unfolding readRow refusalOf causes
-open-unread m words day told k e =
-    let (j, n, f) = refused-by (lowest (rowCauses paper (told .spread) words)) k (rowOf words) e in
-    subst (λ (x : ℕ). Answered m (Open words day told) m (refused x)) (sym f)
-    (stopped m (Open words day told) j (λ b g is. first-stops (rowCauses paper (told .spread) words) _ j n))
+open-unread m words day opening k e =
+    let (j, n, f) = refused-by (lowest (rowCauses paper (opening .spread) words)) k (rowOf words) e in
+    subst (λ (x : ℕ). Answered m (Open words day opening) m (refused x)) (sym f)
+    (stopped m (Open words day opening) j (λ b g is. first-stops (rowCauses paper (opening .spread) words) _ j n))
 
-pub record ReadAs (spread : Spread) (words : List ℕ) (row : Row) : Type 0 where
+pub record ReadAs (spread : SpreadRule) (words : List ℕ) (row : Row) : Type 0 where
   pub seven : length words ≡ 7
   pub is : rowOf words ≡ row
   pub good : goodRowFor paper spread row ≡ true
 
-pub read-as : (spread : Spread) (words : List ℕ) (row : Row) → accepted row ≡ readRow paper spread words → ReadAs spread words row
+pub read-as : (spread : SpreadRule) (words : List ℕ) (row : Row) → accepted row ≡ readRow paper spread words → ReadAs spread words row
 unfolding readRow
 read-as spread words row e =
     let (n, f) = accepted-by (lowest (rowCauses paper spread words)) row (rowOf words) e in
@@ -82,10 +82,10 @@ read-as spread words row e =
       good = ap (goodRowFor paper spread) f ∙ not-false _ (two .0);
     }
 
-module _ (m : Month) (words : List ℕ) (row : Row) (day : ℕ) (told : Opening) (read : ReadAs (told .spread) words row) where
-  row-passes : (rest : List Cause) → lowest (rowCauses paper (told .spread) words ++ rest) ≡ lowest rest
+module _ (m : Month) (words : List ℕ) (row : Row) (day : ℕ) (opening : Opening) (read : ReadAs (opening .spread) words row) where
+  row-passes : (rest : List Cause) → lowest (rowCauses paper (opening .spread) words ++ rest) ≡ lowest rest
   row-passes rest =
-      skip _ _ (ap not (eq-eqb _ _ (read .seven))) (skip _ _ (ap not (ap (goodRowFor paper (told .spread)) (read .is) ∙ read .good)) refl)
+      skip _ _ (ap not (eq-eqb _ _ (read .seven))) (skip _ _ (ap not (ap (goodRowFor paper (opening .spread)) (read .is) ∙ read .good)) refl)
 
   abbrev spot : ℕ
   spot = placeOf day (row .expiry) (row .quantum)
@@ -97,56 +97,56 @@ module _ (m : Month) (words : List ℕ) (row : Row) (day : ℕ) (told : Opening)
   named : (b : Book) → m ≡ monthOf b → cellAt (b .cells) (placeOf day (rowOf words .expiry) (rowOf words .quantum)) ≡ cellAt (m .cells) spot
   named b is = ap (cellAt (b .cells)) spot-is ∙ ap (λ (cs : List Cell). cellAt cs spot) (sym (cells-are m b is))
 
-  pub open-range : (within 1 31 day && goodSettlement (told .spread)) ≡ false → Answered m (Open words day told) m (refused 3)
+  pub open-range : (within 1 31 day && goodSettlement (opening .spread)) ≡ false → Answered m (Open words day opening) m (refused 3)
   unfolding refusalOf causes
-  open-range h = stopped m (Open words day told) 2 (λ b g is. row-passes _ ∙ stop _ _ (ap not h))
+  open-range h = stopped m (Open words day opening) 2 (λ b g is. row-passes _ ∙ stop _ _ (ap not h))
 
-  module _ (h : (within 1 31 day && goodSettlement (told .spread)) ≡ true) where
-    pub open-filled : cellAt (m .cells) spot .filled ≡ true → Answered m (Open words day told) m (refused 4)
+  module _ (h : (within 1 31 day && goodSettlement (opening .spread)) ≡ true) where
+    pub open-filled : cellAt (m .cells) spot .filled ≡ true → Answered m (Open words day opening) m (refused 4)
     unfolding refusalOf causes
     open-filled k =
-        stopped m (Open words day told) 3
+        stopped m (Open words day opening) 3
         (λ b g is. row-passes _ ∙ skip _ _ (ap not h) (stop _ _ (ap (λ (c : Cell). c .filled) (named b is) ∙ k)))
 
     module _ (k : cellAt (m .cells) spot .filled ≡ false) where
-      pub open-running : m .running ≡ true → Answered m (Open words day told) m (refused 6)
+      pub open-running : m .running ≡ true → Answered m (Open words day opening) m (refused 6)
       unfolding refusalOf causes
       open-running l =
-          stopped m (Open words day told) 5
+          stopped m (Open words day opening) 5
           (λ b g is.
           row-passes _ ∙ skip _ _ (ap not h) (skip _ _ (ap (λ (c : Cell). c .filled) (named b is) ∙ k) (stop _ _ (open-is m b is l))))
 
       module _ (l : m .running ≡ false) where
-        pub open-limit : goodLimit (told .limit) ≡ false → Answered m (Open words day told) m (refused 17)
+        pub open-allowed : goodLapseLimit (opening .allowed) ≡ false → Answered m (Open words day opening) m (refused 17)
         unfolding refusalOf causes
-        open-limit n =
-            stopped m (Open words day told) 16
+        open-allowed n =
+            stopped m (Open words day opening) 16
             (λ b g is.
             row-passes _
             ∙ skip _ _ (ap not h) (skip _ _ (ap (λ (c : Cell). c .filled) (named b is) ∙ k) (skip _ _ (closed-is m b is l) (stop _ _ (ap not n)))))
 
-        pub open-strike : goodLimit (told .limit) ≡ true → goodSpread (told .spread) ≡ false → Answered m (Open words day told) m (refused 18)
+        pub open-strike : goodLapseLimit (opening .allowed) ≡ true → goodSpreadRule (opening .spread) ≡ false → Answered m (Open words day opening) m (refused 18)
         unfolding refusalOf causes
         open-strike n s =
-            stopped m (Open words day told) 17
+            stopped m (Open words day opening) 17
             (λ b g is.
             row-passes _
             ∙ skip _ _ (ap not h)
             (skip _ _ (ap (λ (c : Cell). c .filled) (named b is) ∙ k) (skip _ _ (closed-is m b is l) (skip _ _ (ap not n) (stop _ _ (ap not s))))))
 
-        pub open-done : goodLimit (told .limit) ≡ true → goodSpread (told .spread) ≡ true → (q : Quantum) (place : ℕ) → q ≡ standing row (told .spread) [] → place ≡ spot
-            → Answered m (Open words day told)
-            (counted (record { running = true; place = place; share = row .share; limit = told .limit; count = m .count; quantum = q; cells = m .cells }))
+        pub open-done : goodLapseLimit (opening .allowed) ≡ true → goodSpreadRule (opening .spread) ≡ true → (q : Quantum) (place : ℕ) → q ≡ quantumOf row (opening .spread) [] → place ≡ spot
+            → Answered m (Open words day opening)
+            (counted (record { running = true; place = place; share = row .share; allowed = opening .allowed; count = m .count; quantum = q; cells = m .cells }))
             (accepted done)
         unfolding refusalOf causes changed monthOf
         open-done n s q place e f =
-            went m _ (Open words day told) done
+            went m _ (Open words day opening) done
             (λ b g is. (
               row-passes _
                   ∙ skip _ _ (ap not h)
                   (skip _ _ (ap (λ (c : Cell). c .filled) (named b is) ∙ k) (skip _ _ (closed-is m b is l) (skip _ _ (ap not n) (skip _ _ (ap not s) clear)))),
               same-month _ _ refl (f ∙ sym spot-is) (ap (λ (r : Row). r .share) (sym (read .is))) refl (ap following (count-is m b is))
-                  (e ∙ ap (λ (r : Row). standing r (told .spread) []) (sym (read .is))) (cells-are m b is),
+                  (e ∙ ap (λ (r : Row). quantumOf r (opening .spread) []) (sym (read .is))) (cells-are m b is),
               refl,
             ))
 
@@ -155,7 +155,7 @@ module _ (m : Month) (words : List ℕ) (row : Row) (day : ℕ) (told : Opening)
 -- with none open
 pub idle-send : (r : Running) (e : Event) → isOpen r ≡ false → lowest (sendCauses r e) ≡ 7
 idle-send Idle e h = stop _ _ refl
-idle-send (Quoting place row told events) e h = let z : _≡_ {A = ℕ} 0 1 = cc in absurd (omega arith)
+idle-send (Quoting place row opening events) e h = let z : _≡_ {A = ℕ} 0 1 = cc in absurd (omega arith)
 
 pub send-idle : (m : Month) (e : Event) → m .running ≡ false → Answered m (Send e) m (refused 7)
 unfolding refusalOf causes
@@ -173,11 +173,11 @@ module _ (m : Month) (e : Event) (sent : Sent) (h : m .running ≡ true) (a : S.
       (λ b g is.
       let o = opened m b g is h in
       ap shownAnswer (sym k)
-      ∙ a .answer (o .row) (o .told .spread) (o .events) (o .bounds .events-good) (o .quantum)
+      ∙ a .answer (o .row) (o .opening .spread) (o .events) (o .bounds .events-good) (o .quantum)
       ∙ ap (λ (n : ℕ). outcomeBy n done) (sym (send-refusal m b e o)))
 
   pub send-done : sent .answer ≡ Accepted
-      → Answered m (Send e) (counted (record { running = m .running; place = m .place; share = m .share; limit = m .limit; count = m .count; quantum = sent .quantum; cells = m .cells }))
+      → Answered m (Send e) (counted (record { running = m .running; place = m .place; share = m .share; allowed = m .allowed; count = m .count; quantum = sent .quantum; cells = m .cells }))
       (accepted done)
   unfolding changed monthOf
   send-done k =
@@ -185,12 +185,12 @@ module _ (m : Month) (e : Event) (sent : Sent) (h : m .running ≡ true) (a : S.
       (λ b g is.
       let o = opened m b g is h in
       let zero : eventRefusal (o .row) (o .events) e ≡ 0 =
-      accepted-by _ done done (ap shownAnswer (sym k) ∙ a .answer (o .row) (o .told .spread) (o .events) (o .bounds .events-good) (o .quantum)) .0 in
-      let next : sent .quantum ≡ standing (o .row) (o .told .spread) (o .events ++ (e ∷ [])) =
-      a .quantum (o .row) (o .told .spread) (o .events) (o .bounds .events-good) (o .quantum)
-      ∙ ap (λ (n : ℕ). standing (o .row) (o .told .spread) (taken n (o .events) e)) zero in (
+      accepted-by _ done done (ap shownAnswer (sym k) ∙ a .answer (o .row) (o .opening .spread) (o .events) (o .bounds .events-good) (o .quantum)) .0 in
+      let next : sent .quantum ≡ quantumOf (o .row) (o .opening .spread) (o .events ++ (e ∷ [])) =
+      a .quantum (o .row) (o .opening .spread) (o .events) (o .bounds .events-good) (o .quantum)
+      ∙ ap (λ (n : ℕ). quantumOf (o .row) (o .opening .spread) (taken n (o .events) e)) zero in (
         send-refusal m b e o ∙ zero,
-        same-month _ _ h (o .at) (o .share) (o .limit) (ap following (count-is m b is)) next (cells-are m b is)
+        same-month _ _ h (o .at) (o .share) (o .allowed) (ap following (count-is m b is)) next (cells-are m b is)
             ∙ ap (λ (r : Running). monthOf (record { running = noted r e; cells = b .cells; count = following (b .count) })) (sym (o .running)),
         refl,
       ))
@@ -213,14 +213,14 @@ module _ (m : Month) (active passive : Kopecks) where
         kept = totals .kept;
         length = length;
         share = m .share;
-        limit = m .limit;
+        allowed = m .allowed;
         lapses = totals .lapses;
         active = active;
         passive = passive;
       }
 
   pub close-done : goodCharges paper active passive ≡ true → m .running ≡ true → (totals : Totals) (length : Millis)
-      → ((row : Row) (sp : Spread) (events : List Event) → EventBounds row events → m .quantum ≡ standing row sp events
+      → ((row : Row) (sp : SpreadRule) (events : List Event) → EventBounds row events → m .quantum ≡ quantumOf row sp events
       → (totals .kept .0 ≡ keptBelow row sp events (row .length .0)) × (totals .lapses ≡ lapsesBelow row sp events (row .length .0)))
       → length ≡ m .quantum .duty .length
       → Answered m (Close active passive)
@@ -231,16 +231,16 @@ module _ (m : Month) (active passive : Kopecks) where
       went m _ (Close active passive) done
       (λ b g is.
       let o = opened m b g is k in
-      let ends = l (o .row) (o .told .spread) (o .events) (o .bounds .events-good) (o .quantum) in
+      let ends = l (o .row) (o .opening .spread) (o .events) (o .bounds .events-good) (o .quantum) in
       let cell : _≡_ {A = Cell} (filledBy totals length)
-      (closedCell (o .row) (o .told) (o .events) active passive) =
+      (closedCell (o .row) (o .opening) (o .events) active passive) =
       λ i.
       record {
         filled = true;
         kept = millis (ends .0 i);
-        length = (w ∙ whole-is (o .row) (o .told .spread) (o .events) (m .quantum) (o .quantum)) i;
+        length = (w ∙ whole-is (o .row) (o .opening .spread) (o .events) (m .quantum) (o .quantum)) i;
         share = o .share i;
-        limit = o .limit i;
+        allowed = o .allowed i;
         lapses = ends .1 i;
         active = active;
         passive = passive;
@@ -344,9 +344,9 @@ pub record ReadOff (q : Quantum) (time kept : Millis) (lapses orders : ℕ) (bid
   pub time-is : time ≡ q .clock .time
   pub kept-is : kept ≡ q .clock .kept
   pub lapses-are : lapses ≡ q .clock .lapses
-  pub orders-are : (row : Row) (sp : Spread) (events : List Event) → EventBounds row events → q ≡ standing row sp events → orders ≡ length (live events)
-  pub bid-is : (row : Row) (sp : Spread) (events : List Event) → EventBounds row events → q ≡ standing row sp events → bid ≡ bestBid row (live events)
-  pub ask-is : (row : Row) (sp : Spread) (events : List Event) → EventBounds row events → q ≡ standing row sp events → ask ≡ bestAsk row (live events)
+  pub orders-are : (row : Row) (sp : SpreadRule) (events : List Event) → EventBounds row events → q ≡ quantumOf row sp events → orders ≡ length (live events)
+  pub bid-is : (row : Row) (sp : SpreadRule) (events : List Event) → EventBounds row events → q ≡ quantumOf row sp events → bid ≡ bestBid row (live events)
+  pub ask-is : (row : Row) (sp : SpreadRule) (events : List Event) → EventBounds row events → q ≡ quantumOf row sp events → ask ≡ bestAsk row (live events)
 
 -- it is what the book's report says, also where none is open
 record Shows (r : Running) (time kept : Millis) (lapses orders : ℕ) (bid ask : Quote) : Type 0 where
@@ -359,7 +359,7 @@ record Shows (r : Running) (time kept : Millis) (lapses orders : ℕ) (bid ask :
 
 shows : (r : Running) (q : Quantum) (time kept : Millis) (lapses orders : ℕ) (bid ask : Quote) → RunningBounds paper r → q ≡ quantumIn r
     → ReadOff q time kept lapses orders bid ask → Shows r time kept lapses orders bid ask
-unfolding standing clockOf present timeFrom live applyAll keptBelow count best lead keep lapsesBelow lapsesOf stretches
+unfolding quantumOf clockOf present timeFrom live applyAll keptBelow count best lead filter lapsesBelow lapsesOf stretches
 shows Idle q time kept lapses orders bid ask g is h =
     record {
       time-shown = h .time-is ∙ ap (λ (x : Quantum). x .clock .time) is;
@@ -369,14 +369,14 @@ shows Idle q time kept lapses orders bid ask g is h =
       bid-shown = h .bid-is idleRow (Settled (steps (pos 0))) [] (event-bounds-none idleRow) is;
       ask-shown = h .ask-is idleRow (Settled (steps (pos 0))) [] (event-bounds-none idleRow) is;
     }
-shows (Quoting place row told events) q time kept lapses orders bid ask g is h =
+shows (Quoting place row opening events) q time kept lapses orders bid ask g is h =
     record {
       time-shown = h .time-is ∙ ap (λ (x : Quantum). x .clock .time) is;
       kept-shown = h .kept-is ∙ ap (λ (x : Quantum). x .clock .kept) is;
       lapses-shown = h .lapses-are ∙ ap (λ (x : Quantum). x .clock .lapses) is;
-      orders-shown = h .orders-are row (told .spread) events (g .events-good) is;
-      bid-shown = h .bid-is row (told .spread) events (g .events-good) is;
-      ask-shown = h .ask-is row (told .spread) events (g .events-good) is;
+      orders-shown = h .orders-are row (opening .spread) events (g .events-good) is;
+      bid-shown = h .bid-is row (opening .spread) events (g .events-good) is;
+      ask-shown = h .ask-is row (opening .spread) events (g .events-good) is;
     }
 
 pub report-done : (m : Month) (time kept : Millis) (lapses orders : ℕ) (bid ask : Quote) (failures : List ℕ) (charge : Kopecks)

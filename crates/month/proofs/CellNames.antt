@@ -9,7 +9,7 @@ use Rattle.rules.specs.Lists.{if_then_else_}
 use Rattle.rules.specs.Cells.{goodCell, placeOf, cellAt}
 use Rattle.month.specs.declared.Named.{Named}
 use Rattle.month.specs.declared.Named.the-variants.{OutOfRange, Blank, Filled}
-use Rattle.month.specs.Parts.{namedIn}
+use Rattle.month.specs.Internal.{namedIn}
 
 pub record IsFilled (cells : List Cell) (day expiry quantum place : ℕ) (c : Cell) : Type 0 where
   pub good : goodCell day expiry quantum ≡ true

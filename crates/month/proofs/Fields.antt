@@ -9,8 +9,8 @@ use lib.Dec.{leb}
 use lib.IntN.{pos}
 use lib.ListN.{length}
 use Rattle.rules.specs.declared.Row.{Row}
-use Rattle.rules.specs.declared.Spread.{Spread}
-use Rattle.rules.specs.declared.Spread.the-variants.{Settled}
+use Rattle.rules.specs.declared.SpreadRule.{SpreadRule}
+use Rattle.rules.specs.declared.SpreadRule.the-variants.{Settled}
 use Rattle.rules.specs.declared.Opening.{Opening}
 use Rattle.rules.specs.declared.Cell.{Cell}
 use Rattle.rules.specs.declared.Event.{Event}
@@ -26,10 +26,10 @@ use Rattle.rules.proofs.Members.{getD-in}
 use Rattle.rules.proofs.Refusals.{within-parts}
 use Rattle.rules.proofs.Bounds.{bounds, event-bounds-none, read-bounds}
 use Rattle.quantum.specs.declared.Quantum.{Quantum}
-use Rattle.quantum.specs.Standing as S
-use Rattle.quantum.specs.Standing.{standing}
+use Rattle.quantum.specs.Represents as S
+use Rattle.quantum.specs.Represents.{quantumOf}
 use Rattle.month.specs.declared.Month.{Month}
-use Rattle.month.specs.Represents.{idleRow, quantumIn, placeIn, shareIn, limitIn, monthOf, Reached}
+use Rattle.month.specs.Represents.{idleRow, quantumIn, placeIn, shareIn, allowedIn, monthOf, Reached}
 
 module _ (m : Month) (b : Book) (is : m ≡ monthOf b) where
   pub running-is : m .running ≡ isOpen (b .running)
@@ -48,9 +48,9 @@ module _ (m : Month) (b : Book) (is : m ≡ monthOf b) where
   unfolding monthOf
   share-is = ap (λ (x : Month). x .share) is
 
-  pub limit-is : m .limit ≡ limitIn (b .running)
+  pub allowed-is : m .allowed ≡ allowedIn (b .running)
   unfolding monthOf
-  limit-is = ap (λ (x : Month). x .limit) is
+  allowed-is = ap (λ (x : Month). x .allowed) is
 
   pub count-is : m .count ≡ b .count
   unfolding monthOf
@@ -70,43 +70,43 @@ module _ (m : Month) (b : Book) (is : m ≡ monthOf b) where
 pub record Opened (m : Month) (b : Book) : Type 0 where
   pub place : ℕ
   pub row : Row
-  pub told : Opening
+  pub opening : Opening
   pub events : List Event
-  pub running : b .running ≡ Quoting place row told events
-  pub bounds : OpenBounds paper place row told events
-  pub quantum : m .quantum ≡ standing row (told .spread) events
+  pub running : b .running ≡ Quoting place row opening events
+  pub bounds : OpenBounds paper place row opening events
+  pub quantum : m .quantum ≡ quantumOf row (opening .spread) events
   pub at : m .place ≡ place
   pub share : m .share ≡ row .share
-  pub limit : m .limit ≡ told .limit
+  pub allowed : m .allowed ≡ opening .allowed
 
 pub opened : (m : Month) (b : Book) → BookBounds paper b → m ≡ monthOf b → m .running ≡ true → Opened m b
 opened m b g is h = go (b .running) refl (g .running)
   where
     go : (r : Running) → b .running ≡ r → RunningBounds paper r → Opened m b
     go Idle e s = absurd (false≢true (sym (ap isOpen e) ∙ open-is m b is h))
-    go (Quoting place row told events) e s =
+    go (Quoting place row opening events) e s =
         record {
           place = place;
           row = row;
-          told = told;
+          opening = opening;
           events = events;
           running = e;
           bounds = s;
           quantum = quantum-is m b is ∙ ap quantumIn e;
           at = place-is m b is ∙ ap placeIn e;
           share = share-is m b is ∙ ap shareIn e;
-          limit = limit-is m b is ∙ ap limitIn e;
+          allowed = allowed-is m b is ∙ ap allowedIn e;
         }
 
 -- the quantum in the month is one that its calls handed back, also where none is open
 in-running : (q : Quantum) (r : Running) → q ≡ quantumIn r → RunningBounds paper r → S.Reached q
 in-running q Idle e s = record { row = idleRow; sp = Settled (steps (pos 0)); events = []; some = omega arith; bounds = event-bounds-none idleRow; is = e }
-in-running q (Quoting place row told events) e s =
+in-running q (Quoting place row opening events) e s =
     record {
       row = row;
-      sp = told .spread;
+      sp = opening .spread;
       events = events;
-      some = read-bounds paper (told .spread) row (s .row-good) .least-least;
+      some = read-bounds paper (opening .spread) row (s .row-good) .minimum-least;
       bounds = s .events-good;
       is = e;
     }
@@ -121,7 +121,7 @@ all-cells m r = ap length (cells-are m (after paper (r .calls)) (r .is)) ∙ bou
 
 place-small : (r : Running) → RunningBounds paper r → placeIn r < 186
 place-small Idle s = omega arith
-place-small (Quoting place row told events) s = s .inside
+place-small (Quoting place row opening events) s = s .inside
 
 pub place-inside : (m : Month) → Reached m → m .place < 186
 place-inside m r =
@@ -164,12 +164,12 @@ cell-good m r place h c e f =
 
 -- the fresh month
 pub fresh-is : (q : Quantum) (cells : List Cell) → q ≡ quantumIn Idle → cells ≡ blankCells
-    → _≡_ {A = Month} (record { running = false; place = 0; share = 0; limit = 0; count = 0; quantum = q; cells = cells }) (monthOf (after paper []))
+    → _≡_ {A = Month} (record { running = false; place = 0; share = 0; allowed = 0; count = 0; quantum = q; cells = cells }) (monthOf (after paper []))
 unfolding monthOf after run freshBook
-fresh-is q cells e f = λ i. record { running = false; place = 0; share = 0; limit = 0; count = 0; quantum = e i; cells = f i }
+fresh-is q cells e f = λ i. record { running = false; place = 0; share = 0; allowed = 0; count = 0; quantum = e i; cells = f i }
 
 -- a good row and a day name a cell
-pub row-names : (row : Row) (day : ℕ) (spread : Spread) → goodRowFor paper spread row ≡ true → within 1 31 day ≡ true → goodCell day (row .expiry) (row .quantum) ≡ true
+pub row-names : (row : Row) (day : ℕ) (spread : SpreadRule) → goodRowFor paper spread row ≡ true → within 1 31 day ≡ true → goodCell day (row .expiry) (row .quantum) ≡ true
 row-names row day spread g h =
     let r = read-bounds paper spread row g in
     and (and h (and (le-leb 1 (row .expiry) (r .expiry-least)) (le-leb (row .expiry) 2 (r .expiry-most)))) (le-leb (row .quantum) 2 (r .quantum-most))

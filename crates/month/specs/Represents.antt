@@ -4,13 +4,13 @@ use mathlib.Core.Path.{_≡_}
 use mathlib.Core.List.{List, [], _∷_, _++_}
 use lib.IntN.{pos}
 use Rattle.rules.specs.declared.Row.{Row}
-use Rattle.rules.specs.declared.Spread.the-variants.{Settled}
+use Rattle.rules.specs.declared.SpreadRule.the-variants.{Settled}
 use Rattle.rules.specs.Terms.{paper}
 use Rattle.rules.specs.Units.{millis, steps, contracts}
 use Rattle.rules.specs.Answers.{Outcome, Reply}
 use Rattle.rules.specs.Book.{Call, Running, Idle, Quoting, Book, isOpen, after, answerOf}
 use Rattle.quantum.specs.declared.Quantum.{Quantum}
-use Rattle.quantum.specs.Standing.{standing}
+use Rattle.quantum.specs.Represents.{quantumOf}
 use Rattle.month.specs.declared.Month.{Month}
 
 -- what stands in the place of the quantum while none is open: one that has just opened with this row
@@ -20,27 +20,27 @@ idleRow =
       expiry = 1;
       quantum = 0;
       length = millis 1000;
-      least = contracts 1;
+      minimum = contracts 1;
       a = 0;
       b = 0;
       share = 1;
     }
 
 abbrev pub quantumIn : Running → Quantum
-quantumIn Idle = standing idleRow (Settled (steps (pos 0))) []
-quantumIn (Quoting place row told events) = standing row (told .spread) events
+quantumIn Idle = quantumOf idleRow (Settled (steps (pos 0))) []
+quantumIn (Quoting place row opening events) = quantumOf row (opening .spread) events
 
 abbrev pub placeIn : Running → ℕ
 placeIn Idle = 0
-placeIn (Quoting place row told events) = place
+placeIn (Quoting place row opening events) = place
 
 abbrev pub shareIn : Running → ℕ
 shareIn Idle = 0
-shareIn (Quoting place row told events) = row .share
+shareIn (Quoting place row opening events) = row .share
 
-abbrev pub limitIn : Running → ℕ
-limitIn Idle = 0
-limitIn (Quoting place row told events) = told .limit
+abbrev pub allowedIn : Running → ℕ
+allowedIn Idle = 0
+allowedIn (Quoting place row opening events) = opening .allowed
 
 unfoldable pub monthOf : Book → Month
 monthOf b =
@@ -48,7 +48,7 @@ monthOf b =
       running = isOpen (b .running);
       place = placeIn (b .running);
       share = shareIn (b .running);
-      limit = limitIn (b .running);
+      allowed = allowedIn (b .running);
       count = b .count;
       quantum = quantumIn (b .running);
       cells = b .cells;

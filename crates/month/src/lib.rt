@@ -7,15 +7,15 @@ ghost use lib.ListN.{length};
 ghost use Rattle.rules.specs.declared.Event.{Event};
 ghost use Rattle.rules.specs.declared.Event.the-variants.{Add, Amend, Cancel, Deal, Tick};
 ghost use Rattle.rules.specs.Terms.{paper};
-ghost use Rattle.rules.specs.declared.Spread.the-variants.{OfStrike};
+ghost use Rattle.rules.specs.declared.SpreadRule.the-variants.{OfStrike};
 ghost use Rattle.rules.specs.Rows.{goodRowFor, rowOf};
 ghost use Rattle.rules.specs.Cells.{goodCell, placeOf, blankCell, cellAt};
 ghost use Rattle.rules.specs.Answers.{shownAnswer, shownLooked, shownAsked, shownReport};
 ghost use Rattle.rules.specs.Book.{Idle, after, charged};
 ghost use Rattle.rules.specs.Book as B;
-ghost use Rattle.quantum.specs.Standing as Q;
+ghost use Rattle.quantum.specs.Represents as Q;
 ghost use Rattle.month.specs.Represents.{monthOf, quantumIn, Reached, Answered};
-ghost use Rattle.month.specs.Parts.{withCell, withoutQuantum, counted, Previewed, namedIn};
+ghost use Rattle.month.specs.Internal.{withCell, withoutQuantum, counted, Previewed, namedIn};
 use quantum::Quantum;
 use ranges::both;
 use rules::Amendment;
@@ -34,7 +34,7 @@ use rules::Report;
 use rules::Row;
 use rules::RowRead;
 use rules::Side;
-use rules::Spread;
+use rules::SpreadRule;
 use rules::Steps;
 use rules::Strike;
 use rules::Ticket;
@@ -43,7 +43,7 @@ pub struct Month {
     running: bool,
     place: usize,
     share: u32,
-    limit: u32,
+    allowed: u32,
     count: u64,
     quantum: Quantum,
     cells: [Cell; 186],
@@ -118,7 +118,7 @@ fn blank_cell() -> Cell
         kept: Millis(0),
         length: Millis(0),
         share: 0,
-        limit: 0,
+        allowed: 0,
         lapses: 0,
         active: Kopecks(0),
         passive: Kopecks(0),
@@ -133,12 +133,12 @@ fn idle() -> Quantum
         expiry: 1,
         quantum: 0,
         length: Millis(1000),
-        least: Contracts(1),
+        minimum: Contracts(1),
         a: 0,
         b: 0,
         share: 1,
     };
-    Quantum::opened(row, Spread::Settled(Steps(0)))
+    Quantum::opened(row, SpreadRule::Settled(Steps(0)))
 }
 
 // Where a cell stands among the 186.
@@ -204,7 +204,7 @@ impl Month {
             running: false,
             place: 0,
             share: 0,
-            limit: 0,
+            allowed: 0,
             count: 0,
             quantum,
             cells,
@@ -240,7 +240,7 @@ impl Month {
             running: false,
             place: 0,
             share: 0,
-            limit: 0,
+            allowed: 0,
             count: self.count,
             quantum,
             cells,
@@ -248,11 +248,11 @@ impl Month {
     }
 
     // A row that was read: the other causes of open, then the quantum opens.
-    fn open_row(self, row: Row, day: u32, told: Opening) -> AfterCall
-        requires { ⌜ Reached self × (goodRowFor paper (told .spread) row ≡ true) ⌝ }
-        ensures { λ r. ⌜ ((words : List ℕ) → length words ≡ 7 → rowOf words ≡ row → Answered self (B.Open words day told) (r .month) (shownAnswer (r .answer))) ⌝ }
+    fn open_row(self, row: Row, day: u32, opening: Opening) -> AfterCall
+        requires { ⌜ Reached self × (goodRowFor paper (opening .spread) row ≡ true) ⌝ }
+        ensures { λ r. ⌜ ((words : List ℕ) → length words ≡ 7 → rowOf words ≡ row → Answered self (B.Open words day opening) (r .month) (shownAnswer (r .answer))) ⌝ }
     {
-        let spread = told.spread;
+        let spread = opening.spread;
         if !both(ranges::between(1, 31, day), ranges::settlement(spread)) {
             return refused(self, Refusal::ArgumentOutOfRange);
         }
@@ -264,7 +264,7 @@ impl Month {
         if self.running {
             return refused(self, Refusal::QuantumOpen);
         }
-        if !ranges::lapse_limit(told.limit) {
+        if !ranges::lapse_limit(opening.allowed) {
             return refused(self, Refusal::LapseLimitOutOfRange);
         }
         if !strike::in_range(spread) {
@@ -276,7 +276,7 @@ impl Month {
             running: true,
             place,
             share: row.share,
-            limit: told.limit,
+            allowed: opening.allowed,
             count: self.count,
             quantum,
             cells,
@@ -284,25 +284,25 @@ impl Month {
     }
 
     // The named cell's quantum opens with no orders, at time 0.
-    pub fn open(self, words: &[u32], day: u32, told: Opening) -> AfterCall
+    pub fn open(self, words: &[u32], day: u32, opening: Opening) -> AfterCall
         requires { ⌜ Reached self ⌝ }
-        ensures { λ r. ⌜ Answered self (B.Open (now (words .entry)) day told) (r .month) (shownAnswer (r .answer)) ⌝ }
+        ensures { λ r. ⌜ Answered self (B.Open (now (words .entry)) day opening) (r .month) (shownAnswer (r .answer)) ⌝ }
     {
-        let spread = told.spread;
+        let spread = opening.spread;
         let read = row::read(words, spread);
         match read {
-            RowRead::Read(row) => self.open_row(row, day, told),
+            RowRead::Read(row) => self.open_row(row, day, opening),
             RowRead::Refused(r) => refused(self, r),
         }
     }
 
     // The same for a strike, whose four numbers stand in place of SP.
-    pub fn open_strike(self, words: &[u32], day: u32, strike: Strike, limit: u32) -> AfterCall
+    pub fn open_strike(self, words: &[u32], day: u32, strike: Strike, allowed: u32) -> AfterCall
         requires { ⌜ Reached self ⌝ }
-        ensures { λ r. ⌜ Answered self (B.Open (now (words .entry)) day (record { spread = OfStrike strike; limit = limit })) (r .month) (shownAnswer (r .answer)) ⌝ }
+        ensures { λ r. ⌜ Answered self (B.Open (now (words .entry)) day (record { spread = OfStrike strike; allowed = allowed })) (r .month) (shownAnswer (r .answer)) ⌝ }
     {
-        let spread = Spread::OfStrike(strike);
-        self.open(words, day, Opening { spread, limit })
+        let spread = SpreadRule::OfStrike(strike);
+        self.open(words, day, Opening { spread, allowed })
     }
 
     // An event of the open quantum.
@@ -452,7 +452,7 @@ impl Month {
             kept,
             length: q.whole(),
             share: self.share,
-            limit: self.limit,
+            allowed: self.allowed,
             lapses: totals.lapses,
             active,
             passive,

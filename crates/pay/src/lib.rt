@@ -11,7 +11,7 @@ ghost use Rattle.rules.specs.Terms.{paper};
 ghost use Rattle.rules.specs.Bounds.{CellBounds};
 ghost use Rattle.rules.specs.Pay.{cellMet, cellWeight, cellFailed, viewOf, allFailures};
 ghost use Rattle.rules.specs.Pay as P;
-ghost use Rattle.rules.specs.Lapses.{withinLimit};
+ghost use Rattle.rules.specs.Lapses.{withinLapseLimit};
 use rules::Cell;
 use rules::CellView;
 use rules::Kopecks;
@@ -29,13 +29,13 @@ fn reaches(kept: Millis, length: Millis, share: u32) -> bool
 }
 
 // Whether a count of lapses is none too many. 65,535 is no number here: it says that there is no limit.
-fn within_limit(limit: u32, lapses: u32) -> bool
-    ensures { λ r. ⌜ r ≡ withinLimit limit lapses ⌝ }
+fn within_lapse_limit(allowed: u32, lapses: u32) -> bool
+    ensures { λ r. ⌜ r ≡ withinLapseLimit allowed lapses ⌝ }
 {
-    if limit == 65535 {
+    if allowed == 65535 {
         return true;
     }
-    lapses <= limit
+    lapses <= allowed
 }
 
 // The verdict on a cell: its share and its lapses.
@@ -45,7 +45,7 @@ pub fn met(cell: Cell) -> bool
     let kept = cell.kept;
     let length = cell.length;
     if reaches(kept, length, cell.share) {
-        return within_limit(cell.limit, cell.lapses);
+        return within_lapse_limit(cell.allowed, cell.lapses);
     }
     false
 }
@@ -107,7 +107,7 @@ pub fn weight(cell: Cell) -> u32
 {
     let kept = cell.kept;
     let length = cell.length;
-    if within_limit(cell.limit, cell.lapses) {
+    if within_lapse_limit(cell.allowed, cell.lapses) {
         return weight_of(kept, length, cell.share);
     }
     0

@@ -8,7 +8,7 @@ use borrow.Author.Tests.{ltb-true, ltb-false}
 use lib.Dec.{ltb}
 use lib.ListN.{length}
 use Rattle.rules.specs.declared.Row.{Row}
-use Rattle.rules.specs.declared.Spread.{Spread}
+use Rattle.rules.specs.declared.SpreadRule.{SpreadRule}
 use Rattle.rules.specs.declared.Event.{Event}
 use Rattle.rules.specs.declared.Event.the-variants.{Add, Amend, Cancel, Deal, Tick}
 use Rattle.rules.specs.declared.Order.{Order}
@@ -23,8 +23,8 @@ use Rattle.quantum.specs.declared.Duty.{Duty}
 use Rattle.quantum.specs.declared.Clock.{Clock}
 use Rattle.quantum.specs.declared.Stepped.{Stepped}
 use Rattle.quantum.specs.declared.Quantum.{Quantum}
-use Rattle.quantum.specs.Standing.{dutyOf, clockOf, standing, taken, Reached, Answered, Running, Stands, Stepping}
-use Rattle.quantum.proofs.Standing.{good-orders}
+use Rattle.quantum.specs.Represents.{dutyOf, clockOf, quantumOf, taken, Reached, Answered, Running, Represents, Stepping}
+use Rattle.quantum.proofs.Represents.{good-orders}
 
 -- ---- the numbers
 
@@ -73,10 +73,10 @@ fifteen n l u a b c d e f g =
 
 -- ---- the quantum
 
-module _ (row : Row) (sp : Spread) (es : List Event) (q : Quantum) (is : q ≡ standing row sp es) where
-  pub stands-for : EventBounds row es → Stands row sp es (q .duty) (q .clock) (q .table)
-  unfolding standing
-  stands-for g =
+module _ (row : Row) (sp : SpreadRule) (es : List Event) (q : Quantum) (is : q ≡ quantumOf row sp es) where
+  pub represents-all : EventBounds row es → Represents row sp es (q .duty) (q .clock) (q .table)
+  unfolding quantumOf
+  represents-all g =
       record {
         bounds = g;
         duty-is = ap (λ (x : Quantum). x .duty) is;
@@ -85,12 +85,12 @@ module _ (row : Row) (sp : Spread) (es : List Event) (q : Quantum) (is : q ≡ s
       }
 
   pub whole-is : q .duty .length ≡ row .length
-  unfolding standing dutyOf
+  unfolding quantumOf dutyOf
   whole-is = ap (λ (x : Quantum). x .duty .length) is
 
 pub running-of : (q : Quantum) (hints : List ℕ) → Reached q → length hints ≡ 1024 → Running (q .duty) (q .clock) (q .table) hints
 running-of q hints r h =
-    let s = stands-for (r .row) (r .sp) (r .events) q (r .is) (r .bounds) in
+    let s = represents-all (r .row) (r .sp) (r .events) q (r .is) (r .bounds) in
     record {
       row = r .row;
       sp = r .sp;
@@ -106,34 +106,34 @@ running-of q hints r h =
 pub held-in : (q : Quantum) → Reached q → Held (q .table)
 held-in q r =
     record {
-      least = r .row .least .0;
+      minimum = r .row .minimum .0;
       live = live (r .events);
       good = good-orders (r .row) (r .events) (r .bounds);
-      is = stands-for (r .row) (r .sp) (r .events) q (r .is) (r .bounds) .table-is;
+      is = represents-all (r .row) (r .sp) (r .events) q (r .is) (r .bounds) .table-is;
     }
 
-pub opened-is : (row : Row) (sp : Spread) (duty : Duty) (clock : Clock) (table : List ℕ) → duty ≡ dutyOf row sp → clock ≡ clockOf row sp []
-    → table ≡ tableOf (row .least .0) [] → _≡_ {A = Quantum} (record { duty = duty; clock = clock; table = table }) (standing row sp [])
-unfolding standing live applyAll
+pub opened-is : (row : Row) (sp : SpreadRule) (duty : Duty) (clock : Clock) (table : List ℕ) → duty ≡ dutyOf row sp → clock ≡ clockOf row sp []
+    → table ≡ tableOf (row .minimum .0) [] → _≡_ {A = Quantum} (record { duty = duty; clock = clock; table = table }) (quantumOf row sp [])
+unfolding quantumOf live applyAll
 opened-is row sp duty clock table d c t = λ i. record { duty = d i; clock = c i; table = t i }
 
 -- ---- what an event's answer shows
 
 module _ (q : Quantum) (e : Event) (exit : List ℕ) (r : Stepped) (h : Stepping (q .duty) (q .clock) e (q .table) exit r) where
-  module _ (row : Row) (sp : Spread) (es : List Event) (g : EventBounds row es) (is : q ≡ standing row sp es) where
+  module _ (row : Row) (sp : SpreadRule) (es : List Event) (g : EventBounds row es) (is : q ≡ quantumOf row sp es) where
     number-is : r .refusal ≡ eventRefusal row es e
-    number-is = h .number row sp es (stands-for row sp es q is g)
+    number-is = h .number row sp es (represents-all row sp es q is g)
 
     taken-is : {n : ℕ} → r .refusal ≡ n → taken (eventRefusal row es e) es e ≡ taken n es e
     taken-is z = ap (λ (k : ℕ). taken k es e) (sym number-is ∙ z)
 
   pub sent-accepted : r .refusal ≤ 0 → Answered q e (record { quantum = record { duty = q .duty; clock = r .clock; table = exit }; answer = Accepted })
-  unfolding standing
+  unfolding quantumOf
   sent-accepted l =
       let z : r .refusal ≡ 0 = omega arith in
       record {
         quantum = λ row sp es g is.
-            let s = stands-for row sp es q is g in
+            let s = represents-all row sp es q is g in
             λ i. record { duty = s .duty-is i; clock = h .clock-after row sp es s i; table = h .table-after row sp es s i };
         answer = λ row sp es g is. ap (λ (n : ℕ). outcomeBy n done) (sym z ∙ number-is row sp es g is);
       }
@@ -148,6 +148,6 @@ module _ (q : Quantum) (e : Event) (exit : List ℕ) (r : Stepped) (h : Stepping
       go zero z = absurd (omega (arith, l, z))
       go (suc m) z =
           record {
-            quantum = λ row sp es g is. is ∙ ap (standing row sp) (sym (taken-is row sp es g is z));
+            quantum = λ row sp es g is. is ∙ ap (quantumOf row sp) (sym (taken-is row sp es g is z));
             answer = λ row sp es g is. shown m (k ∙ z) ∙ ap (λ (n : ℕ). outcomeBy n done) (sym z ∙ number-is row sp es g is);
           }

@@ -1,4 +1,4 @@
 -- Laws, by subject.
-pub mod Standing
+pub mod Represents
 pub mod Steps
 pub mod Answers

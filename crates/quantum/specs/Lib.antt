@@ -1,2 +1,2 @@
 -- An open quantum.
-pub mod Standing
+pub mod Represents

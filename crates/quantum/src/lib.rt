@@ -9,15 +9,15 @@ ghost use Rattle.rules.specs.declared.Event.{Event};
 ghost use Rattle.rules.specs.declared.Row.{Row};
 ghost use Rattle.rules.specs.declared.Side.the-variants.{Buy, Sell};
 ghost use Rattle.rules.specs.Terms.{paper};
-ghost use Rattle.rules.specs.declared.Spread.{Spread};
+ghost use Rattle.rules.specs.declared.SpreadRule.{SpreadRule};
 ghost use Rattle.rules.specs.Rows.{goodRowFor};
 ghost use Rattle.rules.specs.Orders.{live as liveOrders, timeOf};
 ghost use Rattle.rules.specs.Kept.{bestBid, bestAsk, keptBelow};
 ghost use Rattle.rules.specs.Lapses.{lapsesBelow};
 ghost use Rattle.rules.specs.Answers.{numberOf};
-ghost use Rattle.rules.specs.Book.{goodSpread};
+ghost use Rattle.rules.specs.Book.{goodSpreadRule};
 ghost use Rattle.rules.specs.Bounds.{EventBounds};
-ghost use Rattle.quantum.specs.Standing.{limitFor, dutyOf, clockOf, standing, Reached, Answered, Running, Stepping, Onward, startingBy, ranOn, InTime, isTick};
+ghost use Rattle.quantum.specs.Represents.{widestFor, dutyOf, clockOf, quantumOf, Reached, Answered, Running, Stepping, Onward, startingBy, ranOn, InTime, isTick};
 use rules::Answer;
 use rules::Contracts;
 use rules::Event;
@@ -26,13 +26,13 @@ use rules::Quote;
 use rules::Refusal;
 use rules::Row;
 use rules::Side;
-use rules::Spread;
+use rules::SpreadRule;
 
 // What a quantum is opened with: its length, the least volume of a quote, and the widest spread.
 pub struct Duty {
     pub length: Millis,
-    pub least: Contracts,
-    pub limit: u32,
+    pub minimum: Contracts,
+    pub widest: u32,
 }
 
 // The time, the kept time, whether the live orders keep the quote from now on (1) or not (0), the number of lapses, and whether the
@@ -72,32 +72,32 @@ pub struct Sent {
 // ---- opening
 
 // The greatest D that the spread test takes, by SP or of a strike.
-fn limit_of(row: Row, spread: Spread) -> u32
-    requires { ⌜ (goodRowFor paper spread row ≡ true) × (goodSpread spread ≡ true) ⌝ }
-    ensures { λ r. ⌜ r ≡ limitFor row spread ⌝ }
+fn widest_of(row: Row, spread: SpreadRule) -> u32
+    requires { ⌜ (goodRowFor paper spread row ≡ true) × (goodSpreadRule spread ≡ true) ⌝ }
+    ensures { λ r. ⌜ r ≡ widestFor row spread ⌝ }
 {
     match spread {
-        Spread::Settled(sp) => quote::spread_limit(row.a, row.b, sp),
-        Spread::OfStrike(s) => strike::limit(s),
+        SpreadRule::Settled(sp) => quote::widest_for_price(row.a, row.b, sp),
+        SpreadRule::OfStrike(s) => strike::widest(s),
     }
 }
 
-pub fn duty_of(row: Row, spread: Spread) -> Duty
-    requires { ⌜ (goodRowFor paper spread row ≡ true) × (goodSpread spread ≡ true) ⌝ }
+pub fn duty_of(row: Row, spread: SpreadRule) -> Duty
+    requires { ⌜ (goodRowFor paper spread row ≡ true) × (goodSpreadRule spread ≡ true) ⌝ }
     ensures { λ r. ⌜ r ≡ dutyOf row spread ⌝ }
 {
     let length = row.length;
-    let least = row.least;
+    let minimum = row.minimum;
     Duty {
         length,
-        least,
-        limit: limit_of(row, spread),
+        minimum,
+        widest: widest_of(row, spread),
     }
 }
 
 // Time 0, nothing kept, no quote, no lapse yet.
 pub fn started() -> Clock
-    ensures { λ r. ⌜ ((row : Row) (sp : Spread) → r ≡ clockOf row sp []) ⌝ }
+    ensures { λ r. ⌜ ((row : Row) (sp : SpreadRule) → r ≡ clockOf row sp []) ⌝ }
 {
     Clock {
         time: Millis(0),
@@ -222,13 +222,13 @@ fn taken(
     requires { ⌜ Running duty clock (now table) (now hints) × InTime duty clock e t ⌝ }
     ensures { λ r. ⌜ Stepping duty clock e (now (table .entry)) (now (table .exit)) r ⌝ }
 {
-    let least = duty.least;
-    let refusal = book::send(table, hints, e, least);
+    let minimum = duty.minimum;
+    let refusal = book::send(table, hints, e, minimum);
     if 0 < refusal {
         return refused(clock, refusal);
     }
     Stepped {
-        clock: onward(clock, t, book::keeps(table, duty.limit)),
+        clock: onward(clock, t, book::keeps(table, duty.widest)),
         refusal: 0,
     }
 }
@@ -303,9 +303,9 @@ fn stepped_on(duty: Duty, clock: Clock, table: [u32; 512], e: Event) -> Sent
 
 impl Quantum {
     // A quantum opens with no orders, at time 0.
-    pub fn opened(row: Row, spread: Spread) -> Quantum
-        requires { ⌜ (goodRowFor paper spread row ≡ true) × (goodSpread spread ≡ true) ⌝ }
-        ensures { λ r. ⌜ r ≡ standing row spread [] ⌝ }
+    pub fn opened(row: Row, spread: SpreadRule) -> Quantum
+        requires { ⌜ (goodRowFor paper spread row ≡ true) × (goodSpreadRule spread ≡ true) ⌝ }
+        ensures { λ r. ⌜ r ≡ quantumOf row spread [] ⌝ }
     {
         let duty = duty_of(row, spread);
         let clock = started();
@@ -327,7 +327,7 @@ impl Quantum {
     // Kept time and lapses at the quantum's end.
     pub fn ended(self) -> Totals
         requires { ⌜ Reached self ⌝ }
-        ensures { λ r. ⌜ ((row : Row) (sp : Spread) (events : List Event) → EventBounds row events → self ≡ standing row sp events → (r .kept .0 ≡ keptBelow row sp events (row .length .0)) × (r .lapses ≡ lapsesBelow row sp events (row .length .0))) ⌝ }
+        ensures { λ r. ⌜ ((row : Row) (sp : SpreadRule) (events : List Event) → EventBounds row events → self ≡ quantumOf row sp events → (r .kept .0 ≡ keptBelow row sp events (row .length .0)) × (r .lapses ≡ lapsesBelow row sp events (row .length .0))) ⌝ }
     {
         let duty = self.duty;
         let clock = self.clock;
@@ -371,7 +371,7 @@ impl Quantum {
 
     pub fn best_bid(self) -> Quote
         requires { ⌜ Reached self ⌝ }
-        ensures { λ r. ⌜ ((row : Row) (sp : Spread) (events : List Event) → EventBounds row events → self ≡ standing row sp events → r ≡ bestBid row (liveOrders events)) ⌝ }
+        ensures { λ r. ⌜ ((row : Row) (sp : SpreadRule) (events : List Event) → EventBounds row events → self ≡ quantumOf row sp events → r ≡ bestBid row (liveOrders events)) ⌝ }
     {
         let table = self.table;
         book::best(&table, Side::Buy)
@@ -379,7 +379,7 @@ impl Quantum {
 
     pub fn best_ask(self) -> Quote
         requires { ⌜ Reached self ⌝ }
-        ensures { λ r. ⌜ ((row : Row) (sp : Spread) (events : List Event) → EventBounds row events → self ≡ standing row sp events → r ≡ bestAsk row (liveOrders events)) ⌝ }
+        ensures { λ r. ⌜ ((row : Row) (sp : SpreadRule) (events : List Event) → EventBounds row events → self ≡ quantumOf row sp events → r ≡ bestAsk row (liveOrders events)) ⌝ }
     {
         let table = self.table;
         book::best(&table, Side::Sell)
@@ -387,7 +387,7 @@ impl Quantum {
 
     pub fn live(self) -> u32
         requires { ⌜ Reached self ⌝ }
-        ensures { λ r. ⌜ ((row : Row) (sp : Spread) (events : List Event) → EventBounds row events → self ≡ standing row sp events → r ≡ length (liveOrders events)) ⌝ }
+        ensures { λ r. ⌜ ((row : Row) (sp : SpreadRule) (events : List Event) → EventBounds row events → self ≡ quantumOf row sp events → r ≡ length (liveOrders events)) ⌝ }
     {
         let table = self.table;
         book::count(&table)

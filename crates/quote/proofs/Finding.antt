@@ -14,11 +14,11 @@ use Rattle.rules.specs.declared.Side.{Side}
 use Rattle.rules.specs.declared.Quote.{Quote}
 use Rattle.rules.specs.declared.Quote.the-variants.{At}
 use Rattle.rules.specs.declared.Order.{Order}
-use Rattle.rules.specs.Lists.{if_then_else_, keep, any, count}
+use Rattle.rules.specs.Lists.{if_then_else_, filter, any, count}
 use Rattle.rules.specs.Units.{goodPrice}
-use Rattle.rules.specs.Quotes.{same, stands, volumeOf, depth, qualifies, better, lead, best}
+use Rattle.rules.specs.Quotes.{same, inDepth, volumeOf, depth, qualifies, better, lead, best}
 use Rattle.rules.specs.Search.{beats, matched, addsUp, sumsAfter, sumsOf}
-use Rattle.rules.proofs.Lists.{keep-keep, kept-in}
+use Rattle.rules.proofs.Lists.{filter-filter, kept-in}
 use Rattle.rules.proofs.Best.{depth-append, depth-one, sided, one-side}
 use Rattle.rules.proofs.Counting.{count-stretch}
 use Rattle.quote.specs.declared.Searched.{Searched}
@@ -37,15 +37,15 @@ abbrev pub Sided : Side → List Order → Type 0
 Sided s xs = (o : Order) → List·Memᴰ o xs → same s (o .side) ≡ true
 
 -- a test before or after a map
-keep-map : {A B : Type 0} (f : A → B) (t : A → Bool) (u : B → Bool) (xs : List A) → ((x : A) → List·Memᴰ x xs → t x ≡ u (f x))
-    → map f (keep t xs) ≡ keep u (map f xs)
-unfolding keep
-keep-map f t u [] h = refl
-keep-map {A} {B} f t u (x ∷ xs) h =
-    rw (h x (List·Memᴰ·head refl)) (go (u (f x)) (keep-map f t u xs (λ y m. h y (List·Memᴰ·tail m))))
+filter-map : {A B : Type 0} (f : A → B) (t : A → Bool) (u : B → Bool) (xs : List A) → ((x : A) → List·Memᴰ x xs → t x ≡ u (f x))
+    → map f (filter t xs) ≡ filter u (map f xs)
+unfolding filter
+filter-map f t u [] h = refl
+filter-map {A} {B} f t u (x ∷ xs) h =
+    rw (h x (List·Memᴰ·head refl)) (go (u (f x)) (filter-map f t u xs (λ y m. h y (List·Memᴰ·tail m))))
   where
-    go : (b : Bool) → map f (keep t xs) ≡ keep u (map f xs)
-        → map f (if b then x ∷ keep t xs else keep t xs) ≡ (if b then f x ∷ keep u (map f xs) else keep u (map f xs))
+    go : (b : Bool) → map f (filter t xs) ≡ filter u (map f xs)
+        → map f (if b then x ∷ filter t xs else filter t xs) ≡ (if b then f x ∷ filter u (map f xs) else filter u (map f xs))
     go true e = ap {B = List B} (λ l. f x ∷ l) e
     go false e = e
 
@@ -61,7 +61,7 @@ depth-held s p g [] h k = nothing
     nothing = omega (arith, depth-append s p [] [])
 depth-held s p g (x ∷ xs) h k =
     let head = List·Memᴰ·head refl in
-    let one : stands s p x ≡ leb (keyOf s p) (keyIn s x) = rw (k x head) (key-order s (x .price .0) p (h x head) g) in
+    let one : inDepth s p x ≡ leb (keyOf s p) (keyIn s x) = rw (k x head) (key-order s (x .price .0) p (h x head) g) in
     let rest = depth-held s p g xs (λ o m. h o (List·Memᴰ·tail m)) (λ o m. k o (List·Memᴰ·tail m)) in
     depth-append s p (x ∷ []) xs ∙ rw (depth-one s p x, one, rest) refl
 
@@ -91,35 +91,35 @@ abbrev pub bestOf : Side → ℕ → List Order → ℕ
 bestOf s m xs = bestKey m (map (keyIn s) xs) (map volumeOf xs)
 
 module _ (s : Side) (m : ℕ) (xs : List Order) (good : Good xs) (one : Sided s xs) where
-  kept : map (keyIn s) (keep (qualifies s m xs) xs) ≡ keep (enough m (map (keyIn s) xs) (map volumeOf xs)) (map (keyIn s) xs)
-  kept = keep-map (keyIn s) (qualifies s m xs) (enough m (map (keyIn s) xs) (map volumeOf xs)) xs (qualifies-key s m xs good one)
+  kept : map (keyIn s) (filter (qualifies s m xs) xs) ≡ filter (enough m (map (keyIn s) xs) (map volumeOf xs)) (map (keyIn s) xs)
+  kept = filter-map (keyIn s) (qualifies s m xs) (enough m (map (keyIn s) xs) (map volumeOf xs)) xs (qualifies-key s m xs good one)
 
-  kept-good : Good (keep (qualifies s m xs) xs)
+  kept-good : Good (filter (qualifies s m xs) xs)
   kept-good o i = good o (kept-in (qualifies s m xs) xs i .0)
 
   pub side-most : bestOf s m xs ≤ 2000000001
   unfolding bestKey
-  side-most = rw (← kept) (greatest-most s (keep (qualifies s m xs) xs) kept-good)
+  side-most = rw (← kept) (greatest-most s (filter (qualifies s m xs) xs) kept-good)
 
   pub side-best : best s m xs ≡ quoteAt s (bestOf s m xs)
   unfolding best bestKey
-  side-best = lead-key s (keep (qualifies s m xs) xs) kept-good ∙ ap (λ (l : List ℕ). quoteAt s (greatest l)) kept
+  side-best = lead-key s (filter (qualifies s m xs) xs) kept-good ∙ ap (λ (l : List ℕ). quoteAt s (greatest l)) kept
 
 -- of all orders, those of the side count
 module _ (s : Side) (m : ℕ) (live : List Order) (good : Good live) where
-  own-good : Good (keep (sided s) live)
+  own-good : Good (filter (sided s) live)
   own-good o i = good o (kept-in (sided s) live i .0)
 
-  own-sided : Sided s (keep (sided s) live)
+  own-sided : Sided s (filter (sided s) live)
   own-sided o i = kept-in (sided s) live i .1
 
-  pub best-key : best s m live ≡ quoteAt s (bestOf s m (keep (sided s) live))
+  pub best-key : best s m live ≡ quoteAt s (bestOf s m (filter (sided s) live))
   best-key =
-      one-side s m live (keep (sided s) live) (sym (keep-keep (sided s) (sided s) (λ o e. e) live))
-      ∙ side-best s m (keep (sided s) live) own-good own-sided
+      one-side s m live (filter (sided s) live) (sym (filter-filter (sided s) (sided s) (λ o e. e) live))
+      ∙ side-best s m (filter (sided s) live) own-good own-sided
 
-  pub key-best : quoteKey s (best s m live) ≡ bestOf s m (keep (sided s) live)
-  key-best = ap (quoteKey s) best-key ∙ key-quote s (bestOf s m (keep (sided s) live)) (side-most s m (keep (sided s) live) own-good own-sided)
+  pub key-best : quoteKey s (best s m live) ≡ bestOf s m (filter (sided s) live)
+  key-best = ap (quoteKey s) best-key ∙ key-quote s (bestOf s m (filter (sided s) live)) (side-most s m (filter (sided s) live) own-good own-sided)
 
 -- ---- for how many orders the search adds up volumes
 
@@ -166,20 +166,20 @@ any-key s o g (x ∷ xs) h =
 adds-key : (s : Side) (m a : ℕ) → a ≤ 2000000001 → (all before : List Order) (o : Order) → Good all → Sided s all
     → ((x : Order) → List·Memᴰ x before → List·Memᴰ x all) → List·Memᴰ o all
     → addsUp s m (quoteAt s a) all before o
-    ≡ ltb (max a (greatest (keep (enough m (map (keyIn s) all) (map volumeOf all)) (map (keyIn s) before)))) (keyIn s o)
+    ≡ ltb (max a (greatest (filter (enough m (map (keyIn s) all) (map volumeOf all)) (map (keyIn s) before)))) (keyIn s o)
 unfolding addsUp
 adds-key s m a h all before o good one of i =
     let ok = qualifies s m all in
     let t = enough m (map (keyIn s) all) (map volumeOf all) in
-    let there : map (keyIn s) (keep ok before) ≡ keep t (map (keyIn s) before) =
-    keep-map (keyIn s) ok t before (λ x k. qualifies-key s m all good one x (of x k)) in
+    let there : map (keyIn s) (filter ok before) ≡ filter t (map (keyIn s) before) =
+    filter-map (keyIn s) ok t before (λ x k. qualifies-key s m all good one x (of x k)) in
     rw (
       one o i,
       beats-key s (o .price .0) (good o i) a h,
-      any-key s o (good o i) (keep ok before) (λ x k. good x (of x (kept-in ok before k .0))),
+      any-key s o (good o i) (filter ok before) (λ x k. good x (of x (kept-in ok before k .0))),
       there,
     )
-    (ltb-max a (greatest (keep t (map (keyIn s) before))) (keyIn s o))
+    (ltb-max a (greatest (filter t (map (keyIn s) before))) (keyIn s o))
 
 -- a count that goes through the orders one by one
 module _ (s : Side) (m : ℕ) (start : Quote) (all : List Order) (test : ℕ → Bool)
@@ -267,16 +267,16 @@ module _ (s : Side) (orders : List Order) (good : Good orders) (one : Sided s or
       let stops : count test (length orders + n) ≡ count test (length orders) + 0 = count-stretch test (length orders) n false none in
       ap (count test) long ∙ omega (arith, stops, counted s m (quoteAt s a) orders test told)
 
-pub finds : (side : Side) (ks vs : List ℕ) (start least : ℕ) (r : Searched) → start ≤ 2000000001
-    → r .quote ≡ quoteAt side (foundBy start least ks vs (length ks)) → r .sums ≡ triedBy start least ks vs (length ks)
-    → r .before ≡ shortBy start least ks vs (length ks)
-    → (start < foundBy start least ks vs (length ks) → r .depth ≡ held (leb (foundBy start least ks vs (length ks))) ks vs)
-    → Finds side ks vs start least r
-finds side ks vs start least r most e f b d =
+pub finds : (side : Side) (ks vs : List ℕ) (start minimum : ℕ) (r : Searched) → start ≤ 2000000001
+    → r .quote ≡ quoteAt side (foundBy start minimum ks vs (length ks)) → r .sums ≡ triedBy start minimum ks vs (length ks)
+    → r .before ≡ shortBy start minimum ks vs (length ks)
+    → (start < foundBy start minimum ks vs (length ks) → r .depth ≡ held (leb (foundBy start minimum ks vs (length ks))) ks vs)
+    → Finds side ks vs start minimum r
+finds side ks vs start minimum r most e f b d =
     record {
       found = e;
-      before = b ∙ short-all start least ks vs;
+      before = b ∙ short-all start minimum ks vs;
       depth = d;
-      quote = λ orders c. e ∙ rw (c .keys, c .volumes) (found side orders (c .prices) (c .sided) (c .blanks) least start most);
-      sums = λ orders c. f ∙ rw (c .keys, c .volumes) (sums side orders (c .prices) (c .sided) (c .blanks) least start most);
+      quote = λ orders c. e ∙ rw (c .keys, c .volumes) (found side orders (c .prices) (c .sided) (c .blanks) minimum start most);
+      sums = λ orders c. f ∙ rw (c .keys, c .volumes) (sums side orders (c .prices) (c .sided) (c .blanks) minimum start most);
     }

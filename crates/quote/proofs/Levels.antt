@@ -9,8 +9,8 @@ use borrow.Author.Tests.{ltb-true, ltb-false, leb-true, leb-false, eqb-true, eqb
 use lib.Dec.{leb, ltb, eqb}
 use lib.ListN.{length, replicate}
 use lib.Seq.{take-length}
-use Rattle.rules.specs.Lists.{if_then_else_, sum, keep}
-use Rattle.rules.proofs.Lists.{keep-append, kept-in, in-kept, both}
+use Rattle.rules.specs.Lists.{if_then_else_, sum, filter}
+use Rattle.rules.proofs.Lists.{filter-append, kept-in, in-kept, both}
 use Rattle.quote.specs.Levels.{held, levelAt, enough, greatest, bestKey, levelOf, isBest, foundBy}
 
 -- ---- what passes a test
@@ -112,13 +112,13 @@ greatest-append [] ys = omega arith
 greatest-append (x ∷ xs) ys = omega (arith, greatest-append xs ys)
 
 -- keys of 0 add nothing to the greatest
-pub greatest-zeros : (t : ℕ → Bool) (n : ℕ) → greatest (keep t (replicate n 0)) ≡ 0
-unfolding greatest keep
+pub greatest-zeros : (t : ℕ → Bool) (n : ℕ) → greatest (filter t (replicate n 0)) ≡ 0
+unfolding greatest filter
 greatest-zeros t zero = refl
 greatest-zeros t (suc n) = go (t 0) (greatest-zeros t n)
   where
-    go : (a : Bool) → greatest (keep t (replicate n 0)) ≡ 0
-        → greatest (if a then 0 ∷ keep t (replicate n 0) else keep t (replicate n 0)) ≡ 0
+    go : (a : Bool) → greatest (filter t (replicate n 0)) ≡ 0
+        → greatest (if a then 0 ∷ filter t (replicate n 0) else filter t (replicate n 0)) ≡ 0
     go true e = omega (arith, e)
     go false e = e
 
@@ -130,19 +130,19 @@ module _ (ks vs : List ℕ) (even : length ks ≡ length vs) (n : ℕ) where
   unfolding levelAt
   levelAt-blanks k = λ i. record { key = k; before = held-blanks (ltb k) i; at = held-blanks (eqb k) i }
 
-  pub enough-blanks : (least : ℕ) → enough least (ks ++ replicate n 0) (vs ++ replicate n 0) ≡ enough least ks vs
+  pub enough-blanks : (minimum : ℕ) → enough minimum (ks ++ replicate n 0) (vs ++ replicate n 0) ≡ enough minimum ks vs
   unfolding enough
-  enough-blanks least = fun-ext (λ k. ap (leb least) (held-blanks (leb k)))
+  enough-blanks minimum = fun-ext (λ k. ap (leb minimum) (held-blanks (leb k)))
 
-  pub bestKey-blanks : (least : ℕ) → bestKey least (ks ++ replicate n 0) (vs ++ replicate n 0) ≡ bestKey least ks vs
+  pub bestKey-blanks : (minimum : ℕ) → bestKey minimum (ks ++ replicate n 0) (vs ++ replicate n 0) ≡ bestKey minimum ks vs
   unfolding bestKey
-  bestKey-blanks least =
-      let t = enough least ks vs in
-      rw (enough-blanks least, keep-append t ks (replicate n 0), greatest-append (keep t ks) (keep t (replicate n 0)), greatest-zeros t n) (omega arith)
+  bestKey-blanks minimum =
+      let t = enough minimum ks vs in
+      rw (enough-blanks minimum, filter-append t ks (replicate n 0), greatest-append (filter t ks) (filter t (replicate n 0)), greatest-zeros t n) (omega arith)
 
-  pub levelOf-blanks : (least : ℕ) → levelOf least (ks ++ replicate n 0) (vs ++ replicate n 0) ≡ levelOf least ks vs
+  pub levelOf-blanks : (minimum : ℕ) → levelOf minimum (ks ++ replicate n 0) (vs ++ replicate n 0) ≡ levelOf minimum ks vs
   unfolding levelOf
-  levelOf-blanks least = rw (bestKey-blanks least) (levelAt-blanks (bestKey least ks vs))
+  levelOf-blanks minimum = rw (bestKey-blanks minimum) (levelAt-blanks (bestKey minimum ks vs))
 
 -- ---- the best key
 
@@ -156,24 +156,24 @@ unfolding greatest
 greatest-under b [] h = omega arith
 greatest-under b (k ∷ ks) h = omega (arith, h k (List·Memᴰ·head refl), greatest-under b ks (λ x m. h x (List·Memᴰ·tail m)))
 
-module _ (least : ℕ) (ks vs : List ℕ) where
+module _ (minimum : ℕ) (ks vs : List ℕ) where
   -- it is at least every key with enough ..
-  pub best-over : {k : ℕ} → List·Memᴰ k ks → least ≤ held (leb k) ks vs → k ≤ bestKey least ks vs
+  pub best-over : {k : ℕ} → List·Memᴰ k ks → minimum ≤ held (leb k) ks vs → k ≤ bestKey minimum ks vs
   unfolding bestKey enough
-  best-over {k} m h = greatest-over (in-kept (enough least ks vs) m (le-leb least (held (leb k) ks vs) h))
+  best-over {k} m h = greatest-over (in-kept (enough minimum ks vs) m (le-leb minimum (held (leb k) ks vs) h))
 
   -- .. and at most what is at least all of them
-  pub best-under : (b : ℕ) → ((k : ℕ) → List·Memᴰ k ks → least ≤ held (leb k) ks vs → k ≤ b) → bestKey least ks vs ≤ b
+  pub best-under : (b : ℕ) → ((k : ℕ) → List·Memᴰ k ks → minimum ≤ held (leb k) ks vs → k ≤ b) → bestKey minimum ks vs ≤ b
   unfolding bestKey enough
   best-under b h =
-      greatest-under b (keep (enough least ks vs) ks)
-      (λ k m. let r = kept-in (enough least ks vs) ks m in h k (r .0) (leb-true least (held (leb k) ks vs) (r .1)))
+      greatest-under b (filter (enough minimum ks vs) ks)
+      (λ k m. let r = kept-in (enough minimum ks vs) ks m in h k (r .0) (leb-true minimum (held (leb k) ks vs) (r .1)))
 
-  -- with fewer than `least` at better keys, no better key has enough
-  pub best-most : (k : ℕ) → held (ltb k) ks vs < least → bestKey least ks vs ≤ k
+  -- with fewer than `minimum` at better keys, no better key has enough
+  pub best-most : (k : ℕ) → held (ltb k) ks vs < minimum → bestKey minimum ks vs ≤ k
   best-most k few = best-under k (λ x m h. go x h (leb x k) refl)
     where
-      go : (x : ℕ) → least ≤ held (leb x) ks vs → (b : Bool) → leb x k ≡ b → x ≤ k
+      go : (x : ℕ) → minimum ≤ held (leb x) ks vs → (b : Bool) → leb x k ≡ b → x ≤ k
       go x h true e = leb-true x k e
       go x h false e =
           absurd
@@ -185,31 +185,31 @@ module _ (least : ℕ) (ks vs : List ℕ) where
           ))
 
   -- with enough at it besides, a key is there that has enough
-  pub best-there : (k : ℕ) → held (ltb k) ks vs < least → least ≤ held (leb k) ks vs → k ≤ bestKey least ks vs
+  pub best-there : (k : ℕ) → held (ltb k) ks vs < minimum → minimum ≤ held (leb k) ks vs → k ≤ bestKey minimum ks vs
   best-there k few h = go (held-some (ltb k) (leb k) ks vs (omega (arith, few, h)))
     where
-      go : ((x : ℕ) × List·Memᴰ x ks × (leb k x ≡ true) × (ltb k x ≡ false)) → k ≤ bestKey least ks vs
+      go : ((x : ℕ) × List·Memᴰ x ks × (leb k x ≡ true) × (ltb k x ≡ false)) → k ≤ bestKey minimum ks vs
       go r =
           let (x, m, e, f) = r in
           let at : x ≡ k = omega (arith, leb-true k x e, ltb-false k x f) in
           best-over (Memᴰ·cast (sym at) m) h
 
   -- the level that is best is the best key's
-  pub best-level : (k : ℕ) → isBest (levelAt ks vs k) least ≡ true → bestKey least ks vs ≡ k
+  pub best-level : (k : ℕ) → isBest (levelAt ks vs k) minimum ≡ true → bestKey minimum ks vs ≡ k
   unfolding isBest levelAt
   best-level k h =
-      let b = both (ltb (held (ltb k) ks vs) least) (eqb k 0 || leb least (held (ltb k) ks vs + held (eqb k) ks vs)) h in
-      let few = ltb-true (held (ltb k) ks vs) least (b .0) in
+      let b = both (ltb (held (ltb k) ks vs) minimum) (eqb k 0 || leb minimum (held (ltb k) ks vs + held (eqb k) ks vs)) h in
+      let few = ltb-true (held (ltb k) ks vs) minimum (b .0) in
       omega (arith, best-most k few, go few (eqb k 0) refl (b .1))
     where
-      go : held (ltb k) ks vs < least → (z : Bool) → eqb k 0 ≡ z → z || leb least (held (ltb k) ks vs + held (eqb k) ks vs) ≡ true
-          → k ≤ bestKey least ks vs
+      go : held (ltb k) ks vs < minimum → (z : Bool) → eqb k 0 ≡ z → z || leb minimum (held (ltb k) ks vs + held (eqb k) ks vs) ≡ true
+          → k ≤ bestKey minimum ks vs
       go few true e f = omega (arith, eqb-true k 0 e)
       go few false e f =
           best-there k few
-          (omega (arith, leb-true least (held (ltb k) ks vs + held (eqb k) ks vs) f, level-split k ks vs))
+          (omega (arith, leb-true minimum (held (ltb k) ks vs + held (eqb k) ks vs) f, level-split k ks vs))
 
-  pub level-best : (k : ℕ) → isBest (levelAt ks vs k) least ≡ true → levelAt ks vs k ≡ levelOf least ks vs
+  pub level-best : (k : ℕ) → isBest (levelAt ks vs k) minimum ≡ true → levelAt ks vs k ≡ levelOf minimum ks vs
   unfolding levelOf
   level-best k h = ap (levelAt ks vs) (sym (best-level k h))
 
@@ -249,21 +249,21 @@ nearest k (y ∷ ys) = go (nearest k ys) (ltb k y) refl
     go (inr (n, m, l, h)) true e = inr (nearer n m l h (ltb-true k y e) (leb y n) refl)
     go (inr (n, m, l, h)) false e = inr (n, List·Memᴰ·tail m, l, one n n h (omega arith) (λ g. absurd (omega (arith, g, ltb-false k y e))))
 
-module _ (least : ℕ) (ks vs : List ℕ) where
+module _ (minimum : ℕ) (ks vs : List ℕ) where
   -- with enough at keys better than k, the nearest of them has enough
-  pub start-below : (k : ℕ) → 1 ≤ least → least ≤ held (ltb k) ks vs → k ≤ bestKey least ks vs
+  pub start-below : (k : ℕ) → 1 ≤ minimum → minimum ≤ held (ltb k) ks vs → k ≤ bestKey minimum ks vs
   start-below k some h = go (nearest k ks)
     where
       go : ((x : ℕ) → List·Memᴰ x ks → x ≤ k) ⊎ ((n : ℕ) × List·Memᴰ n ks × (k < n) × ((x : ℕ) → List·Memᴰ x ks → k < x → n ≤ x))
-          → k ≤ bestKey least ks vs
+          → k ≤ bestKey minimum ks vs
       go (inl none) =
           let (x, m, e, f) = held-some (λ y. false) (ltb k) ks vs (omega (arith, some, h, held-none ks vs)) in
           absurd (omega (arith, none x m, ltb-true k x e))
       go (inr (n, m, l, near)) =
           let at : held (ltb k) ks vs ≤ held (leb n) ks vs = held-le-in (ltb k) (leb n) ks vs (λ x i e. le-leb n x (near x i (ltb-true k x e))) in
-          omega (arith, l, best-over least ks vs m (omega (arith, h, at)))
+          omega (arith, l, best-over minimum ks vs m (omega (arith, h, at)))
 
   -- the search from a key that the best one is not below finds the best one
-  pub found-end : (start : ℕ) → start ≤ bestKey least ks vs → foundBy start least ks vs (length ks) ≡ bestKey least ks vs
+  pub found-end : (start : ℕ) → start ≤ bestKey minimum ks vs → foundBy start minimum ks vs (length ks) ≡ bestKey minimum ks vs
   unfolding bestKey
   found-end start h = rw (take-length ks) (omega (arith, h))

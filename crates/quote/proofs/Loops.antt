@@ -10,8 +10,8 @@ use borrow.Author.Tests.{lt-ltb, le-ltb}
 use lib.Dec.{ltb}
 use lib.ListN.{length, getD, take}
 use lib.Seq.{take-suc, take-length}
-use Rattle.rules.specs.Lists.{if_then_else_, sum, keep, count}
-use Rattle.rules.proofs.Lists.{keep-append, keep-one}
+use Rattle.rules.specs.Lists.{if_then_else_, sum, filter, count}
+use Rattle.rules.proofs.Lists.{filter-append, filter-one}
 use Rattle.quote.specs.Levels.{held, enough, greatest, foundBy, triedBy}
 use Rattle.quote.proofs.Levels.{held-most, greatest-append}
 
@@ -34,9 +34,9 @@ held-suc t (suc i) (k ∷ ks) (v ∷ vs) h e = omega (arith, held-suc t i ks vs 
 
 -- with what stands at the next key
 module _ (t : ℕ → Bool) (i : ℕ) (ks vs : List ℕ) (h s : ℕ) (more : i < length ks) (even : length ks ≡ length vs)
-    (before : h ≡ held t (take i ks) (take i vs)) (share : s ≡ (if t (getD ks i 0) then getD vs i 0 else 0)) where
+    (before : h ≡ held t (take i ks) (take i vs)) (volume-where : s ≡ (if t (getD ks i 0) then getD vs i 0 else 0)) where
   pub held-next : h + s ≡ held t (take (i + 1) ks) (take (i + 1) vs)
-  held-next = rw (before, share, add-one) (held-suc t i ks vs more even)
+  held-next = rw (before, volume-where, add-one) (held-suc t i ks vs more even)
 
   pub held-fits : h + s ≤ sum vs
   held-fits =
@@ -57,63 +57,63 @@ greatest-one true k = omega arith
 greatest-one false k = refl
 
 -- by whether there are enough at the next key or better
-found-suc : (start least : ℕ) (ks vs : List ℕ) (i : ℕ) (b : Bool) → i < length ks → enough least ks vs (getD ks i 0) ≡ b
-    → foundBy start least ks vs (suc i) ≡ max (foundBy start least ks vs i) (if b then getD ks i 0 else 0)
-found-suc start least ks vs i b h e =
-    let t = enough least ks vs in
+found-suc : (start minimum : ℕ) (ks vs : List ℕ) (i : ℕ) (b : Bool) → i < length ks → enough minimum ks vs (getD ks i 0) ≡ b
+    → foundBy start minimum ks vs (suc i) ≡ max (foundBy start minimum ks vs i) (if b then getD ks i 0 else 0)
+found-suc start minimum ks vs i b h e =
+    let t = enough minimum ks vs in
     let k = getD ks i 0 in
-    let one : greatest (keep t (k ∷ [])) ≡ (if b then k else 0) =
-    ap greatest (keep-one t k) ∙ ap (λ (c : Bool). greatest (if c then k ∷ [] else [])) e ∙ greatest-one b k in
-    let all : greatest (keep t (take (suc i) ks)) ≡ max (greatest (keep t (take i ks))) (greatest (keep t (k ∷ []))) =
-    ap (λ (l : List ℕ). greatest (keep t l)) (take-suc ks i 0 h) ∙ ap greatest (keep-append t (take i ks) (k ∷ []))
-    ∙ greatest-append (keep t (take i ks)) (keep t (k ∷ [])) in
+    let one : greatest (filter t (k ∷ [])) ≡ (if b then k else 0) =
+    ap greatest (filter-one t k) ∙ ap (λ (c : Bool). greatest (if c then k ∷ [] else [])) e ∙ greatest-one b k in
+    let all : greatest (filter t (take (suc i) ks)) ≡ max (greatest (filter t (take i ks))) (greatest (filter t (k ∷ []))) =
+    ap (λ (l : List ℕ). greatest (filter t l)) (take-suc ks i 0 h) ∙ ap greatest (filter-append t (take i ks) (k ∷ []))
+    ∙ greatest-append (filter t (take i ks)) (filter t (k ∷ [])) in
     omega (arith, one, all)
 
-module _ (start least : ℕ) (ks vs : List ℕ) (i f : ℕ) (more : i < length ks) (before : f ≡ foundBy start least ks vs i) where
+module _ (start minimum : ℕ) (ks vs : List ℕ) (i f : ℕ) (more : i < length ks) (before : f ≡ foundBy start minimum ks vs i) where
   -- the next key is better, and enough stand at it or better
-  pub found-better : f < getD ks i 0 → enough least ks vs (getD ks i 0) ≡ true → getD ks i 0 ≡ foundBy start least ks vs (i + 1)
+  pub found-better : f < getD ks i 0 → enough minimum ks vs (getD ks i 0) ≡ true → getD ks i 0 ≡ foundBy start minimum ks vs (i + 1)
   found-better h e =
       rw add-one
-      (let next : foundBy start least ks vs (suc i) ≡ max (foundBy start least ks vs i) (getD ks i 0) = found-suc start least ks vs i true more e in
+      (let next : foundBy start minimum ks vs (suc i) ≡ max (foundBy start minimum ks vs i) (getD ks i 0) = found-suc start minimum ks vs i true more e in
       omega arith)
 
   -- it is better, and too few do
-  pub found-few : enough least ks vs (getD ks i 0) ≡ false → f ≡ foundBy start least ks vs (i + 1)
+  pub found-few : enough minimum ks vs (getD ks i 0) ≡ false → f ≡ foundBy start minimum ks vs (i + 1)
   found-few e =
       rw add-one
-      (let next : foundBy start least ks vs (suc i) ≡ max (foundBy start least ks vs i) 0 = found-suc start least ks vs i false more e in
+      (let next : foundBy start minimum ks vs (suc i) ≡ max (foundBy start minimum ks vs i) 0 = found-suc start minimum ks vs i false more e in
       omega arith)
 
   -- it is not better
-  pub found-worse : getD ks i 0 ≤ f → f ≡ foundBy start least ks vs (i + 1)
-  found-worse h = rw add-one (go (enough least ks vs (getD ks i 0)) refl)
+  pub found-worse : getD ks i 0 ≤ f → f ≡ foundBy start minimum ks vs (i + 1)
+  found-worse h = rw add-one (go (enough minimum ks vs (getD ks i 0)) refl)
     where
-      go : (b : Bool) → enough least ks vs (getD ks i 0) ≡ b → f ≡ foundBy start least ks vs (suc i)
+      go : (b : Bool) → enough minimum ks vs (getD ks i 0) ≡ b → f ≡ foundBy start minimum ks vs (suc i)
       go true e =
-          let next : foundBy start least ks vs (suc i) ≡ max (foundBy start least ks vs i) (getD ks i 0) = found-suc start least ks vs i true more e in
+          let next : foundBy start minimum ks vs (suc i) ≡ max (foundBy start minimum ks vs i) (getD ks i 0) = found-suc start minimum ks vs i true more e in
           omega arith
       go false e =
-          let next : foundBy start least ks vs (suc i) ≡ max (foundBy start least ks vs i) 0 = found-suc start least ks vs i false more e in
+          let next : foundBy start minimum ks vs (suc i) ≡ max (foundBy start minimum ks vs i) 0 = found-suc start minimum ks vs i false more e in
           omega arith
 
 -- ---- the keys tried
 
-tried-suc : (start least : ℕ) (ks vs : List ℕ) (i : ℕ) (b : Bool) → ltb (foundBy start least ks vs i) (getD ks i 0) ≡ b
-    → triedBy start least ks vs (suc i) ≡ triedBy start least ks vs i + (if b then 1 else 0)
+tried-suc : (start minimum : ℕ) (ks vs : List ℕ) (i : ℕ) (b : Bool) → ltb (foundBy start minimum ks vs i) (getD ks i 0) ≡ b
+    → triedBy start minimum ks vs (suc i) ≡ triedBy start minimum ks vs i + (if b then 1 else 0)
 unfolding triedBy count
-tried-suc start least ks vs i b e = ap (λ (c : Bool). triedBy start least ks vs i + (if c then 1 else 0)) e
+tried-suc start minimum ks vs i b e = ap (λ (c : Bool). triedBy start minimum ks vs i + (if c then 1 else 0)) e
 
-module _ (start least : ℕ) (ks vs : List ℕ) (i f n : ℕ) (before : f ≡ foundBy start least ks vs i) (tried : n ≡ triedBy start least ks vs i) where
-  pub tried-one : f < getD ks i 0 → n + 1 ≡ triedBy start least ks vs (i + 1)
+module _ (start minimum : ℕ) (ks vs : List ℕ) (i f n : ℕ) (before : f ≡ foundBy start minimum ks vs i) (tried : n ≡ triedBy start minimum ks vs i) where
+  pub tried-one : f < getD ks i 0 → n + 1 ≡ triedBy start minimum ks vs (i + 1)
   tried-one h =
       rw (add-one i)
-      (let next : triedBy start least ks vs (suc i) ≡ triedBy start least ks vs i + 1 =
-      tried-suc start least ks vs i true (ap (λ (g : ℕ). ltb g (getD ks i 0)) (sym before) ∙ lt-ltb f (getD ks i 0) h) in
+      (let next : triedBy start minimum ks vs (suc i) ≡ triedBy start minimum ks vs i + 1 =
+      tried-suc start minimum ks vs i true (ap (λ (g : ℕ). ltb g (getD ks i 0)) (sym before) ∙ lt-ltb f (getD ks i 0) h) in
       omega arith)
 
-  pub tried-none : getD ks i 0 ≤ f → n ≡ triedBy start least ks vs (i + 1)
+  pub tried-none : getD ks i 0 ≤ f → n ≡ triedBy start minimum ks vs (i + 1)
   tried-none h =
       rw add-one
-      (let next : triedBy start least ks vs (suc i) ≡ triedBy start least ks vs i + 0 =
-      tried-suc start least ks vs i false (ap (λ (g : ℕ). ltb g (getD ks i 0)) (sym before) ∙ le-ltb f (getD ks i 0) h) in
+      (let next : triedBy start minimum ks vs (suc i) ≡ triedBy start minimum ks vs i + 0 =
+      tried-suc start minimum ks vs i false (ap (λ (g : ℕ). ltb g (getD ks i 0)) (sym before) ∙ le-ltb f (getD ks i 0) h) in
       omega arith)

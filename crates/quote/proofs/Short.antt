@@ -11,7 +11,7 @@ use borrow.Author.Tests.{ltb-true, ltb-false, leb-true, leb-false, lt-ltb, le-le
 use lib.Dec.{leb, ltb}
 use lib.ListN.{length, getD, take}
 use lib.Seq.{take-suc, take-length}
-use Rattle.rules.specs.Lists.{if_then_else_, keep}
+use Rattle.rules.specs.Lists.{if_then_else_, filter}
 use Rattle.rules.proofs.Lists.{kept-in, in-kept}
 use Rattle.quote.specs.Levels.{held, enough, greatest, foundBy, shortAt, shortBy}
 use Rattle.quote.proofs.Levels.{held-le, held-le-in, held-none, greatest-append, greatest-over, greatest-under, nearest}
@@ -33,46 +33,46 @@ unfolding greatest
 most-append f [] k = omega arith
 most-append f (x ∷ l) k = omega (arith, most-append f l k)
 
-module _ (start least : ℕ) (ks vs : List ℕ) where
+module _ (start minimum : ℕ) (ks vs : List ℕ) where
   -- a key with too few is better than every one with enough
-  few-below : (l : List ℕ) (k : ℕ) → 1 ≤ k → enough least ks vs k ≡ false → greatest (keep (enough least ks vs) l) < k
+  few-below : (l : List ℕ) (k : ℕ) → 1 ≤ k → enough minimum ks vs k ≡ false → greatest (filter (enough minimum ks vs) l) < k
   unfolding enough
   few-below l k some e =
-      let under = greatest-under (k - 1) (keep (enough least ks vs) l) (λ x m. go x (kept-in (enough least ks vs) l m .1) (leb k x) refl) in
+      let under = greatest-under (k - 1) (filter (enough minimum ks vs) l) (λ x m. go x (kept-in (enough minimum ks vs) l m .1) (leb k x) refl) in
       omega (arith, under, some)
     where
-      go : (x : ℕ) → leb least (held (leb x) ks vs) ≡ true → (b : Bool) → leb k x ≡ b → x ≤ k - 1
+      go : (x : ℕ) → leb minimum (held (leb x) ks vs) ≡ true → (b : Bool) → leb k x ≡ b → x ≤ k - 1
       go x h true f =
           absurd
           (omega (
             arith,
-            leb-true least (held (leb x) ks vs) h,
-            leb-false least (held (leb k) ks vs) e,
+            leb-true minimum (held (leb x) ks vs) h,
+            leb-false minimum (held (leb k) ks vs) e,
             held-le (leb x) (leb k) ks vs (λ y g. le-leb k y (omega (arith, leb-true k x f, leb-true x y g))),
           ))
       go x h false f = omega (arith, leb-false k x f)
 
   -- ---- one key
 
-  short-by : (k : ℕ) (a b : Bool) → ltb start k ≡ a → enough least ks vs k ≡ b
-      → shortAt start least ks vs k ≡ (if a && not b then held (leb k) ks vs else 0)
+  short-by : (k : ℕ) (a b : Bool) → ltb start k ≡ a → enough minimum ks vs k ≡ b
+      → shortAt start minimum ks vs k ≡ (if a && not b then held (leb k) ks vs else 0)
   unfolding shortAt
   short-by k a b e f = λ i. if e i && not (f i) then held (leb k) ks vs else 0
 
-  pub short-enough : (k : ℕ) → enough least ks vs k ≡ true → shortAt start least ks vs k ≡ 0
+  pub short-enough : (k : ℕ) → enough minimum ks vs k ≡ true → shortAt start minimum ks vs k ≡ 0
   short-enough k e = go (ltb start k) refl
     where
-      go : (a : Bool) → ltb start k ≡ a → shortAt start least ks vs k ≡ 0
+      go : (a : Bool) → ltb start k ≡ a → shortAt start minimum ks vs k ≡ 0
       go true f = short-by k true true f e
       go false f = short-by k false true f e
 
-  pub short-few : (k : ℕ) → start < k → enough least ks vs k ≡ false → shortAt start least ks vs k ≡ held (leb k) ks vs
+  pub short-few : (k : ℕ) → start < k → enough minimum ks vs k ≡ false → shortAt start minimum ks vs k ≡ held (leb k) ks vs
   short-few k h e = short-by k true false (lt-ltb start k h) e
 
-  pub short-worse : (i k : ℕ) → k ≤ foundBy start least ks vs i → shortAt start least ks vs k ≡ 0
-  short-worse i k h = go (ltb start k) (enough least ks vs k) refl refl
+  pub short-worse : (i k : ℕ) → k ≤ foundBy start minimum ks vs i → shortAt start minimum ks vs k ≡ 0
+  short-worse i k h = go (ltb start k) (enough minimum ks vs k) refl refl
     where
-      go : (a b : Bool) → ltb start k ≡ a → enough least ks vs k ≡ b → shortAt start least ks vs k ≡ 0
+      go : (a b : Bool) → ltb start k ≡ a → enough minimum ks vs k ≡ b → shortAt start minimum ks vs k ≡ 0
       go true false e f =
           let better = ltb-true start k e in
           absurd (omega (arith, h, better, few-below (take i ks) k (omega (arith, better)) f))
@@ -82,47 +82,47 @@ module _ (start least : ℕ) (ks vs : List ℕ) where
   -- ---- one step further
 
   pub short-next : (i : ℕ) → i < length ks
-      → shortBy start least ks vs (i + 1) ≡ max (shortBy start least ks vs i) (shortAt start least ks vs (getD ks i 0))
+      → shortBy start minimum ks vs (i + 1) ≡ max (shortBy start minimum ks vs i) (shortAt start minimum ks vs (getD ks i 0))
   short-next i h =
       rw (add-one i)
-      (ap (λ (l : List ℕ). greatest (map (shortAt start least ks vs) l)) (take-suc ks i 0 h)
-      ∙ most-append (shortAt start least ks vs) (take i ks) (getD ks i 0))
+      (ap (λ (l : List ℕ). greatest (map (shortAt start minimum ks vs) l)) (take-suc ks i 0 h)
+      ∙ most-append (shortAt start minimum ks vs) (take i ks) (getD ks i 0))
 
   -- ---- the whole
 
-  over-found : (k : ℕ) (a b : Bool) → ltb start k ≡ a → enough least ks vs k ≡ b → shortAt start least ks vs k ≤ held (ltb (foundBy start least ks vs (length ks))) ks vs
+  over-found : (k : ℕ) (a b : Bool) → ltb start k ≡ a → enough minimum ks vs k ≡ b → shortAt start minimum ks vs k ≤ held (ltb (foundBy start minimum ks vs (length ks))) ks vs
   over-found k true false e f =
       let better = ltb-true start k e in
       let low = few-below (take (length ks) ks) k (omega (arith, better)) f in
-      let above = held-le (leb k) (ltb (foundBy start least ks vs (length ks))) ks vs (λ y g. lt-ltb (foundBy start least ks vs (length ks)) y (omega (arith, better, low, leb-true k y g))) in
+      let above = held-le (leb k) (ltb (foundBy start minimum ks vs (length ks))) ks vs (λ y g. lt-ltb (foundBy start minimum ks vs (length ks)) y (omega (arith, better, low, leb-true k y g))) in
       omega (arith, short-by k true false e f, above)
   over-found k true true e f = omega (arith, short-by k true true e f)
   over-found k false b e f = omega (arith, short-by k false b e f)
 
-  not-enough : (k : ℕ) → List·Memᴰ k ks → foundBy start least ks vs (length ks) < k → (b : Bool) → enough least ks vs k ≡ b → enough least ks vs k ≡ false
+  not-enough : (k : ℕ) → List·Memᴰ k ks → foundBy start minimum ks vs (length ks) < k → (b : Bool) → enough minimum ks vs k ≡ b → enough minimum ks vs k ≡ false
   not-enough k m h false e = e
   not-enough k m h true e =
-      let under : k ≤ greatest (keep (enough least ks vs) (take (length ks) ks)) = rw (take-length ks) (greatest-over (in-kept (enough least ks vs) m e)) in
+      let under : k ≤ greatest (filter (enough minimum ks vs) (take (length ks) ks)) = rw (take-length ks) (greatest-over (in-kept (enough minimum ks vs) m e)) in
       absurd (omega (arith, h, under))
 
-  pub short-all : shortBy start least ks vs (length ks) ≡ held (ltb (foundBy start least ks vs (length ks))) ks vs
+  pub short-all : shortBy start minimum ks vs (length ks) ≡ held (ltb (foundBy start minimum ks vs (length ks))) ks vs
   short-all = omega (arith, under, over (nearest found ks))
     where
       found : ℕ
-      found = foundBy start least ks vs (length ks)
+      found = foundBy start minimum ks vs (length ks)
 
-      under : shortBy start least ks vs (length ks) ≤ held (ltb (foundBy start least ks vs (length ks))) ks vs
+      under : shortBy start minimum ks vs (length ks) ≤ held (ltb (foundBy start minimum ks vs (length ks))) ks vs
       under =
-          most-under (shortAt start least ks vs) (held (ltb (foundBy start least ks vs (length ks))) ks vs) (take (length ks) ks)
-          (λ k. over-found k (ltb start k) (enough least ks vs k) refl refl)
+          most-under (shortAt start minimum ks vs) (held (ltb (foundBy start minimum ks vs (length ks))) ks vs) (take (length ks) ks)
+          (λ k. over-found k (ltb start k) (enough minimum ks vs k) refl refl)
 
       over : ((x : ℕ) → List·Memᴰ x ks → x ≤ found) ⊎ ((n : ℕ) × List·Memᴰ n ks × (found < n) × ((x : ℕ) → List·Memᴰ x ks → found < x → n ≤ x))
-          → held (ltb (foundBy start least ks vs (length ks))) ks vs ≤ shortBy start least ks vs (length ks)
+          → held (ltb (foundBy start minimum ks vs (length ks))) ks vs ≤ shortBy start minimum ks vs (length ks)
       over (inl none) =
           omega
           (arith, held-none ks vs, held-le-in (ltb found) (λ y. false) ks vs (λ x m e. absurd (omega (arith, none x m, ltb-true found x e))))
       over (inr (n, m, l, near)) =
           let at : held (ltb found) ks vs ≤ held (leb n) ks vs = held-le-in (ltb found) (leb n) ks vs (λ x i e. le-leb n x (near x i (ltb-true found x e))) in
-          let short = short-few n (omega (arith, l)) (not-enough n m l (enough least ks vs n) refl) in
-          let most : shortAt start least ks vs n ≤ shortBy start least ks vs (length ks) = rw (take-length ks) (most-over (shortAt start least ks vs) m) in
+          let short = short-few n (omega (arith, l)) (not-enough n m l (enough minimum ks vs n) refl) in
+          let most : shortAt start minimum ks vs n ≤ shortBy start minimum ks vs (length ks) = rw (take-length ks) (most-over (shortAt start minimum ks vs) m) in
           omega (arith, at, short, most)

@@ -12,11 +12,11 @@ use Rattle.rules.specs.declared.Side.the-variants.{Buy, Sell}
 use Rattle.rules.specs.declared.Quote.{Quote}
 use Rattle.rules.specs.declared.Quote.the-variants.{Absent, At}
 use Rattle.rules.specs.declared.Row.{Row}
-use Rattle.rules.specs.declared.Spread.{Spread}
+use Rattle.rules.specs.declared.SpreadRule.{SpreadRule}
 use Rattle.rules.specs.Units.{goodPrice}
 use Rattle.rules.specs.Kept.{gap, spreadKeeps, quotesKeep}
 use Rattle.quote.specs.Keys.{keyOf, quoteKey}
-use Rattle.quote.specs.Limit.{limitOf, LimitFor, keysKeep}
+use Rattle.quote.specs.Widest.{widestOf, WidestFor, keysKeep}
 use Rattle.quote.proofs.Keys.{GoodQuote, positive-most, negative-most, key-least, leb-by, leb-always}
 
 -- at most the greater of two, by a test that says whether it is at most the second
@@ -37,19 +37,19 @@ negative (suc d) b zero = rw (lt-leb (suc d * 100000) 0 (omega arith)) refl
 negative (suc d) b (suc k) = refl
 
 -- at most the limit: at most a share of SP or a number of steps
-pub limit-law : (a b : ℕ) (sp d : ℤ) → leZ d (pos (limitOf a b sp)) ≡ leZ (d *ℤ pos 100000) (pos a *ℤ sp) || leZ d (pos b)
-unfolding limitOf
-limit-law a b sp (negsuc d) = sym (or-true (leZ (negsuc d *ℤ pos 100000) (pos a *ℤ sp)))
-limit-law a b (pos sp) (pos d) =
+pub widest-law : (a b : ℕ) (sp d : ℤ) → leZ d (pos (widestOf a b sp)) ≡ leZ (d *ℤ pos 100000) (pos a *ℤ sp) || leZ d (pos b)
+unfolding widestOf
+widest-law a b sp (negsuc d) = sym (or-true (leZ (negsuc d *ℤ pos 100000) (pos a *ℤ sp)))
+widest-law a b (pos sp) (pos d) =
     either d b (a * sp / 100000) (leb (d * 100000) (a * sp))
     (λ e. le-div-iff-mul-le (omega arith) .1 (leb-true (d * 100000) (a * sp) e))
     (λ e. div-lt-iff-lt-mul (omega arith) .1 (leb-false (d * 100000) (a * sp) e))
-limit-law a b (negsuc sp) (pos d) =
+widest-law a b (negsuc sp) (pos d) =
     let only : max b (a * 0 / 100000) ≡ b = omega arith in
     ap (leb d) only ∙ negative d b (a * suc sp)
 
-spread-law : (row : Row) (sp : Spread) (limit : ℕ) → LimitFor row sp limit → (d : ℤ) → leZ (pos 1) d && leZ d (pos limit) ≡ spreadKeeps row sp d
-spread-law row sp limit law d = ap (λ (t : Bool). leZ (pos 1) d && t) (law d)
+spread-law : (row : Row) (sp : SpreadRule) (widest : ℕ) → WidestFor row sp widest → (d : ℤ) → leZ (pos 1) d && leZ d (pos widest) ≡ spreadKeeps row sp d
+spread-law row sp widest law d = ap (λ (t : Bool). leZ (pos 1) d && t) (law d)
 
 -- 1 or more is not 0 or less
 one-or-more : (d : ℤ) → leZ (pos 1) d ≡ not (leZ d (pos 0))
@@ -105,17 +105,17 @@ gap-least bid ask h k = one-or-more (gap bid ask) ∙ ap not (gap-keys bid ask 0
         turn true e = sym (lt-leb n 2000000001 (omega (arith, leb-true 2000000002 (n + 0) e)))
         turn false e = sym (le-leb n 2000000001 (omega (arith, leb-false 2000000002 (n + 0) e)))
 
-pub keys-law : (row : Row) (sp : Spread) (limit : ℕ) → LimitFor row sp limit → (bid ask : Quote) → GoodQuote bid → GoodQuote ask
-    → keysKeep limit (quoteKey Buy bid) (quoteKey Sell ask) ≡ quotesKeep row sp bid ask
+pub keys-law : (row : Row) (sp : SpreadRule) (widest : ℕ) → WidestFor row sp widest → (bid ask : Quote) → GoodQuote bid → GoodQuote ask
+    → keysKeep widest (quoteKey Buy bid) (quoteKey Sell ask) ≡ quotesKeep row sp bid ask
 unfolding keysKeep quotesKeep
-keys-law row sp limit law Absent ask h k = refl
-keys-law row sp limit law (At bid) Absent h k = go (not (eqb (keyOf Buy (bid .0)) 0))
+keys-law row sp widest law Absent ask h k = refl
+keys-law row sp widest law (At bid) Absent h k = go (not (eqb (keyOf Buy (bid .0)) 0))
   where
-    go : (t : Bool) → t && false && leb (keyOf Buy (bid .0) + 0) 2000000001 && leb 2000000002 (keyOf Buy (bid .0) + 0 + limit) ≡ false
+    go : (t : Bool) → t && false && leb (keyOf Buy (bid .0) + 0) 2000000001 && leb 2000000002 (keyOf Buy (bid .0) + 0 + widest) ≡ false
     go true = refl
     go false = refl
-keys-law row sp limit law (At bid) (At ask) h k =
+keys-law row sp widest law (At bid) (At ask) h k =
     let there : eqb (keyOf Buy (bid .0)) 0 ≡ false = ne-eqb (keyOf Buy (bid .0)) 0 (λ e. omega (arith, e, key-least Buy (bid .0) h)) in
     let here : eqb (keyOf Sell (ask .0)) 0 ≡ false = ne-eqb (keyOf Sell (ask .0)) 0 (λ e. omega (arith, e, key-least Sell (ask .0) k)) in
-    rw (there, here, sym (gap-least (bid .0) (ask .0) h k), sym (gap-keys (bid .0) (ask .0) limit h k))
-    (spread-law row sp limit law (gap (bid .0) (ask .0)))
+    rw (there, here, sym (gap-least (bid .0) (ask .0) h k), sym (gap-keys (bid .0) (ask .0) widest h k))
+    (spread-law row sp widest law (gap (bid .0) (ask .0)))

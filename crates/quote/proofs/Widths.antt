@@ -14,7 +14,7 @@ use Rattle.rules.specs.declared.Side.{Side}
 use Rattle.rules.specs.declared.Side.the-variants.{Buy, Sell}
 use Rattle.rules.specs.Lists.{if_then_else_}
 use Rattle.rules.specs.Units.{goodPrice}
-use Rattle.quote.specs.Limit.{positivePart}
+use Rattle.quote.specs.Widest.{positivePart}
 use Rattle.quote.specs.Keys.{keyOf, priceAt}
 use Rattle.quote.proofs.Keys.{positive-most, negative-most}
 

@@ -6,7 +6,7 @@ use mathlib.Core.List.{List, [], _∷_, map}
 use mathlib.Core.Bool.{Bool, not, _&&_, _||_}
 use lib.Dec.{leb, ltb, eqb}
 use lib.ListN.{length, getD, take}
-use Rattle.rules.specs.Lists.{if_then_else_, sum, keep, count}
+use Rattle.rules.specs.Lists.{if_then_else_, sum, filter, count}
 use Rattle.quote.specs.declared.Level.{Level}
 
 -- the contracts at the keys that pass
@@ -21,7 +21,7 @@ levelAt ks vs k = record { key = k; before = held (ltb k) ks vs; at = held (eqb 
 
 -- the contracts at a key or better are enough
 unfoldable pub enough : ℕ → List ℕ → List ℕ → ℕ → Bool
-enough least ks vs k = leb least (held (leb k) ks vs)
+enough minimum ks vs k = leb minimum (held (leb k) ks vs)
 
 unfoldable pub greatest : List ℕ → ℕ
 greatest [] = 0
@@ -29,15 +29,15 @@ greatest (k ∷ ks) = max k (greatest ks)
 
 -- the best key: the greatest one with enough, 0 where none has
 unfoldable pub bestKey : ℕ → List ℕ → List ℕ → ℕ
-bestKey least ks vs = greatest (keep (enough least ks vs) ks)
+bestKey minimum ks vs = greatest (filter (enough minimum ks vs) ks)
 
 -- the best key's level
 unfoldable pub levelOf : ℕ → List ℕ → List ℕ → Level
-levelOf least ks vs = levelAt ks vs (bestKey least ks vs)
+levelOf minimum ks vs = levelAt ks vs (bestKey minimum ks vs)
 
--- fewer than `least` at better keys, and enough with those at it, or no key at all
+-- fewer than `minimum` at better keys, and enough with those at it, or no key at all
 unfoldable pub isBest : Level → ℕ → Bool
-isBest l least = ltb (l .before) least && (eqb (l .key) 0 || leb least (l .before + l .at))
+isBest l minimum = ltb (l .before) minimum && (eqb (l .key) 0 || leb minimum (l .before + l .at))
 
 -- columns whose sums fit: 64 orders of at most 1,000,000 contracts
 pub record Columns (ks vs : List ℕ) : Type 0 where
@@ -55,16 +55,16 @@ pub record Searchable (ks vs : List ℕ) (start : ℕ) : Type 0 where
 
 -- the best key found among the first i, from a start
 abbrev pub foundBy : ℕ → ℕ → List ℕ → List ℕ → ℕ → ℕ
-foundBy start least ks vs i = max start (greatest (keep (enough least ks vs) (take i ks)))
+foundBy start minimum ks vs i = max start (greatest (filter (enough minimum ks vs) (take i ks)))
 
 -- how many of the first i were better than what was found before them
 unfoldable pub triedBy : ℕ → ℕ → List ℕ → List ℕ → ℕ → ℕ
-triedBy start least ks vs i = count (λ (j : ℕ). ltb (foundBy start least ks vs j) (getD ks j 0)) i
+triedBy start minimum ks vs i = count (λ (j : ℕ). ltb (foundBy start minimum ks vs j) (getD ks j 0)) i
 
 -- what a key better than the start holds with those better than it, where it is not enough
 unfoldable pub shortAt : ℕ → ℕ → List ℕ → List ℕ → ℕ → ℕ
-shortAt start least ks vs k = if ltb start k && not (enough least ks vs k) then held (leb k) ks vs else 0
+shortAt start minimum ks vs k = if ltb start k && not (enough minimum ks vs k) then held (leb k) ks vs else 0
 
 -- the most of these among the first i
 abbrev pub shortBy : ℕ → ℕ → List ℕ → List ℕ → ℕ → ℕ
-shortBy start least ks vs i = greatest (map (shortAt start least ks vs) (take i ks))
+shortBy start minimum ks vs i = greatest (map (shortAt start minimum ks vs) (take i ks))

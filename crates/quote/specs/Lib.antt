@@ -1,5 +1,5 @@
 -- What the code's spread test compares with.
-pub mod Limit
+pub mod Widest
 -- Prices as keys, and a side's depth in columns of them.
 pub mod Keys
 pub mod Levels

@@ -23,11 +23,11 @@ pub record ColumnsOf (side : Side) (orders : List Order) (ks vs : List ℕ) : Ty
   pub sided : (o : Order) → List·Memᴰ o orders → same side (o .side) ≡ true
   pub prices : (o : Order) → List·Memᴰ o orders → goodPrice (o .price .0) ≡ true
 
-pub record Finds (side : Side) (ks vs : List ℕ) (start least : ℕ) (r : Searched) : Type 0 where
+pub record Finds (side : Side) (ks vs : List ℕ) (start minimum : ℕ) (r : Searched) : Type 0 where
   -- in keys, with the contracts at better ones, and where it is better than the start those at it or better
-  pub found : r .quote ≡ quoteAt side (foundBy start least ks vs (length ks))
-  pub before : r .before ≡ held (ltb (foundBy start least ks vs (length ks))) ks vs
-  pub depth : start < foundBy start least ks vs (length ks) → r .depth ≡ held (leb (foundBy start least ks vs (length ks))) ks vs
+  pub found : r .quote ≡ quoteAt side (foundBy start minimum ks vs (length ks))
+  pub before : r .before ≡ held (ltb (foundBy start minimum ks vs (length ks))) ks vs
+  pub depth : start < foundBy start minimum ks vs (length ks) → r .depth ≡ held (leb (foundBy start minimum ks vs (length ks))) ks vs
   -- in orders
-  pub quote : (orders : List Order) → ColumnsOf side orders ks vs → r .quote ≡ better side (quoteAt side start) (best side least orders)
-  pub sums : (orders : List Order) → ColumnsOf side orders ks vs → r .sums ≡ sumsOf side least (quoteAt side start) orders
+  pub quote : (orders : List Order) → ColumnsOf side orders ks vs → r .quote ≡ better side (quoteAt side start) (best side minimum orders)
+  pub sums : (orders : List Order) → ColumnsOf side orders ks vs → r .sums ≡ sumsOf side minimum (quoteAt side start) orders

@@ -8,7 +8,7 @@ ghost use Rattle.rules.specs.declared.Steps.{Steps};
 ghost use Rattle.rules.specs.declared.Quote.the-variants.{At};
 ghost use Rattle.rules.specs.Lists.{if_then_else_};
 ghost use Rattle.rules.specs.Units.{steps, goodPrice};
-ghost use Rattle.quote.specs.Limit.{positivePart, limitOf, keysKeep};
+ghost use Rattle.quote.specs.Widest.{positivePart, widestOf, keysKeep};
 ghost use Rattle.quote.specs.Keys.{keyOf, priceAt, quoteKey, quoteAt};
 ghost use Rattle.quote.specs.Levels.{levelAt, isBest, Columns, Searchable};
 ghost use Rattle.quote.specs.Searches.{Finds};
@@ -81,7 +81,7 @@ pub fn quote_key(side: Side, quote: Quote) -> u32
 // ---- a side's depth
 
 // What stands at a key adds to a sum.
-pub fn share(counts: bool, volume: u32) -> u32
+pub fn volume_where(counts: bool, volume: u32) -> u32
     ensures { λ r. ⌜ r ≡ (if counts then volume else 0) ⌝ }
 {
     (counts as u32) * volume
@@ -98,19 +98,19 @@ pub fn measured(keys: &[u32], volumes: &[u32], key: u32) -> Level
     while i < keys.len() {
         let k = keys[i];
         let v = volumes[i];
-        before += share(key < k, v);
-        at += share(key == k, v);
+        before += volume_where(key < k, v);
+        at += volume_where(key == k, v);
         i += 1;
     }
     Level { key, before, at }
 }
 
-// Whether a level is the best quote's: fewer than `least` before it, and `least` or more with it, or no quote at all.
-pub fn is_best(level: Level, least: Contracts) -> bool
+// Whether a level is the best quote's: fewer than `minimum` before it, and `minimum` or more with it, or no quote at all.
+pub fn is_best(level: Level, minimum: Contracts) -> bool
     requires { ⌜ level .before + level .at ≤ 64000000 ⌝ }
-    ensures { λ r. ⌜ r ≡ isBest level (least .0) ⌝ }
+    ensures { λ r. ⌜ r ≡ isBest level (minimum .0) ⌝ }
 {
-    let m = least.0;
+    let m = minimum.0;
     (level.before < m) & ((level.key == 0) | (m <= level.before + level.at))
 }
 
@@ -124,14 +124,14 @@ fn most(sum: u32, other: u32) -> u32
 }
 
 // The best quote of a side, from a key that it is better than or that is it: the best price of an order for which those at that
-// price or better hold `least` contracts or more together. Volumes are added up for an order only if its price is better than
+// price or better hold `minimum` contracts or more together. Volumes are added up for an order only if its price is better than
 // every one already found to qualify. The sums that were too small are those of all better prices than what is found, so the most
 // of them is what stands before it, and nothing is added up again for it.
-pub fn search(side: Side, keys: &[u32], volumes: &[u32], start: u32, least: Contracts) -> Searched
+pub fn search(side: Side, keys: &[u32], volumes: &[u32], start: u32, minimum: Contracts) -> Searched
     requires { ⌜ Searchable (now keys) (now volumes) start ⌝ }
-    ensures { λ r. ⌜ Finds side (now (keys .entry)) (now (volumes .entry)) start (least .0) r ⌝ }
+    ensures { λ r. ⌜ Finds side (now (keys .entry)) (now (volumes .entry)) start (minimum .0) r ⌝ }
 {
-    let m = least.0;
+    let m = minimum.0;
     let mut found: u32 = start;
     let mut enough: u32 = 0;
     let mut short: u32 = 0;
@@ -150,7 +150,7 @@ pub fn search(side: Side, keys: &[u32], volumes: &[u32], start: u32, least: Cont
                 if keys.len() <= j {
                     break 'volumes held;
                 }
-                held += share(key <= keys[j], volumes[j]);
+                held += volume_where(key <= keys[j], volumes[j]);
                 j += 1;
             };
             sums += 1;
@@ -189,9 +189,9 @@ fn positive_part(p: Steps) -> u32
 }
 
 // The greatest D that the spread test takes, fixed once for a quantum: max(b, a × max(SP, 0) / 100,000).
-pub fn spread_limit(a: u32, b: u32, sp: Steps) -> u32
+pub fn widest_for_price(a: u32, b: u32, sp: Steps) -> u32
     requires { ⌜ a ≤ 100000 ⌝ }
-    ensures { λ r. ⌜ r ≡ limitOf a b (sp .0) ⌝ }
+    ensures { λ r. ⌜ r ≡ widestOf a b (sp .0) ⌝ }
 {
     let price = positive_part(sp);
     let part = (a as u64 * price as u64 / 100000) as u32;
@@ -203,10 +203,10 @@ pub fn spread_limit(a: u32, b: u32, sp: Steps) -> u32
 
 // Whether two best keys keep the quote, 1 or 0: both are there, and D is 1 or more and at most the limit. D is 2,000,000,002 less
 // both keys.
-pub fn keys_keep(limit: u32, bid: u32, ask: u32) -> u32
-    ensures { λ r. ⌜ r ≡ (if keysKeep limit bid ask then 1 else 0) ⌝ }
+pub fn keys_keep(widest: u32, bid: u32, ask: u32) -> u32
+    ensures { λ r. ⌜ r ≡ (if keysKeep widest bid ask then 1 else 0) ⌝ }
 {
     let there = (bid != 0) & (ask != 0);
     let both = bid as u64 + ask as u64;
-    (there & (both <= 2000000001) & (2000000002 <= both + limit as u64)) as u32
+    (there & (both <= 2000000001) & (2000000002 <= both + widest as u64)) as u32
 }

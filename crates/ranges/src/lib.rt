@@ -7,11 +7,11 @@ ghost use Rattle.rules.specs.Lists.{within};
 ghost use Rattle.rules.specs.Terms.{paper};
 ghost use Rattle.rules.specs.Units.{goodPrice, goodVolume, goodCharge};
 ghost use Rattle.rules.specs.Cells.{goodCell};
-ghost use Rattle.rules.specs.Lapses.{goodLimit};
+ghost use Rattle.rules.specs.Lapses.{goodLapseLimit};
 ghost use Rattle.rules.specs.Book.{goodSettlement};
 use rules::Contracts;
 use rules::Kopecks;
-use rules::Spread;
+use rules::SpreadRule;
 use rules::Steps;
 
 // Tests are joined by calls, so that no branches meet.
@@ -50,12 +50,12 @@ pub fn price(p: Steps) -> bool
 }
 
 // SP, where open goes by it.
-pub fn settlement(spread: Spread) -> bool
+pub fn settlement(spread: SpreadRule) -> bool
     ensures { λ r. ⌜ r ≡ goodSettlement spread ⌝ }
 {
     match spread {
-        Spread::Settled(sp) => price(sp),
-        Spread::OfStrike(_) => true,
+        SpreadRule::Settled(sp) => price(sp),
+        SpreadRule::OfStrike(_) => true,
     }
 }
 
@@ -74,7 +74,7 @@ pub fn charge(k: Kopecks) -> bool
 
 // A lapse limit: 0 to 1,000, or 65,535 for none.
 pub fn lapse_limit(n: u32) -> bool
-    ensures { λ r. ⌜ r ≡ goodLimit n ⌝ }
+    ensures { λ r. ⌜ r ≡ goodLapseLimit n ⌝ }
 {
     if at_most(n, 1000) {
         return true;

@@ -14,7 +14,7 @@ ghost use Rattle.rules.specs.Lists.{within};
 ghost use Rattle.rules.specs.Units.{millis, steps, contracts};
 ghost use Rattle.rules.specs.Answers.{shownRecord};
 ghost use Rattle.rules.specs.Records.{signedOf, fields, addKind, eventFields, fieldBytes, recordOf, fieldsOf, eventOf, unusedZero, paddingZero, goodRecord, readRecord};
-ghost use Rattle.record.specs.Parts.{said};
+ghost use Rattle.record.specs.Internal.{said};
 
 // The fields of a record; the price is its word in two's complement.
 struct Parts {

@@ -59,11 +59,11 @@ fn choice(is_first: bool, first: &[u8], second: &[u8]) {
     }
 }
 
-fn limit(n: u32) {
+fn allowed(n: u32) {
     if n == 65535 {
-        put(b" limit none");
+        put(b" allowed none");
     } else {
-        field(b" limit ", n);
+        field(b" allowed ", n);
     }
 }
 
@@ -75,7 +75,7 @@ fn cell_line(view: CellView) {
     field(b" of ", length.0);
     field(b" share ", cell.share);
     field(b" lapses ", cell.lapses);
-    limit(cell.limit);
+    allowed(cell.allowed);
     amount(b" active ", cell.active);
     amount(b" passive ", cell.passive);
     choice(view.met, b" verdict met", b" verdict failed");

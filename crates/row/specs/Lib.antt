@@ -1,2 +1,2 @@
 -- What the crate's private functions promise; no public contract cites it.
-pub mod Found
+pub mod Internal

@@ -7,7 +7,7 @@ ghost use Rattle.rules.specs.Rows.{goodLength, goodRow, asRead};
 ghost use Rattle.rules.specs.Answers.{shownRow};
 ghost use Rattle.rules.specs.Book.{readRow};
 ghost use Rattle.rules.specs.Choosing.{rowWords, isFor, firstRow, chosenRow};
-ghost use Rattle.row.specs.Found.{Found};
+ghost use Rattle.row.specs.Internal.{Found};
 use ranges::at_most;
 use ranges::between;
 use ranges::both;
@@ -16,7 +16,7 @@ use rules::Millis;
 use rules::Refusal;
 use rules::Row;
 use rules::RowRead;
-use rules::Spread;
+use rules::SpreadRule;
 
 // Whether L is in a row's range.
 pub fn is_length(l: u32) -> bool
@@ -30,22 +30,22 @@ pub fn is_good(row: Row) -> bool
     ensures { λ r. ⌜ r ≡ goodRow paper row ⌝ }
 {
     let length = row.length;
-    let least = row.least;
+    let minimum = row.minimum;
     let good = both(between(1, 2, row.expiry), at_most(row.quantum, 2));
     let good = both(good, is_length(length.0));
-    let good = both(good, between(1, 100000, least.0));
+    let good = both(good, between(1, 100000, minimum.0));
     let good = both(good, at_most(row.a, 100000));
     let good = both(good, at_most(row.b, 1000000));
     both(good, between(1, 799, row.share))
 }
 
 // The row as open reads it: a strike's leaves a and b unread.
-fn as_read(row: Row, spread: Spread) -> Row
+fn as_read(row: Row, spread: SpreadRule) -> Row
     ensures { λ r. ⌜ r ≡ asRead spread row ⌝ }
 {
     match spread {
-        Spread::Settled(_) => row,
-        Spread::OfStrike(_) => {
+        SpreadRule::Settled(_) => row,
+        SpreadRule::OfStrike(_) => {
             let mut read = row;
             read.a = 0;
             read.b = 0;
@@ -55,7 +55,7 @@ fn as_read(row: Row, spread: Spread) -> Row
 }
 
 // Reading a row for an open that goes by SP or a strike: the row, or refusal 1 or 2.
-pub fn read(words: &[u32], spread: Spread) -> RowRead
+pub fn read(words: &[u32], spread: SpreadRule) -> RowRead
     ensures { λ r. ⌜ shownRow r ≡ readRow paper spread (now (words .entry)) ⌝ }
 {
     if words.len() != 7 {
@@ -65,7 +65,7 @@ pub fn read(words: &[u32], spread: Spread) -> RowRead
         expiry: words[0],
         quantum: words[1],
         length: Millis(words[2]),
-        least: Contracts(words[3]),
+        minimum: Contracts(words[3]),
         a: words[4],
         b: words[5],
         share: words[6],

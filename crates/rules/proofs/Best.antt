@@ -12,20 +12,20 @@ use Rattle.rules.specs.declared.Quote.{Quote}
 use Rattle.rules.specs.declared.Quote.the-variants.{Absent, At}
 use Rattle.rules.specs.declared.Order.{Order}
 use Rattle.rules.specs.declared.Steps.{Steps}
-use Rattle.rules.specs.Lists.{if_then_else_, sum, keep}
-use Rattle.rules.specs.Quotes.{same, atLeast, stands, volumeOf, depth, qualifies, better, lead, best, Means}
-use Rattle.rules.proofs.Lists.{sum-append, keep-append, keep-keep, kept-in, in-kept, both}
+use Rattle.rules.specs.Lists.{if_then_else_, sum, filter}
+use Rattle.rules.specs.Quotes.{same, atLeast, inDepth, volumeOf, depth, qualifies, better, lead, best, Means}
+use Rattle.rules.proofs.Lists.{sum-append, filter-append, filter-filter, kept-in, in-kept, both}
 use Rattle.rules.proofs.Prices.{atLeast-refl, atLeast-trans, atLeast-total, atLeast-antisym}
 
 -- ---- depth, order by order
 
 pub depth-append : (s : Side) (p : ℤ) (xs ys : List Order) → depth s p (xs ++ ys) ≡ depth s p xs + depth s p ys
 unfolding depth
-depth-append s p xs ys = rw (keep-append, map-append, sum-append) refl
+depth-append s p xs ys = rw (filter-append, map-append, sum-append) refl
 
-pub depth-one : (s : Side) (p : ℤ) (o : Order) → depth s p (o ∷ []) ≡ (if stands s p o then o .volume .0 else 0)
-unfolding depth keep sum
-depth-one s p o = go (stands s p o)
+pub depth-one : (s : Side) (p : ℤ) (o : Order) → depth s p (o ∷ []) ≡ (if inDepth s p o then o .volume .0 else 0)
+unfolding depth filter sum
+depth-one s p o = go (inDepth s p o)
   where
     go : (b : Bool) → sum (map volumeOf (if b then o ∷ [] else [])) ≡ (if b then o .volume .0 else 0)
     go true = omega arith
@@ -62,7 +62,7 @@ leads s (x ∷ xs) = first (lead s xs) (leads s xs)
 -- `best` means what the paper says ..
 pub means : (s : Side) (m : ℕ) (orders : List Order) → Means s m orders (best s m orders)
 unfolding best
-means s m orders = go (lead s (keep ok orders)) (leads s (keep ok orders))
+means s m orders = go (lead s (filter ok orders)) (leads s (filter ok orders))
   where
     ok : Order → Bool
     ok = qualifies s m orders
@@ -71,7 +71,7 @@ means s m orders = go (lead s (keep ok orders)) (leads s (keep ok orders))
     fails o true e h = absurd (h e)
     fails o false e h = e
 
-    go : (y : Quote) → Leads s (keep ok orders) y → Means s m orders y
+    go : (y : Quote) → Leads s (filter ok orders) y → Means s m orders y
     go Absent h = λ o k. fails o (ok o) refl (λ e. h o (in-kept ok k e))
     go (At p) h =
         let k = kept-in ok orders (h .0 .1) in
@@ -101,18 +101,18 @@ absent s m orders = (λ e. subst (Means s m orders) e (means s m orders), λ h. 
 abbrev pub sided : Side → Order → Bool
 sided s o = same s (o .side)
 
-one-depth : (s : Side) (m : ℕ) (xs : List Order) (o : Order) → qualifies s m xs o ≡ qualifies s m (keep (sided s) xs) o
+one-depth : (s : Side) (m : ℕ) (xs : List Order) (o : Order) → qualifies s m xs o ≡ qualifies s m (filter (sided s) xs) o
 unfolding qualifies depth
 one-depth s m xs o =
-    let deeper = keep-keep (stands s (o .price .0)) (sided s) (λ x h. both (same s (x .side)) (atLeast s (x .price .0) (o .price .0)) h .0) xs in
+    let deeper = filter-filter (inDepth s (o .price .0)) (sided s) (λ x h. both (same s (x .side)) (atLeast s (x .price .0) (o .price .0)) h .0) xs in
     rw deeper refl
 
-alone : (s : Side) (m : ℕ) (xs : List Order) → best s m xs ≡ best s m (keep (sided s) xs)
+alone : (s : Side) (m : ℕ) (xs : List Order) → best s m xs ≡ best s m (filter (sided s) xs)
 unfolding best qualifies
 alone s m xs =
-    let ok = qualifies s m (keep (sided s) xs) in
-    ap (λ (t : Order → Bool). lead s (keep t xs)) (fun-ext (one-depth s m xs))
-    ∙ ap (lead s) (sym (keep-keep ok (sided s) (λ o h. both (same s (o .side)) (leb m (depth s (o .price .0) (keep (sided s) xs))) h .0) xs))
+    let ok = qualifies s m (filter (sided s) xs) in
+    ap (λ (t : Order → Bool). lead s (filter t xs)) (fun-ext (one-depth s m xs))
+    ∙ ap (lead s) (sym (filter-filter ok (sided s) (λ o h. both (same s (o .side)) (leb m (depth s (o .price .0) (filter (sided s) xs))) h .0) xs))
 
-pub one-side : (s : Side) (m : ℕ) (xs ys : List Order) → keep (sided s) xs ≡ keep (sided s) ys → best s m xs ≡ best s m ys
+pub one-side : (s : Side) (m : ℕ) (xs ys : List Order) → filter (sided s) xs ≡ filter (sided s) ys → best s m xs ≡ best s m ys
 one-side s m xs ys e = alone s m xs ∙ ap (best s m) e ∙ sym (alone s m ys)

@@ -15,8 +15,8 @@ use Rattle.rules.specs.declared.Kopecks.{Kopecks}
 use Rattle.rules.specs.declared.Order.{Order}
 use Rattle.rules.specs.declared.Row.{Row}
 use Rattle.rules.specs.declared.Cell.{Cell}
-use Rattle.rules.specs.declared.Spread.{Spread}
-use Rattle.rules.specs.declared.Spread.the-variants.{Settled, OfStrike}
+use Rattle.rules.specs.declared.SpreadRule.{SpreadRule}
+use Rattle.rules.specs.declared.SpreadRule.the-variants.{Settled, OfStrike}
 use Rattle.rules.specs.declared.Event.{Event}
 use Rattle.rules.specs.declared.Event.the-variants.{Add, Amend, Cancel, Deal, Tick}
 use Rattle.rules.specs.Lists.{within}
@@ -25,7 +25,7 @@ use Rattle.rules.specs.Units.{goodPrice, goodVolume, goodCharge}
 use Rattle.rules.specs.Rows.{goodExpiry, goodQuantum, goodLength, rowOf, goodRow, asRead, goodRowFor}
 use Rattle.rules.specs.Cells.{blankCell, goodCell, placeOf, cellAt}
 use Rattle.rules.specs.Orders.{lessenedOrder, apply, applyAll, live, timeFrom, present}
-use Rattle.rules.specs.Book.{Call, Open, Send, Ask, Commit, Close, Drop, Charge, Withdraw, Look, Report, Running, Idle, Quoting, Book, freshBook, amendOf, goodSettlement, goodSpread, eventRefusal, refusalOf, noted, closedCell, closed, charged, changed, stepBy, step, run, after}
+use Rattle.rules.specs.Book.{Call, Open, Send, Ask, Commit, Close, Drop, Charge, Withdraw, Look, Report, Running, Idle, Quoting, Book, freshBook, amendOf, goodSettlement, goodSpreadRule, eventRefusal, refusalOf, noted, closedCell, closed, charged, changed, stepBy, step, run, after}
 use Rattle.rules.specs.Bounds.{Distinct, EventBounds, OpenBounds, RunningBounds, CellBounds, BookBounds}
 use Rattle.rules.proofs.Lists.{both, and}
 use Rattle.rules.proofs.Members.{getD-in, in-set, in-replicate}
@@ -54,8 +54,8 @@ pub record RowBounds (terms : Terms) (row : Row) : Type 0 where
   pub length-least : 1000 ≤ row .length .0
   pub length-most : row .length .0 ≤ 86400000
   pub length-whole : row .length .0 % 1000 ≡ 0
-  pub least-least : 1 ≤ row .least .0
-  pub least-most : row .least .0 ≤ 100000
+  pub minimum-least : 1 ≤ row .minimum .0
+  pub minimum-most : row .minimum .0 ≤ 100000
   pub a-most : row .a ≤ 100000
   pub b-most : row .b ≤ 1000000
   pub share-least : 1 ≤ row .share
@@ -67,12 +67,12 @@ row-bounds terms row e =
     let h1 = both _ (within 1 (terms .most-share) (row .share)) e in
     let h2 = both _ (leb (row .b) 1000000) (h1 .0) in
     let h3 = both _ (leb (row .a) 100000) (h2 .0) in
-    let h4 = both _ (within 1 100000 (row .least .0)) (h3 .0) in
+    let h4 = both _ (within 1 100000 (row .minimum .0)) (h3 .0) in
     let h5 = both _ (goodLength (row .length .0)) (h4 .0) in
     let h6 = both (goodExpiry (row .expiry)) (goodQuantum (row .quantum)) (h5 .0) in
     let h7 = both (within 1000 86400000 (row .length .0)) (eqb (row .length .0 % 1000) 0) (h5 .1) in
     let share = within-parts 1 (terms .most-share) (row .share) (h1 .1) in
-    let least = within-parts 1 100000 (row .least .0) (h4 .1) in
+    let minimum = within-parts 1 100000 (row .minimum .0) (h4 .1) in
     let expiry = within-parts 1 2 (row .expiry) (h6 .0) in
     let long = within-parts 1000 86400000 (row .length .0) (h7 .0) in
     record {
@@ -82,8 +82,8 @@ row-bounds terms row e =
       length-least = long .0;
       length-most = long .1;
       length-whole = eqb-true (row .length .0 % 1000) 0 (h7 .1);
-      least-least = least .0;
-      least-most = least .1;
+      minimum-least = minimum .0;
+      minimum-most = minimum .1;
       a-most = leb-true (row .a) 100000 (h3 .1);
       b-most = leb-true (row .b) 1000000 (h2 .1);
       share-least = share .0;
@@ -97,14 +97,14 @@ pub record ReadBounds (terms : Terms) (row : Row) : Type 0 where
   pub quantum-most : row .quantum ≤ 2
   pub length-least : 1000 ≤ row .length .0
   pub length-most : row .length .0 ≤ 86400000
-  pub least-least : 1 ≤ row .least .0
+  pub minimum-least : 1 ≤ row .minimum .0
   pub share-least : 1 ≤ row .share
   pub share-most : row .share ≤ terms .most-share
 
 -- whatever a and b stand in place of the row's
 read-part : (terms : Terms) (row : Row) (a b : ℕ)
     → RowBounds terms
-    (record { expiry = row .expiry; quantum = row .quantum; length = row .length; least = row .least; a = a; b = b; share = row .share })
+    (record { expiry = row .expiry; quantum = row .quantum; length = row .length; minimum = row .minimum; a = a; b = b; share = row .share })
     → ReadBounds terms row
 read-part terms row a b r =
     record {
@@ -113,12 +113,12 @@ read-part terms row a b r =
       quantum-most = r .quantum-most;
       length-least = r .length-least;
       length-most = r .length-most;
-      least-least = r .least-least;
+      minimum-least = r .minimum-least;
       share-least = r .share-least;
       share-most = r .share-most;
     }
 
-pub read-bounds : (terms : Terms) (spread : Spread) (row : Row) → goodRowFor terms spread row ≡ true → ReadBounds terms row
+pub read-bounds : (terms : Terms) (spread : SpreadRule) (row : Row) → goodRowFor terms spread row ≡ true → ReadBounds terms row
 unfolding goodRowFor
 read-bounds terms (Settled sp) row e = read-part terms row (row .a) (row .b) (row-bounds terms row e)
 read-bounds terms (OfStrike s) row e = read-part terms row 0 0 (row-bounds terms (asRead (OfStrike s) row) e)
@@ -179,7 +179,7 @@ volumes-more os (Deal t id volume) p h = all-deal os t id volume Sized less
   where
     less : (o : Order) → List·Memᴰ o os → 1 ≤ lessenedOrder id (volume .0) o .volume .0 → goodVolume (lessenedOrder id (volume .0) o .volume .0) ≡ true
     less o m l =
-        let (least, most) = volume-bounds (o .volume .0) (h o m) in
+        let (minimum, most) = volume-bounds (o .volume .0) (h o m) in
         bounds-volume (lessenedOrder id (volume .0) o .volume .0) l (omega (arith, lessened-volume id (volume .0) o))
 volumes-more os (Tick t) p h = h
 
@@ -224,16 +224,16 @@ module _ (terms : Terms) where
   filled-blank : Filled blankCell
   filled-blank e = absurd (false≢true e)
 
-  filled-closed : (row : Row) (told : Opening) (events : List Event) (active passive : Kopecks) → goodRowFor terms (told .spread) row ≡ true
-      → goodCharge terms (active .0) ≡ true → goodCharge terms (passive .0) ≡ true → Filled (closedCell row told events active passive)
-  filled-closed row told events active passive good a p e =
-      let r = read-bounds terms (told .spread) row good in
+  filled-closed : (row : Row) (opening : Opening) (events : List Event) (active passive : Kopecks) → goodRowFor terms (opening .spread) row ≡ true
+      → goodCharge terms (active .0) ≡ true → goodCharge terms (passive .0) ≡ true → Filled (closedCell row opening events active passive)
+  filled-closed row opening events active passive good a p e =
+      let r = read-bounds terms (opening .spread) row good in
       record {
         length-least = r .length-least;
         length-most = r .length-most;
         share-least = r .share-least;
         share-most = r .share-most;
-        kept-most = kept-le row (told .spread) events (row .length .0);
+        kept-most = kept-le row (opening .spread) events (row .length .0);
         active-most = charge-bound terms (active .0) a;
         passive-most = charge-bound terms (passive .0) p;
       }
@@ -251,43 +251,43 @@ module _ (terms : Terms) where
         passive-most = charge-bound terms (passive .0) p;
       }
 
-  opened : (words : List ℕ) (day : ℕ) (told : Opening) → goodRowFor terms (told .spread) (rowOf words) ≡ true → within 1 31 day ≡ true
-      → goodSettlement (told .spread) ≡ true → goodSpread (told .spread) ≡ true
-      → OpenBounds terms (placeOf day (rowOf words .expiry) (rowOf words .quantum)) (rowOf words) told []
-  opened words day told good d p s =
-      let r = read-bounds terms (told .spread) (rowOf words) good in
+  opened : (words : List ℕ) (day : ℕ) (opening : Opening) → goodRowFor terms (opening .spread) (rowOf words) ≡ true → within 1 31 day ≡ true
+      → goodSettlement (opening .spread) ≡ true → goodSpreadRule (opening .spread) ≡ true
+      → OpenBounds terms (placeOf day (rowOf words .expiry) (rowOf words .quantum)) (rowOf words) opening []
+  opened words day opening good d p s =
+      let r = read-bounds terms (opening .spread) (rowOf words) good in
       record {
         inside = place-small day (rowOf words .expiry) (rowOf words .quantum) (within-parts 1 31 day d .1) (r .expiry-most) (r .quantum-most);
         row-good = good;
         price-good = p;
         spread-good = s;
         events-good = event-bounds-none (rowOf words);
-        kept = kept-le (rowOf words) (told .spread) [] (present []);
+        kept = kept-le (rowOf words) (opening .spread) [] (present []);
       }
 
   noted-bounds : (r : Running) (e : Event) → RunningBounds terms r → SendPasses r e → RunningBounds terms (noted r e)
   noted-bounds Idle e g p = tt
-  noted-bounds (Quoting place row told events) e g p =
+  noted-bounds (Quoting place row opening events) e g p =
       record {
         inside = g .inside;
         row-good = g .row-good;
         price-good = g .price-good;
         spread-good = g .spread-good;
         events-good = event-bounds-passed row events e (g .events-good) p;
-        kept = kept-le row (told .spread) (events ++ (e ∷ [])) (present (events ++ (e ∷ [])));
+        kept = kept-le row (opening .spread) (events ++ (e ∷ [])) (present (events ++ (e ∷ [])));
       }
 
   closed-length : (r : Running) (active passive : Kopecks) (cells : List Cell) → length (closed r active passive cells) ≡ length cells
   closed-length Idle active passive cells = refl
-  closed-length (Quoting place row told events) active passive cells = length-set cells place (closedCell row told events active passive)
+  closed-length (Quoting place row opening events) active passive cells = length-set cells place (closedCell row opening events active passive)
 
   closed-filled : (r : Running) (active passive : Kopecks) (cells : List Cell) → RunningBounds terms r
       → goodCharge terms (active .0) ≡ true → goodCharge terms (passive .0) ≡ true
       → ((c : Cell) → List·Memᴰ c cells → c .filled ≡ true → CellBounds terms c)
       → (c : Cell) → List·Memᴰ c (closed r active passive cells) → c .filled ≡ true → CellBounds terms c
   closed-filled Idle active passive cells g a p old = old
-  closed-filled (Quoting place row told events) active passive cells g a p old =
-      filled-set cells place (closedCell row told events active passive) old (filled-closed row told events active passive (g .row-good) a p)
+  closed-filled (Quoting place row opening events) active passive cells g a p old =
+      filled-set cells place (closedCell row opening events active passive) old (filled-closed row opening events active passive (g .row-good) a p)
 
   -- the named cell is one of the book's
   cell-in : (b : Book) (day expiry quantum : ℕ) → BookBounds terms b → goodCell day expiry quantum ≡ true
@@ -297,11 +297,11 @@ module _ (terms : Terms) where
 
   bounds-changed : (b : Book) (c : Call) → BookBounds terms b → CallPasses terms b c → BookBounds terms (changed b c)
   unfolding changed
-  bounds-changed b (Open words day told) g p =
+  bounds-changed b (Open words day opening) g p =
       record {
         all-cells = g .all-cells;
         filled = g .filled;
-        running = opened words day told (p .row-good) (p .day-good) (p .price-good) (p .spread-good);
+        running = opened words day opening (p .row-good) (p .day-good) (p .price-good) (p .spread-good);
       }
   bounds-changed b (Send e) g p =
       record { all-cells = g .all-cells; filled = g .filled; running = noted-bounds (b .running) e (g .running) p }

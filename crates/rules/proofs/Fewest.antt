@@ -12,7 +12,7 @@ use lib.Dec.{leb, ltb, eqb}
 use lib.IntN.{ℤ}
 use borrow.Author.Tests.{lt-ltb, leb-true, leb-false, ltb-true, ltb-false, eq-eqb, eqb-false, not-true}
 use Rattle.rules.specs.declared.Row.{Row}
-use Rattle.rules.specs.declared.Spread.{Spread}
+use Rattle.rules.specs.declared.SpreadRule.{SpreadRule}
 use Rattle.rules.specs.declared.Event.{Event}
 use Rattle.rules.specs.Lists.{if_then_else_, any, count}
 use Rattle.rules.specs.Kept.{keptAt}
@@ -236,6 +236,6 @@ fewest p n =
     go other differs (inr more) = more
 
 -- of the kept milliseconds
-pub fewest-kept : (row : Row) (sp : Spread) (events : List Event) → FewestKept row sp events (keptStretches row sp events)
+pub fewest-kept : (row : Row) (sp : SpreadRule) (events : List Event) → FewestKept row sp events (keptStretches row sp events)
 unfolding keptStretches
 fewest-kept row sp events = fewest (keptAt row sp events) (row .length .0)

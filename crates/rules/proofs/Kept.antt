@@ -13,9 +13,9 @@ use Rattle.rules.specs.declared.Steps.{Steps}
 use Rattle.rules.specs.declared.Quote.{Quote}
 use Rattle.rules.specs.declared.Quote.the-variants.{At}
 use Rattle.rules.specs.declared.Row.{Row}
-use Rattle.rules.specs.declared.Spread.{Spread}
+use Rattle.rules.specs.declared.SpreadRule.{SpreadRule}
 use Rattle.rules.specs.declared.Event.{Event}
-use Rattle.rules.specs.Lists.{if_then_else_, keep, count}
+use Rattle.rules.specs.Lists.{if_then_else_, filter, count}
 use Rattle.rules.specs.Orders.{live, timeOf, timeFrom, present}
 use Rattle.rules.specs.Kept.{gap, spreadKeeps, bestBid, bestAsk, quotesKeep, ordersKeep, upTo, keptAt, keptBelow}
 use Rattle.rules.specs.Bounds.{Ordered}
@@ -60,26 +60,26 @@ ordered-snoc es e o h = from-snoc 0 es e o h
 
 -- all of them, where none is later
 pub upTo-all : (m : ℕ) (es : List Event) → Before m es → upTo m es ≡ es
-unfolding upTo keep
+unfolding upTo filter
 upTo-all m [] b = refl
 upTo-all m (e ∷ es) b = rw (le-leb (timeOf e) m (b .0)) (ap (λ (l : List Event). e ∷ l) (upTo-all m es (b .1)))
 
 -- not a later one
 pub upTo-snoc : (m : ℕ) (es : List Event) (e : Event) → m < timeOf e → upTo m (es ++ (e ∷ [])) ≡ upTo m es
-unfolding upTo keep
+unfolding upTo filter
 upTo-snoc m [] e h = rw (lt-leb (timeOf e) m h) refl
 upTo-snoc m (d ∷ es) e h = ap (λ (l : List Event). if leb (timeOf d) m then d ∷ l else l) (upTo-snoc m es e h)
 
 -- ---- locked and crossed quotes
 
 -- a D below 1 keeps nothing, whatever a, b and SP, or a strike's numbers
-pub below-one : (row : Row) (sp : Spread) (d : ℤ) → ltZ d (pos 1) ≡ true → spreadKeeps row sp d ≡ false
+pub below-one : (row : Row) (sp : SpreadRule) (d : ℤ) → ltZ d (pos 1) ≡ true → spreadKeeps row sp d ≡ false
 below-one row sp (pos zero) h = refl
 below-one row sp (pos (suc d)) h = absurd (omega (arith, ltb-true (suc d) 1 h))
 below-one row sp (negsuc d) h = refl
 
 -- a millisecond whose best bid is at its best ask or above it is not kept
-pub crossed-not-kept : (row : Row) (sp : Spread) (es : List Event) (m : ℕ) (bid ask : Steps)
+pub crossed-not-kept : (row : Row) (sp : SpreadRule) (es : List Event) (m : ℕ) (bid ask : Steps)
     → bestBid row (live (upTo m es)) ≡ At bid → bestAsk row (live (upTo m es)) ≡ At ask
     → ltZ (gap (bid .0) (ask .0)) (pos 1) ≡ true → keptAt row sp es m ≡ false
 unfolding keptAt ordersKeep quotesKeep
@@ -90,7 +90,7 @@ crossed-not-kept row sp es m bid ask b a h =
 
 -- ---- kept time
 
-module _ (row : Row) (sp : Spread) (es : List Event) where
+module _ (row : Row) (sp : SpreadRule) (es : List Event) where
   -- from the present on, a millisecond is kept if the live orders of now keep the quote
   pub keptAt-now : Ordered 0 es → (m : ℕ) → present es ≤ m → keptAt row sp es m ≡ ordersKeep row sp (live es)
   unfolding keptAt

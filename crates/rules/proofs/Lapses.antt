@@ -9,7 +9,7 @@ use borrow.Author.Tests.{ne-eqb}
 use lib.IntN.{ℤ}
 use lib.ListN.{length, length-append}
 use Rattle.rules.specs.declared.Row.{Row}
-use Rattle.rules.specs.declared.Spread.{Spread}
+use Rattle.rules.specs.declared.SpreadRule.{SpreadRule}
 use Rattle.rules.specs.declared.Event.{Event}
 use Rattle.rules.specs.Lists.{if_then_else_, count}
 use Rattle.rules.specs.Orders.{live, timeOf, present}
@@ -90,7 +90,7 @@ before-ext p q (suc n) h = h n (omega arith)
 
 -- ---- the kept milliseconds
 
-module _ (row : Row) (sp : Spread) (es : List Event) where
+module _ (row : Row) (sp : SpreadRule) (es : List Event) where
   pub lapsesBelow-le : (n : ℕ) → lapsesBelow row sp es n ≤ n
   unfolding lapsesBelow
   lapsesBelow-le n = lapses-le (keptAt row sp es) n

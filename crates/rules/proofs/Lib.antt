@@ -14,9 +14,9 @@ pub mod Lapses
 pub mod Weights
 pub mod Refusals
 pub mod Bounds
-pub mod Percents
-pub mod Charges
-pub mod Rearranged
+pub mod OldMonths
+pub mod OldCharges
+pub mod DayOrder
 pub mod Choosing
 pub mod Records
 pub mod Written

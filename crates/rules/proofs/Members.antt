@@ -1,4 +1,4 @@
--- Laws of `any`, `keep`, `map` and `set` by what is in the list, for any test. Assumes nothing.
+-- Laws of `any`, `filter`, `map` and `set` by what is in the list, for any test. Assumes nothing.
 use Prim.Native.Nat.{ℕ, zero, suc, _≤_, _<_}
 use native.Mathlib.Omega.{arith}
 use native.Mathlib.Nat.{not-suc-le-zero, le-of-suc-le-suc}
@@ -7,7 +7,7 @@ use mathlib.Core.Logic.{_⊎_, inl, inr}
 use mathlib.Core.List.{List, [], _∷_, _++_, map, List·Memᴰ, List·Memᴰ·head, List·Memᴰ·tail, List·Memᴰ·not-nil}
 use mathlib.Core.Bool.{Bool, true, false, true≢false, _||_}
 use lib.ListN.{length, getD, set, replicate}
-use Rattle.rules.specs.Lists.{if_then_else_, keep, any}
+use Rattle.rules.specs.Lists.{if_then_else_, filter, any}
 use Rattle.rules.proofs.Lists.{kept-in}
 
 -- a failed `||` and its halves
@@ -46,24 +46,24 @@ module _ {A : Type 0} where
   some-any p (List·Memᴰ·head {x = y} {xs = ys} q) e = rw (sym (ap p q) ∙ e) refl
   some-any p (List·Memᴰ·tail {x = y} {xs = ys} m) e = or-second (p y) (some-any p m e)
 
-  pub any-keep : (p q : A → Bool) (xs : List A) → any p xs ≡ false → any p (keep q xs) ≡ false
-  any-keep p q xs e = any-none p (keep q xs) (λ x m. none-any p (kept-in q xs m .0) e)
+  pub any-filter : (p q : A → Bool) (xs : List A) → any p xs ≡ false → any p (filter q xs) ≡ false
+  any-filter p q xs e = any-none p (filter q xs) (λ x m. none-any p (kept-in q xs m .0) e)
 
-  pub length-keep : (p : A → Bool) (xs : List A) → length (keep p xs) ≤ length xs
-  unfolding keep
-  length-keep p [] = omega arith
-  length-keep p (x ∷ xs) = go (p x) (length-keep p xs)
+  pub length-filter : (p : A → Bool) (xs : List A) → length (filter p xs) ≤ length xs
+  unfolding filter
+  length-filter p [] = omega arith
+  length-filter p (x ∷ xs) = go (p x) (length-filter p xs)
     where
-      go : (b : Bool) → length (keep p xs) ≤ length xs → length (if b then x ∷ keep p xs else keep p xs) ≤ suc (length xs)
+      go : (b : Bool) → length (filter p xs) ≤ length xs → length (if b then x ∷ filter p xs else filter p xs) ≤ suc (length xs)
       go true h = omega arith
       go false h = omega arith
 
   -- where each passes, all are kept
-  pub keep-all : (p : A → Bool) (xs : List A) → ((x : A) → List·Memᴰ x xs → p x ≡ true) → keep p xs ≡ xs
-  unfolding keep
-  keep-all p [] h = refl
-  keep-all p (x ∷ xs) h =
-      rw (h x (List·Memᴰ·head refl)) (ap {B = List A} (λ l. x ∷ l) (keep-all p xs (λ y m. h y (List·Memᴰ·tail m))))
+  pub filter-all : (p : A → Bool) (xs : List A) → ((x : A) → List·Memᴰ x xs → p x ≡ true) → filter p xs ≡ xs
+  unfolding filter
+  filter-all p [] h = refl
+  filter-all p (x ∷ xs) h =
+      rw (h x (List·Memᴰ·head refl)) (ap {B = List A} (λ l. x ∷ l) (filter-all p xs (λ y m. h y (List·Memᴰ·tail m))))
 
   -- a function that leaves each element as it is
   pub map-same : (f : A → A) (xs : List A) → ((x : A) → List·Memᴰ x xs → f x ≡ x) → map f xs ≡ xs

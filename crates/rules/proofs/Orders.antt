@@ -18,12 +18,12 @@ use Rattle.rules.specs.declared.Steps.{Steps}
 use Rattle.rules.specs.declared.Contracts.{Contracts}
 use Rattle.rules.specs.declared.Event.{Event}
 use Rattle.rules.specs.declared.Event.the-variants.{Add, Amend, Cancel, Deal}
-use Rattle.rules.specs.Lists.{if_then_else_, keep, any}
+use Rattle.rules.specs.Lists.{if_then_else_, filter, any}
 use Rattle.rules.specs.Units.{contracts}
 use Rattle.rules.specs.Orders.{hasId, isLive, left, amendedOrder, lessenedOrder, somethingLeft, apply, applyAll, live, timeOf, timeFrom, present}
 use Rattle.rules.specs.Bounds.{Distinct}
-use Rattle.rules.proofs.Lists.{keep-append, keep-skip, keep-one, kept-in}
-use Rattle.rules.proofs.Members.{or-false, any-append, none-any, some-any, any-keep, length-keep, keep-all, map-same, getD-in}
+use Rattle.rules.proofs.Lists.{filter-append, filter-skip, filter-one, kept-in}
+use Rattle.rules.proofs.Members.{or-false, any-append, none-any, some-any, any-filter, length-filter, filter-all, map-same, getD-in}
 
 -- ---- one more event
 
@@ -123,13 +123,13 @@ pub distinct-map : (f : Order → Order) → ((o : Order) → f o .id ≡ o .id)
 distinct-map f h [] d = tt
 distinct-map f h (o ∷ os) d = (ap (λ (n : ℕ). isLive n (map f os)) (h o) ∙ isLive-map f h (o .id) os ∙ d .0, distinct-map f h os (d .1))
 
-pub distinct-keep : (p : Order → Bool) (os : List Order) → Distinct os → Distinct (keep p os)
-unfolding keep isLive
-distinct-keep p [] d = tt
-distinct-keep p (o ∷ os) d = go (p o) (distinct-keep p os (d .1))
+pub distinct-filter : (p : Order → Bool) (os : List Order) → Distinct os → Distinct (filter p os)
+unfolding filter isLive
+distinct-filter p [] d = tt
+distinct-filter p (o ∷ os) d = go (p o) (distinct-filter p os (d .1))
   where
-    go : (b : Bool) → Distinct (keep p os) → Distinct (if b then o ∷ keep p os else keep p os)
-    go true r = (any-keep (hasId (o .id)) p os (d .0), r)
+    go : (b : Bool) → Distinct (filter p os) → Distinct (if b then o ∷ filter p os else filter p os)
+    go true r = (any-filter (hasId (o .id)) p os (d .0), r)
     go false r = r
 
 pub distinct-snoc : (os : List Order) (o : Order) → Distinct os → isLive (o .id) os ≡ false → Distinct (os ++ (o ∷ []))
@@ -179,11 +179,11 @@ module _ (os : List Order) (t : Millis) (id : ℕ) where
 
   pub length-cancel : length (apply os (Cancel t id)) ≤ length os
   unfolding apply
-  length-cancel = length-keep (λ (o : Order). not (hasId id o)) os
+  length-cancel = length-filter (λ (o : Order). not (hasId id o)) os
 
   pub distinct-cancel : Distinct os → Distinct (apply os (Cancel t id))
   unfolding apply
-  distinct-cancel d = distinct-keep (λ (o : Order). not (hasId id o)) os d
+  distinct-cancel d = distinct-filter (λ (o : Order). not (hasId id o)) os d
 
   -- what is left was there, with another id
   pub in-cancel : (o : Order) → List·Memᴰ o (apply os (Cancel t id)) → List·Memᴰ o os × (hasId id o ≡ false)
@@ -196,12 +196,12 @@ module _ (os : List Order) (t : Millis) (id : ℕ) where
     pub length-deal : length (apply os (Deal t id volume)) ≤ length os
     unfolding apply
     length-deal =
-        omega (arith, length-keep somethingLeft (map (lessenedOrder id (volume .0)) os), length-map os (lessenedOrder id (volume .0)))
+        omega (arith, length-filter somethingLeft (map (lessenedOrder id (volume .0)) os), length-map os (lessenedOrder id (volume .0)))
 
     pub distinct-deal : Distinct os → Distinct (apply os (Deal t id volume))
     unfolding apply
     distinct-deal d =
-        distinct-keep somethingLeft (map (lessenedOrder id (volume .0)) os) (distinct-map (lessenedOrder id (volume .0)) (lessened-id id (volume .0)) os d)
+        distinct-filter somethingLeft (map (lessenedOrder id (volume .0)) os) (distinct-map (lessenedOrder id (volume .0)) (lessened-id id (volume .0)) os d)
 
     -- what is left was there, perhaps with more volume, and has some
     pub in-deal : (o : Order) → List·Memᴰ o (apply os (Deal t id volume))
@@ -245,9 +245,9 @@ stays : (id : ℕ) (f : Order → Order) → ((o : Order) → hasId id o ≡ fal
 unfolding isLive
 stays id f same os n = map-same f os (λ o m. same o (none-any (hasId id) m n))
 
-others : (id : ℕ) (os : List Order) → isLive id os ≡ false → keep (λ (o : Order). not (hasId id o)) os ≡ os
+others : (id : ℕ) (os : List Order) → isLive id os ≡ false → filter (λ (o : Order). not (hasId id o)) os ≡ os
 unfolding isLive
-others id os n = keep-all (λ (o : Order). not (hasId id o)) os (λ o m. ap not (none-any (hasId id) m n))
+others id os n = filter-all (λ (o : Order). not (hasId id o)) os (λ o m. ap not (none-any (hasId id) m n))
 
 left-skip : (id : ℕ) (xs ys : List Order) → isLive id xs ≡ false → left id (xs ++ ys) ≡ left id ys
 unfolding left isLive any
@@ -285,13 +285,13 @@ module _ (id : ℕ) (os : List Order) (k : ℕ) (z : Order) (d : Distinct os) (h
       ∙ ap (set os k) (amended-that id price volume (getD os k z) e)
 
   -- keeping those of another id
-  pub cancel-at : keep (λ (o : Order). not (hasId id o)) os ≡ take k os ++ drop (suc k) os
+  pub cancel-at : filter (λ (o : Order). not (hasId id o)) os ≡ take k os ++ drop (suc k) os
   cancel-at =
       let p : Order → Bool = λ (o : Order). not (hasId id o) in
       let (before, behind) = alone id os k z d h e in
-      ap (keep p) (split-at os k z h)
-      ∙ keep-append p (take k os) (getD os k z ∷ drop (suc k) os)
-      ∙ ap (λ (l : List Order). keep p (take k os) ++ l) (keep-skip p (getD os k z) (drop (suc k) os) (ap not e) ∙ others id (drop (suc k) os) behind)
+      ap (filter p) (split-at os k z h)
+      ∙ filter-append p (take k os) (getD os k z ∷ drop (suc k) os)
+      ∙ ap (λ (l : List Order). filter p (take k os) ++ l) (filter-skip p (getD os k z) (drop (suc k) os) (ap not e) ∙ others id (drop (suc k) os) behind)
       ∙ ap (λ (l : List Order). l ++ drop (suc k) os) (others id (take k os) before)
 
 -- ---- a deal by position, where each volume is at least 1
@@ -310,22 +310,22 @@ module _ (id : ℕ) (os : List Order) (k : ℕ) (z : Order) (d : Distinct os) (h
       ∙ ap (set os k) (lessened-that id (volume .0) (getD os k z) e)
 
   -- the parts before and after it are kept whole
-  rest : (l : List Order) → ((o : Order) → List·Memᴰ o l → List·Memᴰ o os) → keep somethingLeft l ≡ l
-  rest l within = keep-all somethingLeft l (λ o m. lt-ltb 0 (o .volume .0) (some o (within o m)))
+  rest : (l : List Order) → ((o : Order) → List·Memᴰ o l → List·Memᴰ o os) → filter somethingLeft l ≡ l
+  rest l within = filter-all somethingLeft l (λ o m. lt-ltb 0 (o .volume .0) (some o (within o m)))
 
-  front : keep somethingLeft (take k os) ≡ take k os
+  front : filter somethingLeft (take k os) ≡ take k os
   front = rest (take k os) (λ o m. subst (List·Memᴰ o) (take-append-drop k os) (Memᴰ·append-left (drop k os) m))
 
-  back : keep somethingLeft (drop (suc k) os) ≡ drop (suc k) os
+  back : filter somethingLeft (drop (suc k) os) ≡ drop (suc k) os
   back = rest (drop (suc k) os) (λ o m. subst (List·Memᴰ o) (take-append-drop (suc k) os) (Memᴰ·append-right (take (suc k) os) m))
 
-  around : apply os (Deal t id volume) ≡ take k os ++ (keep somethingLeft (lessened ∷ []) ++ drop (suc k) os)
+  around : apply os (Deal t id volume) ≡ take k os ++ (filter somethingLeft (lessened ∷ []) ++ drop (suc k) os)
   unfolding apply
   around =
-      ap (keep somethingLeft) (lessen-at ∙ set-split os k lessened h)
-      ∙ keep-append somethingLeft (take k os) (lessened ∷ drop (suc k) os)
-      ∙ ap (λ (l : List Order). l ++ keep somethingLeft (lessened ∷ drop (suc k) os)) front
-      ∙ ap (λ (l : List Order). take k os ++ l) (keep-append somethingLeft (lessened ∷ []) (drop (suc k) os) ∙ ap (λ (l : List Order). keep somethingLeft (lessened ∷ []) ++ l) back)
+      ap (filter somethingLeft) (lessen-at ∙ set-split os k lessened h)
+      ∙ filter-append somethingLeft (take k os) (lessened ∷ drop (suc k) os)
+      ∙ ap (λ (l : List Order). l ++ filter somethingLeft (lessened ∷ drop (suc k) os)) front
+      ∙ ap (λ (l : List Order). take k os ++ l) (filter-append somethingLeft (lessened ∷ []) (drop (suc k) os) ∙ ap (λ (l : List Order). filter somethingLeft (lessened ∷ []) ++ l) back)
 
   -- less than what is left: the order stays, lessened
   pub deal-some : volume .0 < left id os
@@ -334,8 +334,8 @@ module _ (id : ℕ) (os : List Order) (k : ℕ) (z : Order) (d : Distinct os) (h
   unfolding lessened
   deal-some l =
       let more : 0 < getD os k z .volume .0 - volume .0 = omega (arith, left-at id os k z d h e) in
-      let kept : keep somethingLeft (lessened ∷ []) ≡ lessened ∷ [] =
-      keep-one somethingLeft lessened ∙ ap (λ (b : Bool). if b then lessened ∷ [] else []) (lt-ltb 0 (getD os k z .volume .0 - volume .0) more) in
+      let kept : filter somethingLeft (lessened ∷ []) ≡ lessened ∷ [] =
+      filter-one somethingLeft lessened ∙ ap (λ (b : Bool). if b then lessened ∷ [] else []) (lt-ltb 0 (getD os k z .volume .0 - volume .0) more) in
       around ∙ ap (λ (l : List Order). take k os ++ (l ++ drop (suc k) os)) kept ∙ sym (set-split os k lessened h)
 
   -- all that is left: the order goes
@@ -343,6 +343,6 @@ module _ (id : ℕ) (os : List Order) (k : ℕ) (z : Order) (d : Distinct os) (h
   unfolding lessened
   deal-all l =
       let none : getD os k z .volume .0 - volume .0 ≤ 0 = omega (arith, left-at id os k z d h e) in
-      let kept : keep somethingLeft (lessened ∷ []) ≡ [] =
-      keep-one somethingLeft lessened ∙ ap (λ (b : Bool). if b then lessened ∷ [] else []) (le-ltb 0 (getD os k z .volume .0 - volume .0) none) in
+      let kept : filter somethingLeft (lessened ∷ []) ≡ [] =
+      filter-one somethingLeft lessened ∙ ap (λ (b : Bool). if b then lessened ∷ [] else []) (le-ltb 0 (getD os k z .volume .0 - volume .0) none) in
       around ∙ ap (λ (l : List Order). take k os ++ (l ++ drop (suc k) os)) kept

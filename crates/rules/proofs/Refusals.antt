@@ -23,10 +23,10 @@ use Rattle.rules.specs.Terms.{Terms}
 use Rattle.rules.specs.Units.{goodPrice, goodVolume, goodCharge}
 use Rattle.rules.specs.Rows.{rowOf, goodRowFor}
 use Rattle.rules.specs.Cells.{goodCell, placeOf, cellAt}
-use Rattle.rules.specs.Lapses.{goodLimit}
+use Rattle.rules.specs.Lapses.{goodLapseLimit}
 use Rattle.rules.specs.Orders.{isLive, left, live, timeOf, present}
 use Rattle.rules.specs.Answers.{accepted, refused, outcomeBy}
-use Rattle.rules.specs.Book.{Call, Open, Send, Ask, Commit, Close, Drop, Charge, Withdraw, Look, Report, Running, Idle, Quoting, Book, isOpen, Cause, cause, lowest, traderCauses, eventCauses, eventRefusal, sendCauses, amendOf, goodTicket, goodSettlement, goodSpread, goodCharges, causes, refusalOf, changed, replyOf, answerOf, stepBy, step}
+use Rattle.rules.specs.Book.{Call, Open, Send, Ask, Commit, Close, Drop, Charge, Withdraw, Look, Report, Running, Idle, Quoting, Book, isOpen, Cause, cause, lowest, traderCauses, eventCauses, eventRefusal, sendCauses, amendOf, goodTicket, goodSettlement, goodSpreadRule, goodCharges, causes, refusalOf, changed, replyOf, answerOf, stepBy, step}
 use Rattle.rules.proofs.Lists.{both, and}
 
 -- ---- the lowest number
@@ -183,19 +183,19 @@ passes-event row events e p =
 
 -- ---- what an accepted call has passed
 
-pub record OpenPasses (terms : Terms) (b : Book) (words : List ℕ) (day : ℕ) (told : Opening) : Type 0 where
+pub record OpenPasses (terms : Terms) (b : Book) (words : List ℕ) (day : ℕ) (opening : Opening) : Type 0 where
   pub seven : length words ≡ 7
-  pub row-good : goodRowFor terms (told .spread) (rowOf words) ≡ true
+  pub row-good : goodRowFor terms (opening .spread) (rowOf words) ≡ true
   pub day-good : within 1 31 day ≡ true
-  pub price-good : goodSettlement (told .spread) ≡ true
+  pub price-good : goodSettlement (opening .spread) ≡ true
   pub blank : cellAt (b .cells) (placeOf day (rowOf words .expiry) (rowOf words .quantum)) .filled ≡ false
   pub idle : isOpen (b .running) ≡ false
-  pub limit-good : goodLimit (told .limit) ≡ true
-  pub spread-good : goodSpread (told .spread) ≡ true
+  pub allowed-good : goodLapseLimit (opening .allowed) ≡ true
+  pub spread-good : goodSpreadRule (opening .spread) ≡ true
 
 abbrev pub SendPasses : Running → Event → Type 0
 SendPasses Idle e = ⊥
-SendPasses (Quoting place row told events) e = EventPasses row events e
+SendPasses (Quoting place row opening events) e = EventPasses row events e
 
 pub record CommitPasses (b : Book) (a : Amendment) (ticket : Ticket) : Type 0 where
   pub sent : SendPasses (b .running) (amendOf a)
@@ -223,12 +223,12 @@ pub record ChargePasses (terms : Terms) (b : Book) (day expiry quantum : ℕ) (a
 send-passes : (r : Running) (e : Event) → lowest (sendCauses r e) ≡ 0 → SendPasses r e
 unfolding eventRefusal
 send-passes Idle e h = absurd (true≢false (passed 6 true [] h .0))
-send-passes (Quoting place row told events) e h = event-passes row events e h
+send-passes (Quoting place row opening events) e h = event-passes row events e h
 
 passes-send : (r : Running) (e : Event) → SendPasses r e → lowest (sendCauses r e) ≡ 0
 unfolding eventRefusal
 passes-send Idle e p = absurd p
-passes-send (Quoting place row told events) e p = passes-event row events e p
+passes-send (Quoting place row opening events) e p = passes-event row events e p
 
 trader-numbered : (orders : List Order) (e : Event) → Numbered (traderCauses orders e)
 trader-numbered orders (Add t id side price volume) = (λ e. omega (arith, e), (λ e. omega (arith, e), (λ e. omega (arith, e), tt)))
@@ -240,11 +240,11 @@ trader-numbered orders (Tick t) = tt
 pub send-numbered : (r : Running) (e : Event) → Numbered (sendCauses r e)
 unfolding eventCauses
 send-numbered Idle e = (λ z. omega (arith, z), tt)
-send-numbered (Quoting place row told events) e = (λ z. omega (arith, z), (λ z. omega (arith, z), trader-numbered (live events) e))
+send-numbered (Quoting place row opening events) e = (λ z. omega (arith, z), (λ z. omega (arith, z), trader-numbered (live events) e))
 
 module _ (terms : Terms) where
   abbrev pub CallPasses : Book → Call → Type 0
-  CallPasses b (Open words day told) = OpenPasses terms b words day told
+  CallPasses b (Open words day opening) = OpenPasses terms b words day opening
   CallPasses b (Send e) = SendPasses (b .running) e
   CallPasses b (Ask a) = SendPasses (b .running) (amendOf a)
   CallPasses b (Commit a ticket) = CommitPasses b a ticket
@@ -257,7 +257,7 @@ module _ (terms : Terms) where
 
   pub call-passes : (b : Book) (c : Call) → refusalOf terms b c ≡ 0 → CallPasses b c
   unfolding refusalOf causes
-  call-passes b (Open words day told) h =
+  call-passes b (Open words day opening) h =
       let a1 = passed 0 _ _ h in
       let a2 = passed 1 _ _ (a1 .1) in
       let a3 = passed 2 _ _ (a2 .1) in
@@ -265,16 +265,16 @@ module _ (terms : Terms) where
       let a6 = passed 5 _ _ (a4 .1) in
       let a17 = passed 16 _ _ (a6 .1) in
       let a18 = passed 17 _ _ (a17 .1) in
-      let (d, p) = not-both (within 1 31 day) (goodSettlement (told .spread)) (a3 .0) in
+      let (d, p) = not-both (within 1 31 day) (goodSettlement (opening .spread)) (a3 .0) in
       record {
         seven = eqb-true (length words) 7 (not-false (eqb (length words) 7) (a1 .0));
-        row-good = not-false (goodRowFor terms (told .spread) (rowOf words)) (a2 .0);
+        row-good = not-false (goodRowFor terms (opening .spread) (rowOf words)) (a2 .0);
         day-good = d;
         price-good = p;
         blank = a4 .0;
         idle = a6 .0;
-        limit-good = not-false (goodLimit (told .limit)) (a17 .0);
-        spread-good = not-false (goodSpread (told .spread)) (a18 .0);
+        allowed-good = not-false (goodLapseLimit (opening .allowed)) (a17 .0);
+        spread-good = not-false (goodSpreadRule (opening .spread)) (a18 .0);
       }
   call-passes b (Send e) h = send-passes (b .running) e h
   call-passes b (Ask a) h = send-passes (b .running) (amendOf a) h
@@ -316,9 +316,9 @@ module _ (terms : Terms) where
 
   pub passes-call : (b : Book) (c : Call) → CallPasses b c → refusalOf terms b c ≡ 0
   unfolding refusalOf causes
-  passes-call b (Open words day told) p =
+  passes-call b (Open words day opening) p =
       skip _ _ (ap not (eq-eqb (length words) 7 (p .seven)))
-      (skip _ _ (ap not (p .row-good)) (skip _ _ (both-not (p .day-good) (p .price-good)) (skip _ _ (p .blank) (skip _ _ (p .idle) (skip _ _ (ap not (p .limit-good)) (skip _ _ (ap not (p .spread-good)) clear))))))
+      (skip _ _ (ap not (p .row-good)) (skip _ _ (both-not (p .day-good) (p .price-good)) (skip _ _ (p .blank) (skip _ _ (p .idle) (skip _ _ (ap not (p .allowed-good)) (skip _ _ (ap not (p .spread-good)) clear))))))
   passes-call b (Send e) p = passes-send (b .running) e p
   passes-call b (Ask a) p = passes-send (b .running) (amendOf a) p
   passes-call b (Commit a ticket) p =

@@ -9,7 +9,7 @@ use lib.Dec.{leb, ltb, eqb}
 use lib.IntN.{ℤ}
 use borrow.Author.Tests.{le-leb, lt-leb, leb-true, leb-false, lt-ltb, le-ltb, ltb-true, ltb-false, eq-eqb, ne-eqb, eqb-true, eqb-false}
 use Rattle.rules.specs.declared.Row.{Row}
-use Rattle.rules.specs.declared.Spread.{Spread}
+use Rattle.rules.specs.declared.SpreadRule.{SpreadRule}
 use Rattle.rules.specs.declared.Event.{Event}
 use Rattle.rules.specs.Lists.{if_then_else_, any, sum, count}
 use Rattle.rules.specs.Kept.{keptAt, keptBelow}
@@ -423,12 +423,12 @@ pairWords-length (s ∷ ss) = let ih = pairWords-length ss in omega arith
 
 -- ---- the kept ones
 
-pub kept-run : (row : Row) (sp : Spread) (events : List Event) → Runs (keptAt row sp events) (row .length .0) (keptStretches row sp events)
+pub kept-run : (row : Row) (sp : SpreadRule) (events : List Event) → Runs (keptAt row sp events) (row .length .0) (keptStretches row sp events)
 unfolding keptStretches
 kept-run row sp events = stretches-run (keptAt row sp events) (row .length .0)
 
 -- their lengths add up to K "after close, below L"
-pub kept-total : (row : Row) (sp : Spread) (events : List Event)
+pub kept-total : (row : Row) (sp : SpreadRule) (events : List Event)
     → sum (map lengthOf (keptStretches row sp events)) ≡ keptBelow row sp events (row .length .0)
 unfolding keptBelow
 kept-total row sp events = kept-run row sp events .total

@@ -11,8 +11,8 @@ use lib.ListN.{length, take, drop}
 use lib.Seq.{take-length, take-append-seam}
 use Rattle.rules.specs.declared.Steps.{Steps}
 use Rattle.rules.specs.declared.Row.{Row}
-use Rattle.rules.specs.declared.Spread.{Spread}
-use Rattle.rules.specs.declared.Spread.the-variants.{Settled}
+use Rattle.rules.specs.declared.SpreadRule.{SpreadRule}
+use Rattle.rules.specs.declared.SpreadRule.the-variants.{Settled}
 use Rattle.rules.specs.declared.Event.{Event}
 use Rattle.rules.specs.Lists.{if_then_else_}
 use Rattle.rules.specs.Terms.{Terms}
@@ -22,7 +22,7 @@ use Rattle.rules.specs.Stretches.{Stretch, keptStretches, pairWords}
 use Rattle.rules.specs.Answers.{Outcome, accepted, refused, Ran, finished, stopped}
 use Rattle.rules.specs.Book.{Open, Send, Running, Quoting, Book, freshBook, noted, refusalOf, changed, step}
 use Rattle.rules.specs.Records.{goodRecord, eventOf, fieldsOf, readRecord}
-use Rattle.rules.specs.Session.{Session, whole, halted, recordsOf, stretchesIn, withoutLimit, unless, readRefusal, recordRefusal, readStep, closing, runRecords, session, isShort, ran, front, bufferAfter}
+use Rattle.rules.specs.Session.{Session, whole, halted, recordsOf, stretchesIn, withoutLapseLimit, unless, readRefusal, recordRefusal, readStep, closing, runRecords, session, isShort, ran, front, bufferAfter}
 use Rattle.rules.specs.Fewest.{FewestKept, pairsIn, FewestWritten}
 use Rattle.rules.proofs.Refusals.{step-accepted}
 use Rattle.rules.proofs.Stretches.{pairWords-length}
@@ -50,10 +50,10 @@ record KeptPairs (row : Row) (sp : Steps) (events : List Event) (rs : List (List
   read : map readRecord rs ≡ map accepted further
   pairs : keptStretches row (Settled sp) (events ++ further) ≡ ss
 
-module _ (terms : Terms) (limit cell : ℕ) (row : Row) (sp : Steps) (k w : ℕ) (ss : List Stretch) where
+module _ (terms : Terms) (most cell : ℕ) (row : Row) (sp : Steps) (k w : ℕ) (ss : List Stretch) where
   -- an accepted event goes to the end of the list
-  sent : (place : ℕ) (events : List Event) (e : Event) (b : Book) → b .running ≡ Quoting place row (withoutLimit sp) events → refusalOf terms b (Send e) ≡ 0
-      → step terms b (Send e) .running ≡ Quoting place row (withoutLimit sp) (events ++ (e ∷ []))
+  sent : (place : ℕ) (events : List Event) (e : Event) (b : Book) → b .running ≡ Quoting place row (withoutLapseLimit sp) events → refusalOf terms b (Send e) ≡ 0
+      → step terms b (Send e) .running ≡ Quoting place row (withoutLapseLimit sp) (events ++ (e ∷ []))
   unfolding changed
   sent place events e b h z = ap (λ (c : Book). c .running) (step-accepted terms b (Send e) z) ∙ ap (λ (r : Running). noted r e) h
 
@@ -65,8 +65,8 @@ module _ (terms : Terms) (limit cell : ℕ) (row : Row) (sp : Steps) (k w : ℕ)
   not-past true n e = absurd (omega arith)
   not-past false n e = e
 
-  runs-kept : (rs : List (List ℕ)) (place at : ℕ) (b : Book) (events : List Event) → b .running ≡ Quoting at row (withoutLimit sp) events
-      → runRecords terms limit cell place b rs ≡ whole k w ss → KeptPairs row sp events rs ss
+  runs-kept : (rs : List (List ℕ)) (place at : ℕ) (b : Book) (events : List Event) → b .running ≡ Quoting at row (withoutLapseLimit sp) events
+      → runRecords terms most cell place b rs ≡ whole k w ss → KeptPairs row sp events rs ss
   unfolding runRecords recordRefusal
   runs-kept [] place at b events h e =
       record {
@@ -75,12 +75,12 @@ module _ (terms : Terms) (limit cell : ℕ) (row : Row) (sp : Steps) (k w : ℕ)
         pairs = ap (keptStretches row (Settled sp)) (append-nil events) ∙ ap stretchesIn (sym h) ∙ ending b e;
       }
   runs-kept (r ∷ rs) place at b events h e =
-      let (none, next) = unless-whole (recordRefusal terms limit place b r) place _ k w ss e in
-      go (readRecord r) refl (not-past (ltb limit place) (readRefusal terms (readRecord r) b) none) next
+      let (none, next) = unless-whole (recordRefusal terms most place b r) place _ k w ss e in
+      go (readRecord r) refl (not-past (ltb most place) (readRefusal terms (readRecord r) b) none) next
       (λ b′ more h′ e′. runs-kept rs (suc place) at b′ more h′ e′)
     where
-      go : (o : Outcome Event) → readRecord r ≡ o → readRefusal terms o b ≡ 0 → runRecords terms limit cell (suc place) (readStep terms o b) rs ≡ whole k w ss
-          → ((b′ : Book) (more : List Event) → b′ .running ≡ Quoting at row (withoutLimit sp) more → runRecords terms limit cell (suc place) b′ rs ≡ whole k w ss → KeptPairs row sp more rs ss)
+      go : (o : Outcome Event) → readRecord r ≡ o → readRefusal terms o b ≡ 0 → runRecords terms most cell (suc place) (readStep terms o b) rs ≡ whole k w ss
+          → ((b′ : Book) (more : List Event) → b′ .running ≡ Quoting at row (withoutLapseLimit sp) more → runRecords terms most cell (suc place) b′ rs ≡ whole k w ss → KeptPairs row sp more rs ss)
           → KeptPairs row sp events (r ∷ rs) ss
       go (refused n) o z next on = absurd (let f = unread r n o in omega arith)
       go (accepted x) o z next on =
@@ -91,18 +91,18 @@ module _ (terms : Terms) (limit cell : ℕ) (row : Row) (sp : Steps) (k w : ℕ)
             pairs = ap (keptStretches row (Settled sp)) (sym (append-assoc events (x ∷ []) (t .further))) ∙ t .pairs;
           }
 
-module _ (terms : Terms) (limit : ℕ) (words : List ℕ) (sp : Steps) (bytes : List ℕ) where
-  opened : refusalOf terms freshBook (Open words 1 (withoutLimit sp)) ≡ 0
-      → step terms freshBook (Open words 1 (withoutLimit sp)) .running ≡ Quoting (placeOf 1 (rowOf words .expiry) (rowOf words .quantum)) (rowOf words) (withoutLimit sp) []
+module _ (terms : Terms) (most : ℕ) (words : List ℕ) (sp : Steps) (bytes : List ℕ) where
+  opened : refusalOf terms freshBook (Open words 1 (withoutLapseLimit sp)) ≡ 0
+      → step terms freshBook (Open words 1 (withoutLapseLimit sp)) .running ≡ Quoting (placeOf 1 (rowOf words .expiry) (rowOf words .quantum)) (rowOf words) (withoutLapseLimit sp) []
   unfolding changed
-  opened z = ap (λ (c : Book). c .running) (step-accepted terms freshBook (Open words 1 (withoutLimit sp)) z)
+  opened z = ap (λ (c : Book). c .running) (step-accepted terms freshBook (Open words 1 (withoutLapseLimit sp)) z)
 
-  session-kept : (k w : ℕ) (ss : List Stretch) → session terms limit words sp bytes ≡ whole k w ss → KeptPairs (rowOf words) sp [] (recordsOf bytes) ss
+  session-kept : (k w : ℕ) (ss : List Stretch) → session terms most words sp bytes ≡ whole k w ss → KeptPairs (rowOf words) sp [] (recordsOf bytes) ss
   unfolding session
   session-kept k w ss e =
       let cell = placeOf 1 (rowOf words .expiry) (rowOf words .quantum) in
-      let (none, next) = unless-whole (refusalOf terms freshBook (Open words 1 (withoutLimit sp))) 0 _ k w ss e in
-      runs-kept terms limit cell (rowOf words) sp k w ss (recordsOf bytes) 1 cell (step terms freshBook (Open words 1 (withoutLimit sp))) [] (opened none) next
+      let (none, next) = unless-whole (refusalOf terms freshBook (Open words 1 (withoutLapseLimit sp))) 0 _ k w ss e in
+      runs-kept terms most cell (rowOf words) sp k w ss (recordsOf bytes) 1 cell (step terms freshBook (Open words 1 (withoutLapseLimit sp))) [] (opened none) next
 
 -- ---- the pairs as words
 
@@ -131,22 +131,22 @@ done n (halted a b) k w pairs e = let z : _≡_ {A = ℕ} 0 1 = cc in absurd (om
 
 -- ---- the theorem, of words
 
-fewest-too : (row : Row) (sp : Spread) (events : List Event) (ss ts : List Stretch) → ss ≡ ts → FewestKept row sp events ss → FewestKept row sp events ts
+fewest-too : (row : Row) (sp : SpreadRule) (events : List Event) (ss ts : List Stretch) → ss ≡ ts → FewestKept row sp events ss → FewestKept row sp events ts
 fewest-too row sp events ss ts e h = rw (← e) h
 
-module _ (terms : Terms) (limit : ℕ) (words : List ℕ) (sp : Steps) (bytes : List ℕ) (n k w pairs : ℕ)
-    (h : ran n (session terms limit words sp bytes) ≡ finished k w pairs) where
+module _ (terms : Terms) (most : ℕ) (words : List ℕ) (sp : Steps) (bytes : List ℕ) (n k w pairs : ℕ)
+    (h : ran n (session terms most words sp bytes) ≡ finished k w pairs) where
   -- as many words as twice the pairs
-  front-length : length (front n (session terms limit words sp bytes)) ≡ 2 * pairs
+  front-length : length (front n (session terms most words sp bytes)) ≡ 2 * pairs
   front-length =
-      let d = done n (session terms limit words sp bytes) k w pairs h in
+      let d = done n (session terms most words sp bytes) k w pairs h in
       omega (arith, ap length (d .words), pairWords-length (d .stretches), d .number)
 
   -- whatever starts with the front part
-  starts-fewest : (buffer : List ℕ) → take (2 * pairs) buffer ≡ front n (session terms limit words sp bytes) → FewestWritten words sp bytes pairs buffer
+  starts-fewest : (buffer : List ℕ) → take (2 * pairs) buffer ≡ front n (session terms most words sp bytes) → FewestWritten words sp bytes pairs buffer
   starts-fewest buffer e =
-      let d = done n (session terms limit words sp bytes) k w pairs h in
-      let t = session-kept terms limit words sp bytes (d .kept) (d .weight) (d .stretches) (d .ends) in
+      let d = done n (session terms most words sp bytes) k w pairs h in
+      let t = session-kept terms most words sp bytes (d .kept) (d .weight) (d .stretches) (d .ends) in
       let ours : d .stretches ≡ pairsIn (take (2 * pairs) buffer) = sym (ap pairsIn (e ∙ d .words) ∙ pairs-back (d .stretches)) in
       record {
         events = t .further;
@@ -155,18 +155,18 @@ module _ (terms : Terms) (limit : ℕ) (words : List ℕ) (sp : Steps) (bytes : 
         fewest = fewest-too (rowOf words) (Settled sp) (t .further) _ _ (t .pairs ∙ ours) (fewest-kept (rowOf words) (Settled sp) (t .further));
       }
 
-  pub front-fewest : FewestWritten words sp bytes pairs (front n (session terms limit words sp bytes))
+  pub front-fewest : FewestWritten words sp bytes pairs (front n (session terms most words sp bytes))
   front-fewest =
-      let s = session terms limit words sp bytes in
+      let s = session terms most words sp bytes in
       starts-fewest (front n s) (ap (λ (m : ℕ). take m (front n s)) (sym front-length) ∙ take-length (front n s))
 
-pub buffer-fewest : (terms : Terms) (limit : ℕ) (words : List ℕ) (sp : Steps) (bytes buffer : List ℕ) (k w pairs : ℕ)
-    → ran (length buffer) (session terms limit words sp bytes) ≡ finished k w pairs
-    → FewestWritten words sp bytes pairs (bufferAfter buffer (session terms limit words sp bytes))
+pub buffer-fewest : (terms : Terms) (most : ℕ) (words : List ℕ) (sp : Steps) (bytes buffer : List ℕ) (k w pairs : ℕ)
+    → ran (length buffer) (session terms most words sp bytes) ≡ finished k w pairs
+    → FewestWritten words sp bytes pairs (bufferAfter buffer (session terms most words sp bytes))
 unfolding bufferAfter
-buffer-fewest terms limit words sp bytes buffer k w pairs h =
-    let s = session terms limit words sp bytes in
+buffer-fewest terms most words sp bytes buffer k w pairs h =
+    let s = session terms most words sp bytes in
     let n = length buffer in
     let rest = drop (length (front n s)) buffer in
-    starts-fewest terms limit words sp bytes n k w pairs h (front n s ++ rest)
-    (ap (λ (m : ℕ). take m (front n s ++ rest)) (sym (front-length terms limit words sp bytes n k w pairs h)) ∙ take-append-seam (front n s) rest)
+    starts-fewest terms most words sp bytes n k w pairs h (front n s ++ rest)
+    (ap (λ (m : ℕ). take m (front n s ++ rest)) (sym (front-length terms most words sp bytes n k w pairs h)) ∙ take-append-seam (front n s) rest)

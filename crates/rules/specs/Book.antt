@@ -6,8 +6,8 @@ use lib.Dec.{leb, ltb, eqb}
 use lib.IntN.{ℤ}
 use lib.Signed.{leZ}
 use lib.ListN.{length, set}
-use Rattle.rules.specs.declared.Spread.{Spread}
-use Rattle.rules.specs.declared.Spread.the-variants.{Settled, OfStrike}
+use Rattle.rules.specs.declared.SpreadRule.{SpreadRule}
+use Rattle.rules.specs.declared.SpreadRule.the-variants.{Settled, OfStrike}
 use Rattle.rules.specs.declared.Opening.{Opening}
 use Rattle.rules.specs.declared.Kopecks.{Kopecks}
 use Rattle.rules.specs.declared.Quote.{Quote}
@@ -29,7 +29,7 @@ use Rattle.rules.specs.Cells.{blankCells, blankCell, goodCell, placeOf, 
 use Rattle.rules.specs.Orders.{isLive, left, live, timeOf, present}
 use Rattle.rules.specs.Strikes.{goodStrike}
 use Rattle.rules.specs.Kept.{bestBid, bestAsk, keptBelow}
-use Rattle.rules.specs.Lapses.{lapsesBelow, goodLimit}
+use Rattle.rules.specs.Lapses.{lapsesBelow, goodLapseLimit}
 use Rattle.rules.specs.Pay.{viewOf, allFailures, fee}
 use Rattle.rules.specs.Answers.{Outcome, outcomeBy, Reply, done, cell, asked, report}
 
@@ -70,7 +70,7 @@ freshBook = record { running = Idle; cells = blankCells; count = 0 }
 
 abbrev pub isOpen : Running → Bool
 isOpen Idle = false
-isOpen (Quoting place row told events) = true
+isOpen (Quoting place row opening events) = true
 
 -- ---- the causes
 
@@ -115,7 +115,7 @@ eventRefusal row events e = lowest (eventCauses row events e)
 
 abbrev pub sendCauses : Running → Event → List Cause
 sendCauses Idle e = cause 7 true ∷ []
-sendCauses (Quoting place row told events) e = eventCauses row events e
+sendCauses (Quoting place row opening events) e = eventCauses row events e
 
 -- document 02, W5: "the refusal that amend would give", and "exactly that amend"
 abbrev pub amendOf : Amendment → Event
@@ -134,22 +134,22 @@ unfoldable pub goodTicket : Ticket → Amendment → ℕ → Bool
 goodTicket ticket a count = sameAmendment (ticket .amendment) a && eqb (ticket .count) count
 
 -- "SP, the settlement price, has the same range"; a strike has none
-abbrev pub goodSettlement : Spread → Bool
+abbrev pub goodSettlement : SpreadRule → Bool
 goodSettlement (Settled sp) = goodPrice (sp .0)
 goodSettlement (OfStrike s) = true
 
 -- document 02, W4: a strike's four numbers in their ranges; "in place of SP", so with SP there are none
-abbrev pub goodSpread : Spread → Bool
-goodSpread (Settled sp) = true
-goodSpread (OfStrike s) = goodStrike s
+abbrev pub goodSpreadRule : SpreadRule → Bool
+goodSpreadRule (Settled sp) = true
+goodSpreadRule (OfStrike s) = goodStrike s
 
 module _ (terms : Terms) where
   -- 1 row not seven words; 2 a word outside its range
-  abbrev pub rowCauses : Spread → List ℕ → List Cause
+  abbrev pub rowCauses : SpreadRule → List ℕ → List Cause
   rowCauses spread words = cause 1 (not (eqb (length words) 7)) ∷ cause 2 (not (goodRowFor terms spread (rowOf words))) ∷ []
 
   -- a row read from words: the row, or 1 or 2
-  unfoldable pub readRow : Spread → List ℕ → Outcome Row
+  unfoldable pub readRow : SpreadRule → List ℕ → Outcome Row
   readRow spread words = outcomeBy (lowest (rowCauses spread words)) (rowOf words)
 
   abbrev pub goodCharges : Kopecks → Kopecks → Bool
@@ -160,13 +160,13 @@ module _ (terms : Terms) where
   -- open"; W4: "18, .. a number outside the ranges above"; W5: "19, a ticket whose amendment or count is not the present one, after
   -- amend's own"
   unfoldable pub causes : Book → Call → List Cause
-  causes b (Open words day told) =
-      rowCauses (told .spread) words
-      ++ (cause 3 (not (within 1 31 day && goodSettlement (told .spread)))
+  causes b (Open words day opening) =
+      rowCauses (opening .spread) words
+      ++ (cause 3 (not (within 1 31 day && goodSettlement (opening .spread)))
       ∷ cause 4 (cellAt (b .cells) (placeOf day (rowOf words .expiry) (rowOf words .quantum)) .filled)
       ∷ cause 6 (isOpen (b .running))
-      ∷ cause 17 (not (goodLimit (told .limit)))
-      ∷ cause 18 (not (goodSpread (told .spread)))
+      ∷ cause 17 (not (goodLapseLimit (opening .allowed)))
+      ∷ cause 18 (not (goodSpreadRule (opening .spread)))
       ∷ [])
   causes b (Send e) = sendCauses (b .running) e
   causes b (Ask a) = sendCauses (b .running) (amendOf a)
@@ -192,26 +192,26 @@ module _ (terms : Terms) where
 -- an event "goes to the end of that list"
 abbrev pub noted : Running → Event → Running
 noted Idle e = Idle
-noted (Quoting place row told events) e = Quoting place row told (events ++ (e ∷ []))
+noted (Quoting place row opening events) e = Quoting place row opening (events ++ (e ∷ []))
 
 -- "Close counts K over that list, millisecond by millisecond below L, puts K, L, p, A and P into the cell"; document 02, W1: the quantum "and
 -- each cell carry limit and lapse count"
 abbrev pub closedCell : Row → Opening → List Event → Kopecks → Kopecks → Cell
-closedCell row told events active passive =
+closedCell row opening events active passive =
     record {
       filled = true;
-      kept = millis (keptBelow row (told .spread) events (row .length .0));
+      kept = millis (keptBelow row (opening .spread) events (row .length .0));
       length = row .length;
       share = row .share;
-      limit = told .limit;
-      lapses = lapsesBelow row (told .spread) events (row .length .0);
+      allowed = opening .allowed;
+      lapses = lapsesBelow row (opening .spread) events (row .length .0);
       active = active;
       passive = passive;
     }
 
 abbrev pub closed : Running → Kopecks → Kopecks → List Cell → List Cell
 closed Idle active passive cells = cells
-closed (Quoting place row told events) active passive cells = set cells place (closedCell row told events active passive)
+closed (Quoting place row opening events) active passive cells = set cells place (closedCell row opening events active passive)
 
 -- "new charges in place of a filled cell's old ones"
 abbrev pub charged : Kopecks → Kopecks → Cell → Cell
@@ -221,7 +221,7 @@ charged active passive c =
       kept = c .kept;
       length = c .length;
       share = c .share;
-      limit = c .limit;
+      allowed = c .allowed;
       lapses = c .lapses;
       active = active;
       passive = passive;
@@ -232,9 +232,9 @@ unfoldable pub following : ℕ → ℕ
 following count = (count + 1) % 18446744073709551616
 
 unfoldable pub changed : Book → Call → Book
-changed b (Open words day told) =
+changed b (Open words day opening) =
     record {
-      running = Quoting (placeOf day (rowOf words .expiry) (rowOf words .quantum)) (rowOf words) told [];
+      running = Quoting (placeOf day (rowOf words .expiry) (rowOf words .quantum)) (rowOf words) opening [];
       cells = b .cells;
       count = following (b .count);
     }
@@ -261,28 +261,28 @@ changed b Report = b
 
 abbrev pub timeIn : Running → ℕ
 timeIn Idle = 0
-timeIn (Quoting place row told events) = present events
+timeIn (Quoting place row opening events) = present events
 
 abbrev pub ordersIn : Running → ℕ
 ordersIn Idle = 0
-ordersIn (Quoting place row told events) = length (live events)
+ordersIn (Quoting place row opening events) = length (live events)
 
 abbrev pub bidIn : Running → Quote
 bidIn Idle = Absent
-bidIn (Quoting place row told events) = bestBid row (live events)
+bidIn (Quoting place row opening events) = bestBid row (live events)
 
 abbrev pub askIn : Running → Quote
 askIn Idle = Absent
-askIn (Quoting place row told events) = bestAsk row (live events)
+askIn (Quoting place row opening events) = bestAsk row (live events)
 
 abbrev pub keptIn : Running → ℕ
 keptIn Idle = 0
-keptIn (Quoting place row told events) = keptBelow row (told .spread) events (present events)
+keptIn (Quoting place row opening events) = keptBelow row (opening .spread) events (present events)
 
 -- document 02, W1: "look and report show the count, 0 with none open"
 abbrev pub lapsesIn : Running → ℕ
 lapsesIn Idle = 0
-lapsesIn (Quoting place row told events) = lapsesBelow row (told .spread) events (present events)
+lapsesIn (Quoting place row opening events) = lapsesBelow row (opening .spread) events (present events)
 
 -- document 02, W5: asking answers "both best quotes after it and a ticket": those of the quantum with that amend taken, and the ticket
 -- "holds the amendment and the month's count"
@@ -313,7 +313,7 @@ module _ (terms : Terms) where
 
   -- what an accepted call shows: ask its quotes and ticket, look "the cell with verdict and weight", report its values, the others nothing
   abbrev pub replyOf : Book → Call → Reply
-  replyOf b (Open words day told) = done
+  replyOf b (Open words day opening) = done
   replyOf b (Send e) = done
   replyOf b (Ask a) = asked (previewOf b a)
   replyOf b (Commit a ticket) = done

@@ -14,7 +14,7 @@ use Rattle.rules.specs.Units.{goodPrice, goodVolume}
 use Rattle.rules.specs.Rows.{goodRowFor}
 use Rattle.rules.specs.Orders.{isLive, live, timeOf, present}
 use Rattle.rules.specs.Kept.{keptBelow}
-use Rattle.rules.specs.Book.{Running, Idle, Quoting, Book, goodSettlement, goodSpread}
+use Rattle.rules.specs.Book.{Running, Idle, Quoting, Book, goodSettlement, goodSpreadRule}
 
 -- ids all different
 abbrev pub Distinct : List Order → Type 0
@@ -35,17 +35,17 @@ pub record EventBounds (row : Row) (events : List Event) : Type 0 where
   pub ordered : Ordered 0 events
   pub ends : present events ≤ row .length .0
 
-pub record OpenBounds (terms : Terms) (place : ℕ) (row : Row) (told : Opening) (events : List Event) : Type 0 where
+pub record OpenBounds (terms : Terms) (place : ℕ) (row : Row) (opening : Opening) (events : List Event) : Type 0 where
   pub inside : place < 186
-  pub row-good : goodRowFor terms (told .spread) row ≡ true
-  pub price-good : goodSettlement (told .spread) ≡ true
-  pub spread-good : goodSpread (told .spread) ≡ true
+  pub row-good : goodRowFor terms (opening .spread) row ≡ true
+  pub price-good : goodSettlement (opening .spread) ≡ true
+  pub spread-good : goodSpreadRule (opening .spread) ≡ true
   pub events-good : EventBounds row events
-  pub kept : keptBelow row (told .spread) events (present events) ≤ present events
+  pub kept : keptBelow row (opening .spread) events (present events) ≤ present events
 
 abbrev pub RunningBounds : Terms → Running → Type 0
 RunningBounds terms Idle = Unit
-RunningBounds terms (Quoting place row told events) = OpenBounds terms place row told events
+RunningBounds terms (Quoting place row opening events) = OpenBounds terms place row opening events
 
 -- a filled cell
 pub record CellBounds (terms : Terms) (c : Cell) : Type 0 where

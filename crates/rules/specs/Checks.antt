@@ -13,7 +13,7 @@ use Rattle.rules.specs.declared.Quote.{Quote}
 use Rattle.rules.specs.declared.Quote.the-variants.{At}
 use Rattle.rules.specs.declared.Row.{Row}
 use Rattle.rules.specs.declared.Cell.{Cell}
-use Rattle.rules.specs.declared.Spread.the-variants.{Settled, OfStrike}
+use Rattle.rules.specs.declared.SpreadRule.the-variants.{Settled, OfStrike}
 use Rattle.rules.specs.declared.Event.{Event}
 use Rattle.rules.specs.declared.Event.the-variants.{Add, Cancel}
 use Rattle.rules.specs.Lists.{below}
@@ -22,10 +22,10 @@ use Rattle.rules.specs.Units.{millis, steps, contracts, kopecks}
 use Rattle.rules.specs.Cells.{blankCells, placeOf}
 use Rattle.rules.specs.Orders.{live}
 use Rattle.rules.specs.Kept.{quotesKeep, bestBid, keptBelow}
-use Rattle.rules.specs.Lapses.{noLimit, lapsesBelow}
+use Rattle.rules.specs.Lapses.{noLapseLimit, lapsesBelow}
 use Rattle.rules.specs.Pay.{weight, cellMet, cellWeight, fee}
 use Rattle.rules.specs.Records.{recordOf}
-use Rattle.rules.specs.Session.{Session, session, sheetLimit}
+use Rattle.rules.specs.Session.{Session, session, mostSheetRecords}
 
 pub data Name : Type 0 where
   C1 C2 C3 C4 C5 C6 C7 C8 C9 C10 C11 C12 fifteenFailed sixteenFailed eventAtEnd negativePrice lockedQuote crossedQuote manyLapses lapsesAtEnds halfStep wholeSteps halfPercent : Name
@@ -50,7 +50,7 @@ row =
       expiry = 1;
       quantum = 1;
       length = millis 1000;
-      least = contracts 500;
+      minimum = contracts 500;
       a = 100;
       b = 1;
       share = 600;
@@ -93,20 +93,20 @@ weighedHalf k = number (weight paper k 10000 725)
 
 -- C11 and C12: one filled cell alone
 abbrev lapsed : ℕ → ℕ → ℕ → ℕ → ℕ → Cell
-lapsed limit lapses k active passive =
+lapsed allowed lapses k active passive =
     record {
       filled = true;
       kept = millis k;
       length = millis 31500000;
       share = 600;
-      limit = limit;
+      allowed = allowed;
       lapses = lapses;
       active = kopecks active;
       passive = kopecks passive;
     }
 
 abbrev filled : ℕ → ℕ → ℕ → Cell
-filled k active passive = lapsed noLimit 0 k active passive
+filled k active passive = lapsed noLapseLimit 0 k active passive
 
 abbrev paying : Cell
 paying = filled 22050000 10000 20000
@@ -131,10 +131,10 @@ quotingFromTheEnd = add 1 Buy 99 500 ∷ Add (millis 1000) 2 Sell (steps (pos 10
 
 -- document 02, W1: a quantum that keeps its share, by its lapse limit and its lapses, with verdict and weight
 abbrev verdict : ℕ → ℕ → Value
-verdict limit lapses = keeps (cellMet paper (lapsed limit lapses 25200000 0 0))
+verdict allowed lapses = keeps (cellMet paper (lapsed allowed lapses 25200000 0 0))
 
 abbrev weighs : ℕ → ℕ → Value
-weighs limit lapses = number (cellWeight paper (lapsed limit lapses 25200000 0 0))
+weighs allowed lapses = number (cellWeight paper (lapsed allowed lapses 25200000 0 0))
 
 -- the lapses of a quote that is there from 200 to 500 and from 700 to 800 of a second, one of a quote throughout, and of none
 abbrev quotingTwice : List Event
@@ -179,7 +179,7 @@ checks =
     ∷ check lockedQuote (keptAsk 100 ∷ []) (keeps false ∷ [])
     ∷ check crossedQuote (keptAsk 99 ∷ []) (keeps false ∷ [])
     ∷ check manyLapses
-    (verdict noLimit 70000 ∷ verdict 1000 1000 ∷ verdict 1000 1001 ∷ weighs noLimit 70000 ∷ weighs 1000 1001 ∷ [])
+    (verdict noLapseLimit 70000 ∷ verdict 1000 1000 ∷ verdict 1000 1001 ∷ weighs noLapseLimit 70000 ∷ weighs 1000 1001 ∷ [])
     (keeps true ∷ keeps true ∷ keeps false ∷ number 20000 ∷ number 0 ∷ [])
     ∷ check lapsesAtEnds (lapsesOf quotingTwice ∷ lapsesOf quoting ∷ lapsesOf [] ∷ []) (number 3 ∷ number 0 ∷ number 1 ∷ [])
     -- 0.5 × 5 is 2.5, rounded half upwards 3; 0.4 × 6 is 2.4, rounded 2
@@ -211,7 +211,7 @@ recordsOfAll [] = []
 recordsOfAll (e ∷ es) = recordOf e ++ recordsOfAll es
 
 abbrev pub sheetSession : Session
-sheetSession = session paper sheetLimit sheetWords (steps (pos 2000)) (recordsOfAll sheetEvents)
+sheetSession = session paper mostSheetRecords sheetWords (steps (pos 2000)) (recordsOfAll sheetEvents)
 
 abbrev pub allFound : List Check → List (List Value)
 allFound cs = map (λ (c : Check). c .found) cs

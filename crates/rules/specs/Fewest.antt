@@ -9,8 +9,8 @@ use lib.Dec.{ltb}
 use lib.ListN.{length, take}
 use Rattle.rules.specs.declared.Steps.{Steps}
 use Rattle.rules.specs.declared.Row.{Row}
-use Rattle.rules.specs.declared.Spread.{Spread}
-use Rattle.rules.specs.declared.Spread.the-variants.{Settled}
+use Rattle.rules.specs.declared.SpreadRule.{SpreadRule}
+use Rattle.rules.specs.declared.SpreadRule.the-variants.{Settled}
 use Rattle.rules.specs.declared.Event.{Event}
 use Rattle.rules.specs.Rows.{rowOf}
 use Rattle.rules.specs.Kept.{keptAt}
@@ -46,7 +46,7 @@ pub record Fewest (p : ℕ → Bool) (n : ℕ) (ours : List Stretch) : Type 0 wh
 
 -- ---- the kept milliseconds: those of 0 to L-1 that the accepted events keep
 
-abbrev pub FewestKept : Row → Spread → List Event → List Stretch → Type 0
+abbrev pub FewestKept : Row → SpreadRule → List Event → List Stretch → Type 0
 FewestKept row spread events ours = Fewest (keptAt row spread events) (row .length .0) ours
 
 -- ---- the words that a session run writes

@@ -5,7 +5,7 @@ use mathlib.Core.Bool.{Bool, not, _&&_, _||_}
 use lib.Dec.{leb, eqb}
 use lib.ListN.{length}
 use Rattle.rules.specs.declared.Row.{Row}
-use Rattle.rules.specs.declared.Spread.{Spread}
+use Rattle.rules.specs.declared.SpreadRule.{SpreadRule}
 use Rattle.rules.specs.declared.Event.{Event}
 use Rattle.rules.specs.Kept.{keptAt}
 use Rattle.rules.specs.Stretches.{Stretch, stretches}
@@ -20,7 +20,7 @@ unfoldable pub lapses : (ℕ → Bool) → ℕ → List Stretch
 lapses p n = stretches (missing p) n
 
 -- their count: "the open quantum (below its present time)", and a cell, below L
-unfoldable pub lapsesBelow : Row → Spread → List Event → ℕ → ℕ
+unfoldable pub lapsesBelow : Row → SpreadRule → List Event → ℕ → ℕ
 lapsesBelow row spread events n = length (lapses (keptAt row spread events) n)
 
 -- As a person counts them: each one has a first millisecond, which is not kept, at the quantum's start or right after a kept one.
@@ -32,12 +32,12 @@ abbrev pub lapseStarts : (ℕ → Bool) → ℕ → Bool
 lapseStarts p m = missing p m && begins p m
 
 -- "a lapse limit, 0 to 1,000, or 65,535 for none"
-abbrev pub noLimit : ℕ
-noLimit = 65535
+abbrev pub noLapseLimit : ℕ
+noLapseLimit = 65535
 
-unfoldable pub goodLimit : ℕ → Bool
-goodLimit limit = leb limit 1000 || eqb limit noLimit
+unfoldable pub goodLapseLimit : ℕ → Bool
+goodLapseLimit allowed = leb allowed 1000 || eqb allowed noLapseLimit
 
 -- "none, when no count is too many"; "A quantum with more lapses than its limit is failed": not so with as many or fewer
-unfoldable pub withinLimit : ℕ → ℕ → Bool
-withinLimit limit count = eqb limit noLimit || leb count limit
+unfoldable pub withinLapseLimit : ℕ → ℕ → Bool
+withinLapseLimit allowed count = eqb allowed noLapseLimit || leb count allowed

@@ -33,11 +33,11 @@ pub mod Records
 pub mod Widths
 pub mod Session
 -- document 02, W6: half percents, old months
-pub mod Percents
+pub mod OldMonths
 -- document 02, W8: larger charges
-pub mod Charges
+pub mod OldCharges
 -- document 02, W9: days filled in another order
-pub mod Rearranged
+pub mod DayOrder
 -- document 02, W10: fewest pairs
 pub mod Fewest
 -- "Checks on paper"

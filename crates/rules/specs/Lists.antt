@@ -34,9 +34,9 @@ below (suc n) = below n ++ (n ∷ [])
 
 module _ {A : Type 0} where
   -- the elements that pass, in their order
-  unfoldable pub keep : (A → Bool) → List A → List A
-  keep p [] = []
-  keep p (x ∷ xs) = let rest = keep p xs in if p x then x ∷ rest else rest
+  unfoldable pub filter : (A → Bool) → List A → List A
+  filter p [] = []
+  filter p (x ∷ xs) = let rest = filter p xs in if p x then x ∷ rest else rest
 
   -- whether one of them passes
   unfoldable pub any : (A → Bool) → List A → Bool

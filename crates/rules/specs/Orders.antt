@@ -8,7 +8,7 @@ use Rattle.rules.specs.declared.Steps.{Steps}
 use Rattle.rules.specs.declared.Contracts.{Contracts}
 use Rattle.rules.specs.declared.Event.{Event}
 use Rattle.rules.specs.declared.Event.the-variants.{Add, Amend, Cancel, Deal, Tick}
-use Rattle.rules.specs.Lists.{if_then_else_, keep, any}
+use Rattle.rules.specs.Lists.{if_then_else_, filter, any}
 use Rattle.rules.specs.Units.{contracts}
 
 abbrev pub hasId : ℕ → Order → Bool
@@ -40,8 +40,8 @@ somethingLeft o = ltb 0 (o .volume .0)
 unfoldable pub apply : List Order → Event → List Order
 apply orders (Add t id side price volume) = orders ++ (record { id = id; side = side; price = price; volume = volume } ∷ [])
 apply orders (Amend t id price volume) = map (amendedOrder id price volume) orders
-apply orders (Cancel t id) = keep (λ (o : Order). not (hasId id o)) orders
-apply orders (Deal t id volume) = keep somethingLeft (map (lessenedOrder id (volume .0)) orders)
+apply orders (Cancel t id) = filter (λ (o : Order). not (hasId id o)) orders
+apply orders (Deal t id volume) = filter somethingLeft (map (lessenedOrder id (volume .0)) orders)
 apply orders (Tick t) = orders
 
 unfoldable pub applyAll : List Order → List Event → List Order

@@ -8,7 +8,7 @@ use Rattle.rules.specs.declared.CellView.{CellView}
 use Rattle.rules.specs.Lists.{if_then_else_, sum, any, howMany}
 use Rattle.rules.specs.Terms.{Terms}
 use Rattle.rules.specs.Cells.{series}
-use Rattle.rules.specs.Lapses.{withinLimit}
+use Rattle.rules.specs.Lapses.{withinLapseLimit}
 
 -- f: "1000 × K / L rounded down"
 abbrev pub thousandths : ℕ → ℕ → ℕ
@@ -44,7 +44,7 @@ module _ (terms : Terms) where
 
   -- document 02, W1: "A quantum with more lapses than its limit is failed, with weight 0."
   abbrev pub cellMet : Cell → Bool
-  cellMet c = met (c .kept .0) (c .length .0) (c .share) && withinLimit (c .limit) (c .lapses)
+  cellMet c = met (c .kept .0) (c .length .0) (c .share) && withinLapseLimit (c .allowed) (c .lapses)
 
   abbrev pub cellWeight : Cell → ℕ
   cellWeight c = weightBy (cellMet c) (c .kept .0) (c .length .0) (c .share)

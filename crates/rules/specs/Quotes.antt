@@ -11,7 +11,7 @@ use Rattle.rules.specs.declared.Side.the-variants.{Buy, Sell}
 use Rattle.rules.specs.declared.Quote.{Quote}
 use Rattle.rules.specs.declared.Quote.the-variants.{Absent, At}
 use Rattle.rules.specs.declared.Order.{Order}
-use Rattle.rules.specs.Lists.{if_then_else_, sum, keep}
+use Rattle.rules.specs.Lists.{if_then_else_, sum, filter}
 
 abbrev pub same : Side → Side → Bool
 same Buy Buy = true
@@ -25,20 +25,20 @@ atLeast Buy p q = leZ q p
 atLeast Sell p q = leZ p q
 
 -- the order is of the side, at the price or better
-abbrev pub stands : Side → ℤ → Order → Bool
-stands side p o = same side (o .side) && atLeast side (o .price .0) p
+abbrev pub inDepth : Side → ℤ → Order → Bool
+inDepth side p o = same side (o .side) && atLeast side (o .price .0) p
 
 abbrev pub volumeOf : Order → ℕ
 volumeOf o = o .volume .0
 
 -- the contracts that the orders of the side at the price or better hold together
 unfoldable pub depth : Side → ℤ → List Order → ℕ
-depth side p orders = sum (map volumeOf (keep (stands side p) orders))
+depth side p orders = sum (map volumeOf (filter (inDepth side p) orders))
 
 -- a live order of the side "for which the live buy orders at that price or higher hold M contracts or more together", or the live sell
 -- orders at that price or lower
 unfoldable pub qualifies : Side → ℕ → List Order → Order → Bool
-qualifies side least orders o = same side (o .side) && leb least (depth side (o .price .0) orders)
+qualifies side minimum orders o = same side (o .side) && leb minimum (depth side (o .price .0) orders)
 
 -- the better of two quotes: the greater bid, the lesser ask
 abbrev pub better : Side → Quote → Quote → Quote
@@ -53,12 +53,12 @@ lead side (o ∷ os) = better side (At (o .price)) (lead side os)
 
 -- best bid and best ask
 unfoldable pub best : Side → ℕ → List Order → Quote
-best side least orders = lead side (keep (qualifies side least orders) orders)
+best side minimum orders = lead side (filter (qualifies side minimum orders) orders)
 
 -- What the paper says of a best quote: it is absent, and no order qualifies; or it is the price of an order that qualifies, and
 -- no order that qualifies has a better one. `means` in proofs/Best shows it of `best`, and `meant` that no other quote has it.
 abbrev pub Means : Side → ℕ → List Order → Quote → Type 0
-Means side least orders Absent = (o : Order) → List·Memᴰ o orders → qualifies side least orders o ≡ false
-Means side least orders (At p) =
-    ((o : Order) × List·Memᴰ o orders × (qualifies side least orders o ≡ true) × (o .price ≡ p))
-    × ((o : Order) → List·Memᴰ o orders → qualifies side least orders o ≡ true → atLeast side (p .0) (o .price .0) ≡ true)
+Means side minimum orders Absent = (o : Order) → List·Memᴰ o orders → qualifies side minimum orders o ≡ false
+Means side minimum orders (At p) =
+    ((o : Order) × List·Memᴰ o orders × (qualifies side minimum orders o ≡ true) × (o .price ≡ p))
+    × ((o : Order) → List·Memᴰ o orders → qualifies side minimum orders o ≡ true → atLeast side (p .0) (o .price .0) ≡ true)

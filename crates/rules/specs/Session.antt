@@ -5,7 +5,7 @@ use mathlib.Core.Bool.{Bool}
 use lib.Dec.{ltb, eqb}
 use lib.ListN.{length, take, drop}
 use Rattle.rules.specs.declared.Steps.{Steps}
-use Rattle.rules.specs.declared.Spread.the-variants.{Settled}
+use Rattle.rules.specs.declared.SpreadRule.the-variants.{Settled}
 use Rattle.rules.specs.declared.Opening.{Opening}
 use Rattle.rules.specs.declared.Event.{Event}
 use Rattle.rules.specs.Lists.{if_then_else_, below}
@@ -14,18 +14,18 @@ use Rattle.rules.specs.Units.{steps, kopecks}
 use Rattle.rules.specs.Rows.{rowOf}
 use Rattle.rules.specs.Cells.{placeOf, cellAt}
 use Rattle.rules.specs.Stretches.{Stretch, keptStretches, pairWords}
-use Rattle.rules.specs.Lapses.{noLimit}
+use Rattle.rules.specs.Lapses.{noLapseLimit}
 use Rattle.rules.specs.Pay.{cellWeight}
 use Rattle.rules.specs.Answers.{Outcome, accepted, refused, Ran, finished, stopped}
 use Rattle.rules.specs.Book.{Open, Send, Close, Running, Idle, Quoting, Book, freshBook, refusalOf, step}
 use Rattle.rules.specs.Records.{wordAt, signedOf, readRecord}
 
 -- "A run takes at most 4,000,000 records"; the program `sheet` "1,600 records at most"
-abbrev pub runLimit : ℕ
-runLimit = 4000000
+abbrev pub mostRecords : ℕ
+mostRecords = 4000000
 
-abbrev pub sheetLimit : ℕ
-sheetLimit = 1600
+abbrev pub mostSheetRecords : ℕ
+mostSheetRecords = 1600
 
 -- the records of some bytes, 20 each; the last may be cut short
 unfoldable pub recordsOf : List ℕ → List (List ℕ)
@@ -46,7 +46,7 @@ pub data Session : Type 0 where
 -- the stretches that the open quantum has kept below L
 abbrev pub stretchesIn : Running → List Stretch
 stretchesIn Idle = []
-stretchesIn (Quoting place row told events) = keptStretches row (told .spread) events
+stretchesIn (Quoting place row opening events) = keptStretches row (opening .spread) events
 
 -- as stopped by a refusal at a place, or going on where there is none
 abbrev pub unless : ℕ → ℕ → Session → Session
@@ -54,8 +54,8 @@ unless zero place next = next
 unless (suc n) place next = halted (suc n) place
 
 -- document 02, W1: "Session runs use 65,535."
-abbrev pub withoutLimit : Steps → Opening
-withoutLimit sp = record { spread = Settled sp; limit = noLimit }
+abbrev pub withoutLapseLimit : Steps → Opening
+withoutLapseLimit sp = record { spread = Settled sp; allowed = noLapseLimit }
 
 module _ (terms : Terms) where
   -- "A record with cause 15 is no event, so 15 is its only cause."
@@ -65,7 +65,7 @@ module _ (terms : Terms) where
 
   -- "A run takes at most 4,000,000 records; the next is refused by 15."
   unfoldable pub recordRefusal : ℕ → ℕ → Book → List ℕ → ℕ
-  recordRefusal limit place b bytes = if ltb limit place then 15 else readRefusal (readRecord bytes) b
+  recordRefusal most place b bytes = if ltb most place then 15 else readRefusal (readRecord bytes) b
 
   abbrev pub readStep : Outcome Event → Book → Book
   readStep (refused n) b = b
@@ -79,22 +79,22 @@ module _ (terms : Terms) where
 
   -- the records from the one of this place on, "counted from 1", then close; "stops at the first refusal"
   unfoldable pub runRecords : ℕ → ℕ → ℕ → Book → List (List ℕ) → Session
-  runRecords limit cell place b [] = closing cell b
-  runRecords limit cell place b (r ∷ rs) =
-      let next = runRecords limit cell (suc place) (readStep (readRecord r) b) rs in
-      unless (recordRefusal limit place b r) place next
+  runRecords most cell place b [] = closing cell b
+  runRecords most cell place b (r ∷ rs) =
+      let next = runRecords most cell (suc place) (readStep (readRecord r) b) rs in
+      unless (recordRefusal most place b r) place next
 
   -- "On a fresh month it runs open (day 1), the events and close (A and P 0)": from the row's words, SP and the record bytes
   unfoldable pub session : ℕ → List ℕ → Steps → List ℕ → Session
-  session limit words sp bytes =
+  session most words sp bytes =
       let next =
-      runRecords limit (placeOf 1 (rowOf words .expiry) (rowOf words .quantum)) 1 (step terms freshBook (Open words 1 (withoutLimit sp)))
+      runRecords most (placeOf 1 (rowOf words .expiry) (rowOf words .quantum)) 1 (step terms freshBook (Open words 1 (withoutLapseLimit sp)))
       (recordsOf bytes) in
-      unless (refusalOf terms freshBook (Open words 1 (withoutLimit sp))) 0 next
+      unless (refusalOf terms freshBook (Open words 1 (withoutLapseLimit sp))) 0 next
 
   unfoldable pub sessionBytes : ℕ → List ℕ → List ℕ → Session
-  sessionBytes limit head bytes =
-      if eqb (length head) 32 then session limit (leadingWords head) (leadingPrice head) bytes else halted 1 0
+  sessionBytes most head bytes =
+      if eqb (length head) 32 then session most (leadingWords head) (leadingPrice head) bytes else halted 1 0
 
 -- ---- with a lent buffer of n words: "16 buffer shorter than the pairs to write", "and 16 comes after all records"
 

@@ -5,7 +5,7 @@ use mathlib.Core.List.{List, [], _∷_}
 use mathlib.Core.Bool.{Bool, true, false}
 use lib.Dec.{eqb}
 use Rattle.rules.specs.declared.Row.{Row}
-use Rattle.rules.specs.declared.Spread.{Spread}
+use Rattle.rules.specs.declared.SpreadRule.{SpreadRule}
 use Rattle.rules.specs.declared.Event.{Event}
 use Rattle.rules.specs.Lists.{if_then_else_}
 use Rattle.rules.specs.Kept.{keptAt}
@@ -36,7 +36,7 @@ stretches p zero = []
 stretches p (suc n) = grownIf (p n) n (stretches p n)
 
 -- "the kept stretches as pairs of offset and length, sorted by offset, each as long as it can be, so that no two touch"
-unfoldable pub keptStretches : Row → Spread → List Event → List Stretch
+unfoldable pub keptStretches : Row → SpreadRule → List Event → List Stretch
 keptStretches row spread events = stretches (keptAt row spread events) (row .length .0)
 
 -- the pairs as they are written, word by word

@@ -35,7 +35,7 @@ pub struct Row {
     pub expiry: u32,
     pub quantum: u32,
     pub length: Millis,
-    pub least: Contracts,
+    pub minimum: Contracts,
     pub a: u32,
     pub b: u32,
     pub share: u32,
@@ -50,15 +50,15 @@ pub struct Strike {
 }
 
 // What a quantum's spread limit goes by: SP, beside the row's a and b, or a strike's four numbers.
-pub enum Spread {
+pub enum SpreadRule {
     Settled(Steps),
     OfStrike(Strike),
 }
 
 // What open is told besides the row and the day: what the spread limit goes by, and the lapse limit.
 pub struct Opening {
-    pub spread: Spread,
-    pub limit: u32,
+    pub spread: SpreadRule,
+    pub allowed: u32,
 }
 
 // A cell of the month: kept is K, length L, share p, limit the lapse limit, lapses their count, active A, passive P.
@@ -67,7 +67,7 @@ pub struct Cell {
     pub kept: Millis,
     pub length: Millis,
     pub share: u32,
-    pub limit: u32,
+    pub allowed: u32,
     pub lapses: u32,
     pub active: Kopecks,
     pub passive: Kopecks,

@@ -17,7 +17,7 @@ use Rattle.month.specs.declared.Reported.{Reported}
 use Rattle.month.specs.Represents.{monthOf, Answered}
 use Rattle.script.specs.declared.Ran.{Ran}
 use Rattle.script.specs.Words.{callsOf, outcomesOf}
-use Rattle.script.specs.Runs.{Runs, Shows, Afresh}
+use Rattle.script.specs.Demand.{ListAnswers, Shows, Afresh}
 
 -- a report is never refused
 report-answer : (b : Book) → answerOf paper b B.Report ≡ shownReport (reportOf paper b)
@@ -36,7 +36,7 @@ shows b r e =
       fee = ap (λ (x : Report). x .fee) e;
     }
 
-module _ (ws before behind : List ℕ) (ran : Ran) (promise : Runs ws before behind ran) (room : length (callsOf ws) ≤ length before) where
+module _ (ws before behind : List ℕ) (ran : Ran) (promise : ListAnswers ws before behind ran) (room : length (callsOf ws) ≤ length before) where
   fits : ran .fits ≡ true
   fits = promise .fits ∙ le-leb (length (callsOf ws)) (length before) room
 

@@ -8,8 +8,8 @@ use lib.ListN.{length, getD, take, drop, length-append}
 use lib.Seq.{take-at, getD-append-add, drop-append-seam}
 use Rattle.rules.specs.declared.Side.{Side}
 use Rattle.rules.specs.declared.Side.the-variants.{Buy, Sell}
-use Rattle.rules.specs.declared.Spread.{Spread}
-use Rattle.rules.specs.declared.Spread.the-variants.{Settled, OfStrike}
+use Rattle.rules.specs.declared.SpreadRule.{SpreadRule}
+use Rattle.rules.specs.declared.SpreadRule.the-variants.{Settled, OfStrike}
 use Rattle.rules.specs.declared.Amendment.{Amendment}
 use Rattle.rules.specs.declared.Kopecks.{Kopecks}
 use Rattle.rules.specs.declared.Event.{Event}
@@ -19,7 +19,7 @@ use Rattle.rules.specs.Records.{signedOf, unsignedOf}
 use Rattle.rules.specs.Widths.{Word, SignedWord, Fits}
 use Rattle.rules.specs.Book.{Call, Open, Send, Ask, Commit, Close, Drop, Charge, Withdraw, Look, Report}
 use Rattle.rules.proofs.Records.{signed-unsigned, unsigned-fits}
-use Rattle.script.specs.Words.{fixedDue, addDue, due, dueAt, blockSize, callOf, callsOf, wordsRead, sideWord, eventWords, low, high, openKind, openingWords, wordsOf, scriptOf, Words, Wide, SpreadFits, AmendmentFits, CallFits, AllFit}
+use Rattle.script.specs.Words.{fixedDue, addDue, due, dueAt, blockSize, callOf, callsOf, wordsRead, sideWord, eventWords, low, high, openKind, openingWords, wordsOf, scriptOf, Words, Wide, SpreadRuleFits, AmendmentFits, CallFits, AllFit}
 use Rattle.script.proofs.Reading.{whole, short, calls-none, calls-more, words-none, words-more}
 
 -- ---- the size
@@ -33,16 +33,16 @@ event-due (Cancel t id) rest = refl
 event-due (Deal t id volume) rest = refl
 event-due (Tick t) rest = refl
 
-open-due : (words : List ℕ) (day : ℕ) (spread : Spread) (limit : ℕ) (rest : List ℕ)
-    → dueAt (openKind spread ∷ length words ∷ ((words ++ (day ∷ openingWords spread limit)) ++ rest))
-    ≡ suc (suc (length (words ++ (day ∷ openingWords spread limit))))
+open-due : (words : List ℕ) (day : ℕ) (spread : SpreadRule) (allowed : ℕ) (rest : List ℕ)
+    → dueAt (openKind spread ∷ length words ∷ ((words ++ (day ∷ openingWords spread allowed)) ++ rest))
+    ≡ suc (suc (length (words ++ (day ∷ openingWords spread allowed))))
 unfolding due
-open-due words day (Settled sp) limit rest = rw (length-append words (day ∷ openingWords (Settled sp) limit)) (omega arith)
-open-due words day (OfStrike s) limit rest = rw (length-append words (day ∷ openingWords (OfStrike s) limit)) (omega arith)
+open-due words day (Settled sp) allowed rest = rw (length-append words (day ∷ openingWords (Settled sp) allowed)) (omega arith)
+open-due words day (OfStrike s) allowed rest = rw (length-append words (day ∷ openingWords (OfStrike s) allowed)) (omega arith)
 
 call-due : (c : Call) (rest : List ℕ) → dueAt (wordsOf c ++ rest) ≡ length (wordsOf c)
 unfolding wordsOf due fixedDue
-call-due (Open words day told) rest = open-due words day (told .spread) (told .limit) rest
+call-due (Open words day opening) rest = open-due words day (opening .spread) (opening .allowed) rest
 call-due (Send e) rest = event-due e rest
 call-due (Ask a) rest = refl
 call-due (Commit a ticket) rest = refl
@@ -68,7 +68,7 @@ event-some (Tick t) = omega arith
 
 call-some : (c : Call) → 0 < length (wordsOf c)
 unfolding wordsOf
-call-some (Open words day told) = omega arith
+call-some (Open words day opening) = omega arith
 call-some (Send e) = event-some e
 call-some (Ask a) = omega arith
 call-some (Commit a ticket) = omega arith
@@ -102,56 +102,56 @@ event-back (Deal t id volume) h rest = refl
 event-back (Tick t) h rest = refl
 
 -- the words of an open: the kind, the row's words, the day, what else it is told
-module _ (kind : ℕ) (words : List ℕ) (day : ℕ) (told rest : List ℕ) where
+module _ (kind : ℕ) (words : List ℕ) (day : ℕ) (opening rest : List ℕ) where
   abbrev behind : List ℕ
-  behind = (words ++ (day ∷ told)) ++ rest
+  behind = (words ++ (day ∷ opening)) ++ rest
 
-  behind-is : behind ≡ words ++ (day ∷ (told ++ rest))
-  behind-is = append-assoc words (day ∷ told) rest
+  behind-is : behind ≡ words ++ (day ∷ (opening ++ rest))
+  behind-is = append-assoc words (day ∷ opening) rest
 
   row-words : take (length words) behind ≡ words
-  row-words = rw behind-is (take-at words (day ∷ (told ++ rest)) (length words) refl)
+  row-words = rw behind-is (take-at words (day ∷ (opening ++ rest)) (length words) refl)
 
   -- the i-th word behind the row: the day, then what open is told
-  told-word : (i : ℕ) → getD (kind ∷ length words ∷ behind) (2 + length words + i) 0 ≡ getD (day ∷ (told ++ rest)) i 0
-  told-word i =
+  opening-word : (i : ℕ) → getD (kind ∷ length words ∷ behind) (2 + length words + i) 0 ≡ getD (day ∷ (opening ++ rest)) i 0
+  opening-word i =
       let e : 2 + length words + i ≡ suc (suc (length words + i)) = omega arith in
-      rw (e, behind-is) (getD-append-add words (day ∷ (told ++ rest)) i 0)
+      rw (e, behind-is) (getD-append-add words (day ∷ (opening ++ rest)) i 0)
 
   -- the same, at a place that is so many behind the row
-  word-at : (j i : ℕ) → j ≡ 2 + length words + i → getD (kind ∷ length words ∷ behind) j 0 ≡ getD (day ∷ (told ++ rest)) i 0
-  word-at j i e = ap (λ (k : ℕ). getD (kind ∷ length words ∷ behind) k 0) e ∙ told-word i
+  word-at : (j i : ℕ) → j ≡ 2 + length words + i → getD (kind ∷ length words ∷ behind) j 0 ≡ getD (day ∷ (opening ++ rest)) i 0
+  word-at j i e = ap (λ (k : ℕ). getD (kind ∷ length words ∷ behind) k 0) e ∙ opening-word i
 
-open-back : (words : List ℕ) (day : ℕ) (spread : Spread) (limit : ℕ) → SpreadFits spread → (rest : List ℕ)
-    → callOf (openKind spread ∷ length words ∷ ((words ++ (day ∷ openingWords spread limit)) ++ rest)) ≡ Open words day (record { spread = spread; limit = limit })
+open-back : (words : List ℕ) (day : ℕ) (spread : SpreadRule) (allowed : ℕ) → SpreadRuleFits spread → (rest : List ℕ)
+    → callOf (openKind spread ∷ length words ∷ ((words ++ (day ∷ openingWords spread allowed)) ++ rest)) ≡ Open words day (record { spread = spread; allowed = allowed })
 unfolding callOf
-open-back words day (Settled sp) limit h rest =
+open-back words day (Settled sp) allowed h rest =
     let n = length words in
-    let told = unsignedOf (sp .0) ∷ limit ∷ [] in
-    let price = ap (λ (w : ℕ). steps (signedOf w)) (word-at 1 words day told rest (3 + n) 1 (omega arith)) ∙ ap steps (signed-unsigned (sp .0) h) in
+    let opening = unsignedOf (sp .0) ∷ allowed ∷ [] in
+    let price = ap (λ (w : ℕ). steps (signedOf w)) (word-at 1 words day opening rest (3 + n) 1 (omega arith)) ∙ ap steps (signed-unsigned (sp .0) h) in
     λ i.
-    Open (row-words 1 words day told rest i) (word-at 1 words day told rest (2 + n) 0 (omega arith) i)
-    (record { spread = Settled (price i); limit = word-at 1 words day told rest (3 + n + 1) 2 (omega arith) i })
-open-back words day (OfStrike s) limit h rest =
+    Open (row-words 1 words day opening rest i) (word-at 1 words day opening rest (2 + n) 0 (omega arith) i)
+    (record { spread = Settled (price i); allowed = word-at 1 words day opening rest (3 + n + 1) 2 (omega arith) i })
+open-back words day (OfStrike s) allowed h rest =
     let n = length words in
-    let told = s .a ∷ s .difference ∷ s .days ∷ s .b ∷ limit ∷ [] in
+    let opening = s .a ∷ s .difference ∷ s .days ∷ s .b ∷ allowed ∷ [] in
     λ i.
-    Open (row-words 13 words day told rest i) (word-at 13 words day told rest (2 + n) 0 (omega arith) i)
+    Open (row-words 13 words day opening rest i) (word-at 13 words day opening rest (2 + n) 0 (omega arith) i)
     (record {
       spread =
           OfStrike
           (record {
-            a = word-at 13 words day told rest (3 + n) 1 (omega arith) i;
-            difference = word-at 13 words day told rest (3 + n + 1) 2 (omega arith) i;
-            days = word-at 13 words day told rest (3 + n + 2) 3 (omega arith) i;
-            b = word-at 13 words day told rest (3 + n + 3) 4 (omega arith) i;
+            a = word-at 13 words day opening rest (3 + n) 1 (omega arith) i;
+            difference = word-at 13 words day opening rest (3 + n + 1) 2 (omega arith) i;
+            days = word-at 13 words day opening rest (3 + n + 2) 3 (omega arith) i;
+            b = word-at 13 words day opening rest (3 + n + 3) 4 (omega arith) i;
           });
-      limit = word-at 13 words day told rest (3 + n + 4) 5 (omega arith) i;
+      allowed = word-at 13 words day opening rest (3 + n + 4) 5 (omega arith) i;
     })
 
 pub call-back : (c : Call) → CallFits c → (rest : List ℕ) → callOf (wordsOf c ++ rest) ≡ c
 unfolding wordsOf callOf
-call-back (Open words day told) h rest = open-back words day (told .spread) (told .limit) (h .3) rest
+call-back (Open words day opening) h rest = open-back words day (opening .spread) (opening .allowed) (h .3) rest
 call-back (Send e) h rest = event-back e h rest
 call-back (Ask a) h rest = ap Ask (amendment-back a (h .2))
 call-back (Commit a ticket) h rest =
@@ -223,11 +223,11 @@ side-fits Sell = omega arith
 wide-words : {n : ℕ} {ws : List ℕ} → Wide n → Fine ws → Fine (low n ∷ high n ∷ ws)
 wide-words h w = put (omega arith) (put (omega arith) w)
 
-spread-words : (spread : Spread) (limit : ℕ) → SpreadFits spread → Word limit → Fine (openingWords spread limit)
-spread-words (Settled sp) limit h l = put (unsigned-fits (sp .0) h) (put l none)
-spread-words (OfStrike s) limit h l = put (h .0) (put (h .1) (put (h .2) (put (h .3) (put l none))))
+spread-words : (spread : SpreadRule) (allowed : ℕ) → SpreadRuleFits spread → Word allowed → Fine (openingWords spread allowed)
+spread-words (Settled sp) allowed h l = put (unsigned-fits (sp .0) h) (put l none)
+spread-words (OfStrike s) allowed h l = put (h .0) (put (h .1) (put (h .2) (put (h .3) (put l none))))
 
-kind-fits : (spread : Spread) → Word (openKind spread)
+kind-fits : (spread : SpreadRule) → Word (openKind spread)
 kind-fits (Settled sp) = omega arith
 kind-fits (OfStrike s) = omega arith
 
@@ -246,9 +246,9 @@ event-fits (Tick t) h = put (omega arith) (put h none)
 
 call-fits : (c : Call) → CallFits c → Fine (wordsOf c)
 unfolding wordsOf
-call-fits (Open words day told) h =
-    put (kind-fits (told .spread))
-    (put (h .0) (joined words (day ∷ openingWords (told .spread) (told .limit)) (h .1) (put (h .2) (spread-words (told .spread) (told .limit) (h .3) (h .4)))))
+call-fits (Open words day opening) h =
+    put (kind-fits (opening .spread))
+    (put (h .0) (joined words (day ∷ openingWords (opening .spread) (opening .allowed)) (h .1) (put (h .2) (spread-words (opening .spread) (opening .allowed) (h .3) (h .4)))))
 call-fits (Send e) h = event-fits e h
 call-fits (Ask a) h = put (omega arith) (amendment-words a h none)
 call-fits (Commit a ticket) h =

@@ -7,8 +7,8 @@ pub mod Said
 pub mod Performing
 pub mod Running
 pub mod Demand
-pub mod Charges
-pub mod Percents
-pub mod Rearranged
+pub mod OldCharges
+pub mod OldMonths
+pub mod DayOrder
 pub mod Playing
 pub mod Format

@@ -19,7 +19,7 @@ use Rattle.script.specs.declared.Measured.{Measured}
 use Rattle.script.specs.Words.{blockSize, callOf, callsOf, outcomesFrom, outcomesOf}
 use Rattle.script.specs.Measures.{Measures}
 use Rattle.script.specs.Blocks.{shownOf, outcomeNumber, Stepped}
-use Rattle.script.specs.Runs.{Runs}
+use Rattle.script.specs.Demand.{ListAnswers}
 use Rattle.script.proofs.Loops.{Passed, at-start, next-call, one-more, none-left}
 use Rattle.script.proofs.Outcomes.{outcomes-more, outcomes-length}
 
@@ -146,7 +146,7 @@ module _ (ws before out : List ℕ) (month : Month) (at k : ℕ) (g : Ongoing ws
 -- a buffer that is too short
 pub too-short : (ws before : List ℕ) (month : Month) (m : Measured) → Measures ws m → length before < m .calls
     → month ≡ monthOf (after paper [])
-    → Runs ws before before (record { month = month; calls = m .calls; words = m .words; fits = false })
+    → ListAnswers ws before before (record { month = month; calls = m .calls; words = m .words; fits = false })
 too-short ws before month m p h e =
     record {
       calls = p .calls;
@@ -159,7 +159,7 @@ too-short ws before month m p h e =
 -- the end of the list
 pub finished : (ws before out : List ℕ) (month : Month) (at k : ℕ) → Ongoing ws before out month at k → (m : Measured) → Measures ws m
     → m .calls ≤ k
-    → Runs ws before out (record { month = month; calls = m .calls; words = m .words; fits = true })
+    → ListAnswers ws before out (record { month = month; calls = m .calls; words = m .words; fits = true })
 finished ws before out month at k g m p h =
     let e : k ≡ length (callsOf ws) = omega (arith, p .calls, g .passed .some) in
     let t : take k (callsOf ws) ≡ callsOf ws = ap (λ (n : ℕ). take n (callsOf ws)) e ∙ take-length (callsOf ws) in

@@ -11,7 +11,7 @@ use Rattle.rules.specs.declared.Side.{Side}
 use Rattle.rules.specs.declared.Side.the-variants.{Buy, Sell}
 use Rattle.rules.specs.declared.Steps.{Steps}
 use Rattle.rules.specs.declared.Strike.{Strike}
-use Rattle.rules.specs.declared.Spread.the-variants.{OfStrike}
+use Rattle.rules.specs.declared.SpreadRule.the-variants.{OfStrike}
 use Rattle.rules.specs.declared.Opening.{Opening}
 use Rattle.rules.specs.declared.Amendment.{Amendment}
 use Rattle.rules.specs.declared.Ticket.{Ticket}
@@ -111,15 +111,15 @@ wide-is ws i a b l h = λ j. (l ∙ a) j + 4294967296 * (h ∙ b) j
 -- ---- the call of each kind
 
 module _ (ws : List ℕ) where
-  pub open-is : (end : ℕ) {row : List ℕ} {day : ℕ} {told : Opening} → getD ws 0 0 ≡ 1 → end ≡ 2 + getD ws 1 0 → row ≡ take (end - 2) (drop 2 ws)
-      → day ≡ getD ws end 0 → told ≡ openingAt ws (end + 1) → Open row day told ≡ callOf ws
+  pub open-is : (end : ℕ) {row : List ℕ} {day : ℕ} {opening : Opening} → getD ws 0 0 ≡ 1 → end ≡ 2 + getD ws 1 0 → row ≡ take (end - 2) (drop 2 ws)
+      → day ≡ getD ws end 0 → opening ≡ openingAt ws (end + 1) → Open row day opening ≡ callOf ws
   unfolding callOf
-  open-is end {row} {day} {told} k e r d s =
+  open-is end {row} {day} {opening} k e r d s =
       let n : end - 2 ≡ getD ws 1 0 = omega arith in
       let m : end + 1 ≡ 3 + getD ws 1 0 = omega arith in
       let r′ : row ≡ take (getD ws 1 0) (drop 2 ws) = r ∙ ap (λ (j : ℕ). take j (drop 2 ws)) n in
       let d′ : day ≡ getD ws (2 + getD ws 1 0) 0 = d ∙ ap (λ (j : ℕ). getD ws j 0) e in
-      let s′ : told ≡ openingAt ws (3 + getD ws 1 0) = s ∙ ap (openingAt ws) m in
+      let s′ : opening ≡ openingAt ws (3 + getD ws 1 0) = s ∙ ap (openingAt ws) m in
       (λ i. Open (r′ i) (d′ i) (s′ i)) ∙ rw k refl
 
   pub add-is : {t id volume : ℕ} {side : Side} {price : Steps} → getD ws 0 0 ≡ 2 → t ≡ getD ws 1 0 → id ≡ getD ws 2 0
@@ -171,19 +171,19 @@ module _ (ws : List ℕ) where
   unfolding callOf
   look-is k d e q = (λ i. Look (d i) (e i) (q i)) ∙ rw k refl
 
-  pub strike-is : (end : ℕ) {row : List ℕ} {day limit : ℕ} {s : Strike} → getD ws 0 0 ≡ 13 → end ≡ 2 + getD ws 1 0
-      → row ≡ take (end - 2) (drop 2 ws) → day ≡ getD ws end 0 → s ≡ strikeAt ws (end + 1) → limit ≡ getD ws (end + 5) 0
-      → Open row day (record { spread = OfStrike s; limit = limit }) ≡ callOf ws
+  pub strike-is : (end : ℕ) {row : List ℕ} {day allowed : ℕ} {s : Strike} → getD ws 0 0 ≡ 13 → end ≡ 2 + getD ws 1 0
+      → row ≡ take (end - 2) (drop 2 ws) → day ≡ getD ws end 0 → s ≡ strikeAt ws (end + 1) → allowed ≡ getD ws (end + 5) 0
+      → Open row day (record { spread = OfStrike s; allowed = allowed }) ≡ callOf ws
   unfolding callOf
-  strike-is end {row} {day} {limit} {s} k e r d f l =
+  strike-is end {row} {day} {allowed} {s} k e r d f l =
       let n : end - 2 ≡ getD ws 1 0 = omega arith in
       let m : end + 1 ≡ 3 + getD ws 1 0 = omega arith in
       let p : end + 5 ≡ 3 + getD ws 1 0 + 4 = omega arith in
       let r′ : row ≡ take (getD ws 1 0) (drop 2 ws) = r ∙ ap (λ (j : ℕ). take j (drop 2 ws)) n in
       let d′ : day ≡ getD ws (2 + getD ws 1 0) 0 = d ∙ ap (λ (j : ℕ). getD ws j 0) e in
       let f′ : s ≡ strikeAt ws (3 + getD ws 1 0) = f ∙ ap (strikeAt ws) m in
-      let l′ : limit ≡ getD ws (3 + getD ws 1 0 + 4) 0 = l ∙ ap (λ (j : ℕ). getD ws j 0) p in
-      (λ i. Open (r′ i) (d′ i) (record { spread = OfStrike (f′ i); limit = l′ i })) ∙ rw k refl
+      let l′ : allowed ≡ getD ws (3 + getD ws 1 0 + 4) 0 = l ∙ ap (λ (j : ℕ). getD ws j 0) p in
+      (λ i. Open (r′ i) (d′ i) (record { spread = OfStrike (f′ i); allowed = l′ i })) ∙ rw k refl
 
   pub ask-is : {a : Amendment} → getD ws 0 0 ≡ 14 → a ≡ amendmentAt ws 1 → Ask a ≡ callOf ws
   unfolding callOf

@@ -1,7 +1,7 @@
 pub mod Words
 pub mod Measures
 pub mod Blocks
-pub mod Runs
-pub mod Charges
-pub mod Percents
-pub mod Rearranged
+pub mod Demand
+pub mod OldCharges
+pub mod OldMonths
+pub mod DayOrder

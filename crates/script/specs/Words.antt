@@ -9,8 +9,8 @@ use Rattle.rules.specs.declared.Side.{Side}
 use Rattle.rules.specs.declared.Side.the-variants.{Buy, Sell}
 use Rattle.rules.specs.declared.Steps.{Steps}
 use Rattle.rules.specs.declared.Strike.{Strike}
-use Rattle.rules.specs.declared.Spread.{Spread}
-use Rattle.rules.specs.declared.Spread.the-variants.{Settled, OfStrike}
+use Rattle.rules.specs.declared.SpreadRule.{SpreadRule}
+use Rattle.rules.specs.declared.SpreadRule.the-variants.{Settled, OfStrike}
 use Rattle.rules.specs.declared.Opening.{Opening}
 use Rattle.rules.specs.declared.Amendment.{Amendment}
 use Rattle.rules.specs.declared.Ticket.{Ticket}
@@ -54,7 +54,7 @@ fixedDue kind =
 unfoldable pub addDue : ℕ → ℕ
 addDue side = if eqb side 1 || eqb side 2 then 6 else 0
 
--- `1 n w1..wn day SP limit` open with n row words; by document 02, W4, `13 n w1..wn day a difference days b limit` open a strike; an add;
+-- `1 n w1..wn day SP allowed` open with n row words; by document 02, W4, `13 n w1..wn day a difference days b allowed` open a strike; an add;
 -- or one of the others
 unfoldable pub due : ℕ → ℕ → ℕ → ℕ
 due kind n side =
@@ -78,14 +78,14 @@ stepsAt ws i = steps (signedOf (word ws i))
 
 -- what open is told besides the row and the day: SP, then the lapse limit
 abbrev pub openingAt : List ℕ → ℕ → Opening
-openingAt ws i = record { spread = Settled (stepsAt ws i); limit = word ws (i + 1) }
+openingAt ws i = record { spread = Settled (stepsAt ws i); allowed = word ws (i + 1) }
 
 -- what a strike's open is told: its four numbers, then the lapse limit
 abbrev pub strikeAt : List ℕ → ℕ → Strike
 strikeAt ws i = record { a = word ws i; difference = word ws (i + 1); days = word ws (i + 2); b = word ws (i + 3) }
 
 abbrev pub strikeOpeningAt : List ℕ → ℕ → Opening
-strikeOpeningAt ws i = record { spread = OfStrike (strikeAt ws i); limit = word ws (i + 4) }
+strikeOpeningAt ws i = record { spread = OfStrike (strikeAt ws i); allowed = word ws (i + 4) }
 
 -- each charge and each count is two words, the low one first
 abbrev pub wideAt : List ℕ → ℕ → ℕ
@@ -182,16 +182,16 @@ low n = n % 4294967296
 abbrev pub high : ℕ → ℕ
 high n = n / 4294967296
 
-abbrev pub openKind : Spread → ℕ
+abbrev pub openKind : SpreadRule → ℕ
 openKind (Settled sp) = 1
 openKind (OfStrike s) = 13
 
-abbrev pub openingWords : Spread → ℕ → List ℕ
-openingWords (Settled sp) limit = unsignedOf (sp .0) ∷ limit ∷ []
-openingWords (OfStrike s) limit = s .a ∷ s .difference ∷ s .days ∷ s .b ∷ limit ∷ []
+abbrev pub openingWords : SpreadRule → ℕ → List ℕ
+openingWords (Settled sp) allowed = unsignedOf (sp .0) ∷ allowed ∷ []
+openingWords (OfStrike s) allowed = s .a ∷ s .difference ∷ s .days ∷ s .b ∷ allowed ∷ []
 
 unfoldable pub wordsOf : Call → List ℕ
-wordsOf (Open words day told) = openKind (told .spread) ∷ length words ∷ (words ++ (day ∷ openingWords (told .spread) (told .limit)))
+wordsOf (Open words day opening) = openKind (opening .spread) ∷ length words ∷ (words ++ (day ∷ openingWords (opening .spread) (opening .allowed)))
 wordsOf (Send e) = eventWords e
 wordsOf (Ask a) = 14 ∷ a .t .0 ∷ a .id ∷ unsignedOf (a .price .0) ∷ a .volume .0 ∷ []
 wordsOf (Commit a ticket) =
@@ -219,16 +219,16 @@ abbrev pub Wide : ℕ → Type 0
 Wide n = n < 18446744073709551616
 
 -- SP, or a strike's four numbers
-abbrev pub SpreadFits : Spread → Type 0
-SpreadFits (Settled sp) = SignedWord (sp .0)
-SpreadFits (OfStrike s) = Word (s .a) × Word (s .difference) × Word (s .days) × Word (s .b)
+abbrev pub SpreadRuleFits : SpreadRule → Type 0
+SpreadRuleFits (Settled sp) = SignedWord (sp .0)
+SpreadRuleFits (OfStrike s) = Word (s .a) × Word (s .difference) × Word (s .days) × Word (s .b)
 
 abbrev pub AmendmentFits : Amendment → Type 0
 AmendmentFits a = Word (a .t .0) × Word (a .id) × SignedWord (a .price .0) × Word (a .volume .0)
 
 -- each number of the call fits its type, and the number of an open's row words fits its word
 abbrev pub CallFits : Call → Type 0
-CallFits (Open words day told) = Word (length words) × Words words × Word day × SpreadFits (told .spread) × Word (told .limit)
+CallFits (Open words day opening) = Word (length words) × Words words × Word day × SpreadRuleFits (opening .spread) × Word (opening .allowed)
 CallFits (Send e) = Fits e
 CallFits (Ask a) = AmendmentFits a
 CallFits (Commit a ticket) = AmendmentFits a × AmendmentFits (ticket .amendment) × Wide (ticket .count)

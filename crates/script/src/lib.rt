@@ -10,7 +10,7 @@ ghost use Rattle.script.specs.declared.Outcome.the-variants as O;
 ghost use Rattle.script.specs.Words.{fixedDue, addDue, due, blockSize, stepsAt, openingAt, strikeAt, wideAt, chargeAt, amendmentAt, ticketAt, sideOf, isEvent, callOf};
 ghost use Rattle.script.specs.Measures.{Measures};
 ghost use Rattle.script.specs.Blocks.{blankReport, showing, shownOf, outcomeNumber, Performed, Stepped};
-ghost use Rattle.script.specs.Runs.{Runs};
+ghost use Rattle.script.specs.Demand.{ListAnswers};
 use month::AfterCall;
 use month::Month;
 use rules::Amendment;
@@ -27,7 +27,7 @@ use rules::Preview;
 use rules::Quote;
 use rules::Report;
 use rules::Side;
-use rules::Spread;
+use rules::SpreadRule;
 use rules::Steps;
 use rules::Strike;
 use rules::Ticket;
@@ -277,9 +277,9 @@ fn opening_at(words: &[u32], i: usize) -> Opening
     ensures { λ r. ⌜ r ≡ openingAt (now (words .entry)) i ⌝ }
 {
     let sp = steps_at(words, i);
-    let limit = word(words, i + 1);
-    let spread = Spread::Settled(sp);
-    Opening { spread, limit }
+    let allowed = word(words, i + 1);
+    let spread = SpreadRule::Settled(sp);
+    Opening { spread, allowed }
 }
 
 // A strike's four numbers.
@@ -375,8 +375,8 @@ fn strike_block(month: Month, words: &[u32]) -> AfterCall
 {
     let end = 2 + wide(word(words, 1));
     let row = &words[2..end];
-    let limit = word(words, end + 5);
-    month.open_strike(row, word(words, end), strike_at(words, end + 1), limit)
+    let allowed = word(words, end + 5);
+    month.open_strike(row, word(words, end), strike_at(words, end + 1), allowed)
 }
 
 // Kind 14.
@@ -576,9 +576,9 @@ pub fn block(month: Month, words: &[u32], at: usize) -> Done
     if is_event(word(rest, 0)) {
         return event_block(month, rest, at + size);
     }
-    let told = perform(month, rest);
-    let month = told.month;
-    let shown = told.shown;
+    let opening = perform(month, rest);
+    let month = opening.month;
+    let shown = opening.shown;
     Done {
         month,
         next: at + size,
@@ -588,7 +588,7 @@ pub fn block(month: Month, words: &[u32], at: usize) -> Done
 
 // A list of calls, each on the month that the one before handed back, from a fresh one; each call's outcome goes to the lent buffer.
 pub fn run(words: &[u32], outcomes: &mut [u32]) -> Ran
-    ensures { λ r. ⌜ Runs (now (words .entry)) (now (outcomes .entry)) (now (outcomes .exit)) r ⌝ }
+    ensures { λ r. ⌜ ListAnswers (now (words .entry)) (now (outcomes .entry)) (now (outcomes .exit)) r ⌝ }
 {
     let list = measure(words);
     let calls = list.calls;

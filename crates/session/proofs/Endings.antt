@@ -11,7 +11,7 @@ use borrow.Author.Tests.{lt-ltb, le-ltb, eq-eqb, ne-eqb, ltb-false}
 use Rattle.rules.specs.declared.Millis.{Millis}
 use Rattle.rules.specs.declared.Steps.{Steps}
 use Rattle.rules.specs.declared.Row.{Row}
-use Rattle.rules.specs.declared.Spread.the-variants.{Settled}
+use Rattle.rules.specs.declared.SpreadRule.the-variants.{Settled}
 use Rattle.rules.specs.declared.Refusal.{Refusal}
 use Rattle.rules.specs.declared.Refusal.the-variants.{ArgumentOutOfRange, BufferShort}
 use Rattle.rules.specs.declared.SessionAnswer.{SessionAnswer}
@@ -27,7 +27,7 @@ use Rattle.rules.specs.Answers.{accepted, refused, finished, stopped, numberOf,
 use Rattle.rules.specs.Records.{wordAt, signedOf}
 use Rattle.rules.specs.Session.{Session, whole, halted, recordsOf, runRecords, session, sessionBytes, ran, front, bufferAfter, oneNumber}
 use Rattle.rules.proofs.Stretches.{pairWords-length}
-use Rattle.session.specs.Walks.{bookWith, counted, Passed, filledBy, numberBy}
+use Rattle.session.specs.Internal.{bookWith, counted, Passed, filledBy, numberBy}
 use Rattle.session.proofs.Runs.{session-row, session-price, session-opens, cell-inside}
 use Rattle.session.proofs.Loop.{passed-halted}
 
@@ -121,41 +121,41 @@ number-counted (halted n place) = refl
 pub number-is : (s : Session) (entry exit : List ℕ) (r : SessionAnswer) → Passed s entry exit r → numberBy (shownSession r) ≡ oneNumber s
 number-is s entry exit r p = ap numberBy (p .answer) ∙ number-counted s
 
-pub bytes-short : (limit : ℕ) (head bytes : List ℕ) → (length head ≡ 32 → ⊥) → 4294967296 ≡ oneNumber (sessionBytes paper limit head bytes)
+pub bytes-short : (most : ℕ) (head bytes : List ℕ) → (length head ≡ 32 → ⊥) → 4294967296 ≡ oneNumber (sessionBytes paper most head bytes)
 unfolding sessionBytes oneNumber
-bytes-short limit head bytes h = rw (ne-eqb (length head) 32 h) refl
+bytes-short most head bytes h = rw (ne-eqb (length head) 32 h) refl
 
-pub bytes-whole : (limit : ℕ) (head bytes : List ℕ) → length head ≡ 32
-    → sessionBytes paper limit head bytes
-    ≡ session paper limit (wordAt head 0 ∷ wordAt head 4 ∷ wordAt head 8 ∷ wordAt head 12 ∷ wordAt head 16 ∷ wordAt head 20 ∷ wordAt head 24 ∷ []) (steps (signedOf (wordAt head 28))) bytes
+pub bytes-whole : (most : ℕ) (head bytes : List ℕ) → length head ≡ 32
+    → sessionBytes paper most head bytes
+    ≡ session paper most (wordAt head 0 ∷ wordAt head 4 ∷ wordAt head 8 ∷ wordAt head 12 ∷ wordAt head 16 ∷ wordAt head 20 ∷ wordAt head 24 ∷ []) (steps (signedOf (wordAt head 28))) bytes
 unfolding sessionBytes below
-bytes-whole limit head bytes h = rw (eq-eqb (length head) 32 h) refl
+bytes-whole most head bytes h = rw (eq-eqb (length head) 32 h) refl
 
 -- ---- the row and the quantum's opening
 
-module _ (limit : ℕ) (words : List ℕ) (sp : Steps) (bytes : List ℕ) (row : Row) (is : accepted row ≡ readRow paper (Settled sp) words) where
+module _ (most : ℕ) (words : List ℕ) (sp : Steps) (bytes : List ℕ) (row : Row) (is : accepted row ≡ readRow paper (Settled sp) words) where
   pub opens-good : goodPrice (sp .0) ≡ true → goodRow paper row ≡ true
   opens-good f =
-      let (same, good, runs) = session-opens limit words sp bytes row is f in
+      let (same, good, runs) = session-opens most words sp bytes row is f in
       ap (goodRow paper) same ∙ good
 
   pub passed-opened : goodPrice (sp .0) ≡ true → (entry exit : List ℕ) (r : SessionAnswer)
-      → ((cell : ℕ) → cell < 186 → Passed (runRecords paper limit cell 1 (bookWith cell row sp []) (recordsOf bytes)) entry exit r)
-      → Passed (session paper limit words sp bytes) entry exit r
+      → ((cell : ℕ) → cell < 186 → Passed (runRecords paper most cell 1 (bookWith cell row sp []) (recordsOf bytes)) entry exit r)
+      → Passed (session paper most words sp bytes) entry exit r
   passed-opened f entry exit r h =
-      let (same, good, runs) = session-opens limit words sp bytes row is f in
+      let (same, good, runs) = session-opens most words sp bytes row is f in
       let cell = placeOf 1 (rowOf words .expiry) (rowOf words .quantum) in
-      let at = ap (λ (x : Row). runRecords paper limit cell 1 (bookWith cell x sp []) (recordsOf bytes)) same in
-      subst (λ (s : Session). Passed s entry exit r) (at ∙ sym runs) (h cell (cell-inside limit words sp bytes good))
+      let at = ap (λ (x : Row). runRecords paper most cell 1 (bookWith cell x sp []) (recordsOf bytes)) same in
+      subst (λ (s : Session). Passed s entry exit r) (at ∙ sym runs) (h cell (cell-inside most words sp bytes good))
 
-  pub passed-price : goodPrice (sp .0) ≡ false → (entry exit : List ℕ) → Passed (session paper limit words sp bytes) entry exit (S.Refused ArgumentOutOfRange 0)
+  pub passed-price : goodPrice (sp .0) ≡ false → (entry exit : List ℕ) → Passed (session paper most words sp bytes) entry exit (S.Refused ArgumentOutOfRange 0)
   passed-price f entry exit =
-      passed-halted (session paper limit words sp bytes) ArgumentOutOfRange 0 entry exit (session-price limit words sp bytes row is f)
+      passed-halted (session paper most words sp bytes) ArgumentOutOfRange 0 entry exit (session-price most words sp bytes row is f)
 
-pub passed-row : (limit : ℕ) (words : List ℕ) (sp : Steps) (bytes : List ℕ) (f : Refusal) → refused (numberOf f) ≡ readRow paper (Settled sp) words → (entry exit : List ℕ)
-    → Passed (session paper limit words sp bytes) entry exit (S.Refused f 0)
-passed-row limit words sp bytes f e entry exit =
-    passed-halted (session paper limit words sp bytes) f 0 entry exit (session-row limit words sp bytes (numberOf f) e)
+pub passed-row : (most : ℕ) (words : List ℕ) (sp : Steps) (bytes : List ℕ) (f : Refusal) → refused (numberOf f) ≡ readRow paper (Settled sp) words → (entry exit : List ℕ)
+    → Passed (session paper most words sp bytes) entry exit (S.Refused f 0)
+passed-row most words sp bytes f e entry exit =
+    passed-halted (session paper most words sp bytes) f 0 entry exit (session-row most words sp bytes (numberOf f) e)
 
 -- ---- the answers' numbers, case by case
 
@@ -165,12 +165,12 @@ filled-is r k w n e = sym (ap filledBy e)
 pub refused-is : (r : SessionAnswer) (f : Refusal) (place n : ℕ) → r ≡ S.Refused f place → n ≡ numberOf f → 4294967296 * n + place ≡ numberBy (shownSession r)
 refused-is r f place n e is = ap (λ (m : ℕ). 4294967296 * m + place) is ∙ sym (ap (λ (x : SessionAnswer). numberBy (shownSession x)) e)
 
-pub bytes-number : (limit : ℕ) (head bytes : List ℕ) → length head ≡ 32 → {a b c d e f g w : ℕ} {sp : Steps} → a ≡ wordAt head 0 → b ≡ wordAt head 4
+pub bytes-number : (most : ℕ) (head bytes : List ℕ) → length head ≡ 32 → {a b c d e f g w : ℕ} {sp : Steps} → a ≡ wordAt head 0 → b ≡ wordAt head 4
     → c ≡ wordAt head 8 → d ≡ wordAt head 12 → e ≡ wordAt head 16 → f ≡ wordAt head 20 → g ≡ wordAt head 24 → w ≡ wordAt head 28 → sp ≡ steps (signedOf w)
     → (n : ℕ) (r : SessionAnswer) (none none′ : List ℕ) → n ≡ numberBy (shownSession r)
-    → Passed (session paper limit (a ∷ b ∷ c ∷ d ∷ e ∷ f ∷ g ∷ []) sp bytes) none none′ r → n ≡ oneNumber (sessionBytes paper limit head bytes)
-bytes-number limit head bytes l {a} {b} {c} {d} {e} {f} {g} {w} {sp} a′ b′ c′ d′ e′ f′ g′ w′ sp′ n r none none′ is p =
-    is ∙ number-is (session paper limit (a ∷ b ∷ c ∷ d ∷ e ∷ f ∷ g ∷ []) sp bytes) none none′ r p
+    → Passed (session paper most (a ∷ b ∷ c ∷ d ∷ e ∷ f ∷ g ∷ []) sp bytes) none none′ r → n ≡ oneNumber (sessionBytes paper most head bytes)
+bytes-number most head bytes l {a} {b} {c} {d} {e} {f} {g} {w} {sp} a′ b′ c′ d′ e′ f′ g′ w′ sp′ n r none none′ is p =
+    is ∙ number-is (session paper most (a ∷ b ∷ c ∷ d ∷ e ∷ f ∷ g ∷ []) sp bytes) none none′ r p
     ∙ ap oneNumber
-    ((λ i. session paper limit (a′ i ∷ b′ i ∷ c′ i ∷ d′ i ∷ e′ i ∷ f′ i ∷ g′ i ∷ []) ((sp′ ∙ ap (λ (x : ℕ). steps (signedOf x)) w′) i) bytes)
-    ∙ sym (bytes-whole limit head bytes l))
+    ((λ i. session paper most (a′ i ∷ b′ i ∷ c′ i ∷ d′ i ∷ e′ i ∷ f′ i ∷ g′ i ∷ []) ((sp′ ∙ ap (λ (x : ℕ). steps (signedOf x)) w′) i) bytes)
+    ∙ sym (bytes-whole most head bytes l))

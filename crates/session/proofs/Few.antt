@@ -10,10 +10,10 @@ use lib.ListN.{length, length-append}
 use borrow.Author.Tests.{ltb-true, ltb-false}
 use Rattle.rules.specs.declared.Steps.{Steps}
 use Rattle.rules.specs.declared.Row.{Row}
-use Rattle.rules.specs.declared.Spread.{Spread}
-use Rattle.rules.specs.declared.Spread.the-variants.{Settled}
+use Rattle.rules.specs.declared.SpreadRule.{SpreadRule}
+use Rattle.rules.specs.declared.SpreadRule.the-variants.{Settled}
 use Rattle.rules.specs.declared.Event.{Event}
-use Rattle.rules.specs.Lists.{if_then_else_, keep}
+use Rattle.rules.specs.Lists.{if_then_else_, filter}
 use Rattle.rules.specs.Terms.{paper}
 use Rattle.rules.specs.Rows.{rowOf}
 use Rattle.rules.specs.Cells.{placeOf}
@@ -26,13 +26,13 @@ use Rattle.rules.specs.Answers.{Outcome, accepted, refused}
 use Rattle.rules.specs.Book.{eventRefusal}
 use Rattle.rules.specs.Bounds.{EventBounds}
 use Rattle.rules.specs.Records.{readRecord}
-use Rattle.rules.specs.Session.{sheetLimit, whole, recordsOf, runRecords, session}
+use Rattle.rules.specs.Session.{mostSheetRecords, whole, recordsOf, runRecords, session}
 use Rattle.rules.proofs.Orders.{present-snoc}
 use Rattle.rules.proofs.Kept.{keptAt-now, keptAt-snoc}
 use Rattle.rules.proofs.Stretches.{stretches-ext, stretches-false, stretches-new, stretches-longer}
 use Rattle.rules.proofs.Refusals.{event-passes}
 use Rattle.rules.proofs.Bounds.{event-bounds-none, event-bounds-more}
-use Rattle.session.specs.Walks.{bookWith, refusalBy, followed}
+use Rattle.session.specs.Internal.{bookWith, refusalBy, followed}
 use Rattle.session.proofs.Pairs.{length-snoc, before-in, before-ext}
 use Rattle.session.proofs.Loop.{not-whole}
 use Rattle.session.proofs.Runs.{runs-past, runs-refused, runs-taken, runs-end, session-begun, cell-inside}
@@ -81,18 +81,18 @@ judged n false false false = omega arith
 -- ---- event by event
 
 -- the pairs so far cost no more than the events, and one
-abbrev Few : Row → Spread → List Event → Type 0
+abbrev Few : Row → SpreadRule → List Event → Type 0
 Few row sp es = costBelow (keptAt row sp es) (present es) (ordersKeep row sp (live es)) ≤ length es + 1
 
-nothing-keeps : (row : Row) (sp : Spread) → ordersKeep row sp (live []) ≡ false
-unfolding ordersKeep quotesKeep best lead keep live applyAll
+nothing-keeps : (row : Row) (sp : SpreadRule) → ordersKeep row sp (live []) ≡ false
+unfolding ordersKeep quotesKeep best lead filter live applyAll
 nothing-keeps row sp = refl
 
-few-none : (row : Row) (sp : Spread) → Few row sp []
+few-none : (row : Row) (sp : SpreadRule) → Few row sp []
 unfolding present timeFrom stretches
 few-none row sp = omega (arith, ap (costBelow (keptAt row sp []) (present [])) (nothing-keeps row sp))
 
-module _ (row : Row) (sp : Spread) (es : List Event) (g : EventBounds row es) where
+module _ (row : Row) (sp : SpreadRule) (es : List Event) (g : EventBounds row es) where
   -- time runs on to t
   onward : (t : ℕ) → present es ≤ t → costBelow (keptAt row sp es) t (ordersKeep row sp (live es)) ≤ costBelow (keptAt row sp es) (present es) (ordersKeep row sp (live es))
   onward t h = go (ltb (present es) t) refl
@@ -127,19 +127,19 @@ module _ (row : Row) (sp : Spread) (es : List Event) (g : EventBounds row es) wh
 
 -- ---- record by record
 
-module _ (limit cell : ℕ) (row : Row) (sp : Steps) (inside : cell < 186) (k w : ℕ) (ss : List Stretch) where
+module _ (most cell : ℕ) (row : Row) (sp : Steps) (inside : cell < 186) (k w : ℕ) (ss : List Stretch) where
   abbrev Ran : ℕ → List Event → List (List ℕ) → Type 0
-  Ran place es rs = runRecords paper limit cell place (bookWith cell row sp es) rs ≡ whole k w ss
+  Ran place es rs = runRecords paper most cell place (bookWith cell row sp es) rs ≡ whole k w ss
 
   abbrev Halves : ℕ → List Event → List (List ℕ) → Type 0
-  Halves place es rs = (2 * length ss ≤ length es + length rs + 1) × (place + length rs ≤ limit + 1)
+  Halves place es rs = (2 * length ss ≤ length es + length rs + 1) × (place + length rs ≤ most + 1)
 
   abbrev Counts : ℕ → List (List ℕ) → Type 0
-  Counts place rs = (es : List Event) → EventBounds row es → Few row (Settled sp) es → place ≤ limit + 1 → Ran place es rs → Halves place es rs
+  Counts place rs = (es : List Event) → EventBounds row es → Few row (Settled sp) es → place ≤ most + 1 → Ran place es rs → Halves place es rs
 
   none-left : (place : ℕ) → Counts place []
   none-left place es g few small h =
-      let same : keptStretches row (Settled sp) es ≡ ss = parts (sym (runs-end limit cell row sp place es inside) ∙ h) in
+      let same : keptStretches row (Settled sp) es ≡ ss = parts (sym (runs-end most cell row sp place es inside) ∙ h) in
       (omega (arith, ap length same, few-end row (Settled sp) es g few), omega arith)
     where
       parts : {a b : ℕ} {ts : List Stretch} → whole a b ts ≡ whole k w ss → ts ≡ ss
@@ -147,41 +147,41 @@ module _ (limit cell : ℕ) (row : Row) (sp : Steps) (inside : cell < 186) (k w 
 
   module _ (place : ℕ) (r : List ℕ) (rs : List (List ℕ)) (further : Counts (suc place) rs) (es : List Event) (g : EventBounds row es) (few : Few row (Settled sp) es)
       (h : Ran place es (r ∷ rs)) where
-    taken : (o : Outcome Event) → readRecord r ≡ o → place ≤ limit → refusalBy row es (readRecord r) ≡ 0 → Halves place es (r ∷ rs)
+    taken : (o : Outcome Event) → readRecord r ≡ o → place ≤ most → refusalBy row es (readRecord r) ≡ 0 → Halves place es (r ∷ rs)
     taken (accepted e) o l z =
         let passes : eventRefusal row es e ≡ 0 = sym (ap (refusalBy row es) o) ∙ z in
         let runs =
-        ap (λ (x : Outcome Event). runRecords paper limit cell (suc place) (bookWith cell row sp (followed es x)) rs) (sym o)
-        ∙ sym (runs-taken limit cell row sp place es r rs l z)
+        ap (λ (x : Outcome Event). runRecords paper most cell (suc place) (bookWith cell row sp (followed es x)) rs) (sym o)
+        ∙ sym (runs-taken most cell row sp place es r rs l z)
         ∙ h in
         let f = further (es ++ (e ∷ [])) (event-bounds-more row es e g passes) (few-more row (Settled sp) es g e passes few) (omega arith) runs in
         (omega (arith, f .0, length-append es (e ∷ [])), omega (arith, f .1))
     taken (refused n) o l z = absurd (let a = unread r n o in let b : n ≡ 0 = sym (ap (refusalBy row es) o) ∙ z in omega arith)
 
-    by-refusal : (n : ℕ) → refusalBy row es (readRecord r) ≡ n → place ≤ limit → Halves place es (r ∷ rs)
+    by-refusal : (n : ℕ) → refusalBy row es (readRecord r) ≡ n → place ≤ most → Halves place es (r ∷ rs)
     by-refusal zero z l = taken (readRecord r) refl l z
-    by-refusal (suc n) z l = absurd (not-whole (suc n) place k w ss (runs-refused limit cell row sp place es r rs n l z) h)
+    by-refusal (suc n) z l = absurd (not-whole (suc n) place k w ss (runs-refused most cell row sp place es r rs n l z) h)
 
-    by-place : (b : Bool) → ltb limit place ≡ b → Halves place es (r ∷ rs)
-    by-place true e = absurd (not-whole 15 place k w ss (runs-past limit cell row sp place es r rs (ltb-true limit place e)) h)
-    by-place false e = by-refusal (refusalBy row es (readRecord r)) refl (ltb-false limit place e)
+    by-place : (b : Bool) → ltb most place ≡ b → Halves place es (r ∷ rs)
+    by-place true e = absurd (not-whole 15 place k w ss (runs-past most cell row sp place es r rs (ltb-true most place e)) h)
+    by-place false e = by-refusal (refusalBy row es (readRecord r)) refl (ltb-false most place e)
 
   counts : (place : ℕ) (rs : List (List ℕ)) → Counts place rs
   counts place [] = none-left place
-  counts place (r ∷ rs) = λ es g few small h. by-place place r rs (counts (suc place) rs) es g few h (ltb limit place) refl
+  counts place (r ∷ rs) = λ es g few small h. by-place place r rs (counts (suc place) rs) es g few h (ltb most place) refl
 
 -- of a run that is not refused
-pub few-pairs : (limit : ℕ) (words : List ℕ) (sp : Steps) (bytes : List ℕ) (k w : ℕ) (ss : List Stretch) → session paper limit words sp bytes ≡ whole k w ss
-    → (2 * length ss ≤ length (recordsOf bytes) + 1) × (length (recordsOf bytes) ≤ limit)
-few-pairs limit words sp bytes k w ss h =
+pub few-pairs : (most : ℕ) (words : List ℕ) (sp : Steps) (bytes : List ℕ) (k w : ℕ) (ss : List Stretch) → session paper most words sp bytes ≡ whole k w ss
+    → (2 * length ss ≤ length (recordsOf bytes) + 1) × (length (recordsOf bytes) ≤ most)
+few-pairs most words sp bytes k w ss h =
     let row = rowOf words in
     let cell = placeOf 1 (row .expiry) (row .quantum) in
-    let (seven, good, price, runs) = session-begun limit words sp bytes k w ss h in
+    let (seven, good, price, runs) = session-begun most words sp bytes k w ss h in
     let c =
-    counts limit cell row sp (cell-inside limit words sp bytes good) k w ss 1 (recordsOf bytes) [] (event-bounds-none row) (few-none row (Settled sp)) (omega arith)
+    counts most cell row sp (cell-inside most words sp bytes good) k w ss 1 (recordsOf bytes) [] (event-bounds-none row) (few-none row (Settled sp)) (omega arith)
     runs in
     (omega (arith, c .0), omega (arith, c .1))
 
-pub sheet-fits : (words : List ℕ) (sp : Steps) (bytes : List ℕ) (k w : ℕ) (ss : List Stretch) → session paper sheetLimit words sp bytes ≡ whole k w ss
+pub sheet-fits : (words : List ℕ) (sp : Steps) (bytes : List ℕ) (k w : ℕ) (ss : List Stretch) → session paper mostSheetRecords words sp bytes ≡ whole k w ss
     → length ss ≤ 800
-sheet-fits words sp bytes k w ss h = let f = few-pairs sheetLimit words sp bytes k w ss h in omega (arith, f .0, f .1)
+sheet-fits words sp bytes k w ss h = let f = few-pairs mostSheetRecords words sp bytes k w ss h in omega (arith, f .0, f .1)

@@ -10,7 +10,7 @@ use lib.Seq.{drop-drop}
 use borrow.Author.Tests.{lt-leb, ltb-true, ltb-false}
 use Rattle.rules.specs.declared.Steps.{Steps}
 use Rattle.rules.specs.declared.Row.{Row}
-use Rattle.rules.specs.declared.Spread.the-variants.{Settled}
+use Rattle.rules.specs.declared.SpreadRule.the-variants.{Settled}
 use Rattle.rules.specs.declared.Event.{Event}
 use Rattle.rules.specs.declared.Refusal.{Refusal}
 use Rattle.rules.specs.declared.Refusal.the-variants.{BadRecord}
@@ -28,11 +28,11 @@ use Rattle.rules.specs.Session.{Session, whole, halted, recordsOf, runRecords}
 use Rattle.rules.proofs.Bounds.{event-bounds-none, event-bounds-more}
 use Rattle.book.specs.Table.{tableOf}
 use Rattle.quantum.specs.declared.Duty.{Duty}
-use Rattle.quantum.specs.Standing.{dutyOf, tableAfter}
+use Rattle.quantum.specs.Represents.{dutyOf, tableAfter}
 use Rattle.quantum.proofs.Answers.{event-numbered}
-use Rattle.session.specs.declared.Walk.{Walk}
+use Rattle.session.specs.declared.Progress.{Progress}
 use Rattle.session.specs.declared.Stepped.{Stepped}
-use Rattle.session.specs.Walks.{Holds, walkAt, pairsOf, refusalBy, followed, Walking, Walked, Ending, Ends, Advanced, bookWith, counted, Going, Passed}
+use Rattle.session.specs.Internal.{Holds, progressAt, pairsOf, refusalBy, followed, ReachedRun, RepresentsRun, Ending, Ends, Advanced, bookWith, counted, Going, Passed}
 use Rattle.session.proofs.Runs.{records-none, records-some, runs-past, runs-refused, runs-taken, runs-end}
 
 -- ---- how a pass ends
@@ -65,7 +65,7 @@ pub part-is : (bytes : List ℕ) (at : ℕ) → take (at + 20 - at) (drop at byt
 part-is bytes at = let n : at + 20 - at ≡ 20 = omega arith in ap (λ (n : ℕ). take n (drop at bytes)) n
 
 -- a table of no orders
-pub none-live : (row : Row) (table : List ℕ) → table ≡ tableOf (row .least .0) [] → table ≡ tableAfter row []
+pub none-live : (row : Row) (table : List ℕ) → table ≡ tableOf (row .minimum .0) [] → table ≡ tableAfter row []
 unfolding live applyAll
 none-live row table e = e
 
@@ -96,11 +96,11 @@ followed-bounds : (row : Row) (es : List Event) (o : Outcome Event) → EventBou
 followed-bounds row es (refused n) g h = g
 followed-bounds row es (accepted e) g h = event-bounds-more row es e g h
 
-module _ (limit : ℕ) (row : Row) (sp : Steps) (bytes base : List ℕ) where
+module _ (most : ℕ) (row : Row) (sp : Steps) (bytes base : List ℕ) where
   abbrev Run : ℕ → Session
-  Run cell = runRecords paper limit cell 1 (bookWith cell row sp []) (recordsOf bytes)
+  Run cell = runRecords paper most cell 1 (bookWith cell row sp []) (recordsOf bytes)
 
-  pub going-start : (w : Walk) (table : List ℕ) → w ≡ walkAt row (Settled sp) [] → table ≡ tableAfter row [] → Going limit row sp bytes base w 0 1 table base
+  pub going-start : (w : Progress) (table : List ℕ) → w ≡ progressAt row (Settled sp) [] → table ≡ tableAfter row [] → Going most row sp bytes base w 0 1 table base
   unfolding present timeFrom stretches pairWords
   going-start w table is t =
       record {
@@ -114,9 +114,9 @@ module _ (limit : ℕ) (row : Row) (sp : Steps) (bytes base : List ℕ) where
         runs = λ cell. refl;
       }
 
-  module _ (w : Walk) (at place : ℕ) (table buffer : List ℕ) (g : Going limit row sp bytes base w at place table buffer) where
-    pub going-walking : (duty : Duty) (hints : List ℕ) → goodRow paper row ≡ true → duty ≡ dutyOf row (Settled sp) → length hints ≡ 1024 → Walking w duty table hints
-    going-walking duty hints good d h =
+  module _ (w : Progress) (at place : ℕ) (table buffer : List ℕ) (g : Going most row sp bytes base w at place table buffer) where
+    pub going-reached : (duty : Duty) (hints : List ℕ) → goodRow paper row ≡ true → duty ≡ dutyOf row (Settled sp) → length hints ≡ 1024 → ReachedRun w duty table hints
+    going-reached duty hints good d h =
         record {
           row = row;
           sp = Settled sp;
@@ -138,46 +138,46 @@ module _ (limit : ℕ) (row : Row) (sp : Steps) (bytes base : List ℕ) where
     going-end r exit l ends cell c =
         let e = ends (Settled sp) (g .events) base (g .bounds) (g .is) (g .holds) in
         let none : recordsOf (drop at bytes) ≡ [] = records-none (drop at bytes) (omega (arith, length-drop at bytes)) in
-        let run = g .runs cell ∙ ap (runRecords paper limit cell place (bookWith cell row sp (g .events))) none ∙ runs-end limit cell row sp place (g .events) c in
+        let run = g .runs cell ∙ ap (runRecords paper most cell place (bookWith cell row sp (g .events))) none ∙ runs-end most cell row sp place (g .events) c in
         passed-whole (Run cell) _ _ (keptStretches row (Settled sp) (g .events)) base exit r run (e .0) (e .1)
 
     -- a record is there
     module _ (l : at < length bytes) where
       next-record : (cell : ℕ) → Run cell
-          ≡ runRecords paper limit cell place (bookWith cell row sp (g .events)) (take 20 (drop at bytes) ∷ recordsOf (drop 20 (drop at bytes)))
+          ≡ runRecords paper most cell place (bookWith cell row sp (g .events)) (take 20 (drop at bytes) ∷ recordsOf (drop 20 (drop at bytes)))
       next-record cell =
           g .runs cell
-          ∙ ap (runRecords paper limit cell place (bookWith cell row sp (g .events))) (records-some (drop at bytes) (omega (arith, length-drop at bytes)))
+          ∙ ap (runRecords paper most cell place (bookWith cell row sp (g .events))) (records-some (drop at bytes) (omega (arith, length-drop at bytes)))
 
-      pub going-past : (exit : List ℕ) → limit < place → (cell : ℕ) → cell < 186 → Passed (Run cell) base exit (S.Refused BadRecord place)
+      pub going-past : (exit : List ℕ) → most < place → (cell : ℕ) → cell < 186 → Passed (Run cell) base exit (S.Refused BadRecord place)
       going-past exit p cell c =
           passed-halted (Run cell) BadRecord place base exit
-          (next-record cell ∙ runs-past limit cell row sp place (g .events) (take 20 (drop at bytes)) (recordsOf (drop 20 (drop at bytes))) p)
+          (next-record cell ∙ runs-past most cell row sp place (g .events) (take 20 (drop at bytes)) (recordsOf (drop 20 (drop at bytes))) p)
 
       -- what refuses the record, by its number
-      stops : (exit : List ℕ) (f : Refusal) (n : ℕ) → numberOf f ≡ suc n → place ≤ limit
+      stops : (exit : List ℕ) (f : Refusal) (n : ℕ) → numberOf f ≡ suc n → place ≤ most
           → refusalBy row (g .events) (readRecord (take 20 (drop at bytes))) ≡ suc n → (cell : ℕ) → Passed (Run cell) base exit (S.Refused f place)
       stops exit f n z p k cell =
           passed-halted (Run cell) f place base exit
           (next-record cell
-          ∙ runs-refused limit cell row sp place (g .events) (take 20 (drop at bytes)) (recordsOf (drop 20 (drop at bytes))) n p k
+          ∙ runs-refused most cell row sp place (g .events) (take 20 (drop at bytes)) (recordsOf (drop 20 (drop at bytes))) n p k
           ∙ ap (λ (m : ℕ). halted m place) (sym z))
 
       -- fewer than 20 bytes are left
       pub going-short : (exit : List ℕ) → length bytes < at + 20 → (cell : ℕ) → cell < 186 → Passed (Run cell) base exit (S.Refused BadRecord place)
-      going-short exit h cell c = go (ltb limit place) refl
+      going-short exit h cell c = go (ltb most place) refl
         where
           few : length (take 20 (drop at bytes)) < 20
           few = omega (arith, length-take 20 (drop at bytes), length-drop at bytes)
 
-          go : (b : Bool) → ltb limit place ≡ b → Passed (Run cell) base exit (S.Refused BadRecord place)
-          go true e = going-past exit (ltb-true limit place e) cell c
+          go : (b : Bool) → ltb most place ≡ b → Passed (Run cell) base exit (S.Refused BadRecord place)
+          go true e = going-past exit (ltb-true most place e) cell c
           go false e =
-              stops exit BadRecord 14 refl (ltb-false limit place e) (ap (refusalBy row (g .events)) (short-record (take 20 (drop at bytes)) few)) cell
+              stops exit BadRecord 14 refl (ltb-false most place e) (ap (refusalBy row (g .events)) (short-record (take 20 (drop at bytes)) few)) cell
 
-      module _ (p : place ≤ limit) (duty : Duty) (d : duty ≡ dutyOf row (Settled sp)) (r : Stepped) (next exit : List ℕ) (part : List ℕ) (cut : part ≡ take 20 (drop at bytes))
+      module _ (p : place ≤ most) (duty : Duty) (d : duty ≡ dutyOf row (Settled sp)) (r : Stepped) (next exit : List ℕ) (part : List ℕ) (cut : part ≡ take 20 (drop at bytes))
           (adv : Advanced w duty (readRecord part) r table next buffer exit) where
-        stood : Walked row (Settled sp) (g .events) w duty table
+        stood : RepresentsRun row (Settled sp) (g .events) w duty table
         stood = record { bounds = g .bounds; is = g .is; duty-is = d; table-is = g .table-is }
 
         judged : r .refusal ≡ refusalBy row (g .events) (readRecord (take 20 (drop at bytes)))
@@ -195,26 +195,26 @@ module _ (limit : ℕ) (row : Row) (sp : Steps) (bytes base : List ℕ) where
             go zero z = absurd (omega (arith, h, z))
             go (suc n) z = stops exit f n (e ∙ z) p (sym judged ∙ z) cell
 
-        pub going-on : at + 20 ≤ length bytes → r .refusal ≤ 0 → Going limit row sp bytes base (r .walk) (at + 20) (place + 1) next exit
+        pub going-on : at + 20 ≤ length bytes → r .refusal ≤ 0 → Going most row sp bytes base (r .progress) (at + 20) (place + 1) next exit
         going-on room e =
             let o = readRecord (take 20 (drop at bytes)) in
             let zero : refusalBy row (g .events) o ≡ 0 = omega (arith, judged, e) in
             let same = ap readRecord cut in
             let zero′ : refusalBy row (g .events) (readRecord part) ≡ 0 = ap (refusalBy row (g .events)) same ∙ zero in
-            let (walk, held) = adv .walk row (Settled sp) (g .events) base stood (g .holds) zero′ in
+            let (progress, held) = adv .progress row (Settled sp) (g .events) base stood (g .holds) zero′ in
             let more = ap (followed (g .events)) same in
             let rest : drop 20 (drop at bytes) ≡ drop (at + 20) bytes = drop-drop 20 at bytes in
             record {
               events = followed (g .events) o;
               bounds = followed-bounds row (g .events) o (g .bounds) zero;
-              is = walk ∙ ap (walkAt row (Settled sp)) more;
+              is = progress ∙ ap (progressAt row (Settled sp)) more;
               table-is = adv .orders row (Settled sp) (g .events) stood zero′ ∙ ap (tableAfter row) more;
               holds = subst (λ (es : List Event). Holds base (pairsOf row (Settled sp) es) exit) more held;
               inside = room;
               small = omega arith;
               runs = λ cell.
                   next-record cell
-                  ∙ runs-taken limit cell row sp place (g .events) (take 20 (drop at bytes)) (recordsOf (drop 20 (drop at bytes))) p zero
-                  ∙ ap (λ (n : ℕ). runRecords paper limit cell n (bookWith cell row sp (followed (g .events) o)) (recordsOf (drop 20 (drop at bytes)))) (omega arith)
-                  ∙ ap (λ (l : List ℕ). runRecords paper limit cell (place + 1) (bookWith cell row sp (followed (g .events) o)) (recordsOf l)) rest;
+                  ∙ runs-taken most cell row sp place (g .events) (take 20 (drop at bytes)) (recordsOf (drop 20 (drop at bytes))) p zero
+                  ∙ ap (λ (n : ℕ). runRecords paper most cell n (bookWith cell row sp (followed (g .events) o)) (recordsOf (drop 20 (drop at bytes)))) (omega arith)
+                  ∙ ap (λ (l : List ℕ). runRecords paper most cell (place + 1) (bookWith cell row sp (followed (g .events) o)) (recordsOf l)) rest;
             }

@@ -13,7 +13,7 @@ use Rattle.rules.specs.Stretches.{Stretch, stretch, stretches, pairWords}
 use Rattle.rules.specs.Runs.{before, endsAt, Inside}
 use Rattle.rules.proofs.Stretches.{stretches-ext, stretches-false, stretches-new, stretches-longer, stretches-few, stretches-run, stretches-ends, pairWords-append, pairWords-length}
 use Rattle.session.specs.declared.Marks.{Marks}
-use Rattle.session.specs.Walks.{lastOffset, marksAt, Holds, putPair, begunAt}
+use Rattle.session.specs.Internal.{lastOffset, marksAt, Holds, putPair, begunAt}
 
 -- ---- the last one
 

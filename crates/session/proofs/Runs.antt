@@ -12,7 +12,7 @@ use lib.Seq.{drop-drop, getD-set-same}
 use borrow.Author.Tests.{lt-ltb, le-ltb, leb-true, leb-false, eqb-true}
 use Rattle.rules.specs.declared.Steps.{Steps}
 use Rattle.rules.specs.declared.Row.{Row}
-use Rattle.rules.specs.declared.Spread.the-variants.{Settled}
+use Rattle.rules.specs.declared.SpreadRule.the-variants.{Settled}
 use Rattle.rules.specs.declared.Cell.{Cell}
 use Rattle.rules.specs.declared.Event.{Event}
 use Rattle.rules.specs.Lists.{below}
@@ -21,16 +21,16 @@ use Rattle.rules.specs.Units.{kopecks, goodPrice, goodCharge}
 use Rattle.rules.specs.Rows.{rowOf, goodRow, goodRowFor}
 use Rattle.rules.specs.Cells.{blankCell, blankCells, placeOf, cellAt}
 use Rattle.rules.specs.Kept.{keptBelow}
-use Rattle.rules.specs.Lapses.{noLimit, lapsesBelow, goodLimit, withinLimit}
+use Rattle.rules.specs.Lapses.{noLapseLimit, lapsesBelow, goodLapseLimit, withinLapseLimit}
 use Rattle.rules.specs.Pay.{met, weightBy, weight, cellWeight}
 use Rattle.rules.specs.Stretches.{Stretch, keptStretches}
 use Rattle.rules.specs.Answers.{Outcome, accepted, refused, outcomeBy}
 use Rattle.rules.specs.Book.{Open, Send, Close, Quoting, Book, freshBook, isOpen, Cause, lowest, cause, causes, eventRefusal, readRow, refusalOf, closedCell, following, changed, step}
 use Rattle.rules.specs.Records.{readRecord}
-use Rattle.rules.specs.Session.{Session, whole, halted, withoutLimit, unless, recordsOf, readRefusal, recordRefusal, readStep, closing, runRecords, session}
+use Rattle.rules.specs.Session.{Session, whole, halted, withoutLapseLimit, unless, recordsOf, readRefusal, recordRefusal, readStep, closing, runRecords, session}
 use Rattle.rules.proofs.Refusals.{stop, call-passes, passes-call, step-accepted, OpenPasses}
 use Rattle.rules.proofs.Bounds.{row-bounds, place-small}
-use Rattle.session.specs.Walks.{countFrom, bookWith, refusalBy, followed}
+use Rattle.session.specs.Internal.{countFrom, bookWith, refusalBy, followed}
 
 -- ---- the records of some bytes, from the first on
 
@@ -81,9 +81,9 @@ records-some bytes l =
     ∙ ap (λ (n : ℕ). take 20 bytes ∷ map g (below ((n + 19) / 20))) (sym (length-drop 20 bytes))
 
 -- with no limit the share alone decides
-no-limit : (b : Bool) (lapses : ℕ) → b && withinLimit noLimit lapses ≡ b
-unfolding withinLimit
-no-limit b lapses = and-true b
+no-lapse-limit : (b : Bool) (lapses : ℕ) → b && withinLapseLimit noLapseLimit lapses ≡ b
+unfolding withinLapseLimit
+no-lapse-limit b lapses = and-true b
 
 -- an accepted event is counted
 count-snoc : (n : ℕ) (es : List Event) (e : Event) → following (countFrom n es) ≡ countFrom n (es ++ (e ∷ []))
@@ -92,7 +92,7 @@ count-snoc n (x ∷ es) e = count-snoc (following n) es e
 
 -- ---- a record
 
-module _ (limit cell : ℕ) (row : Row) (sp : Steps) where
+module _ (most cell : ℕ) (row : Row) (sp : Steps) where
   send-refusal : (es : List Event) (e : Event) → refusalOf paper (bookWith cell row sp es) (Send e) ≡ eventRefusal row es e
   unfolding refusalOf causes eventRefusal
   send-refusal es e = refl
@@ -102,7 +102,7 @@ module _ (limit cell : ℕ) (row : Row) (sp : Steps) where
   unfolding changed
   step-send es e h =
       step-accepted paper (bookWith cell row sp es) (Send e) (send-refusal es e ∙ h)
-      ∙ ap (λ (n : ℕ). record { running = Quoting cell row (withoutLimit sp) (es ++ (e ∷ [])); cells = blankCells; count = n }) (count-snoc (following 0) es e)
+      ∙ ap (λ (n : ℕ). record { running = Quoting cell row (withoutLapseLimit sp) (es ++ (e ∷ [])); cells = blankCells; count = n }) (count-snoc (following 0) es e)
 
   read-refusal : (es : List Event) (o : Outcome Event) → readRefusal paper o (bookWith cell row sp es) ≡ refusalBy row es o
   read-refusal es (refused n) = refl
@@ -114,25 +114,25 @@ module _ (limit cell : ℕ) (row : Row) (sp : Steps) where
   read-step es (accepted e) h = step-send es e h
 
   -- the record past the limit
-  pub runs-past : (place : ℕ) (es : List Event) (r : List ℕ) (rs : List (List ℕ)) → limit < place
-      → runRecords paper limit cell place (bookWith cell row sp es) (r ∷ rs) ≡ halted 15 place
+  pub runs-past : (place : ℕ) (es : List Event) (r : List ℕ) (rs : List (List ℕ)) → most < place
+      → runRecords paper most cell place (bookWith cell row sp es) (r ∷ rs) ≡ halted 15 place
   unfolding runRecords recordRefusal
-  runs-past place es r rs h = rw (lt-ltb limit place h) refl
+  runs-past place es r rs h = rw (lt-ltb most place h) refl
 
   -- a record that is refused
-  pub runs-refused : (place : ℕ) (es : List Event) (r : List ℕ) (rs : List (List ℕ)) (n : ℕ) → place ≤ limit
+  pub runs-refused : (place : ℕ) (es : List Event) (r : List ℕ) (rs : List (List ℕ)) (n : ℕ) → place ≤ most
       → refusalBy row es (readRecord r) ≡ suc n
-      → runRecords paper limit cell place (bookWith cell row sp es) (r ∷ rs) ≡ halted (suc n) place
+      → runRecords paper most cell place (bookWith cell row sp es) (r ∷ rs) ≡ halted (suc n) place
   unfolding runRecords recordRefusal
-  runs-refused place es r rs n h e = rw (le-ltb limit place h, read-refusal es (readRecord r), e) refl
+  runs-refused place es r rs n h e = rw (le-ltb most place h, read-refusal es (readRecord r), e) refl
 
   -- a record that is taken
-  pub runs-taken : (place : ℕ) (es : List Event) (r : List ℕ) (rs : List (List ℕ)) → place ≤ limit
+  pub runs-taken : (place : ℕ) (es : List Event) (r : List ℕ) (rs : List (List ℕ)) → place ≤ most
       → refusalBy row es (readRecord r) ≡ 0
-      → runRecords paper limit cell place (bookWith cell row sp es) (r ∷ rs)
-      ≡ runRecords paper limit cell (suc place) (bookWith cell row sp (followed es (readRecord r))) rs
+      → runRecords paper most cell place (bookWith cell row sp es) (r ∷ rs)
+      ≡ runRecords paper most cell (suc place) (bookWith cell row sp (followed es (readRecord r))) rs
   unfolding runRecords recordRefusal
-  runs-taken place es r rs h e = rw (le-ltb limit place h, read-refusal es (readRecord r), e, read-step es (readRecord r) e) refl
+  runs-taken place es r rs h e = rw (le-ltb most place h, read-refusal es (readRecord r), e, read-step es (readRecord r) e) refl
 
   -- ---- the end
 
@@ -141,24 +141,24 @@ module _ (limit cell : ℕ) (row : Row) (sp : Steps) where
   close-passes es = refl
 
   pub closed-cell : (es : List Event) → cell < 186
-      → cellAt (step paper (bookWith cell row sp es) (Close (kopecks 0) (kopecks 0)) .cells) cell ≡ closedCell row (withoutLimit sp) es (kopecks 0) (kopecks 0)
+      → cellAt (step paper (bookWith cell row sp es) (Close (kopecks 0) (kopecks 0)) .cells) cell ≡ closedCell row (withoutLapseLimit sp) es (kopecks 0) (kopecks 0)
   unfolding changed
   closed-cell es l =
       ap (λ (b : Book). cellAt (b .cells) cell) (step-accepted paper (bookWith cell row sp es) (Close (kopecks 0) (kopecks 0)) (close-passes es))
-      ∙ getD-set-same blankCells cell (closedCell row (withoutLimit sp) es (kopecks 0) (kopecks 0)) blankCell (omega (arith, length-replicate 186 blankCell))
+      ∙ getD-set-same blankCells cell (closedCell row (withoutLapseLimit sp) es (kopecks 0) (kopecks 0)) blankCell (omega (arith, length-replicate 186 blankCell))
 
   -- the cell's weight is the share's
   pub closed-weight : (es : List Event)
-      → cellWeight paper (closedCell row (withoutLimit sp) es (kopecks 0) (kopecks 0))
+      → cellWeight paper (closedCell row (withoutLapseLimit sp) es (kopecks 0) (kopecks 0))
       ≡ weight paper (keptBelow row (Settled sp) es (row .length .0)) (row .length .0) (row .share)
   unfolding weight
   closed-weight es =
       let kept = keptBelow row (Settled sp) es (row .length .0) in
       ap (λ (b : Bool). weightBy paper b kept (row .length .0) (row .share))
-      (no-limit (met paper kept (row .length .0) (row .share)) (lapsesBelow row (Settled sp) es (row .length .0)))
+      (no-lapse-limit (met paper kept (row .length .0) (row .share)) (lapsesBelow row (Settled sp) es (row .length .0)))
 
   pub runs-end : (place : ℕ) (es : List Event) → cell < 186
-      → runRecords paper limit cell place (bookWith cell row sp es) []
+      → runRecords paper most cell place (bookWith cell row sp es) []
       ≡ whole (keptBelow row (Settled sp) es (row .length .0)) (weight paper (keptBelow row (Settled sp) es (row .length .0)) (row .length .0) (row .share)) (keptStretches row (Settled sp) es)
   unfolding runRecords closing
   runs-end place es l =
@@ -182,18 +182,18 @@ first-accepted false b rest row r e = let z : _≡_ {A = ℕ} 0 1 = cc in absurd
 first-accepted true false rest row r e = let z : _≡_ {A = ℕ} 0 1 = cc in absurd (omega arith)
 first-accepted true true rest row r e = (refl, refl, cc, refl)
 
-module _ (limit : ℕ) (words : List ℕ) (sp : Steps) (bytes : List ℕ) where
-  session-stops : (n : ℕ) → refusalOf paper freshBook (Open words 1 (withoutLimit sp)) ≡ suc n → session paper limit words sp bytes ≡ halted (suc n) 0
+module _ (most : ℕ) (words : List ℕ) (sp : Steps) (bytes : List ℕ) where
+  session-stops : (n : ℕ) → refusalOf paper freshBook (Open words 1 (withoutLapseLimit sp)) ≡ suc n → session paper most words sp bytes ≡ halted (suc n) 0
   unfolding session
   session-stops n e = rw e refl
 
-  pub session-row : (n : ℕ) → refused n ≡ readRow paper (Settled sp) words → session paper limit words sp bytes ≡ halted n 0
+  pub session-row : (n : ℕ) → refused n ≡ readRow paper (Settled sp) words → session paper most words sp bytes ≡ halted n 0
   unfolding readRow refusalOf causes goodRowFor
   session-row n e =
       let (m, is, by) = first-refused (eqb (length words) 7) (goodRow paper (rowOf words)) _ (rowOf words) n e in
       session-stops m by ∙ ap (λ (k : ℕ). halted k 0) (sym is)
 
-  pub session-price : (row : Row) → accepted row ≡ readRow paper (Settled sp) words → goodPrice (sp .0) ≡ false → session paper limit words sp bytes ≡ halted 3 0
+  pub session-price : (row : Row) → accepted row ≡ readRow paper (Settled sp) words → goodPrice (sp .0) ≡ false → session paper most words sp bytes ≡ halted 3 0
   unfolding readRow refusalOf causes goodRowFor
   session-price row e f =
       let (a, b, is, by) = first-accepted (eqb (length words) 7) (goodRow paper (rowOf words)) _ (rowOf words) row e in
@@ -207,14 +207,14 @@ module _ (limit : ℕ) (words : List ℕ) (sp : Steps) (bytes : List ℕ) where
   unfolding freshBook
   idle = refl
 
-  none-good : goodLimit noLimit ≡ true
-  unfolding goodLimit
+  none-good : goodLapseLimit noLapseLimit ≡ true
+  unfolding goodLapseLimit
   none-good = refl
 
   abbrev cellOf : ℕ
   cellOf = placeOf 1 (rowOf words .expiry) (rowOf words .quantum)
 
-  open-passes : length words ≡ 7 → goodRow paper (rowOf words) ≡ true → goodPrice (sp .0) ≡ true → OpenPasses paper freshBook words 1 (withoutLimit sp)
+  open-passes : length words ≡ 7 → goodRow paper (rowOf words) ≡ true → goodPrice (sp .0) ≡ true → OpenPasses paper freshBook words 1 (withoutLapseLimit sp)
   unfolding goodRowFor
   open-passes l g f =
       let r = row-bounds paper (rowOf words) g in
@@ -225,33 +225,33 @@ module _ (limit : ℕ) (words : List ℕ) (sp : Steps) (bytes : List ℕ) where
         price-good = f;
         blank = blank-cell cellOf (place-small 1 (rowOf words .expiry) (rowOf words .quantum) (omega arith) (r .expiry-most) (r .quantum-most));
         idle = idle;
-        limit-good = none-good;
+        allowed-good = none-good;
         spread-good = refl;
       }
 
-  opened : step paper freshBook (Open words 1 (withoutLimit sp)) ≡ bookWith cellOf (rowOf words) sp []
-      → refusalOf paper freshBook (Open words 1 (withoutLimit sp)) ≡ 0
-      → session paper limit words sp bytes ≡ runRecords paper limit cellOf 1 (bookWith cellOf (rowOf words) sp []) (recordsOf bytes)
+  opened : step paper freshBook (Open words 1 (withoutLapseLimit sp)) ≡ bookWith cellOf (rowOf words) sp []
+      → refusalOf paper freshBook (Open words 1 (withoutLapseLimit sp)) ≡ 0
+      → session paper most words sp bytes ≡ runRecords paper most cellOf 1 (bookWith cellOf (rowOf words) sp []) (recordsOf bytes)
   unfolding session
   opened e f = rw (f, e) refl
 
-  pub changed-open : changed freshBook (Open words 1 (withoutLimit sp)) ≡ bookWith cellOf (rowOf words) sp []
+  pub changed-open : changed freshBook (Open words 1 (withoutLapseLimit sp)) ≡ bookWith cellOf (rowOf words) sp []
   unfolding changed freshBook
   changed-open = refl
 
   pub open-accepted : length words ≡ 7 → goodRow paper (rowOf words) ≡ true → goodPrice (sp .0) ≡ true
-      → step paper freshBook (Open words 1 (withoutLimit sp)) ≡ bookWith cellOf (rowOf words) sp []
+      → step paper freshBook (Open words 1 (withoutLapseLimit sp)) ≡ bookWith cellOf (rowOf words) sp []
   open-accepted l g f =
-      step-accepted paper freshBook (Open words 1 (withoutLimit sp)) (passes-call paper freshBook (Open words 1 (withoutLimit sp)) (open-passes l g f)) ∙ changed-open
+      step-accepted paper freshBook (Open words 1 (withoutLapseLimit sp)) (passes-call paper freshBook (Open words 1 (withoutLapseLimit sp)) (open-passes l g f)) ∙ changed-open
 
   pub session-opens : (row : Row) → accepted row ≡ readRow paper (Settled sp) words → goodPrice (sp .0) ≡ true
       → (row ≡ rowOf words) × (goodRow paper (rowOf words) ≡ true)
-      × (session paper limit words sp bytes ≡ runRecords paper limit cellOf 1 (bookWith cellOf (rowOf words) sp []) (recordsOf bytes))
+      × (session paper most words sp bytes ≡ runRecords paper most cellOf 1 (bookWith cellOf (rowOf words) sp []) (recordsOf bytes))
   unfolding readRow goodRowFor
   session-opens row e f =
       let (a, b, is, by) = first-accepted (eqb (length words) 7) (goodRow paper (rowOf words)) [] (rowOf words) row e in
-      let zero = passes-call paper freshBook (Open words 1 (withoutLimit sp)) (open-passes (eqb-true (length words) 7 a) b f) in
-      (is, b, opened (step-accepted paper freshBook (Open words 1 (withoutLimit sp)) zero ∙ changed-open) zero)
+      let zero = passes-call paper freshBook (Open words 1 (withoutLapseLimit sp)) (open-passes (eqb-true (length words) 7 a) b f) in
+      (is, b, opened (step-accepted paper freshBook (Open words 1 (withoutLapseLimit sp)) zero ∙ changed-open) zero)
 
   pub cell-inside : goodRow paper (rowOf words) ≡ true → cellOf < 186
   cell-inside g =
@@ -263,12 +263,12 @@ module _ (limit : ℕ) (words : List ℕ) (sp : Steps) (bytes : List ℕ) where
   unless-whole zero place next k w ss e = (refl, e)
   unless-whole (suc n) place next k w ss e = let z : _≡_ {A = ℕ} 0 1 = cc in absurd (omega arith)
 
-  pub session-begun : (k w : ℕ) (ss : List Stretch) → session paper limit words sp bytes ≡ whole k w ss
+  pub session-begun : (k w : ℕ) (ss : List Stretch) → session paper most words sp bytes ≡ whole k w ss
       → (length words ≡ 7) × (goodRow paper (rowOf words) ≡ true) × (goodPrice (sp .0) ≡ true)
-      × (runRecords paper limit cellOf 1 (bookWith cellOf (rowOf words) sp []) (recordsOf bytes) ≡ whole k w ss)
+      × (runRecords paper most cellOf 1 (bookWith cellOf (rowOf words) sp []) (recordsOf bytes) ≡ whole k w ss)
   unfolding session goodRowFor
   session-begun k w ss e =
-      let (none, next) = unless-whole (refusalOf paper freshBook (Open words 1 (withoutLimit sp))) 0 _ k w ss e in
-      let p = call-passes paper freshBook (Open words 1 (withoutLimit sp)) none in
+      let (none, next) = unless-whole (refusalOf paper freshBook (Open words 1 (withoutLapseLimit sp))) 0 _ k w ss e in
+      let p = call-passes paper freshBook (Open words 1 (withoutLapseLimit sp)) none in
       let book = open-accepted (p .seven) (p .row-good) (p .price-good) in
-      (p .seven, p .row-good, p .price-good, ap (λ (b : Book). runRecords paper limit cellOf 1 b (recordsOf bytes)) (sym book) ∙ next)
+      (p .seven, p .row-good, p .price-good, ap (λ (b : Book). runRecords paper most cellOf 1 b (recordsOf bytes)) (sym book) ∙ next)

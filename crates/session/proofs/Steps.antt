@@ -8,7 +8,7 @@ use lib.Dec.{eqb}
 use lib.ListN.{length}
 use Rattle.rules.specs.declared.Millis.{Millis}
 use Rattle.rules.specs.declared.Row.{Row}
-use Rattle.rules.specs.declared.Spread.{Spread}
+use Rattle.rules.specs.declared.SpreadRule.{SpreadRule}
 use Rattle.rules.specs.declared.Event.{Event}
 use Rattle.rules.specs.Lists.{if_then_else_}
 use Rattle.rules.specs.Terms.{paper}
@@ -28,24 +28,24 @@ use Rattle.rules.proofs.Bounds.{row-bounds}
 use Rattle.quantum.specs.declared.Duty.{Duty}
 use Rattle.quantum.specs.declared.Clock.{Clock}
 use Rattle.quantum.specs.declared.Stepped.{Stepped as SteppedOn}
-use Rattle.quantum.specs.Standing.{clockOf, tableAfter, taken, Running, Stands, Stepping, Onward}
+use Rattle.quantum.specs.Represents.{clockOf, tableAfter, taken, Running, Represents, Stepping, Onward}
 use Rattle.rules.specs.Runs.{before}
-use Rattle.quantum.proofs.Standing.{time-is, keeps-is, last-is, onward}
+use Rattle.quantum.proofs.Represents.{time-is, keeps-is, last-is, onward}
 use Rattle.session.specs.declared.Marks.{Marks}
-use Rattle.session.specs.declared.Walk.{Walk}
-use Rattle.session.specs.Walks.{lastOffset, marksAt, Holds, Growing, Grows, walkAt, pairsOf, Walking, Walked, Advanced}
+use Rattle.session.specs.declared.Progress.{Progress}
+use Rattle.session.specs.Internal.{lastOffset, marksAt, Holds, Growing, Grows, progressAt, pairsOf, ReachedRun, RepresentsRun, Advanced}
 use Rattle.session.proofs.Pairs.{marks-ext, pairs-are, pairs-few, start-early, last-some}
 
 -- ---- the fields
 
-module _ (row : Row) (sp : Spread) (es : List Event) (w : Walk) (is : w ≡ walkAt row sp es) where
+module _ (row : Row) (sp : SpreadRule) (es : List Event) (w : Progress) (is : w ≡ progressAt row sp es) where
   pub clock-is : w .clock ≡ clockOf row sp es
-  unfolding walkAt
-  clock-is = ap (λ (x : Walk). x .clock) is
+  unfolding progressAt
+  clock-is = ap (λ (x : Progress). x .clock) is
 
   pub marks-are : w .marks ≡ marksAt (keptAt row sp es) (present es)
-  unfolding walkAt
-  marks-are = ap (λ (x : Walk). x .marks) is
+  unfolding progressAt
+  marks-are = ap (λ (x : Progress). x .marks) is
 
   from-is : w .clock .time .0 ≡ present es
   from-is = time-is row sp es (w .clock) clock-is
@@ -58,8 +58,8 @@ module _ (row : Row) (sp : Spread) (es : List Event) (w : Walk) (is : w ≡ walk
   one-test false = refl
 
   -- the clock says whether the live orders keep
-  keep-test : eqb (w .clock .keeps) 1 ≡ ordersKeep row sp (live es)
-  keep-test = ap (λ (n : ℕ). eqb n 1) (keeps-is row sp es (w .clock) clock-is) ∙ one-test (ordersKeep row sp (live es))
+  filter-test : eqb (w .clock .keeps) 1 ≡ ordersKeep row sp (live es)
+  filter-test = ap (λ (n : ℕ). eqb n 1) (keeps-is row sp es (w .clock) clock-is) ∙ one-test (ordersKeep row sp (live es))
 
   -- and whether the millisecond before the present is kept
   last-test : eqb (w .clock .last) 1 ≡ before (keptAt row sp es) (w .clock .time .0)
@@ -87,7 +87,7 @@ module _ (row : Row) (sp : Spread) (es : List Event) (w : Walk) (is : w ≡ walk
       → (r ≡ marksAt (keptAt row sp es) (to .0)) × Holds base (stretches (keptAt row sp es) (to .0)) exit
   grown-to g to keeps r entry exit base k grows h =
       grows (keptAt row sp es) base marks-from last-test
-      (λ m a b. keptAt-now row sp es (g .ordered) m (omega (arith, from-is)) ∙ sym (k ∙ keep-test))
+      (λ m a b. keptAt-now row sp es (g .ordered) m (omega (arith, from-is)) ∙ sym (k ∙ filter-test))
       (subst (λ (n : ℕ). Holds base (stretches (keptAt row sp es) n) entry) (sym from-is) h)
 
   -- an event is taken
@@ -114,28 +114,28 @@ module _ (row : Row) (sp : Spread) (es : List Event) (w : Walk) (is : w ≡ walk
 
     pub took : (keeps : Bool) (r : Marks) (entry exit base : List ℕ) → keeps ≡ eqb (w .clock .keeps) 1
         → Grows (w .marks) (w .clock .time) (next .time) keeps (eqb (w .clock .last) 1) r entry exit → Holds base (pairsOf row sp es) entry
-        → _≡_ {A = Walk} (record { clock = next; marks = r }) (walkAt row sp (es ++ (e ∷ []))) × Holds base (pairsOf row sp (es ++ (e ∷ []))) exit
-    unfolding walkAt
+        → _≡_ {A = Progress} (record { clock = next; marks = r }) (progressAt row sp (es ++ (e ∷ []))) × Holds base (pairsOf row sp (es ++ (e ∷ []))) exit
+    unfolding progressAt
     took keeps r entry exit base k grows h =
         let (m, held) = grown-to g (next .time) keeps r entry exit base k grows h in
         ((λ i. record { clock = next-is i; marks = (m ∙ marks-then) i }), subst (λ (l : List Stretch). Holds base l exit) pairs-then held)
 
 -- ---- opening
 
-pub begins : (row : Row) (sp : Spread) (clock : Clock) → clock ≡ clockOf row sp []
-    → _≡_ {A = Walk} (record { clock = clock; marks = record { pairs = 0; start = 0 } }) (walkAt row sp [])
-unfolding walkAt marksAt present timeFrom stretches lastOffset
+pub begins : (row : Row) (sp : SpreadRule) (clock : Clock) → clock ≡ clockOf row sp []
+    → _≡_ {A = Progress} (record { clock = clock; marks = record { pairs = 0; start = 0 } }) (progressAt row sp [])
+unfolding progressAt marksAt present timeFrom stretches lastOffset
 begins row sp clock is = ap (λ (x : Clock). record { clock = x; marks = record { pairs = 0; start = 0 } }) is
 
 -- ---- what the functions promise
 
-pub running : (w : Walk) (duty : Duty) (table hints : List ℕ) → Walking w duty table hints → Running duty (w .clock) table hints
+pub running : (w : Progress) (duty : Duty) (table hints : List ℕ) → ReachedRun w duty table hints → Running duty (w .clock) table hints
 running w duty table hints h =
     record {
       row = h .row;
       sp = h .sp;
       events = h .events;
-      some = row-bounds paper (h .row) (h .good) .least-least;
+      some = row-bounds paper (h .row) (h .good) .minimum-least;
       bounds = h .bounds;
       duty-is = h .duty-is;
       clock-is = clock-is (h .row) (h .sp) (h .events) w (h .is);
@@ -143,64 +143,64 @@ running w duty table hints h =
       hinted = h .hinted;
     }
 
-stands : (row : Row) (sp : Spread) (es : List Event) (w : Walk) (duty : Duty) (table : List ℕ) → Walked row sp es w duty table → Stands row sp es duty (w .clock) table
-stands row sp es w duty table h =
+represents : (row : Row) (sp : SpreadRule) (es : List Event) (w : Progress) (duty : Duty) (table : List ℕ) → RepresentsRun row sp es w duty table → Represents row sp es duty (w .clock) table
+represents row sp es w duty table h =
     record { bounds = h .bounds; duty-is = h .duty-is; clock-is = clock-is row sp es w (h .is); table-is = h .table-is }
 
-abbrev pub walked : (w : Walk) (duty : Duty) (table hints : List ℕ) (h : Walking w duty table hints) → Walked (h .row) (h .sp) (h .events) w duty table
-walked w duty table hints h = record { bounds = h .bounds; is = h .is; duty-is = h .duty-is; table-is = h .table-is }
+abbrev pub run-records : (w : Progress) (duty : Duty) (table hints : List ℕ) (h : ReachedRun w duty table hints) → RepresentsRun (h .row) (h .sp) (h .events) w duty table
+run-records w duty table hints h = record { bounds = h .bounds; is = h .is; duty-is = h .duty-is; table-is = h .table-is }
 
-module _ (w : Walk) (duty : Duty) (e : Event) (table next : List ℕ) (stepped : SteppedOn) (steps : Stepping duty (w .clock) e table next stepped) where
-  number-is : (row : Row) (sp : Spread) (es : List Event) → Walked row sp es w duty table → stepped .refusal ≡ eventRefusal row es e
-  number-is row sp es h = steps .number row sp es (stands row sp es w duty table h)
+module _ (w : Progress) (duty : Duty) (e : Event) (table next : List ℕ) (stepped : SteppedOn) (steps : Stepping duty (w .clock) e table next stepped) where
+  number-is : (row : Row) (sp : SpreadRule) (es : List Event) → RepresentsRun row sp es w duty table → stepped .refusal ≡ eventRefusal row es e
+  number-is row sp es h = steps .number row sp es (represents row sp es w duty table h)
 
   pub advanced-refused : (entry exit : List ℕ) → 0 < stepped .refusal
-      → Advanced w duty (accepted e) (record { walk = w; refusal = stepped .refusal }) table next entry exit
+      → Advanced w duty (accepted e) (record { progress = w; refusal = stepped .refusal }) table next entry exit
   advanced-refused entry exit l =
       record {
         number = number-is;
         orders = λ row sp es h z. absurd (omega (arith, l, number-is row sp es h, z));
-        walk = λ row sp es base h b z. absurd (omega (arith, l, number-is row sp es h, z));
+        progress = λ row sp es base h b z. absurd (omega (arith, l, number-is row sp es h, z));
       }
 
   module _ (l : stepped .refusal ≤ 0) where
-    passes : (row : Row) (sp : Spread) (es : List Event) → Walked row sp es w duty table → eventRefusal row es e ≡ 0
+    passes : (row : Row) (sp : SpreadRule) (es : List Event) → RepresentsRun row sp es w duty table → eventRefusal row es e ≡ 0
     passes row sp es h = omega (arith, number-is row sp es h)
 
-    next-is : (row : Row) (sp : Spread) (es : List Event) → Walked row sp es w duty table → stepped .clock ≡ clockOf row sp (es ++ (e ∷ []))
+    next-is : (row : Row) (sp : SpreadRule) (es : List Event) → RepresentsRun row sp es w duty table → stepped .clock ≡ clockOf row sp (es ++ (e ∷ []))
     next-is row sp es h =
-        steps .clock-after row sp es (stands row sp es w duty table h) ∙ ap (λ (n : ℕ). clockOf row sp (taken n es e)) (passes row sp es h)
+        steps .clock-after row sp es (represents row sp es w duty table h) ∙ ap (λ (n : ℕ). clockOf row sp (taken n es e)) (passes row sp es h)
 
-    pub growing-taken : (hints : List ℕ) → Walking w duty table hints → Growing (w .marks) (w .clock .time) (stepped .clock .time) (eqb (w .clock .last) 1)
+    pub growing-taken : (hints : List ℕ) → ReachedRun w duty table hints → Growing (w .marks) (w .clock .time) (stepped .clock .time) (eqb (w .clock .last) 1)
     growing-taken hints h =
-        let k = walked w duty table hints h in
+        let k = run-records w duty table hints h in
         growing-event (h .row) (h .sp) (h .events) w (h .is) (h .bounds) e (passes (h .row) (h .sp) (h .events) k) (stepped .clock)
         (next-is (h .row) (h .sp) (h .events) k) (h .good)
 
     pub advanced-taken : (keeps : Bool) (r : Marks) (entry exit : List ℕ) → keeps ≡ eqb (w .clock .keeps) 1
         → Grows (w .marks) (w .clock .time) (stepped .clock .time) keeps (eqb (w .clock .last) 1) r entry exit
-        → Advanced w duty (accepted e) (record { walk = record { clock = stepped .clock; marks = r }; refusal = 0 }) table next entry exit
+        → Advanced w duty (accepted e) (record { progress = record { clock = stepped .clock; marks = r }; refusal = 0 }) table next entry exit
     advanced-taken keeps r entry exit k grows =
         record {
           number = λ row sp es h. sym (passes row sp es h);
           orders = λ row sp es h z.
-              steps .table-after row sp es (stands row sp es w duty table h) ∙ ap (λ (n : ℕ). tableAfter row (taken n es e)) (passes row sp es h);
-          walk = λ row sp es base h b z.
+              steps .table-after row sp es (represents row sp es w duty table h) ∙ ap (λ (n : ℕ). tableAfter row (taken n es e)) (passes row sp es h);
+          progress = λ row sp es base h b z.
               took row sp es w (h .is) (h .bounds) e (passes row sp es h) (stepped .clock) (next-is row sp es h) keeps r entry exit base k grows b;
         }
 
 -- a record that is no event
-pub advanced-unread : (w : Walk) (duty : Duty) (o : Outcome Event) (table next entry exit : List ℕ) (n : ℕ) → refused (suc n) ≡ o
-    → Advanced w duty o (record { walk = w; refusal = suc n }) table next entry exit
+pub advanced-unread : (w : Progress) (duty : Duty) (o : Outcome Event) (table next entry exit : List ℕ) (n : ℕ) → refused (suc n) ≡ o
+    → Advanced w duty o (record { progress = w; refusal = suc n }) table next entry exit
 advanced-unread w duty o table next entry exit n e =
-    subst (λ (o : Outcome Event). Advanced w duty o (record { walk = w; refusal = suc n }) table next entry exit) e
+    subst (λ (o : Outcome Event). Advanced w duty o (record { progress = w; refusal = suc n }) table next entry exit) e
     (record {
       number = λ row sp es h. refl;
       orders = λ row sp es h z. absurd (omega (arith, z));
-      walk = λ row sp es base h b z. absurd (omega (arith, z));
+      progress = λ row sp es base h b z. absurd (omega (arith, z));
     })
 
-module _ (row : Row) (sp : Spread) (es : List Event) (w : Walk) (is : w ≡ walkAt row sp es) (g : EventBounds row es) where
+module _ (row : Row) (sp : SpreadRule) (es : List Event) (w : Progress) (is : w ≡ progressAt row sp es) (g : EventBounds row es) where
   pub may-end : Onward (w .clock) (row .length)
   may-end =
       onward row sp es (w .clock) (clock-is row sp es w is) (row .length) (omega (arith, from-is row sp es w is, g .ends))

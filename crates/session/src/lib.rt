@@ -5,13 +5,13 @@ ghost use mathlib.Core.Bool.{true};
 ghost use mathlib.Core.List.{[]};
 ghost use lib.ListN.{length};
 ghost use Rattle.rules.specs.declared.Row.{Row};
-ghost use Rattle.rules.specs.declared.Spread.{Spread};
+ghost use Rattle.rules.specs.declared.SpreadRule.{SpreadRule};
 ghost use Rattle.rules.specs.Terms.{paper};
 ghost use Rattle.rules.specs.Rows.{goodRow};
 ghost use Rattle.rules.specs.Answers.{accepted, shownSession};
 ghost use Rattle.rules.specs.Records.{readRecord};
-ghost use Rattle.rules.specs.Session.{runLimit, recordsOf, runRecords, session, sessionBytes, ran, front as frontOf, bufferAfter, oneNumber};
-ghost use Rattle.session.specs.Walks.{putPair, begunAt, Growing, Grows, Walking, Advanced, Ending, Ends, walkAt, bookWith, Passed, filledBy, numberBy};
+ghost use Rattle.rules.specs.Session.{mostRecords, recordsOf, runRecords, session, sessionBytes, ran, front as frontOf, bufferAfter, oneNumber};
+ghost use Rattle.session.specs.Internal.{putPair, begunAt, Growing, Grows, ReachedRun, Advanced, Ending, Ends, progressAt, bookWith, Passed, filledBy, numberBy};
 use quantum::Clock;
 use quantum::Duty;
 use rules::Event;
@@ -21,7 +21,7 @@ use rules::Refusal;
 use rules::Row;
 use rules::RowRead;
 use rules::SessionAnswer;
-use rules::Spread;
+use rules::SpreadRule;
 use rules::Steps;
 
 // The pairs so far: how many, and where the last one starts. The clock says whether it reaches the present.
@@ -31,14 +31,14 @@ struct Marks {
 }
 
 // A run so far.
-struct Walk {
+struct Progress {
     clock: Clock,
     marks: Marks,
 }
 
 // What a record hands back: the run after it, and the refusal's number or 0.
 struct Stepped {
-    walk: Walk,
+    progress: Progress,
     refusal: u32,
 }
 
@@ -95,29 +95,29 @@ fn grow(
 
 // An event taken, with the pairs that the time up to it adds; or refused.
 fn taken(
-    walk: Walk,
+    progress: Progress,
     e: Event,
     duty: Duty,
     table: &mut [u32],
     hints: &mut [u8],
     buffer: &mut [u32],
 ) -> Stepped
-    requires { ⌜ Walking walk duty (now table) (now hints) ⌝ }
-    ensures { λ r. ⌜ Advanced walk duty (accepted e) r (now (table .entry)) (now (table .exit)) (now (buffer .entry)) (now (buffer .exit)) ⌝ }
+    requires { ⌜ ReachedRun progress duty (now table) (now hints) ⌝ }
+    ensures { λ r. ⌜ Advanced progress duty (accepted e) r (now (table .entry)) (now (table .exit)) (now (buffer .entry)) (now (buffer .exit)) ⌝ }
 {
-    let clock = walk.clock;
-    let marks = walk.marks;
+    let clock = progress.clock;
+    let marks = progress.marks;
     let stepped = quantum::step(duty, clock, table, hints, e);
     let next = stepped.clock;
     let refusal = stepped.refusal;
     if 0 < refusal {
-        return Stepped { walk, refusal };
+        return Stepped { progress, refusal };
     }
     let from = clock.time;
     let to = next.time;
     let grown = grow(marks, from, to, clock.keeps == 1, clock.last == 1, buffer);
     Stepped {
-        walk: Walk {
+        progress: Progress {
             clock: next,
             marks: grown,
         },
@@ -127,30 +127,33 @@ fn taken(
 
 // A record read, and its event taken; or refused.
 fn step(
-    walk: Walk,
+    progress: Progress,
     bytes: &[u8],
     duty: Duty,
     table: &mut [u32],
     hints: &mut [u8],
     buffer: &mut [u32],
 ) -> Stepped
-    requires { ⌜ Walking walk duty (now table) (now hints) ⌝ }
-    ensures { λ r. ⌜ Advanced walk duty (readRecord (now (bytes .entry))) r (now (table .entry)) (now (table .exit)) (now (buffer .entry)) (now (buffer .exit)) ⌝ }
+    requires { ⌜ ReachedRun progress duty (now table) (now hints) ⌝ }
+    ensures { λ r. ⌜ Advanced progress duty (readRecord (now (bytes .entry))) r (now (table .entry)) (now (table .exit)) (now (buffer .entry)) (now (buffer .exit)) ⌝ }
 {
     let read = record::read(bytes);
     match read {
-        RecordRead::Read(e) => taken(walk, e, duty, table, hints, buffer),
-        RecordRead::Refused(_) => Stepped { walk, refusal: 15 },
+        RecordRead::Read(e) => taken(progress, e, duty, table, hints, buffer),
+        RecordRead::Refused(_) => Stepped {
+            progress,
+            refusal: 15,
+        },
     }
 }
 
 // Time runs on to L; K, w and the number of pairs.
-fn finish(walk: Walk, row: Row, buffer: &mut [u32]) -> SessionAnswer
-    requires { ⌜ Ending walk row ⌝ }
-    ensures { λ r. ⌜ Ends walk row r (now (buffer .entry)) (now (buffer .exit)) ⌝ }
+fn finish(progress: Progress, row: Row, buffer: &mut [u32]) -> SessionAnswer
+    requires { ⌜ Ending progress row ⌝ }
+    ensures { λ r. ⌜ Ends progress row r (now (buffer .entry)) (now (buffer .exit)) ⌝ }
 {
-    let clock = walk.clock;
-    let marks = walk.marks;
+    let clock = progress.clock;
+    let marks = progress.marks;
     let length = row.length;
     let share = row.share;
     let end = quantum::onward(clock, length, 0);
@@ -172,36 +175,36 @@ fn finish(walk: Walk, row: Row, buffer: &mut [u32]) -> SessionAnswer
 }
 
 // A quantum opens, and no pair is there.
-fn begin() -> Walk
-    ensures { λ r. ⌜ ((row : Row) (sp : Spread) → r ≡ walkAt row sp []) ⌝ }
+fn begin() -> Progress
+    ensures { λ r. ⌜ ((row : Row) (sp : SpreadRule) → r ≡ progressAt row sp []) ⌝ }
 {
-    Walk {
+    Progress {
         clock: quantum::started(),
         marks: Marks { pairs: 0, start: 0 },
     }
 }
 
 // One pass over the records: the first refusal, or K, w and the number of pairs, whose words are written as far as they fit.
-fn walked(limit: u32, row: Row, sp: Steps, records: &[u8], buffer: &mut [u32]) -> SessionAnswer
-    requires { ⌜ (limit ≤ 4000000) × (goodRow paper row ≡ true) ⌝ }
-    ensures { λ r. ⌜ ((cell : ℕ) → cell < 186 → Passed (runRecords paper limit cell 1 (bookWith cell row sp []) (recordsOf (now (records .entry)))) (now (buffer .entry)) (now (buffer .exit)) r) ⌝ }
+fn run_records(most: u32, row: Row, sp: Steps, records: &[u8], buffer: &mut [u32]) -> SessionAnswer
+    requires { ⌜ (most ≤ 4000000) × (goodRow paper row ≡ true) ⌝ }
+    ensures { λ r. ⌜ ((cell : ℕ) → cell < 186 → Passed (runRecords paper most cell 1 (bookWith cell row sp []) (recordsOf (now (records .entry)))) (now (buffer .entry)) (now (buffer .exit)) r) ⌝ }
 {
-    let duty = quantum::duty_of(row, Spread::Settled(sp));
+    let duty = quantum::duty_of(row, SpreadRule::Settled(sp));
     let mut table = book::empty();
     let mut hints = [0u8; 1024];
-    let mut walk = begin();
+    let mut progress = begin();
     let mut at: usize = 0;
     let mut place: u32 = 1;
     let full = records.len() / 20 * 20;
     while at < full {
-        if limit < place {
+        if most < place {
             return SessionAnswer::Refused {
                 refusal: Refusal::BadRecord,
                 place,
             };
         }
         let stepped = step(
-            walk,
+            progress,
             &records[at..at + 20],
             duty,
             &mut table,
@@ -215,7 +218,7 @@ fn walked(limit: u32, row: Row, sp: Steps, records: &[u8], buffer: &mut [u32]) -
                 place,
             };
         }
-        walk = stepped.walk;
+        progress = stepped.progress;
         at += 20;
         place += 1;
     }
@@ -225,20 +228,20 @@ fn walked(limit: u32, row: Row, sp: Steps, records: &[u8], buffer: &mut [u32]) -
             place,
         };
     }
-    finish(walk, row, buffer)
+    finish(progress, row, buffer)
 }
 
 // The row read and a quantum opened, then one pass over the records.
-fn pass(limit: u32, row: &[u32], sp: Steps, records: &[u8], buffer: &mut [u32]) -> SessionAnswer
-    requires { ⌜ limit ≤ 4000000 ⌝ }
-    ensures { λ r. ⌜ Passed (session paper limit (now (row .entry)) sp (now (records .entry))) (now (buffer .entry)) (now (buffer .exit)) r ⌝ }
+fn pass(most: u32, row: &[u32], sp: Steps, records: &[u8], buffer: &mut [u32]) -> SessionAnswer
+    requires { ⌜ most ≤ 4000000 ⌝ }
+    ensures { λ r. ⌜ Passed (session paper most (now (row .entry)) sp (now (records .entry))) (now (buffer .entry)) (now (buffer .exit)) r ⌝ }
 {
-    let read = row::read(row, Spread::Settled(sp));
+    let read = row::read(row, SpreadRule::Settled(sp));
     match read {
         RowRead::Refused(refusal) => SessionAnswer::Refused { refusal, place: 0 },
         RowRead::Read(good) => {
             if ranges::price(sp) {
-                return walked(limit, good, sp, records, buffer);
+                return run_records(most, good, sp, records, buffer);
             }
             SessionAnswer::Refused {
                 refusal: Refusal::ArgumentOutOfRange,
@@ -267,18 +270,18 @@ pub fn filled(answer: SessionAnswer) -> usize
 
 // Two passes: the first writes nothing of the caller's, the second only where nothing is refused and the pairs fit.
 fn passes(
-    limit: u32,
+    most: u32,
     row: &[u32],
     sp: Steps,
     records: &[u8],
     scratch: &mut [u32],
     buffer: &mut [u32],
 ) -> SessionAnswer
-    requires { ⌜ limit ≤ 4000000 ⌝ }
-    ensures answer { λ r. ⌜ shownSession r ≡ ran (length (now (buffer .entry))) (session paper limit (now (row .entry)) sp (now (records .entry))) ⌝ }
-    ensures words { λ r. ⌜ now (buffer .exit) ≡ bufferAfter (now (buffer .entry)) (session paper limit (now (row .entry)) sp (now (records .entry))) ⌝ }
+    requires { ⌜ most ≤ 4000000 ⌝ }
+    ensures answer { λ r. ⌜ shownSession r ≡ ran (length (now (buffer .entry))) (session paper most (now (row .entry)) sp (now (records .entry))) ⌝ }
+    ensures words { λ r. ⌜ now (buffer .exit) ≡ bufferAfter (now (buffer .entry)) (session paper most (now (row .entry)) sp (now (records .entry))) ⌝ }
 {
-    let first = pass(limit, row, sp, records, scratch);
+    let first = pass(most, row, sp, records, scratch);
     match first {
         SessionAnswer::Refused {
             refusal: _,
@@ -295,42 +298,42 @@ fn passes(
                     place: 0,
                 };
             }
-            pass(limit, row, sp, records, buffer);
+            pass(most, row, sp, records, buffer);
             first
         }
     }
 }
 
 // The first pass has a word of its own, where no pair fits.
-fn within(limit: u32, row: &[u32], sp: Steps, records: &[u8], buffer: &mut [u32]) -> SessionAnswer
-    requires { ⌜ limit ≤ 4000000 ⌝ }
-    ensures answer { λ r. ⌜ shownSession r ≡ ran (length (now (buffer .entry))) (session paper limit (now (row .entry)) sp (now (records .entry))) ⌝ }
-    ensures words { λ r. ⌜ now (buffer .exit) ≡ bufferAfter (now (buffer .entry)) (session paper limit (now (row .entry)) sp (now (records .entry))) ⌝ }
+fn within(most: u32, row: &[u32], sp: Steps, records: &[u8], buffer: &mut [u32]) -> SessionAnswer
+    requires { ⌜ most ≤ 4000000 ⌝ }
+    ensures answer { λ r. ⌜ shownSession r ≡ ran (length (now (buffer .entry))) (session paper most (now (row .entry)) sp (now (records .entry))) ⌝ }
+    ensures words { λ r. ⌜ now (buffer .exit) ≡ bufferAfter (now (buffer .entry)) (session paper most (now (row .entry)) sp (now (records .entry))) ⌝ }
 {
     let mut none = [0u32; 1];
-    passes(limit, row, sp, records, &mut none, buffer)
+    passes(most, row, sp, records, &mut none, buffer)
 }
 
 // The first session call. On success the front of the buffer has the pairs; on a refusal the buffer keeps its contents.
 pub fn run(row: &[u32], sp: Steps, records: &[u8], buffer: &mut [u32]) -> SessionAnswer
-    ensures answer { λ r. ⌜ shownSession r ≡ ran (length (now (buffer .entry))) (session paper runLimit (now (row .entry)) sp (now (records .entry))) ⌝ }
-    ensures words { λ r. ⌜ now (buffer .exit) ≡ bufferAfter (now (buffer .entry)) (session paper runLimit (now (row .entry)) sp (now (records .entry))) ⌝ }
+    ensures answer { λ r. ⌜ shownSession r ≡ ran (length (now (buffer .entry))) (session paper mostRecords (now (row .entry)) sp (now (records .entry))) ⌝ }
+    ensures words { λ r. ⌜ now (buffer .exit) ≡ bufferAfter (now (buffer .entry)) (session paper mostRecords (now (row .entry)) sp (now (records .entry))) ⌝ }
 {
     within(4000000, row, sp, records, buffer)
 }
 
 // The same with fewer records at most.
 pub fn run_within(
-    limit: u16,
+    most: u16,
     row: &[u32],
     sp: Steps,
     records: &[u8],
     buffer: &mut [u32],
 ) -> SessionAnswer
-    ensures answer { λ r. ⌜ shownSession r ≡ ran (length (now (buffer .entry))) (session paper limit (now (row .entry)) sp (now (records .entry))) ⌝ }
-    ensures words { λ r. ⌜ now (buffer .exit) ≡ bufferAfter (now (buffer .entry)) (session paper limit (now (row .entry)) sp (now (records .entry))) ⌝ }
+    ensures answer { λ r. ⌜ shownSession r ≡ ran (length (now (buffer .entry))) (session paper most (now (row .entry)) sp (now (records .entry))) ⌝ }
+    ensures words { λ r. ⌜ now (buffer .exit) ≡ bufferAfter (now (buffer .entry)) (session paper most (now (row .entry)) sp (now (records .entry))) ⌝ }
 {
-    within(limit as u32, row, sp, records, buffer)
+    within(most as u32, row, sp, records, buffer)
 }
 
 // The second session call: the filled front part of the buffer, empty on a refusal.
@@ -340,7 +343,7 @@ pub fn front<'a, 'b, 'c>(
     records: &'b [u8],
     buffer: &'c mut [u32],
 ) -> &'c mut [u32]
-    ensures words { λ r. ⌜ now r ≡ frontOf (length (now (buffer .entry))) (session paper runLimit (now (row .entry)) sp (now (records .entry))) ⌝ }
+    ensures words { λ r. ⌜ now r ≡ frontOf (length (now (buffer .entry))) (session paper mostRecords (now (row .entry)) sp (now (records .entry))) ⌝ }
     ensures place { λ r. ⌜ r .ptr ≡ buffer .entry .ptr ⌝ }
 {
     let n = filled(run(row, sp, records, buffer));
@@ -365,7 +368,7 @@ fn one_number(answer: SessionAnswer) -> u64
 // The C call: K, or 4,294,967,296 × refusal + place.
 #[no_mangle]
 pub extern "C" fn quoting_session(head: &[u8], records: &[u8]) -> u64
-    ensures { λ r. ⌜ r ≡ oneNumber (sessionBytes paper runLimit (now (head .entry)) (now (records .entry))) ⌝ }
+    ensures { λ r. ⌜ r ≡ oneNumber (sessionBytes paper mostRecords (now (head .entry)) (now (records .entry))) ⌝ }
 {
     if head.len() != 32 {
         return 4294967296;

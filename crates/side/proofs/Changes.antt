@@ -10,14 +10,14 @@ use Rattle.rules.specs.Lists.{if_then_else_}
 use Rattle.rules.proofs.Members.{in-set}
 use Rattle.quote.specs.Levels.{held}
 use Rattle.side.specs.Slots.{Slot, slot, blankSlot, heldIn, GoodSlots}
-use Rattle.side.specs.Moves.{change, part, Changed}
+use Rattle.side.specs.Internal.{change, volumeWhere, Changed}
 use Rattle.side.proofs.Lists.{in-take, in-drop}
 
 -- ---- sums
 
 module _ (t : ℕ → Bool) where
   -- no order adds nothing
-  part-none : part t 0 0 ≡ 0
+  part-none : volumeWhere t 0 0 ≡ 0
   part-none = go (t 0)
     where
       go : (b : Bool) → _≡_ {A = ℕ} (if b then 0 else 0) 0
@@ -29,20 +29,20 @@ module _ (t : ℕ → Bool) where
   held-append [] ys = omega arith
   held-append (x ∷ xs) ys = omega (arith, held-append xs ys)
 
-  held-one : (s : Slot) → heldIn t (s ∷ []) ≡ part t (s .key) (s .volume)
+  held-one : (s : Slot) → heldIn t (s ∷ []) ≡ volumeWhere t (s .key) (s .volume)
   unfolding held
   held-one s = omega arith
 
   held-set : (slots : List Slot) (place : ℕ) (s : Slot) → place < length slots
-      → heldIn t (set slots place s) + part t (getD slots place blankSlot .key) (getD slots place blankSlot .volume)
-      ≡ heldIn t slots + part t (s .key) (s .volume)
+      → heldIn t (set slots place s) + volumeWhere t (getD slots place blankSlot .key) (getD slots place blankSlot .volume)
+      ≡ heldIn t slots + volumeWhere t (s .key) (s .volume)
   unfolding held
   held-set [] place s h = absurd (omega arith)
   held-set (x ∷ xs) zero s h = omega arith
   held-set (x ∷ xs) (suc place) s h = omega (arith, held-set xs place s (omega arith))
 
   held-without : (slots : List Slot) (place : ℕ) → place < length slots
-      → heldIn t (take place slots ++ drop (suc place) slots) + part t (getD slots place blankSlot .key) (getD slots place blankSlot .volume)
+      → heldIn t (take place slots ++ drop (suc place) slots) + volumeWhere t (getD slots place blankSlot .key) (getD slots place blankSlot .volume)
       ≡ heldIn t slots
   unfolding held
   held-without [] place h = absurd (omega arith)

@@ -6,7 +6,7 @@ use native.Mathlib.Omega.{arith}
 use lib.ListN.{length, take, drop, set, getD, replicate, length-append, length-replicate, length-set, length-take, length-drop, List·getD-append, replicate-append-replicate}
 use lib.Seq.{set-append-seam, set-append-left, take-at, drop-at, take-append-le, drop-append-le, take-append-add}
 use Rattle.side.specs.Slots.{column}
-use Rattle.side.specs.Moves.{shifted}
+use Rattle.side.specs.Internal.{shifted}
 use Rattle.side.proofs.Lists.{behind-at, behind-set, behind-drop}
 
 -- ---- one column

@@ -5,7 +5,7 @@ use mathlib.Core.List.{List, [], _∷_, _++_, append-assoc, append-nil}
 use native.Mathlib.Omega.{arith}
 use lib.ListN.{length, take, drop, set, getD, length-append, length-take, length-drop, take-append-drop}
 use lib.Seq.{take-suc, drop-cons, set-at, getD-drop, getD-append-add}
-use Rattle.side.specs.Moves.{shifted}
+use Rattle.side.specs.Internal.{shifted}
 
 -- those before i, of which the ones behind the place have moved up by one
 unfoldable pub moved : ℕ → ℕ → List ℕ → List ℕ

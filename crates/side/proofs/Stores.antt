@@ -7,7 +7,7 @@ use lib.Seq.{map-set-same}
 use lib.ListN.{length, take, drop, set, getD, length-map, length-set, length-append, length-take, length-drop}
 use Rattle.quote.specs.declared.Level.{Level}
 use Rattle.side.specs.Slots.{Slot, slot, blankSlot, idsOf, keysOf, volumesOf, column, header, sideOf}
-use Rattle.side.specs.Moves.{change, shifted}
+use Rattle.side.specs.Internal.{change, shifted}
 use Rattle.side.proofs.Lists.{map-set, map-take, map-drop}
 use Rattle.side.proofs.Columns.{column-set, column-more, column-shifted, four, first-set, second-set, third-set, fourth-set, first-moved, second-moved, third-moved}
 use Rattle.side.proofs.Words.{field-length, count-is, key-at, volume-at}
@@ -107,10 +107,10 @@ module _ (slots : List Slot) (level : Level) (place key volume : ℕ) (few : len
       → set (set words (64 + place) key) (128 + place) volume ≡ sideOf (set slots place (slot (getD slots place blankSlot .id) key volume)) level
   amended-is words is = ap (λ (w : List ℕ). set (set w (64 + place) key) (128 + place) volume) is ∙ changed-is
 
-  pub amended-told : (words : List ℕ) → words ≡ sideOf slots level
+  pub amended-answers : (words : List ℕ) → words ≡ sideOf slots level
       → change (getD words (64 + place) 0) (getD words (128 + place) 0) key volume
       ≡ change (getD slots place blankSlot .key) (getD slots place blankSlot .volume) key volume
-  amended-told words is =
+  amended-answers words is =
       λ i. change (key-at words slots level few is place (omega arith) i) (volume-at words slots level few is place (omega arith) i) key volume
 
 abbrev pub putKeys : List ℕ → List ℕ → List ℕ

@@ -6,7 +6,7 @@ use native.Mathlib.Omega.{arith}
 use lib.ListN.{length, take, drop, getD, replicate, length-map, List·getD-map}
 use Rattle.quote.specs.declared.Level.{Level}
 use Rattle.side.specs.Slots.{Slot, blankSlot, idsOf, keysOf, volumesOf, column, header, sideOf}
-use Rattle.side.specs.Moves.{Sized}
+use Rattle.side.specs.Internal.{Sized}
 use Rattle.side.proofs.Columns.{column-length, column-at, column-take, four-length, first-at, second-at, third-at, fourth-at, first-taken, second-taken, third-taken}
 
 -- ---- a column of the orders

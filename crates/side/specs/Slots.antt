@@ -50,7 +50,7 @@ abbrev pub levelIn : List Slot → ℕ → Level
 levelIn slots key = levelAt (keysOf slots) (volumesOf slots) key
 
 abbrev pub bestIn : ℕ → List Slot → Level
-bestIn least slots = levelOf least (keysOf slots) (volumesOf slots)
+bestIn minimum slots = levelOf minimum (keysOf slots) (volumesOf slots)
 
 -- at most 64, the keys those of prices in their range, the volumes in theirs
 pub record GoodSlots (slots : List Slot) : Type 0 where

@@ -7,7 +7,7 @@ ghost use Prim.Native.Nat.{ℕ, _≤_, _<_};
 ghost use lib.ListN.{length, getD};
 ghost use Rattle.quote.specs.declared.Level.{Level};
 ghost use Rattle.side.specs.Slots.{Slot, sideOf, seenFrom, seen};
-ghost use Rattle.side.specs.Moves.{Sized, Added, Amended, Removed, shifted};
+ghost use Rattle.side.specs.Internal.{Sized, Added, Amended, Removed, shifted};
 use rules::Contracts;
 
 // What an event does to a side: an order that had `old` and `held` has `key` and `volume`, where none has 0 and 0.
@@ -44,7 +44,7 @@ fn scan(ids: &[u32], id: u32) -> u32
     let mut n: u32 = 1;
     let mut i: usize = 0;
     while i < ids.len() {
-        found += quote::share(ids[i] == id, n);
+        found += quote::volume_where(ids[i] == id, n);
         n += 1;
         i += 1;
     }

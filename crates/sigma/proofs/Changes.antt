@@ -14,7 +14,7 @@ use Rattle.rules.proofs.Members.{or-false}
 use Rattle.sigma.specs.declared.Change.{Change}
 use Rattle.sigma.specs.declared.Change.the-variants.{Unusable, By}
 use Rattle.sigma.specs.Changes.{changeOf, isZero, isBeyond}
-use Rattle.sigma.specs.Raised.{lifted, raised, lowered, risen, fallen, changeShown}
+use Rattle.sigma.specs.Internal.{lifted, raised, lowered, risen, fallen, changeShown}
 use Rattle.sigma.proofs.Differences.{lt-or-ge, sub-lt, sub-ge, sub-add, neg-pos, abs-ge, abs-neg}
 use Rattle.sigma.proofs.Lifted.{difference}
 

@@ -16,7 +16,7 @@ use Rattle.sigma.specs.declared.SigmaAnswer.{SigmaAnswer}
 use Rattle.sigma.specs.declared.SigmaAnswer.the-variants.{Absent, Of}
 use Rattle.sigma.specs.Changes.{changeOf, changes, previous, isZero, isBeyond, badPrices}
 use Rattle.sigma.specs.Sigmas.{sigmaOf, sigmas, lastSigma}
-use Rattle.sigma.specs.Raised.{lowered, changeShown, Usable, sigmaBy}
+use Rattle.sigma.specs.Internal.{lowered, changeShown, Usable, sigmaBy}
 use Rattle.sigma.proofs.Changes.{Told, by-told, unusable-told}
 
 pub usable : (p q : ℤ) (c : Change) → c ≡ changeShown p q → Usable c

@@ -13,7 +13,7 @@ use mir.Facts.{toZ-ofZ}
 use Rattle.rules.specs.Lists.{if_then_else_}
 use Rattle.rules.specs.Records.{signedOf, unsignedOf}
 use Rattle.rules.proofs.Records.{signed-unsigned}
-use Rattle.sigma.specs.Raised.{lifted}
+use Rattle.sigma.specs.Internal.{lifted}
 use Rattle.sigma.proofs.Differences.{lt-or-ge, sub-lt, sub-ge, sub-same, sub-minus}
 
 module _ (w : ℕ) where

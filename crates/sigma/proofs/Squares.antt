@@ -5,7 +5,7 @@ use native.Mathlib.Nat.{mul-le-mul}
 use mathlib.Core.Path.{_≡_, refl, sym, ap, _∙_}
 use lib.IntN.{ℤ, pos, natAbs, subℕ, _+ℤ_, _-ℤ_, _*ℤ_}
 use Rattle.sigma.specs.Sigmas.{square, squaresOf, rootOf, sigmaOf}
-use Rattle.sigma.specs.Raised.{lowered}
+use Rattle.sigma.specs.Internal.{lowered}
 use Rattle.sigma.proofs.Differences.{sub-same, sub-add, sub-minus, sub-thrice, abs-square}
 
 -- the square of a gap between unsigned numbers

@@ -2,4 +2,4 @@
 -- cites it.
 pub mod Changes
 pub mod Sigmas
-pub mod Raised
+pub mod Internal

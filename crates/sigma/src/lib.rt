@@ -7,7 +7,7 @@ ghost use lib.IntN.{pos, natAbs, subℕ};
 ghost use lib.ListN.{length, getD};
 ghost use Rattle.rules.specs.Records.{signedOf};
 ghost use Rattle.sigma.specs.Sigmas.{rootOf, sigmaOf, lastSigma};
-ghost use Rattle.sigma.specs.Raised.{lifted, lowered, risen, fallen, changeShown, Usable, sigmaBy};
+ghost use Rattle.sigma.specs.Internal.{lifted, lowered, risen, fallen, changeShown, Usable, sigmaBy};
 
 // The R of a day, raised; or none where the previous price is zero or R is beyond 1,000,000.
 pub enum Change {

@@ -14,10 +14,10 @@ use Rattle.makers.specs.Roll.{rollAfter, rollOutcomes, Stands, Claimed}
 use Rattle.makers.proofs.Claim.{claim}
 use Rattle.standing.specs.declared.Ran.{Ran}
 use Rattle.standing.specs.Words.{isCall, said, readable, callsOf, wordsOf, scriptOf}
-use Rattle.standing.specs.Runs.{Runs, Afresh}
+use Rattle.standing.specs.Claim.{ListAnswers, Afresh}
 
 pub afresh : (ws : List ℕ) (lent : List Maker) (before : List ℕ) (l : List Maker) (behind : List ℕ) (r : Ran)
-    → Runs ws (standing lent 0) before l behind r → r .fits ≡ true → Afresh ws lent before l behind (r .count)
+    → ListAnswers ws (standing lent 0) before l behind r → r .fits ≡ true → Afresh ws lent before l behind (r .count)
 afresh ws lent before l behind r h fits =
     let c = claim lent (callsOf ws) in
     let calls : (if r .fits then callsOf ws else []) ≡ callsOf ws = rw fits refl in

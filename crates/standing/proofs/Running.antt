@@ -15,12 +15,12 @@ use Rattle.makers.specs.declared.Maker.{Maker}
 use Rattle.makers.specs.declared.Answer.{Answer}
 use Rattle.makers.specs.Order.{maker}
 use Rattle.makers.specs.Calls.{Standing, standing, Call, Leave, refusalOf, step, answerOf, after, outcomesFrom}
-use Rattle.makers.specs.Moves.{callOf}
+use Rattle.makers.specs.Internal.{callOf}
 use Rattle.standing.specs.declared.Asked.{Asked}
 use Rattle.standing.specs.declared.Ran.{Ran}
 use Rattle.standing.specs.declared.Ready.{Ready}
 use Rattle.standing.specs.Words.{isCall, said, readable, callsOf, askedAt, canRun, readyOf}
-use Rattle.standing.specs.Runs.{Runs}
+use Rattle.standing.specs.Claim.{ListAnswers}
 
 -- ---- the call at a place
 
@@ -200,7 +200,7 @@ module _ (ws : List ℕ) (s : Standing) (before : List ℕ) where
       omega (arith, a, b, c)
 
   -- all calls ran
-  pub finished : Runs ws s before (at (length running) .records) (noted (length running)) (record { count = at (length running) .count; fits = fits })
+  pub finished : ListAnswers ws s before (at (length running) .records) (noted (length running)) (record { count = at (length running) .count; fits = fits })
   unfolding canRun
   finished =
       let e : upto (length running) ≡ running = take-length running in

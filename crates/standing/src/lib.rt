@@ -6,9 +6,9 @@ ghost use Prim.Native.Nat.{ℕ, _+_, _*_, _≤_, _<_};
 ghost use lib.Dec.{leb};
 ghost use lib.ListN.{length, set};
 ghost use Rattle.makers.specs.Calls.{Join, Change, Leave, standing, step, answerOf};
-ghost use Rattle.makers.specs.Moves.{seenIn, soundIn, shifted, callOf};
+ghost use Rattle.makers.specs.Internal.{seenIn, soundIn, shifted, callOf};
 ghost use Rattle.standing.specs.Words.{isCall, measured, askedAt, readyOf};
-ghost use Rattle.standing.specs.Runs.{Runs};
+ghost use Rattle.standing.specs.Claim.{ListAnswers};
 use makers::Answer;
 use makers::Maker;
 use makers::Seen;
@@ -222,7 +222,7 @@ fn note(outcomes: &mut [u32], k: usize, n: u32)
 // Runs a list of calls, each on the records and the count that the one before left, and writes each call's outcome, 0 or the refusal's
 // number. All run, or none where the words are no list of calls or the outcomes do not fit.
 pub fn run(list: &mut [Maker], count: usize, words: &[u32], outcomes: &mut [u32]) -> Ran
-    ensures { λ r. ⌜ Runs (now (words .entry)) (standing (now (list .entry)) count) (now (outcomes .entry)) (now (list .exit)) (now (outcomes .exit)) r ⌝ }
+    ensures { λ r. ⌜ ListAnswers (now (words .entry)) (standing (now (list .entry)) count) (now (outcomes .entry)) (now (list .exit)) (now (outcomes .exit)) r ⌝ }
 {
     let ready = make_ready(words, outcomes.len());
     let calls = ready.calls;

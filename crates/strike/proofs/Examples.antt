@@ -6,7 +6,7 @@ use mathlib.Core.Bool.{true, false}
 use lib.IntN.{pos, negsuc}
 use Rattle.rules.specs.declared.Strike.{Strike}
 use Rattle.rules.specs.Strikes.{halfBelow, strikeWithin}
-use Rattle.strike.specs.Limit.{roundedOf}
+use Rattle.strike.specs.Widest.{roundedOf}
 use Rattle.strike.proofs.Rounding.{rounded-only}
 
 abbrev strike : ℕ → ℕ → ℕ → ℕ → Strike

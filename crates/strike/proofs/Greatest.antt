@@ -6,7 +6,7 @@ use mathlib.Core.Bool.{Bool, true, false}
 use borrow.Author.Tests.{leb-true, leb-false, le-leb, lt-leb}
 use lib.Dec.{leb}
 use Rattle.rules.specs.Lists.{if_then_else_}
-use Rattle.strike.specs.Limit.{greatestUpTo}
+use Rattle.strike.specs.Widest.{greatestUpTo}
 
 module _ (p : ℕ → Bool) where
   pub greatest-passes : (n : ℕ) → p 0 ≡ true → p (greatestUpTo p n) ≡ true

@@ -10,7 +10,7 @@ use lib.IntN.{ℤ, pos, negsuc}
 use lib.Signed.{leZ}
 use Rattle.rules.specs.declared.Strike.{Strike}
 use Rattle.rules.specs.Strikes.{goodStrike, squareOf, halfBelow, strikeWithin, Rounded}
-use Rattle.strike.specs.Limit.{greatestUpTo, roundedOf, strikeLimit}
+use Rattle.strike.specs.Widest.{greatestUpTo, roundedOf, widestOfStrike}
 use Rattle.strike.proofs.Greatest.{greatest-law, greatest-passes}
 use Rattle.strike.proofs.Squares.{square-is, square-le, beyond, strike-bounds, square-most}
 
@@ -73,20 +73,20 @@ module _ (s : Strike) where
       omega arith
 
   -- the limit is the greater of the two
-  pub limit-greater : strikeLimit s ≡ max (roundedOf s) (s .b)
-  unfolding strikeLimit
-  limit-greater = refl
+  pub widest-greater : widestOfStrike s ≡ max (roundedOf s) (s .b)
+  unfolding widestOfStrike
+  widest-greater = refl
 
   -- the limit by any n between the squares
-  pub limit-is : (q n r : ℕ) → q ≡ 4 * squareOf s → (2 * n - 1) ^ 2 * 36500 ≤ q → q < (2 * n + 1) ^ 2 * 36500 → r ≡ max n (s .b)
-      → r ≡ strikeLimit s
-  unfolding strikeLimit
-  limit-is q n r e low high f =
+  pub widest-is : (q n r : ℕ) → q ≡ 4 * squareOf s → (2 * n - 1) ^ 2 * 36500 ≤ q → q < (2 * n + 1) ^ 2 * 36500 → r ≡ max n (s .b)
+      → r ≡ widestOfStrike s
+  unfolding widestOfStrike
+  widest-is q n r e low high f =
       f ∙ ap (λ (m : ℕ). max m (s .b)) (rounded-only n (record { low = rw e at low; high = rw e at high }))
 
   -- "Whether D is within it is decided exactly": for every D, and whatever the four numbers
-  pub strike-law : (d : ℤ) → leZ d (pos (strikeLimit s)) ≡ strikeWithin s d
-  unfolding strikeLimit strikeWithin
+  pub strike-law : (d : ℤ) → leZ d (pos (widestOfStrike s)) ≡ strikeWithin s d
+  unfolding widestOfStrike strikeWithin
   strike-law (pos d) = at-most-greater d (roundedOf s) (s .b) ∙ ap (λ (t : Bool). t || leb d (s .b)) (rounded-law d)
   strike-law (negsuc d) = refl
 
@@ -98,6 +98,6 @@ module _ (s : Strike) where
       leb-false 2000001 (roundedOf s) (rounded-law 2000001 ∙ fails 2000001 (omega arith)) in
       omega arith
 
-  pub limit-most : goodStrike s ≡ true → strikeLimit s ≤ 2000000
-  unfolding strikeLimit
-  limit-most e = omega (arith, rounded-most e, strike-bounds s e .b-most)
+  pub widest-most : goodStrike s ≡ true → widestOfStrike s ≤ 2000000
+  unfolding widestOfStrike
+  widest-most e = omega (arith, rounded-most e, strike-bounds s e .b-most)

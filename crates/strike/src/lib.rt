@@ -3,10 +3,10 @@ ghost use mathlib.Core.Path.{_≡_};
 ghost use mathlib.Core.Bool.{true};
 ghost use Prim.Native.Nat.{_+_, _-_, _*_, _^_, max, _≤_, _<_};
 ghost use lib.Dec.{leb};
-ghost use Rattle.rules.specs.Book.{goodSpread};
+ghost use Rattle.rules.specs.Book.{goodSpreadRule};
 ghost use Rattle.rules.specs.Strikes.{goodStrike, squareOf};
-ghost use Rattle.strike.specs.Limit.{strikeLimit};
-use rules::Spread;
+ghost use Rattle.strike.specs.Widest.{widestOfStrike};
+use rules::SpreadRule;
 use rules::Strike;
 
 // Whether the four numbers are in their ranges.
@@ -22,12 +22,12 @@ pub fn is_good(s: Strike) -> bool
 }
 
 // The same, where open goes by a strike.
-pub fn in_range(spread: Spread) -> bool
-    ensures { λ r. ⌜ r ≡ goodSpread spread ⌝ }
+pub fn in_range(spread: SpreadRule) -> bool
+    ensures { λ r. ⌜ r ≡ goodSpreadRule spread ⌝ }
 {
     match spread {
-        Spread::Settled(_) => true,
-        Spread::OfStrike(s) => is_good(s),
+        SpreadRule::Settled(_) => true,
+        SpreadRule::OfStrike(s) => is_good(s),
     }
 }
 
@@ -82,9 +82,9 @@ fn greater(a: u32, b: u32) -> u32
 }
 
 // The greatest D that is within the strike's spread limit.
-pub fn limit(s: Strike) -> u32
+pub fn widest(s: Strike) -> u32
     requires { ⌜ goodStrike s ≡ true ⌝ }
-    ensures { λ r. ⌜ r ≡ strikeLimit s ⌝ }
+    ensures { λ r. ⌜ r ≡ widestOfStrike s ⌝ }
 {
     greater(nearest(square(s)), s.b)
 }

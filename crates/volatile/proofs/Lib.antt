@@ -3,7 +3,7 @@ pub mod Steps
 pub mod Periods
 pub mod Windows
 pub mod Phases
-pub mod Stands
+pub mod Represents
 pub mod Answers
 -- the periods are apart
 pub mod Apart

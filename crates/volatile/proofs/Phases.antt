@@ -11,7 +11,7 @@ use lib.ListN.{length}
 use Rattle.rules.specs.Lists.{any}
 use Rattle.volatile.specs.declared.Phase.{Phase}
 use Rattle.volatile.specs.Periods.{isIn, isEarly, sigmaOn, average, periods}
-use Rattle.volatile.specs.Carried.{phase, ends, phaseAfter, early}
+use Rattle.volatile.specs.Internal.{phase, ends, phaseAfter, early}
 use Rattle.volatile.proofs.Steps as steps
 use Rattle.volatile.proofs.Periods.{and-true, Current, current-in, stays-out, stays-early, begins-after, begins-early, inside-early, ends-after, goes-on-after, none-yet-early, none-yet-in}
 

@@ -7,7 +7,7 @@ use lib.Dec.{leb, ltb}
 use Rattle.volatile.specs.declared.Window.{Window}
 use Rattle.volatile.specs.declared.Phase.{Phase}
 use Rattle.volatile.specs.declared.State.{State}
-use Rattle.volatile.specs.Carried.{pushed, phase, ends, phaseAfter, state, sigmaWith, judged, turned}
+use Rattle.volatile.specs.Internal.{pushed, phase, ends, phaseAfter, state, sigmaWith, judged, stateAfter}
 
 module _ (p : Phase) (day sigma threshold sum : ℕ) where
   -- the two tests that a period ends by, joined
@@ -32,12 +32,12 @@ module _ (p : Phase) (day sigma threshold sum : ℕ) where
   stays-out h e = simp (h, e)
 
 module _ (s : State) (i r threshold : ℕ) where
-  pub first-two : i < 2 → state (s .newer) r (s .window) (s .phase) ≡ turned s i r threshold
-  unfolding turned
+  pub first-two : i < 2 → state (s .newer) r (s .window) (s .phase) ≡ stateAfter s i r threshold
+  unfolding stateAfter
   first-two h = simp (lt-ltb i 2 h)
 
-  pub from-third : 2 ≤ i → judged s r threshold ≡ turned s i r threshold
-  unfolding turned
+  pub from-third : 2 ≤ i → judged s r threshold ≡ stateAfter s i r threshold
+  unfolding stateAfter
   from-third h = simp (le-ltb i 2 h)
 
   pub judge-is : (sigma : ℕ) (w : Window) (p : Phase) → sigma ≡ sigmaWith s r

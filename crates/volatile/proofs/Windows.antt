@@ -11,7 +11,7 @@ use Rattle.rules.specs.Lists.{sum}
 use Rattle.sigma.proofs.Differences.{lt-or-ge}
 use Rattle.volatile.specs.declared.Window.{Window}
 use Rattle.volatile.specs.Periods.{average}
-use Rattle.volatile.specs.Carried.{oldest, pushed, Roomy}
+use Rattle.volatile.specs.Internal.{oldest, pushed, Roomy}
 
 -- ---- sums of a part of a list
 

@@ -2,4 +2,4 @@
 -- public contract cites it.
 pub mod Periods
 pub mod Answers
-pub mod Carried
+pub mod Internal

@@ -6,7 +6,7 @@ ghost use mathlib.Core.Path.{_≡_};
 ghost use Prim.Native.Nat.{_≤_, _<_};
 ghost use lib.Dec.{ltb};
 ghost use Rattle.volatile.specs.Answers.{insideOf, shownDay};
-ghost use Rattle.volatile.specs.Carried.{Roomy, pushed, phaseAfter, sigmaWith, judged, turned, fresh, Ready, early};
+ghost use Rattle.volatile.specs.Internal.{Roomy, pushed, phaseAfter, sigmaWith, judged, stateAfter, fresh, Ready, early};
 
 pub enum DayAnswer {
     Inside,
@@ -110,7 +110,7 @@ fn judge(s: State, r: u32, threshold: u32) -> State
 // A day with an R, the i-th from 0: it has a sigma from the third on.
 fn turn(s: State, i: usize, r: u32, threshold: u32) -> State
     requires { ⌜ Ready s × (r ≤ 2000000) ⌝ }
-    ensures { λ t. ⌜ (t ≡ turned s i r threshold) × (2 ≤ i → sigmaWith s r < 4194304) ⌝ }
+    ensures { λ t. ⌜ (t ≡ stateAfter s i r threshold) × (2 ≤ i → sigmaWith s r < 4194304) ⌝ }
 {
     if i < 2 {
         let newer = s.newer;

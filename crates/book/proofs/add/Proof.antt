@@ -9,7 +9,7 @@ use Rattle.rules.specs.Units.{goodPrice, goodVolume}
 use Rattle.rules.proofs.Lists.{both}
 use Rattle.book.proofs.Table.{side-few, part-sized, part-room}
 use Rattle.book.proofs.Causes.{add-known, add-outside, add-full, add-passes}
-use Rattle.book.proofs.Turns.{refuses, turned-add}
+use Rattle.book.proofs.Applied.{refuses, applied-add}
 use Rattle.book.proofs.add.Statement.{statement}
 use Rattle.book.proofs.add.Tie as tie
 
@@ -17,10 +17,10 @@ refused-requires : tie.Need-refused-requires
 refused-requires c κs = search needs
 
 returns : tie.Need-returns
-returns c = λ t least live stands at.
+returns c = λ t minimum live represents at.
     let a = c .before .before .before .before .args in
-    refuses (Add t (a .id) (a .side) (a .price) (a .volume)) least live (a .table .now) stands 9 (c .refused .result) (c .refused .ensures)
-    (add-known live (stands .good) (a .id) (a .slot) at t (a .side) (a .price) (a .volume) (c .before .if1 .taken))
+    refuses (Add t (a .id) (a .side) (a .price) (a .volume)) minimum live (a .table .now) represents 9 (c .refused .result) (c .refused .ensures)
+    (add-known live (represents .good) (a .id) (a .slot) at t (a .side) (a .price) (a .volume) (c .before .if1 .taken))
 
 in-range-requires : tie.Need-in-range-requires
 in-range-requires c κs = search needs
@@ -35,11 +35,11 @@ same-length : tie.Need-same-length
 same-length c = search needs
 
 returns-2 : tie.Need-returns-2
-returns-2 c = λ t least live stands at.
+returns-2 c = λ t minimum live represents at.
     let a = c .before .before .before .before .before .before .before .before .before .args in
-    refuses (Add t (a .id) (a .side) (a .price) (a .volume)) least live (a .table .now) stands 12 (c .refused2 .result) (c .refused2 .ensures)
-    (add-full live (stands .good) (a .id) (a .slot) at t (a .side) (a .price) (a .volume) (c .before .before .before .before .before .before .if1 .left) (sym (c .before .before .before .before .before .in-range .ensures) ∙ c .before .before .before .before .if2 .taken)
-    (subst (λ (n : ℕ). 64 ≤ n) (c .before .before .count .ensures least live (stands .good) (stands .is)) (c .before .if3 .taken)))
+    refuses (Add t (a .id) (a .side) (a .price) (a .volume)) minimum live (a .table .now) represents 12 (c .refused2 .result) (c .refused2 .ensures)
+    (add-full live (represents .good) (a .id) (a .slot) at t (a .side) (a .price) (a .volume) (c .before .before .before .before .before .before .if1 .left) (sym (c .before .before .before .before .before .in-range .ensures) ∙ c .before .before .before .before .if2 .taken)
+    (subst (λ (n : ℕ). 64 ≤ n) (c .before .before .count .ensures minimum live (represents .good) (represents .is)) (c .before .if3 .taken)))
 
 side-number-requires : tie.Need-side-number-requires
 side-number-requires c κs = search needs
@@ -61,7 +61,7 @@ slice-read-note c = search needs
 
 -- at most 64 orders are on a side
 behind : (start : tie.Start) (n : ℕ) → n < 2 → getD (start .args .table .now) (256 * n + 192) 0 ≤ 64
-behind start n h = side-few (start .args .table .now) (start .pre .0 .least) (start .pre .0 .live) (start .pre .0 .stands) n h
+behind start n h = side-few (start .args .table .now) (start .pre .0 .minimum) (start .pre .0 .live) (start .pre .0 .represents) n h
 
 cast-note : tie.Need-cast-note
 cast-note c = record { fits = omega (arith, behind (c .before .before .before .before .before .before .before .before .before .before .before) (c .before .before .side-number .result) (c .before .before .side-number .ensures .small)) }
@@ -106,8 +106,8 @@ add-requires c κs =
     let n = c .before .before .before .before .before .before .before .side-number .result in
     let small = c .before .before .before .before .before .before .before .side-number .ensures .small in
     let few : length (l .live) < 64 =
-    subst (λ (m : ℕ). m < 64) (c .before .before .before .before .before .before .before .before .before .count .ensures (l .least) (l .live) (l .stands .good) (l .stands .is)) (c .before .before .before .before .before .before .before .before .if3 .left) in
-    (part-sized table (l .least) (l .live) (l .stands) n small .all, part-room table (l .least) (l .live) (l .stands) n small few)
+    subst (λ (m : ℕ). m < 64) (c .before .before .before .before .before .before .before .before .before .count .ensures (l .minimum) (l .live) (l .represents .good) (l .represents .is)) (c .before .before .before .before .before .before .before .before .if3 .left) in
+    (part-sized table (l .minimum) (l .live) (l .represents) n small .all, part-room table (l .minimum) (l .live) (l .represents) n small few)
 
 done-requires : tie.Need-done-requires
 done-requires c κs = search needs
@@ -119,13 +119,13 @@ same-length-3 : tie.Need-same-length-3
 same-length-3 c = search needs
 
 returns-3 : tie.Need-returns-3
-returns-3 c = λ t least live stands at.
+returns-3 c = λ t minimum live represents at.
     let a = c .before .before .before .before .before .before .before .before .before .before .before .before .before .before .before .before .before .before .before .before .args in
     let few : length live < 64 =
-    subst (λ (m : ℕ). m < 64) (c .before .before .before .before .before .before .before .before .before .before .before .before .before .count .ensures least live (stands .good) (stands .is)) (c .before .before .before .before .before .before .before .before .before .before .before .before .if3 .left) in
-    turned-add t least live (a .table .now) stands (a .id) (a .side) (a .price) (a .volume) (c .before .before .before .before .before .before .before .before .before .before .before .side-number .result) (c .before .before .before .before .before .key-of .result)
+    subst (λ (m : ℕ). m < 64) (c .before .before .before .before .before .before .before .before .before .before .before .before .before .count .ensures minimum live (represents .good) (represents .is)) (c .before .before .before .before .before .before .before .before .before .before .before .before .if3 .left) in
+    applied-add t minimum live (a .table .now) represents (a .id) (a .side) (a .price) (a .volume) (c .before .before .before .before .before .before .before .before .before .before .before .side-number .result) (c .before .before .before .before .before .key-of .result)
     (c .before .before .before .add .last .0) (c .before .before .before .add .result) (c .done .result)
-    (add-passes live (stands .good) (a .id) (a .slot) at t (a .side) (a .price) (a .volume) (c .before .before .before .before .before .before .before .before .before .before .before .before .before .before .before .before .before .if1 .left)
+    (add-passes live (represents .good) (a .id) (a .slot) at t (a .side) (a .price) (a .volume) (c .before .before .before .before .before .before .before .before .before .before .before .before .before .before .before .before .before .if1 .left)
     (sym (c .before .before .before .before .before .before .before .before .before .before .before .before .before .before .before .before .in-range .ensures) ∙ c .before .before .before .before .before .before .before .before .before .before .before .before .before .before .before .if2 .taken) few)
     (c .before .before .before .before .before .before .before .before .before .before .before .side-number .ensures) (c .before .before .before .before .before .key-of .ensures) (c .before .before .before .add .ensures) (c .done .ensures)
 
@@ -133,10 +133,10 @@ refused-requires-3 : tie.Need-refused-requires-3
 refused-requires-3 c κs = search needs
 
 returns-4 : tie.Need-returns-4
-returns-4 c = λ t least live stands at.
+returns-4 c = λ t minimum live represents at.
     let a = c .before .before .before .before .before .before .args in
-    refuses (Add t (a .id) (a .side) (a .price) (a .volume)) least live (a .table .now) stands 11 (c .refused3 .result) (c .refused3 .ensures)
-    (add-outside live (stands .good) (a .id) (a .slot) at t (a .side) (a .price) (a .volume) (c .before .before .before .if1 .left) (sym (c .before .before .in-range .ensures) ∙ c .before .if2 .left))
+    refuses (Add t (a .id) (a .side) (a .price) (a .volume)) minimum live (a .table .now) represents 11 (c .refused3 .result) (c .refused3 .ensures)
+    (add-outside live (represents .good) (a .id) (a .slot) at t (a .side) (a .price) (a .volume) (c .before .before .before .if1 .left) (sym (c .before .before .in-range .ensures) ∙ c .before .if2 .left))
 
 pub add-spec : {M : Type 1} → statement M
 add-spec =

@@ -7,7 +7,7 @@ use Rattle.rules.specs.Units.{goodPrice, goodVolume}
 use Rattle.rules.proofs.Lists.{both}
 use Rattle.quote.specs.Keys.{keyOf}
 use Rattle.book.proofs.Causes.{amend-unknown, amend-outside, amend-passes}
-use Rattle.book.proofs.Turns.{refuses, turned-amend}
+use Rattle.book.proofs.Applied.{refuses, applied-amend}
 use Rattle.book.proofs.amend.Statement.{statement}
 use Rattle.book.proofs.amend.Tie as tie
 
@@ -15,11 +15,11 @@ refused-requires : tie.Need-refused-requires
 refused-requires c κs = search needs
 
 returns : tie.Need-returns
-returns c = λ t id least live stands at.
+returns c = λ t id minimum live represents at.
     let start = c .before .before .before in
     let a = start .args in
-    refuses (Amend t id (a .price) (a .volume)) least live (a .table .now) stands 10 (c .refused .result) (c .refused .ensures)
-    (amend-unknown live (stands .good) id (a .slot) at t (a .price) (a .volume) (c .before .if1 .taken))
+    refuses (Amend t id (a .price) (a .volume)) minimum live (a .table .now) represents 10 (c .refused .result) (c .refused .ensures)
+    (amend-unknown live (represents .good) id (a .slot) at t (a .price) (a .volume) (c .before .if1 .taken))
 
 in-range-requires : tie.Need-in-range-requires
 in-range-requires c κs = search needs
@@ -63,21 +63,21 @@ same-length : tie.Need-same-length
 same-length c = search needs
 
 returns-2 : tie.Need-returns-2
-returns-2 c = λ t id least live stands at.
+returns-2 c = λ t id minimum live represents at.
     let a = c .before .before .before .before .before .before .before .before .before .before .before .args in
-    turned-amend t least live (a .table .now) stands id (a .slot) at (c .before .before .before .before .before .before .before .before .before .if1 .left) (a .price) (a .volume) (c .before .before .before .before .before .key-of .result)
+    applied-amend t minimum live (a .table .now) represents id (a .slot) at (c .before .before .before .before .before .before .before .before .before .if1 .left) (a .price) (a .volume) (c .before .before .before .before .before .key-of .result)
     (c .before .before .before .amend .last .0) (c .before .before .before .amend .result) (c .done .result)
-    (amend-passes live (stands .good) id (a .slot) at t (a .price) (a .volume) (c .before .before .before .before .before .before .before .before .before .if1 .left) (sym (c .before .before .before .before .before .before .before .before .in-range .ensures) ∙ c .before .before .before .before .before .before .before .if2 .taken))
+    (amend-passes live (represents .good) id (a .slot) at t (a .price) (a .volume) (c .before .before .before .before .before .before .before .before .before .if1 .left) (sym (c .before .before .before .before .before .before .before .before .in-range .ensures) ∙ c .before .before .before .before .before .before .before .if2 .taken))
     (c .before .before .before .before .before .key-of .ensures ∙ ap (λ (s : Side). keyOf s (a .price .0)) (c .before .before .before .before .before .before .side-at .ensures)) (c .before .before .before .amend .ensures) (c .done .ensures)
 
 refused-requires-2 : tie.Need-refused-requires-2
 refused-requires-2 c κs = search needs
 
 returns-3 : tie.Need-returns-3
-returns-3 c = λ t id least live stands at.
+returns-3 c = λ t id minimum live represents at.
     let a = c .before .before .before .before .before .args in
-    refuses (Amend t id (a .price) (a .volume)) least live (a .table .now) stands 11 (c .refused2 .result) (c .refused2 .ensures)
-    (amend-outside live (stands .good) id (a .slot) at t (a .price) (a .volume) (c .before .before .before .if1 .left) (sym (c .before .before .in-range .ensures) ∙ c .before .if2 .left))
+    refuses (Amend t id (a .price) (a .volume)) minimum live (a .table .now) represents 11 (c .refused2 .result) (c .refused2 .ensures)
+    (amend-outside live (represents .good) id (a .slot) at t (a .price) (a .volume) (c .before .before .before .if1 .left) (sym (c .before .before .in-range .ensures) ∙ c .before .if2 .left))
 
 pub amend-spec : {M : Type 1} → statement M
 amend-spec =

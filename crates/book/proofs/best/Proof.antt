@@ -2,7 +2,7 @@
 use native.Mathlib.Omega.{arith}
 use mathlib.Core.Path.{_∙_}
 use borrow.Author.Needs.{needs}
-use Rattle.book.proofs.Table.{held-length, held-stands}
+use Rattle.book.proofs.Table.{held-length, held-represents}
 use Rattle.book.proofs.Quotes.{word-most, word-quote}
 use Rattle.book.proofs.best.Statement.{statement}
 use Rattle.book.proofs.best.Tie as tie
@@ -27,13 +27,13 @@ shared-slice-read-quote-at c =
 quote-at-requires : tie.Need-quote-at-requires
 quote-at-requires c κs =
     let start = c .before .before .before in
-    word-most _ _ _ (held-stands (start .args .table .now) (start .pre)) (c .before .side-number .result) (c .before .side-number .ensures .small)
+    word-most _ _ _ (held-represents (start .args .table .now) (start .pre)) (c .before .side-number .result) (c .before .side-number .ensures .small)
 
 returns : tie.Need-returns
-returns c least live good is =
+returns c minimum live good is =
     let number = c .before .before .side-number in
     c .quote-at .ensures
-    ∙ word-quote (c .before .before .before .before .args .table .now) least live (record { good = good; is = is }) (number .result) (number .ensures .small)
+    ∙ word-quote (c .before .before .before .before .args .table .now) minimum live (record { good = good; is = is }) (number .result) (number .ensures .small)
     (c .before .before .before .before .args .side) (number .ensures .is)
 
 pub best-spec : {M : Type 1} → statement M

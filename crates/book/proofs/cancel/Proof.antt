@@ -3,7 +3,7 @@ use borrow.Author.Needs.{needs}
 use Rattle.rules.specs.declared.Event.the-variants.{Cancel}
 use Rattle.rules.specs.Units.{millis}
 use Rattle.book.proofs.Causes.{cancel-unknown, cancel-passes}
-use Rattle.book.proofs.Turns.{refuses, turned-cancel, placed, lent-removable}
+use Rattle.book.proofs.Applied.{refuses, applied-cancel, placed, lent-removable}
 use Rattle.book.proofs.cancel.Statement.{statement}
 use Rattle.book.proofs.cancel.Tie as tie
 
@@ -11,10 +11,10 @@ refused-requires : tie.Need-refused-requires
 refused-requires c κs = search needs
 
 returns : tie.Need-returns
-returns c = λ t id least live stands at.
+returns c = λ t id minimum live represents at.
     let a = c .before .before .before .before .args in
-    refuses (Cancel t id) least live (a .table .now) stands 10 (c .refused .result) (c .refused .ensures)
-    (cancel-unknown live (stands .good) id (a .slot) at t (c .before .if1 .taken))
+    refuses (Cancel t id) minimum live (a .table .now) represents 10 (c .refused .result) (c .refused .ensures)
+    (cancel-unknown live (represents .good) id (a .slot) at t (c .before .if1 .taken))
 
 mul-remove : tie.Need-mul-remove
 mul-remove c = search needs
@@ -41,13 +41,13 @@ remove-requires : tie.Need-remove-requires
 remove-requires c κs =
     let a = c .before .before .before .before .args in
     let l = c .before .before .before .before .pre .0 in
-    lent-removable (millis 0) (l .least) (l .live) (a .table .now) (l .stands) (l .id) (a .slot) (l .at) (c .before .if1 .left)
+    lent-removable (millis 0) (l .minimum) (l .live) (a .table .now) (l .represents) (l .id) (a .slot) (l .at) (c .before .if1 .left)
 
 rehint-requires : tie.Need-rehint-requires
 rehint-requires c κs =
     let a = c .before .before .before .before .before .before .before .before .before .args in
     let l = c .before .before .before .before .before .before .before .before .before .pre .0 in
-    placed (millis 0) (l .least) (l .live) (a .table .now) (l .stands) (l .id) (a .slot) (l .at) (c .before .before .before .before .before .before .if1 .left) (c .before .before .before .before .remove .last .0) (a .hints .now)
+    placed (millis 0) (l .minimum) (l .live) (a .table .now) (l .represents) (l .id) (a .slot) (l .at) (c .before .before .before .before .before .before .if1 .left) (c .before .before .before .before .remove .last .0) (a .hints .now)
     (c .before .before .before .before .remove .result) (c .before .before .before .before .before .before .before .before .before .pre .1) (c .before .before .before .before .remove .ensures)
 
 done-requires : tie.Need-done-requires
@@ -60,10 +60,10 @@ same-length-2 : tie.Need-same-length-2
 same-length-2 c = search needs
 
 returns-2 : tie.Need-returns-2
-returns-2 c = λ t id least live stands at.
+returns-2 c = λ t id minimum live represents at.
     let a = c .before .before .before .before .before .before .before .before .before .before .before .before .before .args in
-    turned-cancel t least live (a .table .now) stands id (a .slot) at (c .before .before .before .before .before .before .before .before .before .before .if1 .left) (c .before .before .before .before .before .before .before .before .remove .last .0) (c .before .before .before .before .before .before .before .before .remove .result)
-    (c .done .result) (cancel-passes live (stands .good) id (a .slot) at t (c .before .before .before .before .before .before .before .before .before .before .if1 .left)) (c .before .before .before .before .before .before .before .before .remove .ensures) (c .done .ensures)
+    applied-cancel t minimum live (a .table .now) represents id (a .slot) at (c .before .before .before .before .before .before .before .before .before .before .if1 .left) (c .before .before .before .before .before .before .before .before .remove .last .0) (c .before .before .before .before .before .before .before .before .remove .result)
+    (c .done .result) (cancel-passes live (represents .good) id (a .slot) at t (c .before .before .before .before .before .before .before .before .before .before .if1 .left)) (c .before .before .before .before .before .before .before .before .remove .ensures) (c .done .ensures)
 
 pub cancel-spec : {M : Type 1} → statement M
 cancel-spec =

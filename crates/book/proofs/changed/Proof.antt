@@ -7,9 +7,9 @@ use borrow.Author.Needs.{needs}
 use Rattle.rules.specs.declared.Order.{Order}
 use Rattle.rules.specs.declared.Event.{Event}
 use Rattle.book.specs.Table.{slotIn}
-use Rattle.book.specs.Steps.{idOf, Standing, Located, Turned}
-use Rattle.book.proofs.Table.{held-stands, held-length}
-use Rattle.book.proofs.Turns.{idle}
+use Rattle.book.specs.Internal.{idOf, Represents, Located, Applied}
+use Rattle.book.proofs.Table.{held-represents, held-length}
+use Rattle.book.proofs.Applied.{idle}
 use Rattle.book.proofs.changed.Statement.{statement}
 use Rattle.book.proofs.changed.Tie as tie
 
@@ -23,9 +23,9 @@ enum-known-e : tie.Need-enum-known-e
 enum-known-e c = search needs
 
 -- what was found for the event's id
-slot-is : (c : tie.After-find) (least : ℕ) (live : List Order) → Standing (c .before .before .before .before .before .before .args .table .now) least live
+slot-is : (c : tie.After-find) (minimum : ℕ) (live : List Order) → Represents (c .before .before .before .before .before .before .args .table .now) minimum live
     → c .find .result ≡ slotIn (idOf (c .before .before .before .before .before .before .args .e)) live
-slot-is c least live stands = c .find .ensures least live stands ∙ ap (λ (n : ℕ). slotIn n live) (c .before .id-of .ensures)
+slot-is c minimum live represents = c .find .ensures minimum live represents ∙ ap (λ (n : ℕ). slotIn n live) (c .before .id-of .ensures)
 
 located : (c : tie.After-find) → Located (c .before .before .before .before .before .before .args .table .now) (c .find .result)
 located c =
@@ -33,11 +33,11 @@ located c =
     let held = c .before .before .before .before .before .before .pre .0 in
     record {
       id = idOf (c .before .before .before .before .before .before .args .e);
-      least = held .least;
+      minimum = held .minimum;
       live = held .live;
-      stands = held-stands table held;
+      represents = held-represents table held;
       long = held-length table held;
-      at = slot-is c (held .least) (held .live) (held-stands table held);
+      at = slot-is c (held .minimum) (held .live) (held-represents table held);
     }
 
 hinted : (c : tie.After-find) → length (c .find .last .1 .0) ≡ 1024
@@ -77,10 +77,10 @@ same-length-2 : tie.Need-same-length-2
 same-length-2 c = search needs
 
 returns : tie.Need-returns
-returns c = λ least live stands.
+returns c = λ minimum live represents.
     let is = c .before .before .before .before .before .before .before .before .e .given .1 in
-    let found = slot-is (c .before .before .before .before .before .before .before .before .before .before .before .before) least live stands ∙ ap (λ (e : Event). slotIn (idOf e) live) is in
-    subst (λ (e : Event). Turned e least live (c .before .before .before .before .add .last .0) (c .before .before .before .before .add .result)) (sym is) (c .before .before .before .before .add .ensures _ least live stands found)
+    let found = slot-is (c .before .before .before .before .before .before .before .before .before .before .before .before) minimum live represents ∙ ap (λ (e : Event). slotIn (idOf e) live) is in
+    subst (λ (e : Event). Applied e minimum live (c .before .before .before .before .add .last .0) (c .before .before .before .before .add .result)) (sym is) (c .before .before .before .before .add .ensures _ minimum live represents found)
 
 same-length-3 : tie.Need-same-length-3
 same-length-3 c = search needs
@@ -89,10 +89,10 @@ same-length-4 : tie.Need-same-length-4
 same-length-4 c = search needs
 
 returns-2 : tie.Need-returns-2
-returns-2 c = λ least live stands.
+returns-2 c = λ minimum live represents.
     let is = c .before .before .before .before .before .e2 .given .1 in
-    let found = slot-is (c .before .before .before .before .before .before .before .before .before) least live stands ∙ ap (λ (e : Event). slotIn (idOf e) live) is in
-    subst (λ (e : Event). Turned e least live (c .before .before .amend .last .0) (c .before .before .amend .result)) (sym is) (c .before .before .amend .ensures _ _ least live stands found)
+    let found = slot-is (c .before .before .before .before .before .before .before .before .before) minimum live represents ∙ ap (λ (e : Event). slotIn (idOf e) live) is in
+    subst (λ (e : Event). Applied e minimum live (c .before .before .amend .last .0) (c .before .before .amend .result)) (sym is) (c .before .before .amend .ensures _ _ minimum live represents found)
 
 same-length-5 : tie.Need-same-length-5
 same-length-5 c = search needs
@@ -101,10 +101,10 @@ same-length-6 : tie.Need-same-length-6
 same-length-6 c = search needs
 
 returns-3 : tie.Need-returns-3
-returns-3 c = λ least live stands.
+returns-3 c = λ minimum live represents.
     let is = c .before .before .before .before .before .before .before .enum-told .given .1 in
-    let found = slot-is (c .before .before .before .before .before .before .before .before .before .before .before) least live stands ∙ ap (λ (e : Event). slotIn (idOf e) live) is in
-    subst (λ (e : Event). Turned e least live (c .before .before .before .before .cancel .last .0) (c .before .before .before .before .cancel .result)) (sym is) (c .before .before .before .before .cancel .ensures _ _ least live stands found)
+    let found = slot-is (c .before .before .before .before .before .before .before .before .before .before .before) minimum live represents ∙ ap (λ (e : Event). slotIn (idOf e) live) is in
+    subst (λ (e : Event). Applied e minimum live (c .before .before .before .before .cancel .last .0) (c .before .before .before .before .cancel .result)) (sym is) (c .before .before .before .before .cancel .ensures _ _ minimum live represents found)
 
 same-length-7 : tie.Need-same-length-7
 same-length-7 c = search needs
@@ -113,10 +113,10 @@ same-length-8 : tie.Need-same-length-8
 same-length-8 c = search needs
 
 returns-4 : tie.Need-returns-4
-returns-4 c = λ least live stands.
+returns-4 c = λ minimum live represents.
     let is = c .before .before .before .before .before .before .before .before .e3 .given .1 in
-    let found = slot-is (c .before .before .before .before .before .before .before .before .before .before .before .before) least live stands ∙ ap (λ (e : Event). slotIn (idOf e) live) is in
-    subst (λ (e : Event). Turned e least live (c .before .before .before .before .deal .last .0) (c .before .before .before .before .deal .result)) (sym is) (c .before .before .before .before .deal .ensures _ _ least live stands found)
+    let found = slot-is (c .before .before .before .before .before .before .before .before .before .before .before .before) minimum live represents ∙ ap (λ (e : Event). slotIn (idOf e) live) is in
+    subst (λ (e : Event). Applied e minimum live (c .before .before .before .before .deal .last .0) (c .before .before .before .before .deal .result)) (sym is) (c .before .before .before .before .deal .ensures _ _ minimum live represents found)
 
 same-length-9 : tie.Need-same-length-9
 same-length-9 c = search needs
@@ -125,10 +125,10 @@ same-length-10 : tie.Need-same-length-10
 same-length-10 c = search needs
 
 returns-5 : tie.Need-returns-5
-returns-5 c = λ least live stands.
+returns-5 c = λ minimum live represents.
     let table = c .before .before .before .before .before .before .before .before .before .before .before .args .table .now in
-    subst (λ (e : Event). Turned e least live table (c .refused .result)) (sym (c .before .enum-told2 .given .1))
-    (idle _ least live table stands (c .refused .result) (c .refused .ensures))
+    subst (λ (e : Event). Applied e minimum live table (c .refused .result)) (sym (c .before .enum-told2 .given .1))
+    (idle _ minimum live table represents (c .refused .result) (c .refused .ensures))
 
 pub changed-spec : {M : Type 1} → statement M
 changed-spec =

@@ -14,7 +14,7 @@ add-result : tie.Need-add-result
 add-result c = record { fits = omega (arith, held-count (c .before .before .args .table .now) (c .before .before .pre), c .before .before .pre .good .few) }
 
 returns : tie.Need-returns
-returns c least live good is = all-count (c .before .before .args .table .now) least live (record { good = good; is = is })
+returns c minimum live good is = all-count (c .before .before .args .table .now) minimum live (record { good = good; is = is })
 
 pub count-spec : {M : Type 1} → statement M
 count-spec = tie.close (tie.spec shared-slice-read-result shared-slice-read-result-2 add-result returns)

@@ -10,7 +10,7 @@ use borrow.Author.Tests.{ltb-true, ltb-false}
 use Rattle.rules.specs.declared.Event.the-variants.{Cancel, Deal}
 use Rattle.rules.specs.Orders.{left}
 use Rattle.book.proofs.Causes.{known, cancel-passes, deal-unknown, deal-outside, deal-above, deal-passes}
-use Rattle.book.proofs.Turns.{refuses, same-turn, deal-cancels, its-left, turned-deal}
+use Rattle.book.proofs.Applied.{refuses, same-turn, deal-cancels, its-left, applied-deal}
 use Rattle.book.proofs.deal.Statement.{statement}
 use Rattle.book.proofs.deal.Tie as tie
 
@@ -26,10 +26,10 @@ refused-requires : tie.Need-refused-requires
 refused-requires c κs = search needs
 
 returns : tie.Need-returns
-returns c = λ t id least live stands at.
+returns c = λ t id minimum live represents at.
     let a = c .before .before .before .before .args in
-    refuses (Deal t id (a .volume)) least live (a .table .now) stands 10 (c .refused .result) (c .refused .ensures)
-    (deal-unknown live (stands .good) id (a .slot) at t (a .volume) (c .before .if1 .taken))
+    refuses (Deal t id (a .volume)) minimum live (a .table .now) represents 10 (c .refused .result) (c .refused .ensures)
+    (deal-unknown live (represents .good) id (a .slot) at t (a .volume) (c .before .if1 .taken))
 
 volume-requires : tie.Need-volume-requires
 volume-requires c κs = search needs
@@ -53,12 +53,12 @@ refused-requires-2 : tie.Need-refused-requires-2
 refused-requires-2 c κs = search needs
 
 returns-2 : tie.Need-returns-2
-returns-2 c = λ t id least live stands at.
+returns-2 c = λ t id minimum live represents at.
     let a = c .before .before .before .before .before .before .before .before .args in
     let there = c .before .before .before .before .before .if1 .left in
-    refuses (Deal t id (a .volume)) least live (a .table .now) stands 13 (c .refused2 .result) (c .refused2 .ensures)
-    (deal-above live (stands .good) id (a .slot) at t (a .volume) there (sym (c .before .before .before .before .volume .ensures) ∙ c .before .before .before .if2 .taken)
-    (subst (λ (m : ℕ). m < a .volume .0) (its-left t least live (a .table .now) stands id (a .slot) at there) (c .before .if3 .taken)))
+    refuses (Deal t id (a .volume)) minimum live (a .table .now) represents 13 (c .refused2 .result) (c .refused2 .ensures)
+    (deal-above live (represents .good) id (a .slot) at t (a .volume) there (sym (c .before .before .before .before .volume .ensures) ∙ c .before .before .before .if2 .taken)
+    (subst (λ (m : ℕ). m < a .volume .0) (its-left t minimum live (a .table .now) represents id (a .slot) at there) (c .before .if3 .taken)))
 
 cancel-requires : tie.Need-cancel-requires
 cancel-requires c κs = search needs
@@ -70,16 +70,16 @@ same-length-2 : tie.Need-same-length-2
 same-length-2 c = search needs
 
 returns-3 : tie.Need-returns-3
-returns-3 c = λ t id least live stands at.
+returns-3 c = λ t id minimum live represents at.
     let a = c .before .before .before .before .before .before .before .before .before .before .before .before .before .before .before .args in
     let there = c .before .before .before .before .before .before .before .before .before .before .before .before .if1 .left in
-    let all : a .volume .0 ≡ left id live = sym (c .before .before .before .before .before .before .before .if4 .taken) ∙ its-left t least live (a .table .now) stands id (a .slot) at there in
-    same-turn (Cancel t id) (Deal t id (a .volume)) least live (c .before .before .before .before .cancel .last .0) (c .before .before .before .before .cancel .result)
-    (cancel-passes live (stands .good) id (a .slot) at t there)
-    (deal-passes live (stands .good) id (a .slot) at t (a .volume) there (sym (c .before .before .before .before .before .before .before .before .before .before .before .volume .ensures) ∙ c .before .before .before .before .before .before .before .before .before .before .if2 .taken)
+    let all : a .volume .0 ≡ left id live = sym (c .before .before .before .before .before .before .before .if4 .taken) ∙ its-left t minimum live (a .table .now) represents id (a .slot) at there in
+    same-turn (Cancel t id) (Deal t id (a .volume)) minimum live (c .before .before .before .before .cancel .last .0) (c .before .before .before .before .cancel .result)
+    (cancel-passes live (represents .good) id (a .slot) at t there)
+    (deal-passes live (represents .good) id (a .slot) at t (a .volume) there (sym (c .before .before .before .before .before .before .before .before .before .before .before .volume .ensures) ∙ c .before .before .before .before .before .before .before .before .before .before .if2 .taken)
     (subst (λ (m : ℕ). m ≤ left id live) (sym all) (le-refl _)))
-    (deal-cancels live (stands .good) t id (a .volume) (known live (stands .good) id (a .slot) at t there) all)
-    (c .before .before .before .before .cancel .ensures t id least live stands at)
+    (deal-cancels live (represents .good) t id (a .volume) (known live (represents .good) id (a .slot) at t there) all)
+    (c .before .before .before .before .cancel .ensures t id minimum live represents at)
 
 mul-key : tie.Need-mul-key
 mul-key c = search needs
@@ -127,22 +127,22 @@ same-length-3 : tie.Need-same-length-3
 same-length-3 c = search needs
 
 returns-4 : tie.Need-returns-4
-returns-4 c = λ t id least live stands at.
+returns-4 c = λ t id minimum live represents at.
     let a = c .before .before .before .before .before .before .before .before .before .before .before .before .before .before .args in
     let there = c .before .before .before .before .before .before .before .before .before .before .before .if1 .left in
-    turned-deal t least live (a .table .now) stands id (a .slot) at there (a .volume) (c .before .before .before .amend .last .0) (c .before .before .before .amend .result) (c .done .result)
-    (deal-passes live (stands .good) id (a .slot) at t (a .volume) there (sym (c .before .before .before .before .before .before .before .before .before .before .volume .ensures) ∙ c .before .before .before .before .before .before .before .before .before .if2 .taken)
-    (subst (λ (m : ℕ). a .volume .0 ≤ m) (its-left t least live (a .table .now) stands id (a .slot) at there) (c .before .before .before .before .before .before .before .if3 .left)))
+    applied-deal t minimum live (a .table .now) represents id (a .slot) at there (a .volume) (c .before .before .before .amend .last .0) (c .before .before .before .amend .result) (c .done .result)
+    (deal-passes live (represents .good) id (a .slot) at t (a .volume) there (sym (c .before .before .before .before .before .before .before .before .before .before .volume .ensures) ∙ c .before .before .before .before .before .before .before .before .before .if2 .taken)
+    (subst (λ (m : ℕ). a .volume .0 ≤ m) (its-left t minimum live (a .table .now) represents id (a .slot) at there) (c .before .before .before .before .before .before .before .if3 .left)))
     (less _ _ (c .before .before .before .before .before .before .before .if3 .left) (c .before .before .before .before .before .before .if4 .left)) (c .before .before .before .amend .ensures) (c .done .ensures)
 
 refused-requires-3 : tie.Need-refused-requires-3
 refused-requires-3 c κs = search needs
 
 returns-5 : tie.Need-returns-5
-returns-5 c = λ t id least live stands at.
+returns-5 c = λ t id minimum live represents at.
     let a = c .before .before .before .before .before .before .args in
-    refuses (Deal t id (a .volume)) least live (a .table .now) stands 11 (c .refused3 .result) (c .refused3 .ensures)
-    (deal-outside live (stands .good) id (a .slot) at t (a .volume) (c .before .before .before .if1 .left) (sym (c .before .before .volume .ensures) ∙ c .before .if2 .left))
+    refuses (Deal t id (a .volume)) minimum live (a .table .now) represents 11 (c .refused3 .result) (c .refused3 .ensures)
+    (deal-outside live (represents .good) id (a .slot) at t (a .volume) (c .before .before .before .if1 .left) (sym (c .before .before .volume .ensures) ∙ c .before .if2 .left))
 
 pub deal-spec : {M : Type 1} → statement M
 deal-spec =

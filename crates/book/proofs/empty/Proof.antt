@@ -1,6 +1,6 @@
 -- `book::empty` meets its contract: both sides of no orders are blanks. Assumes nothing.
 use mathlib.Core.Path.{refl}
-use Rattle.rules.specs.Lists.{keep}
+use Rattle.rules.specs.Lists.{filter}
 use Rattle.quote.specs.Levels.{held, levelAt, greatest, bestKey, levelOf}
 use Rattle.side.specs.Slots.{column, sideOf}
 use Rattle.book.specs.Table.{tableOf}
@@ -8,8 +8,8 @@ use Rattle.book.proofs.empty.Statement.{statement}
 use Rattle.book.proofs.empty.Tie as tie
 
 returns : tie.Need-returns
-unfolding tableOf sideOf column levelOf levelAt bestKey greatest keep held
-returns c least = refl
+unfolding tableOf sideOf column levelOf levelAt bestKey greatest filter held
+returns c minimum = refl
 
 pub empty-spec : {M : Type 1} → statement M
 empty-spec = tie.close (tie.spec returns)

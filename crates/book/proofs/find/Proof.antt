@@ -7,9 +7,9 @@ use lib.ListN.{getD}
 use borrow.Author.Needs.{needs}
 use Rattle.rules.specs.declared.Order.{Order}
 use Rattle.book.specs.Table.{slotIn}
-use Rattle.book.specs.Steps.{Standing}
+use Rattle.book.specs.Internal.{Represents}
 use Rattle.book.proofs.Slots.{slot-most}
-use Rattle.book.proofs.Table.{held-length, held-stands, held-sized, word-is, asked-is}
+use Rattle.book.proofs.Table.{held-length, held-represents, held-sized, word-is, asked-is}
 use Rattle.book.proofs.find.Statement.{statement}
 use Rattle.book.proofs.find.Tie as tie
 
@@ -40,9 +40,9 @@ names-requires : tie.Need-names-requires
 names-requires c κs = search needs
 
 returns : tie.Need-returns
-returns c = λ least live stands.
+returns c = λ minimum live represents.
     let start = c .before .before .before .before .before .before in
-    word-is (start .args .table .now) least live stands (start .args .id) (getD (start .args .hints .now) (start .args .id % 1024) 0 % 128)
+    word-is (start .args .table .now) minimum live represents (start .args .id) (getD (start .args .hints .now) (start .args .id % 1024) 0 % 128)
     (c .before .names .result) (omega arith) (c .before .names .ensures) (c .if1 .taken)
 
 sub-located : tie.Need-sub-located
@@ -81,19 +81,19 @@ slot-of-requires : tie.Need-slot-of-requires
 slot-of-requires c κs = search needs
 
 -- what both sides answered
-asked : (c : tie.After-slot-of) (least : ℕ) (live : List Order)
-    → Standing (c .before .before .before .before .before .before .before .before .before .before .before .args .table .now) least live
+asked : (c : tie.After-slot-of) (minimum : ℕ) (live : List Order)
+    → Represents (c .before .before .before .before .before .before .before .before .before .before .before .args .table .now) minimum live
     → c .slot-of .result ≡ slotIn (c .before .before .before .before .before .before .before .before .before .before .before .args .id) live
-asked c least live stands =
+asked c minimum live represents =
     let start = c .before .before .before .before .before .before .before .before .before .before .before in
-    asked-is (start .args .table .now) least live stands (start .args .id) (c .before .before .before .located .result) (c .before .located2 .result)
+    asked-is (start .args .table .now) minimum live represents (start .args .id) (c .before .before .before .located .result) (c .before .located2 .result)
     (c .slot-of .result) (c .before .before .before .located .ensures) (c .before .located2 .ensures) (c .slot-of .ensures)
 
 note-requires : tie.Need-note-requires
 note-requires c κs =
     let start = c .before .before .before .before .before .before .before .before .before .before .before .before in
     let held = start .pre .0 in
-    (start .pre .1, omega (arith, asked (c .before) (held .least) (held .live) (held-stands (start .args .table .now) held), slot-most (held .live) (held .good) (start .args .id)))
+    (start .pre .1, omega (arith, asked (c .before) (held .minimum) (held .live) (held-represents (start .args .table .now) held), slot-most (held .live) (held .good) (start .args .id)))
 
 same-length : tie.Need-same-length
 same-length c = search needs

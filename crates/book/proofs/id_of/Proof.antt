@@ -1,7 +1,7 @@
 -- `book::id_of` meets its contract. Assumes nothing.
 use mathlib.Core.Path.{sym, ap}
 use borrow.Author.Needs.{needs}
-use Rattle.book.specs.Steps.{idOf}
+use Rattle.book.specs.Internal.{idOf}
 use Rattle.book.proofs.id_of.Statement.{statement}
 use Rattle.book.proofs.id_of.Tie as tie
 

@@ -14,9 +14,9 @@ keys-keep-requires : tie.Need-keys-keep-requires
 keys-keep-requires c κs = search needs
 
 returns : tie.Need-returns
-returns c row sp live good is limit =
+returns c row sp live good is widest =
     let start = c .before .before .before .before in
-    keeps-is (start .args .table .now) row sp live good is (start .args .limit) (c .keys-keep .result) limit (c .keys-keep .ensures)
+    keeps-is (start .args .table .now) row sp live good is (start .args .widest) (c .keys-keep .result) widest (c .keys-keep .ensures)
 
 pub keeps-spec : {M : Type 1} → statement M
 keeps-spec =

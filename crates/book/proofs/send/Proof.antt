@@ -5,7 +5,7 @@ use mathlib.Core.Path.{_≡_, sym, ap, _∙_}
 use lib.ListN.{length}
 use borrow.Author.Needs.{needs}
 use Rattle.book.specs.Table.{tableOf, sentTo}
-use Rattle.book.specs.Steps.{Turned}
+use Rattle.book.specs.Internal.{Applied}
 use Rattle.book.proofs.Table.{table-length}
 use Rattle.book.proofs.Sent.{moving, sent-is, stays-is}
 use Rattle.book.proofs.send.Statement.{statement}
@@ -23,21 +23,21 @@ same-length-2 c = search needs
 returns : tie.Need-returns
 returns c =
     record {
-      refusal = λ live good is. c .before .before .before .before .before .changed .ensures (c .before .before .before .before .before .before .before .before .before .before .args .least .0) live (record { good = good; is = is }) .refusal;
+      refusal = λ live good is. c .before .before .before .before .before .changed .ensures (c .before .before .before .before .before .before .before .before .before .before .args .minimum .0) live (record { good = good; is = is }) .refusal;
       table = λ live good is.
           let a = c .before .before .before .before .before .before .before .before .before .before .args in
-          stays-is (a .e) (a .least .0) live good (c .before .before .before .before .before .changed .last .0) (c .before .before .before .before .before .changed .result)
-          (c .before .before .before .before .before .changed .ensures (a .least .0) live (record { good = good; is = is })) (c .if1 .taken);
+          stays-is (a .e) (a .minimum .0) live good (c .before .before .before .before .before .changed .last .0) (c .before .before .before .before .before .changed .result)
+          (c .before .before .before .before .before .changed .ensures (a .minimum .0) live (record { good = good; is = is })) (c .if1 .taken);
     }
 
 -- for the orders that the caller has in hand
-turn : (c : tie.After-changed) → Turned (c .before .before .before .before .before .args .e) (c .before .before .before .before .before .args .least .0) (c .before .before .before .before .before .pre .live) (c .changed .last .0) (c .changed .result)
-turn c = c .changed .ensures (c .before .before .before .before .before .args .least .0) (c .before .before .before .before .before .pre .live) (record { good = c .before .before .before .before .before .pre .good; is = c .before .before .before .before .before .pre .is })
+turn : (c : tie.After-changed) → Applied (c .before .before .before .before .before .args .e) (c .before .before .before .before .before .args .minimum .0) (c .before .before .before .before .before .pre .live) (c .changed .last .0) (c .changed .result)
+turn c = c .changed .ensures (c .before .before .before .before .before .args .minimum .0) (c .before .before .before .before .before .pre .live) (record { good = c .before .before .before .before .before .pre .good; is = c .before .before .before .before .before .pre .is })
 
 long : (c : tie.After-changed) → length (c .changed .last .0) ≡ 512
 long c =
     let a = c .before .before .before .before .before .args in
-    c .changed .kept .0 ∙ table-length (a .table .now) (a .least .0) (c .before .before .before .before .before .pre .live) (record { good = c .before .before .before .before .before .pre .good; is = c .before .before .before .before .before .pre .is })
+    c .changed .kept .0 ∙ table-length (a .table .now) (a .minimum .0) (c .before .before .before .before .before .pre .live) (record { good = c .before .before .before .before .before .pre .good; is = c .before .before .before .before .before .pre .is })
 
 mul-requote : tie.Need-mul-requote
 mul-requote c = record { fits = omega (arith, turn (c .before .before .before .before .before) .number) }
@@ -66,7 +66,7 @@ side-at-requires c κs = search needs
 requote-requires : tie.Need-requote-requires
 requote-requires c κs =
     let a = c .before .before .before .before .before .before .before .before .before .before .before .before .args in
-    (moving (a .e) (a .least .0) (c .before .before .before .before .before .before .before .before .before .before .before .before .pre .live) (c .before .before .before .before .before .before .before .before .before .before .before .before .pre .good) (c .before .before .before .before .before .before .before .changed .last .0) (c .before .before .before .before .before .before .before .changed .result) (turn (c .before .before .before .before .before .before .before)), c .before .before .before .before .before .before .before .before .before .before .before .before .pre .some)
+    (moving (a .e) (a .minimum .0) (c .before .before .before .before .before .before .before .before .before .before .before .before .pre .live) (c .before .before .before .before .before .before .before .before .before .before .before .before .pre .good) (c .before .before .before .before .before .before .before .changed .last .0) (c .before .before .before .before .before .before .before .changed .result) (turn (c .before .before .before .before .before .before .before)), c .before .before .before .before .before .before .before .before .before .before .before .before .pre .some)
 
 same-length-3 : tie.Need-same-length-3
 same-length-3 c = search needs
@@ -80,11 +80,11 @@ returns-2 c =
     let answer = c .before .before .before .before .before .before .before .before .before .before .changed .result in
     let none : answer .refusal ≡ 0 = omega (arith, c .before .before .before .before .before .if1 .left) in
     record {
-      refusal = λ live good is. sym none ∙ c .before .before .before .before .before .before .before .before .before .before .changed .ensures (a .least .0) live (record { good = good; is = is }) .refusal;
+      refusal = λ live good is. sym none ∙ c .before .before .before .before .before .before .before .before .before .before .changed .ensures (a .minimum .0) live (record { good = good; is = is }) .refusal;
       table = λ live good is.
-          sent-is (a .e) (a .least .0) live good (c .before .before .before .before .before .before .before .before .before .before .changed .last .0) answer
-          (c .before .before .before .before .before .before .before .before .before .before .changed .ensures (a .least .0) live (record { good = good; is = is })) (c .before .before .requote .last .0) (c .before .before .requote .ensures)
-          ∙ ap (λ (n : ℕ). tableOf (a .least .0) (sentTo n live (a .e))) none;
+          sent-is (a .e) (a .minimum .0) live good (c .before .before .before .before .before .before .before .before .before .before .changed .last .0) answer
+          (c .before .before .before .before .before .before .before .before .before .before .changed .ensures (a .minimum .0) live (record { good = good; is = is })) (c .before .before .requote .last .0) (c .before .before .requote .ensures)
+          ∙ ap (λ (n : ℕ). tableOf (a .minimum .0) (sentTo n live (a .e))) none;
     }
 
 pub send-spec : {M : Type 1} → statement M

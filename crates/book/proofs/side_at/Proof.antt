@@ -3,7 +3,7 @@ use Prim.Native.Nat.{ℕ, zero, suc}
 use mathlib.Core.Path.{_≡_, refl}
 use borrow.Author.Needs.{needs}
 use Rattle.rules.specs.declared.Side.the-variants.{Sell}
-use Rattle.book.specs.Steps.{sideAt}
+use Rattle.book.specs.Internal.{sideAt}
 use Rattle.book.proofs.side_at.Statement.{statement}
 use Rattle.book.proofs.side_at.Tie as tie
 

@@ -4,7 +4,7 @@ use mathlib.Core.Path.{_≡_, sym}
 use borrow.Author.Needs.{needs}
 use Rattle.rules.specs.declared.Side.{Side}
 use Rattle.rules.specs.declared.Side.the-variants.{Buy, Sell}
-use Rattle.book.specs.Steps.{Numbers}
+use Rattle.book.specs.Internal.{Numbers}
 use Rattle.book.proofs.side_number.Statement.{statement}
 use Rattle.book.proofs.side_number.Tie as tie
 

@@ -22,7 +22,7 @@ slice-read-half : tie.Need-slice-read-half
 slice-read-half c = omega (arith, passing (c .before) .seven)
 
 half-requires : tie.Need-half-requires
-half-requires c κs = passing (c .before) .least
+half-requires c κs = passing (c .before) .minimum
 
 slice-read-twice : tie.Need-slice-read-twice
 slice-read-twice c = omega (arith, passing (c .before .before .before) .seven)

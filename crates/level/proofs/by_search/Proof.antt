@@ -11,7 +11,7 @@ search-requires c κs = search needs
 quote-key-requires : tie.Need-quote-key-requires
 quote-key-requires c κs =
     let s = c .before .before .before in
-    found-good (s .args .side) (s .args .keys .now) (s .args .volumes .now) (s .args .start) (s .args .least .0) (s .pre .0) (c .search .result .quote)
+    found-good (s .args .side) (s .args .keys .now) (s .args .volumes .now) (s .args .start) (s .args .minimum .0) (s .pre .0) (c .search .result .quote)
     (c .search .ensures .found)
 
 measured-requires : tie.Need-measured-requires
@@ -22,7 +22,7 @@ returns c =
     let s = c .before .before .before .before .before .before in
     let f = c .before .before .before .search in
     let k = c .before .before .quote-key in
-    found-level (s .args .side) (s .args .keys .now) (s .args .volumes .now) (s .args .start) (s .args .least .0) (s .pre .0) (f .result .quote) (f .ensures .found)
+    found-level (s .args .side) (s .args .keys .now) (s .args .volumes .now) (s .args .start) (s .args .minimum .0) (s .pre .0) (f .result .quote) (f .ensures .found)
     (c .measured .result) (k .result) (k .ensures) (c .measured .ensures)
 
 sub-t10 : tie.Need-sub-t10
@@ -30,7 +30,7 @@ sub-t10 c =
     let s = c .before .before .before .before .before .before in
     let f = c .before .before .before .search in
     let k = c .before .before .quote-key in
-    carried-less (s .args .side) (s .args .keys .now) (s .args .volumes .now) (s .args .start) (s .args .least .0) (s .pre .0) (f .result .quote) (f .ensures .found)
+    carried-less (s .args .side) (s .args .keys .now) (s .args .volumes .now) (s .args .start) (s .args .minimum .0) (s .pre .0) (f .result .quote) (f .ensures .found)
     (f .result .before) (f .result .depth) (k .result) (k .ensures) (c .before .if1 .left) (f .ensures .before) (f .ensures .depth)
 
 returns-2 : tie.Need-returns-2
@@ -38,9 +38,9 @@ returns-2 c =
     let s = c .before .before .before .before .before .before in
     let f = c .before .before .before .search in
     let k = c .before .before .quote-key in
-    found-level (s .args .side) (s .args .keys .now) (s .args .volumes .now) (s .args .start) (s .args .least .0) (s .pre .0) (f .result .quote) (f .ensures .found) _
+    found-level (s .args .side) (s .args .keys .now) (s .args .volumes .now) (s .args .start) (s .args .minimum .0) (s .pre .0) (f .result .quote) (f .ensures .found) _
     (k .result) (k .ensures)
-    (carried-level (s .args .side) (s .args .keys .now) (s .args .volumes .now) (s .args .start) (s .args .least .0) (s .pre .0) (f .result .quote) (f .ensures .found)
+    (carried-level (s .args .side) (s .args .keys .now) (s .args .volumes .now) (s .args .start) (s .args .minimum .0) (s .pre .0) (f .result .quote) (f .ensures .found)
     (f .result .before) (f .result .depth) (k .result) (k .ensures) (c .before .if1 .left) (f .ensures .before) (f .ensures .depth))
 
 pub by-search-spec : {M : Type 1} → statement M

@@ -7,33 +7,33 @@ use Rattle.level.proofs.Depths.{lasting, changed-held, before-is, at-is
 use Rattle.level.proofs.moved.Statement.{statement}
 use Rattle.level.proofs.moved.Tie as tie
 
-share-requires : tie.Need-share-requires
-share-requires c κs = search needs
+volume-where-requires : tie.Need-volume-where-requires
+volume-where-requires c κs = search needs
 
-share-requires-2 : tie.Need-share-requires-2
-share-requires-2 c κs = search needs
+volume-where-requires-2 : tie.Need-volume-where-requires-2
+volume-where-requires-2 c κs = search needs
 
 changed-requires : tie.Need-changed-requires
 changed-requires c κs =
     let s = c .before .before .before .before in
     let m = s .pre in
     let l = s .args .level in
-    lasting (ltb (l .key)) (s .args .change) (m .before) (m .after) (l .before) (c .before .share .result) (c .share2 .result) (m .good) (m .changed)
-    (before-is (m .before) l (m .is)) (c .before .share .ensures) (c .share2 .ensures)
+    lasting (ltb (l .key)) (s .args .change) (m .before) (m .after) (l .before) (c .before .volume-where .result) (c .volume-where2 .result) (m .good) (m .changed)
+    (before-is (m .before) l (m .is)) (c .before .volume-where .ensures) (c .volume-where2 .ensures)
 
-share-requires-3 : tie.Need-share-requires-3
-share-requires-3 c κs = search needs
+volume-where-requires-3 : tie.Need-volume-where-requires-3
+volume-where-requires-3 c κs = search needs
 
-share-requires-4 : tie.Need-share-requires-4
-share-requires-4 c κs = search needs
+volume-where-requires-4 : tie.Need-volume-where-requires-4
+volume-where-requires-4 c κs = search needs
 
 changed-requires-2 : tie.Need-changed-requires-2
 changed-requires-2 c κs =
     let s = c .before .before .before .before .before .before .before in
     let m = s .pre in
     let l = s .args .level in
-    lasting (eqb (l .key)) (s .args .change) (m .before) (m .after) (l .at) (c .before .share3 .result) (c .share4 .result) (m .good) (m .changed)
-    (at-is (m .before) l (m .is)) (c .before .share3 .ensures) (c .share4 .ensures)
+    lasting (eqb (l .key)) (s .args .change) (m .before) (m .after) (l .at) (c .before .volume-where3 .result) (c .volume-where4 .result) (m .good) (m .changed)
+    (at-is (m .before) l (m .is)) (c .before .volume-where3 .ensures) (c .volume-where4 .ensures)
 
 returns : tie.Need-returns
 returns c before after gb g is h =
@@ -43,22 +43,22 @@ returns c before after gb g is h =
     let one = c .before .before .before in
     let worse : one .changed .result ≡ heldIn (ltb (l .key)) after =
     one .changed .ensures
-    ∙ changed-held (ltb (l .key)) d before after (l .before) (one .before .before .share .result) (one .before .share2 .result) g h (before-is before l is)
-    (one .before .before .share .ensures) (one .before .share2 .ensures) in
+    ∙ changed-held (ltb (l .key)) d before after (l .before) (one .before .before .volume-where .result) (one .before .volume-where2 .result) g h (before-is before l is)
+    (one .before .before .volume-where .ensures) (one .before .volume-where2 .ensures) in
     let same : c .changed2 .result ≡ heldIn (eqb (l .key)) after =
     c .changed2 .ensures
-    ∙ changed-held (eqb (l .key)) d before after (l .at) (c .before .before .share3 .result) (c .before .share4 .result) g h (at-is before l is)
-    (c .before .before .share3 .ensures) (c .before .share4 .ensures) in
+    ∙ changed-held (eqb (l .key)) d before after (l .at) (c .before .before .volume-where3 .result) (c .before .volume-where4 .result) g h (at-is before l is)
+    (c .before .before .volume-where3 .ensures) (c .before .volume-where4 .ensures) in
     level-of after (l .key) (one .changed .result) (c .changed2 .result) worse same
 
 pub moved-spec : {M : Type 1} → statement M
 moved-spec =
     tie.close
     (tie.spec
-    share-requires
-    share-requires-2
+    volume-where-requires
+    volume-where-requires-2
     changed-requires
-    share-requires-3
-    share-requires-4
+    volume-where-requires-3
+    volume-where-requires-4
     changed-requires-2
     returns)

@@ -14,19 +14,19 @@ settled-requires c κs = search needs
 slice-write-words : tie.Need-slice-write-words
 slice-write-words c =
     let s = c .before .before .before in
-    let long : length (s .args .words .now) ≡ 256 = moving-length (s .args .words .now) (s .args .change) (s .args .least .0) (s .pre .0) in
+    let long : length (s .args .words .now) ≡ 256 = moving-length (s .args .words .now) (s .args .change) (s .args .minimum .0) (s .pre .0) in
     search needs
 
 slice-write-words-2 : tie.Need-slice-write-words-2
 slice-write-words-2 c =
     let s = c .before .before .before in
-    let long : length (s .args .words .now) ≡ 256 = moving-length (s .args .words .now) (s .args .change) (s .args .least .0) (s .pre .0) in
+    let long : length (s .args .words .now) ≡ 256 = moving-length (s .args .words .now) (s .args .change) (s .args .minimum .0) (s .pre .0) in
     search needs
 
 slice-write-words-3 : tie.Need-slice-write-words-3
 slice-write-words-3 c =
     let s = c .before .before .before in
-    let long : length (s .args .words .now) ≡ 256 = moving-length (s .args .words .now) (s .args .change) (s .args .least .0) (s .pre .0) in
+    let long : length (s .args .words .now) ≡ 256 = moving-length (s .args .words .now) (s .args .change) (s .args .minimum .0) (s .pre .0) in
     search needs
 
 same-length : tie.Need-same-length
@@ -35,8 +35,8 @@ same-length c = search needs
 returns : tie.Need-returns
 returns c m =
     let a = c .before .before .before .args in
-    let least = a .least .0 in
-    level-stored (m .after) (bestIn least (m .before)) (c .settled .result) (m .good .few) (a .words .now) (m .is)
+    let minimum = a .minimum .0 in
+    level-stored (m .after) (bestIn minimum (m .before)) (c .settled .result) (m .good .few) (a .words .now) (m .is)
     ∙ ap (sideOf (m .after)) (c .settled .ensures m)
 
 pub requote-spec : {M : Type 1} → statement M

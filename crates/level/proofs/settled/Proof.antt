@@ -29,19 +29,19 @@ returns c m =
     let s = c .before .before .before .before in
     let l = c .before .before .guessed .result in
     let is = c .before .before .guessed .ensures m in
-    let best : isBest l (s .args .least .0) ≡ true = sym (c .before .is-best .ensures) ∙ c .if1 .taken in
-    is ∙ level-best (s .args .least .0) (keysOf (m .after)) (volumesOf (m .after)) (l .key) (ap (λ (x : Level). isBest x (s .args .least .0)) (sym is) ∙ best)
+    let best : isBest l (s .args .minimum .0) ≡ true = sym (c .before .is-best .ensures) ∙ c .if1 .taken in
+    is ∙ level-best (s .args .minimum .0) (keysOf (m .after)) (volumesOf (m .after)) (l .key) (ap (λ (x : Level). isBest x (s .args .minimum .0)) (sym is) ∙ best)
 
 shared-slice-read-room : tie.Need-shared-slice-read-room
 shared-slice-read-room c =
     let s = c .before .before .before .before .before in
-    let long : length (s .args .words .now) ≡ 256 = moving-length (s .args .words .now) (s .args .change) (s .args .least .0) (s .pre .0) in
+    let long : length (s .args .words .now) ≡ 256 = moving-length (s .args .words .now) (s .args .change) (s .args .minimum .0) (s .pre .0) in
     search needs
 
 room-requires : tie.Need-room-requires
 room-requires c κs =
     let s = c .before .before .before .before .before in
-    moving-few (s .args .words .now) (s .args .change) (s .args .least .0) (s .pre .0)
+    moving-few (s .args .words .now) (s .args .change) (s .args .minimum .0) (s .pre .0)
 
 add-by-search : tie.Need-add-by-search
 add-by-search c = search needs
@@ -55,7 +55,7 @@ part-by-search-start c = search needs
 part-by-search-end : tie.Need-part-by-search-end
 part-by-search-end c =
     let s = c .before .before .before .before .before .before in
-    let long : length (s .args .words .now) ≡ 256 = moving-length (s .args .words .now) (s .args .change) (s .args .least .0) (s .pre .0) in
+    let long : length (s .args .words .now) ≡ 256 = moving-length (s .args .words .now) (s .args .change) (s .args .minimum .0) (s .pre .0) in
     search needs
 
 add-by-search-2 : tie.Need-add-by-search-2
@@ -70,7 +70,7 @@ part-by-search-start-2 c = search needs
 part-by-search-end-2 : tie.Need-part-by-search-end-2
 part-by-search-end-2 c =
     let s = c .before .before .before .before .before .before .before in
-    let long : length (s .args .words .now) ≡ 256 = moving-length (s .args .words .now) (s .args .change) (s .args .least .0) (s .pre .0) in
+    let long : length (s .args .words .now) ≡ 256 = moving-length (s .args .words .now) (s .args .change) (s .args .minimum .0) (s .pre .0) in
     search needs
 
 start-from-requires : tie.Need-start-from-requires
@@ -85,9 +85,9 @@ by-search-requires c κs =
     let g = c .before .before .before .before .before .before .before .guessed in
     let en : 64 + to .result - 64 ≡ to .result = omega arith in
     let ek : 128 + to .result - 128 ≡ to .result = omega arith in (
-      part-searchable (a .words .now) (a .change) (a .least .0) m (to .result) (64 + to .result - 64) (128 + to .result - 128) en ek
+      part-searchable (a .words .now) (a .change) (a .minimum .0) m (to .result) (64 + to .result - 64) (128 + to .result - 128) en ek
           (to .ensures .0) (to .ensures .1) (c .start-from .result)
-          (omega (arith, c .start-from .ensures, start-most (a .least .0) (m .after) (g .result) (g .ensures m) (s .pre .1) (m .good))),
+          (omega (arith, c .start-from .ensures, start-most (a .minimum .0) (m .after) (g .result) (g .ensures m) (s .pre .1) (m .good))),
       s .pre .1,
     )
 
@@ -101,11 +101,11 @@ returns-2 c m =
     let ek : 128 + to .result - 128 ≡ to .result = omega arith in
     let ks = take (64 + to .result - 64) (drop 64 (a .words .now)) in
     let vs = take (128 + to .result - 128) (drop 128 (a .words .now)) in
-    let top : bestKey (a .least .0) ks vs ≡ bestKey (a .least .0) (keysOf (m .after)) (volumesOf (m .after)) =
-    part-best-key (a .words .now) (a .change) (a .least .0) m (to .result) (64 + to .result - 64) (128 + to .result - 128) en ek
+    let top : bestKey (a .minimum .0) ks vs ≡ bestKey (a .minimum .0) (keysOf (m .after)) (volumesOf (m .after)) =
+    part-best-key (a .words .now) (a .change) (a .minimum .0) m (to .result) (64 + to .result - 64) (128 + to .result - 128) en ek
     (to .ensures .0) (to .ensures .1) in
-    c .by-search .ensures (omega (arith, c .before .start-from .ensures, top, start-low (a .least .0) (m .after) (g .result) (g .ensures m) (s .pre .1)))
-    ∙ part-best (a .words .now) (a .change) (a .least .0) m (to .result) (64 + to .result - 64) (128 + to .result - 128) en ek
+    c .by-search .ensures (omega (arith, c .before .start-from .ensures, top, start-low (a .minimum .0) (m .after) (g .result) (g .ensures m) (s .pre .1)))
+    ∙ part-best (a .words .now) (a .change) (a .minimum .0) m (to .result) (64 + to .result - 64) (128 + to .result - 128) en ek
     (to .ensures .0) (to .ensures .1)
 
 pub settled-spec : {M : Type 1} → statement M

@@ -9,12 +9,12 @@ use Rattle.level.proofs.start_from.Tie as tie
 returns : tie.Need-returns
 returns c =
     let a = c .before .before .before .args in
-    ap (λ (b : Bool). if b then a .level .key else 0) (sym (le-leb (a .least .0) (a .level .before) (c .if1 .taken)))
+    ap (λ (b : Bool). if b then a .level .key else 0) (sym (le-leb (a .minimum .0) (a .level .before) (c .if1 .taken)))
 
 returns-2 : tie.Need-returns-2
 returns-2 c =
     let a = c .before .before .before .args in
-    ap (λ (b : Bool). if b then a .level .key else 0) (sym (lt-leb (a .least .0) (a .level .before) (c .if1 .left)))
+    ap (λ (b : Bool). if b then a .level .key else 0) (sym (lt-leb (a .minimum .0) (a .level .before) (c .if1 .left)))
 
 pub start-from-spec : {M : Type 1} → statement M
 start-from-spec = tie.close (tie.spec returns returns-2)

@@ -8,7 +8,7 @@ use borrow.Author.Needs.{needs}
 use borrow.Author.Tests.{leb-false}
 use Rattle.makers.specs.declared.Seen.{Seen}
 use Rattle.makers.specs.declared.Plan.{Plan}
-use Rattle.makers.specs.Moves.{judged, planned}
+use Rattle.makers.specs.Internal.{judged, planned}
 use Rattle.makers.proofs.Deciding.{join-passes, other-passes, refused-plan}
 use Rattle.makers.proofs.decide.Statement.{statement}
 use Rattle.makers.proofs.decide.Tie as tie

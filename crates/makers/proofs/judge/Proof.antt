@@ -1,7 +1,7 @@
 -- `makers::judge` meets its contract. Assumes nothing.
 use borrow.Author.Needs.{needs}
 use borrow.Author.Tests.{eq-eqb, ne-eqb}
-use Rattle.makers.specs.Moves.{judged}
+use Rattle.makers.specs.Internal.{judged}
 use Rattle.makers.proofs.judge.Statement.{statement}
 use Rattle.makers.proofs.judge.Tie as tie
 

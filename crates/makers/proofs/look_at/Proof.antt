@@ -1,7 +1,7 @@
 -- `makers::look_at` meets its contract. Assumes nothing.
 use borrow.Author.Needs.{needs}
 use borrow.Author.Tests.{eq-eqb, ne-eqb}
-use Rattle.makers.specs.Moves.{lookOf}
+use Rattle.makers.specs.Internal.{lookOf}
 use Rattle.makers.proofs.look_at.Statement.{statement}
 use Rattle.makers.proofs.look_at.Tie as tie
 

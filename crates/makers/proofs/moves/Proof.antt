@@ -1,7 +1,7 @@
 -- `makers::moves` meets its contract. Assumes nothing.
 use native.Mathlib.Omega.{arith}
 use borrow.Author.Tests.{eq-eqb, ne-eqb}
-use Rattle.makers.specs.Moves.{planned}
+use Rattle.makers.specs.Internal.{planned}
 use Rattle.makers.proofs.moves.Statement.{statement}
 use Rattle.makers.proofs.moves.Tie as tie
 

@@ -2,14 +2,14 @@
 use mathlib.Core.Path.{sym, _∙_}
 use borrow.Author.Needs.{needs}
 use Rattle.rules.specs.Terms.{paper}
-use Rattle.rules.specs.Lapses.{withinLimit}
+use Rattle.rules.specs.Lapses.{withinLapseLimit}
 use Rattle.rules.specs.Pay.{met, weight}
 use Rattle.pay.proofs.Weights.{weight-within, weight-past}
 use Rattle.pay.proofs.weight.Statement.{statement}
 use Rattle.pay.proofs.weight.Tie as tie
 
-within-limit-requires : tie.Need-within-limit-requires
-within-limit-requires c κs = search needs
+within-lapse-limit-requires : tie.Need-within-lapse-limit-requires
+within-lapse-limit-requires c κs = search needs
 
 weight-of-requires : tie.Need-weight-of-requires
 weight-of-requires c κs = search needs
@@ -20,15 +20,15 @@ returns c =
     let w = c .before .before in
     let a = w .before .before .before .args .cell in
     c .weight-of .ensures
-    ∙ weight-within (met paper (a .kept .0) (a .length .0) (a .share)) (withinLimit (a .limit) (a .lapses)) (a .kept .0) (a .length .0) (a .share)
-    (sym (w .within-limit .ensures) ∙ c .before .if1 .taken)
+    ∙ weight-within (met paper (a .kept .0) (a .length .0) (a .share)) (withinLapseLimit (a .allowed) (a .lapses)) (a .kept .0) (a .length .0) (a .share)
+    (sym (w .within-lapse-limit .ensures) ∙ c .before .if1 .taken)
 
 returns-2 : tie.Need-returns-2
 returns-2 c =
     let w = c .before in
     let a = w .before .before .before .args .cell in
-    weight-past (met paper (a .kept .0) (a .length .0) (a .share)) (withinLimit (a .limit) (a .lapses)) (a .kept .0) (a .length .0) (a .share)
-    (sym (w .within-limit .ensures) ∙ c .if1 .left)
+    weight-past (met paper (a .kept .0) (a .length .0) (a .share)) (withinLapseLimit (a .allowed) (a .lapses)) (a .kept .0) (a .length .0) (a .share)
+    (sym (w .within-lapse-limit .ensures) ∙ c .if1 .left)
 
 pub weight-spec : {M : Type 1} → statement M
-weight-spec = tie.close (tie.spec within-limit-requires weight-of-requires returns returns-2)
+weight-spec = tie.close (tie.spec within-lapse-limit-requires weight-of-requires returns returns-2)

@@ -4,7 +4,7 @@ use native.Mathlib.Omega.{arith}
 use mir.Syntax.{w32}
 use mir.Val.{Fits}
 use borrow.Author.Needs.{needs}
-use Rattle.quantum.proofs.Standing.{ran-later, ran-still}
+use Rattle.quantum.proofs.Represents.{ran-later, ran-still}
 use Rattle.quantum.proofs.onward.Statement.{statement}
 use Rattle.quantum.proofs.onward.Tie as tie
 

@@ -1,7 +1,7 @@
 -- By numbers that are 0 or 1. Assumes nothing.
 use native.Mathlib.Omega.{arith}
 use borrow.Author.Needs.{needs}
-use Rattle.quantum.proofs.Standing.{starts-first, starts-later}
+use Rattle.quantum.proofs.Represents.{starts-first, starts-later}
 use Rattle.quantum.proofs.starting.Statement.{statement}
 use Rattle.quantum.proofs.starting.Tie as tie
 

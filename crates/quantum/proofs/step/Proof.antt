@@ -1,6 +1,6 @@
 -- The causes in the order of their numbers, then the tick or the orders. Assumes nothing.
 use mathlib.Core.Path.{sym, _∙_}
-use Rattle.quantum.proofs.Standing.{backwards, past-end, onward}
+use Rattle.quantum.proofs.Represents.{backwards, past-end, onward}
 use Rattle.quantum.proofs.Steps.{refused-step, tick-step}
 use borrow.Author.Needs.{needs}
 use Rattle.quantum.proofs.step.Statement.{statement}

@@ -2,7 +2,7 @@
 use mathlib.Core.Path.{refl}
 use native.Mathlib.Omega.{arith}
 use Rattle.quantum.specs.declared.Quantum.{Quantum}
-use Rattle.quantum.proofs.Answers.{event-numbered, stands-for, running-of, sent-accepted, sent-refused}
+use Rattle.quantum.proofs.Answers.{event-numbered, represents-all, running-of, sent-accepted, sent-refused}
 use borrow.Author.Needs.{needs}
 use Rattle.quantum.proofs.stepped_on.Statement.{statement}
 use Rattle.quantum.proofs.stepped_on.Tie as tie
@@ -24,7 +24,7 @@ refusal-of-requires c κs =
     let s = g .before .before .before in
     let p = s .pre in
     let q : Quantum = record { duty = s .args .duty; clock = s .args .clock; table = s .args .table } in
-    let n = g .step .ensures .number (p .row) (p .sp) (p .events) (stands-for (p .row) (p .sp) (p .events) q (p .is) (p .bounds)) in
+    let n = g .step .ensures .number (p .row) (p .sp) (p .events) (represents-all (p .row) (p .sp) (p .events) q (p .is) (p .bounds)) in
     let b = event-numbered (p .row) (p .events) (s .args .e) (omega (arith, n, c .if1 .taken)) in
     (omega (arith, n, b .0), omega (arith, n, b .1))
 

@@ -1,7 +1,7 @@
 -- The trader's causes and the orders by the book, then the clock. Assumes nothing.
 use Rattle.rules.specs.Orders.{live, apply}
 use Rattle.book.proofs.Table.{held-length}
-use Rattle.quantum.proofs.Standing.{stands, limit-is, onward}
+use Rattle.quantum.proofs.Represents.{represents, widest-is, onward}
 use Rattle.quantum.proofs.Steps.{holding, refused-orders, taken-good, taken-table, taken-orders}
 use borrow.Author.Needs.{needs}
 use Rattle.quantum.proofs.taken.Statement.{statement}
@@ -33,10 +33,10 @@ keeps-requires c κs =
     let r = s .pre .0 in
     held-length (g .send .last .0)
     (record {
-      least = r .row .least .0;
+      minimum = r .row .minimum .0;
       live = apply (live (r .events)) (s .args .e);
-      good = taken-good (s .args .duty) (s .args .clock) (s .args .e) (s .args .t) (s .args .table .now) (g .send .last .0) (g .send .result) (s .pre .1) (g .send .ensures) (c .before .if1 .left) (r .row) (r .sp) (r .events) (stands r);
-      is = taken-table (s .args .duty) (s .args .clock) (s .args .e) (s .args .t) (s .args .table .now) (g .send .last .0) (g .send .result) (s .pre .1) (g .send .ensures) (c .before .if1 .left) (r .row) (r .sp) (r .events) (stands r);
+      good = taken-good (s .args .duty) (s .args .clock) (s .args .e) (s .args .t) (s .args .table .now) (g .send .last .0) (g .send .result) (s .pre .1) (g .send .ensures) (c .before .if1 .left) (r .row) (r .sp) (r .events) (represents r);
+      is = taken-table (s .args .duty) (s .args .clock) (s .args .e) (s .args .t) (s .args .table .now) (g .send .last .0) (g .send .result) (s .pre .1) (g .send .ensures) (c .before .if1 .left) (r .row) (r .sp) (r .events) (represents r);
     })
 
 onward-requires : tie.Need-onward-requires
@@ -63,7 +63,7 @@ returns-2 c =
     k .keeps .ensures row sp (apply (live es) (s .args .e))
     (taken-good (s .args .duty) (s .args .clock) (s .args .e) (s .args .t) (s .args .table .now) (g .send .last .0) (g .send .result) (s .pre .1) (g .send .ensures) (f .if1 .left) row sp es h)
     (taken-table (s .args .duty) (s .args .clock) (s .args .e) (s .args .t) (s .args .table .now) (g .send .last .0) (g .send .result) (s .pre .1) (g .send .ensures) (f .if1 .left) row sp es h)
-    (limit-is row sp es (s .args .duty) (s .args .clock) (s .args .table .now) h))
+    (widest-is row sp es (s .args .duty) (s .args .clock) (s .args .table .now) h))
 
 pub taken-spec : {M : Type 1} → statement M
 taken-spec =

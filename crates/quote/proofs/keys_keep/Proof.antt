@@ -4,7 +4,7 @@ use mathlib.Core.Bool.{Bool, true, false}
 use mir.Val.{boolByte}
 use borrow.Author.Needs.{needs}
 use Rattle.rules.specs.Lists.{if_then_else_}
-use Rattle.quote.specs.Limit.{keysKeep}
+use Rattle.quote.specs.Widest.{keysKeep}
 use Rattle.quote.proofs.keys_keep.Statement.{statement}
 use Rattle.quote.proofs.keys_keep.Tie as tie
 
@@ -23,7 +23,7 @@ cast-result c = search needs
 
 returns : tie.Need-returns
 unfolding keysKeep
-returns c = as-number (keysKeep (c .args .limit) (c .args .bid) (c .args .ask))
+returns c = as-number (keysKeep (c .args .widest) (c .args .bid) (c .args .ask))
 
 pub keys-keep-spec : {M : Type 1} → statement M
 keys-keep-spec = tie.close (tie.spec add-both add-result cast-result returns)

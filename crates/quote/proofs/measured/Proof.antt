@@ -35,8 +35,8 @@ mul-v c = omega arith
 shared-slice-read-v : tie.Need-shared-slice-read-v Inv-loop μ-loop
 shared-slice-read-v c = omega arith
 
-share-requires : tie.Need-share-requires Inv-loop μ-loop
-share-requires c κs = tt
+volume-where-requires : tie.Need-volume-where-requires Inv-loop μ-loop
+volume-where-requires c κs = tt
 
 -- the turn of the loop at which a need arises
 abbrev Turn : Type 0
@@ -45,34 +45,34 @@ Turn = tie.At-loop Inv-loop μ-loop
 -- a sum with what stands at the next key, by the test of the sum
 module _ (u : Turn) (t : ℕ → Bool) (h s : ℕ) (more : u .loop .i < length (u .before .before .before .args .keys .now))
     (so-far : h ≡ held t (take (u .loop .i) (u .before .before .before .args .keys .now)) (take (u .loop .i) (u .before .before .before .args .volumes .now)))
-    (share : s ≡ (if t (getD (u .before .before .before .args .keys .now) (u .loop .i) 0) then getD (u .before .before .before .args .volumes .now) (u .loop .i) 0 else 0)) where
+    (volume-where : s ≡ (if t (getD (u .before .before .before .args .keys .now) (u .loop .i) 0) then getD (u .before .before .before .args .volumes .now) (u .loop .i) 0 else 0)) where
   added : h + s ≡ held t (take (u .loop .i + 1) (u .before .before .before .args .keys .now)) (take (u .loop .i + 1) (u .before .before .before .args .volumes .now))
   added =
       let b = u .before .before .before in
-      held-next t (u .loop .i) (b .args .keys .now) (b .args .volumes .now) h s more (b .pre .even) so-far share
+      held-next t (u .loop .i) (b .args .keys .now) (b .args .volumes .now) h s more (b .pre .even) so-far volume-where
 
   small : h + s ≤ 64000000
   small =
       let b = u .before .before .before in
-      omega (arith, held-fits t (u .loop .i) (b .args .keys .now) (b .args .volumes .now) h s more (b .pre .even) so-far share, b .pre .small)
+      omega (arith, held-fits t (u .loop .i) (b .args .keys .now) (b .args .volumes .now) h s more (b .pre .even) so-far volume-where, b .pre .small)
 
 add-before : tie.Need-add-before Inv-loop μ-loop
 add-before c =
     let u = c .before .before .before .before in
     let h = u .loop .before in
-    let fits : h + c .share .result ≤ 64000000 =
-    small u (ltb (u .before .before .before .args .key)) h (c .share .result) (omega arith) (u .loop .inv .1) (c .share .ensures) in
+    let fits : h + c .volume-where .result ≤ 64000000 =
+    small u (ltb (u .before .before .before .args .key)) h (c .volume-where .result) (omega arith) (u .loop .inv .1) (c .volume-where .ensures) in
     omega arith
 
-share-requires-2 : tie.Need-share-requires-2 Inv-loop μ-loop
-share-requires-2 c κs = tt
+volume-where-requires-2 : tie.Need-volume-where-requires-2 Inv-loop μ-loop
+volume-where-requires-2 c κs = tt
 
 add-at : tie.Need-add-at Inv-loop μ-loop
 add-at c =
     let u = c .before .before .before .before .before in
     let h = u .loop .at in
-    let fits : h + c .share2 .result ≤ 64000000 =
-    small u (eqb (u .before .before .before .args .key)) h (c .share2 .result) (omega arith) (u .loop .inv .2) (c .share2 .ensures) in
+    let fits : h + c .volume-where2 .result ≤ 64000000 =
+    small u (eqb (u .before .before .before .args .key)) h (c .volume-where2 .result) (omega arith) (u .loop .inv .2) (c .volume-where2 .ensures) in
     omega arith
 
 add-i : tie.Need-add-i Inv-loop μ-loop
@@ -86,8 +86,8 @@ loop-again c =
     let u = c .before .before .before .before .before in
     let key = u .before .before .before .args .key in (
       omega arith,
-      added u (ltb key) (u .loop .before) (c .before .share .result) (omega arith) (u .loop .inv .1) (c .before .share .ensures),
-      added u (eqb key) (u .loop .at) (c .share2 .result) (omega arith) (u .loop .inv .2) (c .share2 .ensures),
+      added u (ltb key) (u .loop .before) (c .before .volume-where .result) (omega arith) (u .loop .inv .1) (c .before .volume-where .ensures),
+      added u (eqb key) (u .loop .at) (c .volume-where2 .result) (omega arith) (u .loop .inv .2) (c .volume-where2 .ensures),
     )
 
 returns : tie.Need-returns Inv-loop μ-loop
@@ -115,9 +115,9 @@ measured-spec =
     shared-slice-read-k
     mul-v
     shared-slice-read-v
-    share-requires
+    volume-where-requires
     add-before
-    share-requires-2
+    volume-where-requires-2
     add-at
     add-i
     loop-less

@@ -8,7 +8,7 @@ use mathlib.Core.Bool.{Bool, true, false}
 use borrow.Author.Tests.{le-leb, lt-leb}
 use lib.Dec.{leb}
 use lib.ListN.{length, getD, take}
-use Rattle.rules.specs.Lists.{count, keep}
+use Rattle.rules.specs.Lists.{count, filter}
 use Rattle.quote.specs.Keys.{quoteAt}
 use Rattle.quote.specs.Levels.{enough, greatest, foundBy, triedBy, shortBy}
 use Rattle.quote.specs.Levels as L
@@ -53,8 +53,8 @@ volumesOf u = u .before .before .before .args .volumes .now
 abbrev candidate : Candidates → ℕ
 candidate u = getD (keysOf u) (u .candidates .i) 0
 
-abbrev leastOf : Candidates → ℕ
-leastOf u = u .before .before .before .args .least .0
+abbrev minimumOf : Candidates → ℕ
+minimumOf u = u .before .before .before .args .minimum .0
 
 abbrev even : (u : Candidates) → length (keysOf u) ≡ length (volumesOf u)
 even u = u .before .before .before .pre .columns .even
@@ -73,41 +73,41 @@ whole w =
 -- where the inner loop is left, whether enough stand at the candidate's key or better
 judged : (w : tie.Then3 Inv-volumes μ-volumes Inv-candidates μ-candidates) (b : Bool)
     → let u = outer (w .before) in
-    leb (leastOf u) (w .before .volumes .held) ≡ b → enough (leastOf u) (keysOf u) (volumesOf u) (candidate u) ≡ b
+    leb (minimumOf u) (w .before .volumes .held) ≡ b → enough (minimumOf u) (keysOf u) (volumesOf u) (candidate u) ≡ b
 unfolding enough
-judged w b h = ap (leb (leastOf (outer (w .before)))) (sym (whole w)) ∙ h
+judged w b h = ap (leb (minimumOf (outer (w .before)))) (sym (whole w)) ∙ h
 
 -- what the search has come to after a turn
 abbrev After : Candidates → ℕ → ℕ → ℕ → Type 0
 After u found sums short =
     let a = u .before .before .before .args in
     let i = u .candidates .i + 1 in
-    (found ≡ foundBy (a .start) (leastOf u) (keysOf u) (volumesOf u) i) × (sums ≡ triedBy (a .start) (leastOf u) (keysOf u) (volumesOf u) i)
-    × (short ≡ shortBy (a .start) (leastOf u) (keysOf u) (volumesOf u) i)
+    (found ≡ foundBy (a .start) (minimumOf u) (keysOf u) (volumesOf u) i) × (sums ≡ triedBy (a .start) (minimumOf u) (keysOf u) (volumesOf u) i)
+    × (short ≡ shortBy (a .start) (minimumOf u) (keysOf u) (volumesOf u) i)
 
 module _ (u : Candidates) (more : u .candidates .i < length (keysOf u)) where
-  better : u .candidates .found < candidate u → enough (leastOf u) (keysOf u) (volumesOf u) (candidate u) ≡ true
+  better : u .candidates .found < candidate u → enough (minimumOf u) (keysOf u) (volumesOf u) (candidate u) ≡ true
       → After u (candidate u) (u .candidates .sums + 1) (u .candidates .short)
   better h e =
       let a = u .before .before .before .args in
       let n = u .candidates in
-      let s = short-next (a .start) (leastOf u) (keysOf u) (volumesOf u) (n .i) more in
-      let z = short-enough (a .start) (leastOf u) (keysOf u) (volumesOf u) (candidate u) e in (
-        found-better (a .start) (leastOf u) (keysOf u) (volumesOf u) (n .i) (n .found) more (n .inv .3) h e,
-        tried-one (a .start) (leastOf u) (keysOf u) (volumesOf u) (n .i) (n .found) (n .sums) (n .inv .3) (n .inv .4) h,
+      let s = short-next (a .start) (minimumOf u) (keysOf u) (volumesOf u) (n .i) more in
+      let z = short-enough (a .start) (minimumOf u) (keysOf u) (volumesOf u) (candidate u) e in (
+        found-better (a .start) (minimumOf u) (keysOf u) (volumesOf u) (n .i) (n .found) more (n .inv .3) h e,
+        tried-one (a .start) (minimumOf u) (keysOf u) (volumesOf u) (n .i) (n .found) (n .sums) (n .inv .3) (n .inv .4) h,
         omega (arith, n .inv .5, s, z),
       )
 
-  few : u .candidates .found < candidate u → enough (leastOf u) (keysOf u) (volumesOf u) (candidate u) ≡ false
+  few : u .candidates .found < candidate u → enough (minimumOf u) (keysOf u) (volumesOf u) (candidate u) ≡ false
       → (d short : ℕ) → d ≡ L.held (leb (candidate u)) (keysOf u) (volumesOf u) → short ≡ max (u .candidates .short) d
       → After u (u .candidates .found) (u .candidates .sums + 1) short
   few h e d short q r =
       let a = u .before .before .before .args in
       let n = u .candidates in
-      let s = short-next (a .start) (leastOf u) (keysOf u) (volumesOf u) (n .i) more in
-      let z = short-few (a .start) (leastOf u) (keysOf u) (volumesOf u) (candidate u) (omega (arith, n .inv .3, h)) e in (
-        found-few (a .start) (leastOf u) (keysOf u) (volumesOf u) (n .i) (n .found) more (n .inv .3) e,
-        tried-one (a .start) (leastOf u) (keysOf u) (volumesOf u) (n .i) (n .found) (n .sums) (n .inv .3) (n .inv .4) h,
+      let s = short-next (a .start) (minimumOf u) (keysOf u) (volumesOf u) (n .i) more in
+      let z = short-few (a .start) (minimumOf u) (keysOf u) (volumesOf u) (candidate u) (omega (arith, n .inv .3, h)) e in (
+        found-few (a .start) (minimumOf u) (keysOf u) (volumesOf u) (n .i) (n .found) more (n .inv .3) e,
+        tried-one (a .start) (minimumOf u) (keysOf u) (volumesOf u) (n .i) (n .found) (n .sums) (n .inv .3) (n .inv .4) h,
         omega (arith, n .inv .5, s, z, q, r),
       )
 
@@ -115,15 +115,15 @@ module _ (u : Candidates) (more : u .candidates .i < length (keysOf u)) where
   worse h =
       let a = u .before .before .before .args in
       let n = u .candidates in
-      let s = short-next (a .start) (leastOf u) (keysOf u) (volumesOf u) (n .i) more in
-      let z = short-worse (a .start) (leastOf u) (keysOf u) (volumesOf u) (n .i) (candidate u) (omega (arith, n .inv .3, h)) in (
-        found-worse (a .start) (leastOf u) (keysOf u) (volumesOf u) (n .i) (n .found) more (n .inv .3) h,
-        tried-none (a .start) (leastOf u) (keysOf u) (volumesOf u) (n .i) (n .found) (n .sums) (n .inv .3) (n .inv .4) h,
+      let s = short-next (a .start) (minimumOf u) (keysOf u) (volumesOf u) (n .i) more in
+      let z = short-worse (a .start) (minimumOf u) (keysOf u) (volumesOf u) (n .i) (candidate u) (omega (arith, n .inv .3, h)) in (
+        found-worse (a .start) (minimumOf u) (keysOf u) (volumesOf u) (n .i) (n .found) more (n .inv .3) h,
+        tried-none (a .start) (minimumOf u) (keysOf u) (volumesOf u) (n .i) (n .found) (n .sums) (n .inv .3) (n .inv .4) h,
         omega (arith, n .inv .5, s, z),
       )
 
 candidates-holds : tie.Need-candidates-holds Inv-volumes μ-volumes Inv-candidates μ-candidates
-unfolding greatest keep triedBy count
+unfolding greatest filter triedBy count
 candidates-holds c = (omega arith, omega (arith, c .before .before .pre .start-most), omega arith, omega arith, refl, refl, λ h. absurd (omega (arith, h)))
 
 quote-at-requires : tie.Need-quote-at-requires Inv-volumes μ-volumes Inv-candidates μ-candidates
@@ -143,22 +143,22 @@ volumes-holds : tie.Need-volumes-holds Inv-volumes μ-volumes Inv-candidates μ-
 unfolding L.held
 volumes-holds c = (omega arith, refl)
 
-mul-share : tie.Need-mul-share Inv-volumes μ-volumes Inv-candidates μ-candidates
-mul-share c = omega arith
+mul-volume-where : tie.Need-mul-volume-where Inv-volumes μ-volumes Inv-candidates μ-candidates
+mul-volume-where c = omega arith
 
-shared-slice-read-share :
-    tie.Need-shared-slice-read-share Inv-volumes μ-volumes Inv-candidates μ-candidates
-shared-slice-read-share c = omega arith
+shared-slice-read-volume-where :
+    tie.Need-shared-slice-read-volume-where Inv-volumes μ-volumes Inv-candidates μ-candidates
+shared-slice-read-volume-where c = omega arith
 
-mul-share-2 : tie.Need-mul-share-2 Inv-volumes μ-volumes Inv-candidates μ-candidates
-mul-share-2 c = omega arith
+mul-volume-where-2 : tie.Need-mul-volume-where-2 Inv-volumes μ-volumes Inv-candidates μ-candidates
+mul-volume-where-2 c = omega arith
 
-shared-slice-read-share-2 :
-    tie.Need-shared-slice-read-share-2 Inv-volumes μ-volumes Inv-candidates μ-candidates
-shared-slice-read-share-2 c = omega (arith, even (outer (c .before .before .before)))
+shared-slice-read-volume-where-2 :
+    tie.Need-shared-slice-read-volume-where-2 Inv-volumes μ-volumes Inv-candidates μ-candidates
+shared-slice-read-volume-where-2 c = omega (arith, even (outer (c .before .before .before)))
 
-share-requires : tie.Need-share-requires Inv-volumes μ-volumes Inv-candidates μ-candidates
-share-requires c κs = tt
+volume-where-requires : tie.Need-volume-where-requires Inv-volumes μ-volumes Inv-candidates μ-candidates
+volume-where-requires c κs = tt
 
 add-held : tie.Need-add-held Inv-volumes μ-volumes Inv-candidates μ-candidates
 add-held c =
@@ -167,7 +167,7 @@ add-held c =
     let n = v .volumes in
     omega (
       arith,
-      held-fits (leb (candidate u)) (n .j) (keysOf u) (volumesOf u) (n .held) (c .share .result) (omega arith) (even u) (n .inv .1) (c .share .ensures),
+      held-fits (leb (candidate u)) (n .j) (keysOf u) (volumesOf u) (n .held) (c .volume-where .result) (omega arith) (even u) (n .inv .1) (c .volume-where .ensures),
       u .before .before .before .pre .columns .small,
     )
 
@@ -182,7 +182,7 @@ volumes-again c =
     let v = c .before .before .before .before in
     let u = outer v in
     let n = v .volumes in
-    (omega arith, held-next (leb (candidate u)) (n .j) (keysOf u) (volumesOf u) (n .held) (c .share .result) (omega arith) (even u) (n .inv .1) (c .share .ensures))
+    (omega arith, held-next (leb (candidate u)) (n .j) (keysOf u) (volumesOf u) (n .held) (c .volume-where .result) (omega arith) (even u) (n .inv .1) (c .volume-where .ensures))
 
 add-sums : tie.Need-add-sums Inv-volumes μ-volumes Inv-candidates μ-candidates
 add-sums c = omega (arith, outer (c .before) .before .before .before .pre .few)
@@ -194,7 +194,7 @@ candidates-again : tie.Need-candidates-again Inv-volumes μ-volumes Inv-candidat
 candidates-again c =
     let w = c .before in
     let u = outer (w .before) in
-    let e = judged w true (le-leb (leastOf u) (w .before .volumes .held) (omega arith)) in
+    let e = judged w true (le-leb (minimumOf u) (w .before .volumes .held) (omega arith)) in
     let next = better u (omega arith) (omega arith) e in
     (omega arith, u .before .before .before .pre .keys (u .candidates .i), omega arith, next .0, next .1, next .2, λ h. whole w)
 
@@ -208,7 +208,7 @@ candidates-again-2 : tie.Need-candidates-again-2 Inv-volumes μ-volumes Inv-cand
 candidates-again-2 c =
     let w = c .before .before in
     let u = outer (w .before) in
-    let e = judged w false (lt-leb (leastOf u) (w .before .volumes .held) (omega arith)) in
+    let e = judged w false (lt-leb (minimumOf u) (w .before .volumes .held) (omega arith)) in
     let next = few u (omega arith) (omega arith) e (w .before .volumes .held) (c .most .result) (whole w) (c .most .ensures) in
     (omega arith, omega arith, omega arith, next .0, next .1, next .2, u .candidates .inv .6)
 
@@ -227,12 +227,12 @@ returns c =
     let n = u .candidates in
     let a = u .before .before .before .args in
     let end : n .i ≡ length (keysOf u) = omega arith in
-    let last = n .inv .3 ∙ ap (foundBy (a .start) (leastOf u) (keysOf u) (volumesOf u)) end in
-    finds (a .side) (keysOf u) (volumesOf u) (a .start) (leastOf u)
+    let last = n .inv .3 ∙ ap (foundBy (a .start) (minimumOf u) (keysOf u) (volumesOf u)) end in
+    finds (a .side) (keysOf u) (volumesOf u) (a .start) (minimumOf u)
     (record { quote = c .quote-at .result; before = n .short; depth = n .enough; sums = n .sums })
     (u .before .before .before .pre .start-most)
-    (c .quote-at .ensures ∙ ap (quoteAt (a .side)) last) (n .inv .4 ∙ ap (triedBy (a .start) (leastOf u) (keysOf u) (volumesOf u)) end)
-    (n .inv .5 ∙ ap (shortBy (a .start) (leastOf u) (keysOf u) (volumesOf u)) end)
+    (c .quote-at .ensures ∙ ap (quoteAt (a .side)) last) (n .inv .4 ∙ ap (triedBy (a .start) (minimumOf u) (keysOf u) (volumesOf u)) end)
+    (n .inv .5 ∙ ap (shortBy (a .start) (minimumOf u) (keysOf u) (volumesOf u)) end)
     (λ h. n .inv .6 (omega (arith, h, last)) ∙ ap (λ (k : ℕ). L.held (leb k) (keysOf u) (volumesOf u)) last)
 
 pub search-spec : {M : Type 1} → statement M
@@ -249,11 +249,11 @@ search-spec =
     shared-slice-read-key
     add-i
     volumes-holds
-    mul-share
-    shared-slice-read-share
-    mul-share-2
-    shared-slice-read-share-2
-    share-requires
+    mul-volume-where
+    shared-slice-read-volume-where
+    mul-volume-where-2
+    shared-slice-read-volume-where-2
+    volume-where-requires
     add-held
     add-j
     volumes-less

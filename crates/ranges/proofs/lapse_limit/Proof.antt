@@ -1,5 +1,5 @@
--- The test of `goodLimit`, its two parts in turn. Assumes nothing.
-use Rattle.rules.specs.Lapses.{goodLimit}
+-- The test of `goodLapseLimit`, its two parts in turn. Assumes nothing.
+use Rattle.rules.specs.Lapses.{goodLapseLimit}
 use borrow.Author.Needs.{needs}
 use Rattle.ranges.proofs.lapse_limit.Statement.{statement}
 use Rattle.ranges.proofs.lapse_limit.Tie as tie
@@ -10,12 +10,12 @@ at-most-requires c κs = search needs
 
 -- src/lib.rt:68:9
 returns : tie.Need-returns
-unfolding goodLimit
+unfolding goodLapseLimit
 returns c = simp (← c .before .at-most .ensures, c .if1 .taken)
 
 -- src/lib.rt:64:1
 returns-2 : tie.Need-returns-2
-unfolding goodLimit
+unfolding goodLapseLimit
 returns-2 c = simp (← c .before .at-most .ensures, c .if1 .left)
 
 pub lapse-limit-spec : {M : Type 1} → statement M

@@ -1,6 +1,6 @@
 -- `record::event_of` meets its contract, kind by kind. Assumes nothing.
 use borrow.Author.Needs.{needs}
-use Rattle.record.specs.Parts.{said}
+use Rattle.record.specs.Internal.{said}
 use Rattle.record.proofs.Reading.{buy-of, sell-of, amend-of, cancel-of, deal-of, tick-of}
 use Rattle.record.proofs.event_of.Statement.{statement}
 use Rattle.record.proofs.event_of.Tie as tie

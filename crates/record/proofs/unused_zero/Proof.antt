@@ -1,6 +1,6 @@
 -- `record::unused_zero` meets its contract, kind by kind. Assumes nothing.
 use borrow.Author.Needs.{needs}
-use Rattle.record.specs.Parts.{said}
+use Rattle.record.specs.Internal.{said}
 use Rattle.record.proofs.Reading.{cancel-unused, deal-unused, tick-unused, all-used}
 use Rattle.record.proofs.unused_zero.Statement.{statement}
 use Rattle.record.proofs.unused_zero.Tie as tie

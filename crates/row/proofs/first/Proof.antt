@@ -7,7 +7,7 @@ use borrow.Author.Needs.{needs}
 use lib.ListN.{length, take, drop}
 use Rattle.rules.specs.Choosing.{firstRow}
 use Rattle.rules.proofs.Choosing.{row-none, row-at}
-use Rattle.row.specs.Found.{Found}
+use Rattle.row.specs.Internal.{Found}
 use Rattle.row.proofs.first.Statement.{statement}
 use Rattle.row.proofs.first.Tie as tie
 

@@ -7,7 +7,7 @@ use borrow.Author.Tests.{eq-eqb, ne-eqb}
 use borrow.Author.Needs.{needs}
 use lib.ListN.{length}
 use Rattle.rules.specs.declared.Row.{Row}
-use Rattle.rules.specs.declared.Spread.{Spread}
+use Rattle.rules.specs.declared.SpreadRule.{SpreadRule}
 use Rattle.rules.specs.Terms.{paper}
 use Rattle.rules.specs.Rows.{rowOf, asRead, goodRow, goodRowFor}
 use Rattle.rules.specs.Answers.{accepted, refused}
@@ -15,7 +15,7 @@ use Rattle.rules.specs.Book.{lowest, readRow}
 use Rattle.row.proofs.read.Statement.{statement}
 use Rattle.row.proofs.read.Tie as tie
 
-module _ (spread : Spread) (words : List ℕ) where
+module _ (spread : SpreadRule) (words : List ℕ) where
   refused-1 : (length words ≡ 7 → ⊥) → refused 1 ≡ readRow paper spread words
   unfolding readRow lowest
   refused-1 h = simp (ne-eqb (length words) 7 h)

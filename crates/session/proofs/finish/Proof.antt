@@ -4,7 +4,7 @@ use native.Mathlib.Omega.{arith}
 use Rattle.rules.specs.Terms.{paper}
 use Rattle.rules.proofs.Bounds.{row-bounds}
 use Rattle.quantum.specs.declared.Clock.{Clock}
-use Rattle.quantum.proofs.Standing.{time-is, kept-at}
+use Rattle.quantum.proofs.Represents.{time-is, kept-at}
 use Rattle.session.proofs.Steps.{clock-is, growing, may-end, ended-is}
 use borrow.Author.Needs.{needs}
 use Rattle.session.proofs.finish.Statement.{statement}
@@ -14,13 +14,13 @@ onward-requires : tie.Need-onward-requires
 onward-requires c κs =
     let s = c .before .before .before .before in
     let h = s .pre in
-    may-end (s .args .row) (h .sp) (h .events) (s .args .walk) (h .is) (h .bounds)
+    may-end (s .args .row) (h .sp) (h .events) (s .args .progress) (h .is) (h .bounds)
 
 grow-requires : tie.Need-grow-requires
 grow-requires c κs =
     let s = c .before .before .before .before .before .before .before .before .before .before in
     let h = s .pre in
-    growing (s .args .row) (h .sp) (h .events) (s .args .walk) (h .is) (s .args .row .length) (h .bounds .ends) (omega arith) (h .good)
+    growing (s .args .row) (h .sp) (h .events) (s .args .progress) (h .is) (s .args .row .length) (h .bounds .ends) (omega arith) (h .good)
 
 weight-of-requires : tie.Need-weight-of-requires
 weight-of-requires c κs =
@@ -37,9 +37,9 @@ returns c = λ sp es base g is h.
     let o = w .before .before .before .before .before .before in
     let s = o .before .before .before .before .before in
     let row = s .args .row in
-    let k = s .args .walk .clock in
-    let e = clock-is row sp es (s .args .walk) is in
-    ended-is row sp es (s .args .walk) is g _ (w .grow .result) (s .args .buffer .now) _ base refl (w .grow .ensures) h (o .onward .result .kept .0) (c .weight-of .result)
+    let k = s .args .progress .clock in
+    let e = clock-is row sp es (s .args .progress) is in
+    ended-is row sp es (s .args .progress) is g _ (w .grow .result) (s .args .buffer .now) _ base refl (w .grow .ensures) h (o .onward .result .kept .0) (c .weight-of .result)
     (ap (λ (x : Clock). x .kept .0) (o .onward .ensures) ∙ kept-at row sp es k e g (row .length .0) (omega (arith, time-is row sp es k e, g .ends)))
     (c .weight-of .ensures)
 

@@ -18,12 +18,12 @@ enum-known-read-2 c = search needs
 price-requires : tie.Need-price-requires
 price-requires c κs = search needs
 
-walked-requires : tie.Need-walked-requires
-walked-requires c κs =
+run-records-requires : tie.Need-run-records-requires
+run-records-requires c κs =
     let t = c .before .before .before .before in
     let r = t .before .before in
     let s = r .before .before .before .before in
-    (s .pre, opens-good (s .args .limit) (s .args .row .now) (s .args .sp) (s .args .records .now) _ (ap shownRow (sym (t .read3 .given .1)) ∙ r .read .ensures) (sym (c .before .before .price .ensures) ∙ c .before .if1 .taken))
+    (s .pre, opens-good (s .args .most) (s .args .row .now) (s .args .sp) (s .args .records .now) _ (ap shownRow (sym (t .read3 .given .1)) ∙ r .read .ensures) (sym (c .before .before .price .ensures) ∙ c .before .if1 .taken))
 
 same-length : tie.Need-same-length
 same-length c = search needs
@@ -34,21 +34,21 @@ returns c =
     let t = p .before .before in
     let r = t .before .before in
     let s = r .before .before .before .before in
-    passed-opened (s .args .limit) (s .args .row .now) (s .args .sp) (s .args .records .now) _ (ap shownRow (sym (t .read3 .given .1)) ∙ r .read .ensures) (sym (p .price .ensures) ∙ c .before .before .before .before .if1 .taken)
-    (s .args .buffer .now) _ (c .before .before .walked .result) (c .before .before .walked .ensures)
+    passed-opened (s .args .most) (s .args .row .now) (s .args .sp) (s .args .records .now) _ (ap shownRow (sym (t .read3 .given .1)) ∙ r .read .ensures) (sym (p .price .ensures) ∙ c .before .before .before .before .if1 .taken)
+    (s .args .buffer .now) _ (c .before .before .run-records .result) (c .before .before .run-records .ensures)
 
 returns-2 : tie.Need-returns-2
 returns-2 c =
     let r = c .before .before .before in
     let s = r .before .before .before .before in
-    passed-row (s .args .limit) (s .args .row .now) (s .args .sp) (s .args .records .now) _ (ap shownRow (sym (c .before .read2 .given .1)) ∙ r .read .ensures) (s .args .buffer .now) _
+    passed-row (s .args .most) (s .args .row .now) (s .args .sp) (s .args .records .now) _ (ap shownRow (sym (c .before .read2 .given .1)) ∙ r .read .ensures) (s .args .buffer .now) _
 
 returns-3 : tie.Need-returns-3
 returns-3 c =
     let t = c .before .before .before in
     let r = t .before .before in
     let s = r .before .before .before .before in
-    passed-price (s .args .limit) (s .args .row .now) (s .args .sp) (s .args .records .now) _ (ap shownRow (sym (t .read3 .given .1)) ∙ r .read .ensures) (sym (c .before .price .ensures) ∙ c .if1 .left) (s .args .buffer .now) _
+    passed-price (s .args .most) (s .args .row .now) (s .args .sp) (s .args .records .now) _ (ap shownRow (sym (t .read3 .given .1)) ∙ r .read .ensures) (sym (c .before .price .ensures) ∙ c .if1 .left) (s .args .buffer .now) _
 
 pub pass-spec : {M : Type 1} → statement M
 pass-spec =
@@ -58,7 +58,7 @@ pass-spec =
     enum-known-read
     enum-known-read-2
     price-requires
-    walked-requires
+    run-records-requires
     same-length
     returns
     returns-2

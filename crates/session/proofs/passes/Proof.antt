@@ -27,7 +27,7 @@ returns c =
     let t = c .before .before in
     let p = t .before .before .before .before in
     let s = p .before .before .before .before .before .before in
-    ends-short (session paper (s .args .limit) (s .args .row .now) (s .args .sp) (s .args .records .now)) _ _ (p .pass .result) (p .pass .ensures) (s .args .buffer .now) _ _ _ (t .enum-told2 .given .1) (omega (arith, c .before .filled .ensures))
+    ends-short (session paper (s .args .most) (s .args .row .now) (s .args .sp) (s .args .records .now)) _ _ (p .pass .result) (p .pass .ensures) (s .args .buffer .now) _ _ _ (t .enum-told2 .given .1) (omega (arith, c .before .filled .ensures))
 
 pass-requires-2 : tie.Need-pass-requires-2
 pass-requires-2 c κs = search needs
@@ -39,7 +39,7 @@ returns-2 : tie.Need-returns-2
 returns-2 c =
     let p = c .before .before .before .before in
     let s = p .before .before .before .before .before .before in
-    ends-refused (session paper (s .args .limit) (s .args .row .now) (s .args .sp) (s .args .records .now)) _ _ (p .pass .result) (p .pass .ensures) (s .args .buffer .now) _ _ (c .enum-told .given .1)
+    ends-refused (session paper (s .args .most) (s .args .row .now) (s .args .sp) (s .args .records .now)) _ _ (p .pass .result) (p .pass .ensures) (s .args .buffer .now) _ _ (c .enum-told .given .1)
 
 same-length-3 : tie.Need-same-length-3
 same-length-3 c = search needs
@@ -53,7 +53,7 @@ returns-3 c =
     let t = f .before in
     let p = t .before .before .before .before in
     let s = p .before .before .before .before .before .before in
-    ends-written (session paper (s .args .limit) (s .args .row .now) (s .args .sp) (s .args .records .now)) _ _ (p .pass .result) (p .pass .ensures) (s .args .buffer .now) _ _ _ (t .enum-told2 .given .1) _ (c .before .before .pass2 .result)
+    ends-written (session paper (s .args .most) (s .args .row .now) (s .args .sp) (s .args .records .now)) _ _ (p .pass .result) (p .pass .ensures) (s .args .buffer .now) _ _ _ (t .enum-told2 .given .1) _ (c .before .before .pass2 .result)
     (omega (arith, f .filled .ensures)) (c .before .before .pass2 .ensures)
 
 pub passes-spec : {M : Type 1} → statement M

@@ -2,7 +2,7 @@
 use mathlib.Core.Path.{ap, sym, _∙_, subst}
 use Rattle.rules.specs.declared.Event.{Event}
 use Rattle.rules.specs.Answers.{Outcome, shownRecord}
-use Rattle.session.specs.Walks.{Advanced}
+use Rattle.session.specs.Internal.{Advanced}
 use Rattle.session.proofs.Steps.{advanced-unread}
 use Rattle.session.proofs.Loop.{unread}
 use borrow.Author.Needs.{needs}
@@ -38,14 +38,14 @@ returns c =
     let s = r .before .before .before .before .before in
     subst
     (λ (o : Outcome Event).
-    Advanced (s .args .walk) (s .args .duty) o (t .taken .result) (s .args .table .now) (t .taken .last .1 .1 .1 .0) (s .args .buffer .now) (t .taken .last .1 .1 .1 .1 .1 .0))
+    Advanced (s .args .progress) (s .args .duty) o (t .taken .result) (s .args .table .now) (t .taken .last .1 .1 .1 .0) (s .args .buffer .now) (t .taken .last .1 .1 .1 .1 .1 .0))
     (ap shownRecord (sym (k .before .read2 .given .1)) ∙ r .read .ensures) (t .taken .ensures)
 
 returns-2 : tie.Need-returns-2
 returns-2 c =
     let r = c .before .before in
     let s = r .before .before .before .before .before in
-    advanced-unread (s .args .walk) (s .args .duty) _ (s .args .table .now) _ (s .args .buffer .now) _ 14
+    advanced-unread (s .args .progress) (s .args .duty) _ (s .args .table .now) _ (s .args .buffer .now) _ 14
     (unread (s .args .bytes .now) _ (ap shownRecord (sym (c .enum-told .given .1)) ∙ r .read .ensures))
 
 pub step-spec : {M : Type 1} → statement M

@@ -8,7 +8,7 @@ use Rattle.session.proofs.taken.Tie as tie
 step-requires : tie.Need-step-requires
 step-requires c κs =
     let s = c .before .before .before .before .before .before .before in
-    running (s .args .walk) (s .args .duty) (s .args .table .now) (s .args .hints .now) (s .pre)
+    running (s .args .progress) (s .args .duty) (s .args .table .now) (s .args .hints .now) (s .pre)
 
 same-length : tie.Need-same-length
 same-length c = search needs
@@ -20,7 +20,7 @@ returns : tie.Need-returns
 returns c =
     let g = c .before .before .before .before .before .before in
     let s = g .before .before .before .before .before .before .before .before in
-    advanced-refused (s .args .walk) (s .args .duty) (s .args .e) (s .args .table .now) (g .step .last .1 .1 .0) (g .step .result) (g .step .ensures)
+    advanced-refused (s .args .progress) (s .args .duty) (s .args .e) (s .args .table .now) (g .step .last .1 .1 .0) (g .step .result) (g .step .ensures)
     (s .args .buffer .now) _ (c .if1 .taken)
 
 grow-requires : tie.Need-grow-requires
@@ -28,7 +28,7 @@ grow-requires c κs =
     let f = c .before .before .before .before .before in
     let g = f .before .before .before .before .before .before in
     let s = g .before .before .before .before .before .before .before .before in
-    growing-taken (s .args .walk) (s .args .duty) (s .args .e) (s .args .table .now) (g .step .last .1 .1 .0) (g .step .result) (g .step .ensures) (f .if1 .left)
+    growing-taken (s .args .progress) (s .args .duty) (s .args .e) (s .args .table .now) (g .step .last .1 .1 .0) (g .step .result) (g .step .ensures) (f .if1 .left)
     (s .args .hints .now) (s .pre)
 
 same-length-3 : tie.Need-same-length-3
@@ -46,7 +46,7 @@ returns-2 c =
     let f = w .before .before .before .before .before .before in
     let g = f .before .before .before .before .before .before in
     let s = g .before .before .before .before .before .before .before .before in
-    advanced-taken (s .args .walk) (s .args .duty) (s .args .e) (s .args .table .now) (g .step .last .1 .1 .0) (g .step .result) (g .step .ensures) (f .if1 .left)
+    advanced-taken (s .args .progress) (s .args .duty) (s .args .e) (s .args .table .now) (g .step .last .1 .1 .0) (g .step .result) (g .step .ensures) (f .if1 .left)
     _ (w .grow .result) (s .args .buffer .now) _ refl (w .grow .ensures)
 
 pub taken-spec : {M : Type 1} → statement M

@@ -51,7 +51,7 @@ returns c =
     let a = c .before .args in
     record {
       words = λ slots level h is. added-is slots level (a .id) (a .key) (a .volume .0) h (a .words .now) is;
-      told = refl;
+      answers = refl;
     }
 
 pub add-spec : {M : Type 1} → statement M

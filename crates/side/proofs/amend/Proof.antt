@@ -1,7 +1,7 @@
 -- Two stores. Assumes nothing.
 use native.Mathlib.Omega.{arith}
 use lib.ListN.{length-set}
-use Rattle.side.proofs.Stores.{amended-is, amended-told}
+use Rattle.side.proofs.Stores.{amended-is, amended-answers}
 use borrow.Author.Needs.{needs}
 use Rattle.side.proofs.amend.Statement.{statement}
 use Rattle.side.proofs.amend.Tie as tie
@@ -50,7 +50,7 @@ returns c =
     let a = c .before .before .args in
     record {
       words = λ slots level few h is. amended-is slots level (a .place) (a .key) (a .volume .0) few h (a .words .now) is;
-      told = λ slots level few h is. amended-told slots level (a .place) (a .key) (a .volume .0) few h (a .words .now) is;
+      answers = λ slots level few h is. amended-answers slots level (a .place) (a .key) (a .volume .0) few h (a .words .now) is;
     }
 
 pub amend-spec : {M : Type 1} → statement M

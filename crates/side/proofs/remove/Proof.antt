@@ -7,7 +7,7 @@ use lib.ListN.{getD, drop, length-set}
 use lib.Seq.{length-front}
 use borrow.Rule.Slice.PartMut.{same-len-mid}
 use Rattle.side.proofs.Words.{count-is}
-use Rattle.side.proofs.Stores.{amended-told, putKeys, removed-is}
+use Rattle.side.proofs.Stores.{amended-answers, putKeys, removed-is}
 use borrow.Author.Needs.{needs}
 use Rattle.side.proofs.remove.Statement.{statement}
 use Rattle.side.proofs.remove.Tie as tie
@@ -109,7 +109,7 @@ returns c =
           let n = count-is w slots level few is in
           removed-is slots level (a .place) (getD w 192 0 - 1) few (omega arith) (omega arith) w (ids .last .0) (keys .last .0) (volumes .last .0) is
           (ids .ensures) (keys .ensures) (volumes .ensures);
-      told = λ slots level few h is. amended-told slots level (a .place) 0 0 few h w is;
+      answers = λ slots level few h is. amended-answers slots level (a .place) 0 0 few h w is;
     }
 
 pub remove-spec : {M : Type 1} → statement M

@@ -5,7 +5,7 @@ use native.Mathlib.Omega.{arith}
 use borrow.Author.Needs.{needs}
 use lib.Dec.{eqb}
 use lib.ListN.{length, getD}
-use Rattle.side.proofs.Seen.{Passed, share-most, passed-one, passed-all}
+use Rattle.side.proofs.Seen.{Passed, where-most, passed-one, passed-all}
 use Rattle.side.proofs.scan.Statement.{statement}
 use Rattle.side.proofs.scan.Tie as tie
 
@@ -18,20 +18,20 @@ abbrev μ-loop : tie.MeasureT-loop
 loop-holds : tie.Need-loop-holds Inv-loop μ-loop
 loop-holds c = (omega arith, omega arith, omega arith, omega arith)
 
-mul-share : tie.Need-mul-share Inv-loop μ-loop
-mul-share c = omega arith
+mul-volume-where : tie.Need-mul-volume-where Inv-loop μ-loop
+mul-volume-where c = omega arith
 
-shared-slice-read-share : tie.Need-shared-slice-read-share Inv-loop μ-loop
-shared-slice-read-share c = omega arith
+shared-slice-read-volume-where : tie.Need-shared-slice-read-volume-where Inv-loop μ-loop
+shared-slice-read-volume-where c = omega arith
 
-share-requires : tie.Need-share-requires Inv-loop μ-loop
-share-requires c κs = search needs
+volume-where-requires : tie.Need-volume-where-requires Inv-loop μ-loop
+volume-where-requires c κs = search needs
 
 add-found : tie.Need-add-found Inv-loop μ-loop
 add-found c =
     let a = c .before .before .before .before .before .args in
     let l = c .before .before .before .loop in
-    omega (arith, c .share .ensures, share-most (eqb (getD (a .ids .now) (l .i) 0) (a .id)) (l .n))
+    omega (arith, c .volume-where .ensures, where-most (eqb (getD (a .ids .now) (l .i) 0) (a .id)) (l .n))
 
 add-n : tie.Need-add-n Inv-loop μ-loop
 add-n c = omega arith
@@ -46,7 +46,7 @@ loop-again : tie.Need-loop-again Inv-loop μ-loop
 loop-again c =
     let a = c .before .before .before .before .before .args in
     let l = c .before .before .before .loop in
-    subst (λ (f : ℕ). Passed (a .id) (a .ids .now) (l .found + f) (l .n + 1) (l .i + 1)) (sym (c .share .ensures))
+    subst (λ (f : ℕ). Passed (a .id) (a .ids .now) (l .found + f) (l .n + 1) (l .i + 1)) (sym (c .volume-where .ensures))
     (passed-one (a .id) (l .found) (l .n) (l .i) (a .ids .now) (omega arith) (omega arith) (l .inv))
 
 returns : tie.Need-returns Inv-loop μ-loop
@@ -62,9 +62,9 @@ scan-spec =
     Inv-loop
     μ-loop
     loop-holds
-    mul-share
-    shared-slice-read-share
-    share-requires
+    mul-volume-where
+    shared-slice-read-volume-where
+    volume-where-requires
     add-found
     add-n
     add-i

@@ -1,7 +1,7 @@
 -- The answer by the test of the size. Assumes nothing.
 use borrow.Author.Tests.{lt-ltb, le-ltb}
 use mathlib.Core.Path.{refl}
-use Rattle.sigma.specs.Raised.{risen}
+use Rattle.sigma.specs.Internal.{risen}
 use borrow.Author.Needs.{needs}
 use Rattle.sigma.proofs.rise.Statement.{statement}
 use Rattle.sigma.proofs.rise.Tie as tie

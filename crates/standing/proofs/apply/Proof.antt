@@ -49,7 +49,7 @@ use Rattle.makers.specs.declared.Seen.{Seen}
 use Rattle.makers.specs.declared.Plan.{Plan}
 use Rattle.makers.specs.declared.Answer.{Answer}
 use Rattle.makers.specs.Calls.{Standing, standing, Call, step, answerOf}
-use Rattle.makers.specs.Moves.{seenIn, soundIn, shifted, callOf, judged, planned}
+use Rattle.makers.specs.Internal.{seenIn, soundIn, shifted, callOf, judged, planned}
 use Rattle.makers.proofs.Seeing.{some-seen}
 use Rattle.makers.proofs.Working.{Works, works, answered}
 use Rattle.makers.proofs.Maker as T

@@ -51,7 +51,7 @@ use Rattle.makers.specs.declared.Maker.{Maker}
 use Rattle.makers.specs.declared.Answer.{Answer}
 use Rattle.makers.specs.Order.{maker}
 use Rattle.makers.specs.Calls.{Standing, standing, Call, refusalOf, step, answerOf}
-use Rattle.makers.specs.Moves.{callOf}
+use Rattle.makers.specs.Internal.{callOf}
 use Rattle.makers.proofs.Maker as T
 use Rattle.makers.proofs.Maker.Laws as T′
 use Rattle.makers.proofs.Answer as D
@@ -60,7 +60,7 @@ use Rattle.standing.specs.declared.Asked.{Asked}
 use Rattle.standing.specs.declared.Ready.{Ready}
 use Rattle.standing.specs.declared.Ran.{Ran}
 use Rattle.standing.specs.Words.{askedAt, readyOf}
-use Rattle.standing.specs.Runs.{Runs}
+use Rattle.standing.specs.Claim.{ListAnswers}
 use Rattle.standing.proofs.Running.{running, at as at-call, noted, ready-is, at-start, noted-start, few, inside, blank, at-next, noted-next, noted-long, finished}
 use Rattle.standing.proofs.Again.{LentAgain, lends-again, comes-back}
 use Rattle.standing.proofs.Asked as K
@@ -258,10 +258,10 @@ module _ {M : Type 1} (𝓤 : URA M) (H : Heap 𝓤) (A : Atoms 𝓤) (W : Given
   abbrev ran : ℕ → Ran
   ran k = record { count = st k .count; fits = rd .fits }
 
-  runs-all : (k : ℕ) → k ≡ n → Runs ws s₀ os (st k .records) (outs k) (ran k)
+  runs-all : (k : ℕ) → k ≡ n → ListAnswers ws s₀ os (st k .records) (outs k) (ran k)
   runs-all k e =
-      subst (λ (j : ℕ). Runs ws s₀ os (st j .records) (outs j) (ran j)) (sym e)
-      (subst (λ (t : Bool). Runs ws s₀ os (st n .records) (outs n) (record { count = st n .count; fits = t })) (sym (ready-is ws s₀ os rd refl .1)) (finished ws s₀ os))
+      subst (λ (j : ℕ). ListAnswers ws s₀ os (st j .records) (outs j) (ran j)) (sym e)
+      (subst (λ (t : Bool). ListAnswers ws s₀ os (st n .records) (outs n) (record { count = st n .count; fits = t })) (sym (ready-is ws s₀ os rd refl .1)) (finished ws s₀ os))
 
   abbrev Post : Val → SProp 𝓤
   Post = walkOf 𝓤 H A it.ended stayed (it.clauses 𝓤 H A mem run) .post (((κ, (κ₁, (κ₂, tt))), (q, (q₁, (q₂, tt))), tt, a, vals), tt)

@@ -52,7 +52,7 @@ use denote.Exit.{yes}
 use denote.Signature.{plain}
 use Rattle.makers.specs.declared.Maker.{Maker}
 use Rattle.makers.specs.declared.Seen.{Seen}
-use Rattle.makers.specs.Moves.{none, unseen, lookOf, seenIn}
+use Rattle.makers.specs.Internal.{none, unseen, lookOf, seenIn}
 use Rattle.makers.proofs.Seeing.{above-le}
 use Rattle.makers.proofs.Maker as T
 use Rattle.makers.proofs.Maker.Laws as T′

@@ -51,7 +51,7 @@ use denote.Triple.Walked.{says, needs, Stays, stay-slice, stay-none, walkOf, goe
 use denote.Exit.{yes}
 use denote.Signature.{plain}
 use Rattle.makers.specs.declared.Maker.{Maker}
-use Rattle.makers.specs.Moves.{none, nearer, removed, inserted, shifted}
+use Rattle.makers.specs.Internal.{none, nearer, removed, inserted, shifted}
 use Rattle.makers.proofs.Shifting.{length-removed, length-inserted, shift-start, shift-step, shift-end, way-within, apart, way-less}
 use Rattle.makers.proofs.Maker as T
 use Rattle.makers.proofs.Maker.Laws as T′

@@ -52,7 +52,7 @@ use denote.Exit.{yes}
 use denote.Signature.{plain}
 use Rattle.makers.specs.declared.Maker.{Maker}
 use Rattle.makers.specs.declared.Seen.{Seen}
-use Rattle.makers.specs.Moves.{none, seenIn, soundIn}
+use Rattle.makers.specs.Internal.{none, seenIn, soundIn}
 use Rattle.makers.proofs.Maker as T
 use Rattle.makers.proofs.Maker.Laws as T′
 use Rattle.makers.proofs.Seen as S

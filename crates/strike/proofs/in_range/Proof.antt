@@ -1,6 +1,6 @@
 -- The test of the four numbers, where there is a strike. Assumes nothing.
 use mathlib.Core.Path.{sym, ap, _∙_}
-use Rattle.rules.specs.Book.{goodSpread}
+use Rattle.rules.specs.Book.{goodSpreadRule}
 use borrow.Author.Needs.{needs}
 use Rattle.strike.proofs.in_range.Statement.{statement}
 use Rattle.strike.proofs.in_range.Tie as tie
@@ -18,7 +18,7 @@ returns : tie.Need-returns
 returns c = search needs
 
 returns-2 : tie.Need-returns-2
-returns-2 c = c .is-good .ensures ∙ sym (ap goodSpread (c .before .before .spread .given .1))
+returns-2 c = c .is-good .ensures ∙ sym (ap goodSpreadRule (c .before .before .spread .given .1))
 
 pub in-range-spec : {M : Type 1} → statement M
 in-range-spec = tie.close (tie.spec enum-told enum-known-spread is-good-requires returns returns-2)

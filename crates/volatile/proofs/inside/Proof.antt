@@ -8,20 +8,20 @@ use borrow.Author.Needs.{needs}
 use lib.IntN.{ℤ, pos}
 use lib.ListN.{length, getD}
 use Rattle.sigma.specs.declared.Change.{Change}
-use Rattle.sigma.specs.Raised.{changeShown}
+use Rattle.sigma.specs.Internal.{changeShown}
 use Rattle.sigma.proofs.Changes.{Told, by-told, unusable-told}
 use Rattle.volatile.specs.declared.State.{State}
 use Rattle.rules.specs.Answers.{accepted}
 use Rattle.volatile.specs.Answers.{insideOf}
-use Rattle.volatile.specs.Carried.{early}
-use Rattle.volatile.proofs.Stands.{Stands, fresh-stands, fresh-early, ready, turn-stands, bad-at, early-at, end-good, end-early, end-inside}
+use Rattle.volatile.specs.Internal.{early}
+use Rattle.volatile.proofs.Represents.{Represents, fresh-represents, fresh-early, ready, turn-represents, bad-at, early-at, end-good, end-early, end-inside}
 use Rattle.volatile.proofs.Answers.{refused-bad, refused-early, answered}
 use Rattle.volatile.proofs.inside.Statement.{statement}
 use Rattle.volatile.proofs.inside.Tie as tie
 
 abbrev Inv-loop : tie.InvT-loop
 Inv-loop prices threshold state₀ i₀ state i =
-    (i ≤ length prices - 1) × Stands prices threshold i state × (early (state .phase) ≡ false)
+    (i ≤ length prices - 1) × Represents prices threshold i state × (early (state .phase) ≡ false)
 
 abbrev μ-loop : tie.MeasureT-loop
 μ-loop prices threshold state₀ i₀ state i = length prices - i
@@ -37,7 +37,7 @@ loop-holds c =
     let a = c .before .args in
     let e = c .start .ensures in (
       omega arith,
-      subst (Stands (a .prices .now) (a .threshold) 0) (sym e) (fresh-stands (a .prices .now) (a .threshold)),
+      subst (Represents (a .prices .now) (a .threshold) 0) (sym e) (fresh-represents (a .prices .now) (a .threshold)),
       ap (λ (s : State). early (s .phase)) e ∙ fresh-early,
     )
 
@@ -90,12 +90,12 @@ returns c =
     (unusable-told (getD (a .prices .now) i (pos 0)) (getD (a .prices .now) (suc i) (pos 0))
     (sym (c .enum-told .given .1) ∙ change-is (c .before .before))))
 
-told : (c : tie.After-known-told Inv-loop μ-loop)
+answers : (c : tie.After-known-told Inv-loop μ-loop)
     → Told (getD (c .before .before .before .before .before .before .before .before .before .args .prices .now)
     (c .before .before .before .before .before .before .before .loop .i) (pos 0))
     (getD (c .before .before .before .before .before .before .before .before .before .args .prices .now)
     (suc (c .before .before .before .before .before .before .before .loop .i)) (pos 0)) (c .before .change .given .0 .0)
-told c =
+answers c =
     by-told _ _ (c .before .change .given .0 .0) (sym (c .before .change .given .1) ∙ change-is (c .before .before .before))
 
 turn-requires : tie.Need-turn-requires Inv-loop μ-loop
@@ -104,20 +104,20 @@ turn-requires c κs =
     let l = c .before .before .before .before .before .before .before .loop in (
       ready (a .prices .now) (a .threshold) (l .i) (l .state) (l .inv .1) (more (c .before .before .before))
           (long (c .before .before .before .before .before .before .before .before .before)),
-      told c .small,
+      answers c .small,
     )
 
 -- the state after the turn stands for one R more
 next : (c : tie.After-turn Inv-loop μ-loop)
-    → Stands (c .before .before .before .before .before .before .before .before .before .before .args .prices .now)
+    → Represents (c .before .before .before .before .before .before .before .before .before .before .args .prices .now)
     (c .before .before .before .before .before .before .before .before .before .before .args .threshold)
     (suc (c .before .before .before .before .before .before .before .before .loop .i)) (c .turn .result)
 next c =
     let a = c .before .before .before .before .before .before .before .before .before .before .args in
     let l = c .before .before .before .before .before .before .before .before .loop in
-    subst (Stands (a .prices .now) (a .threshold) (suc (l .i))) (sym (c .turn .ensures .0))
-    (turn-stands (a .prices .now) (a .threshold) (l .i) (l .state) (l .inv .1) (more (c .before .before .before .before))
-    (long (c .before .before .before .before .before .before .before .before .before .before)) (c .before .before .change .given .0 .0) (told (c .before)) (l .inv .2)
+    subst (Represents (a .prices .now) (a .threshold) (suc (l .i))) (sym (c .turn .ensures .0))
+    (turn-represents (a .prices .now) (a .threshold) (l .i) (l .state) (l .inv .1) (more (c .before .before .before .before))
+    (long (c .before .before .before .before .before .before .before .before .before .before)) (c .before .before .change .given .0 .0) (answers (c .before)) (l .inv .2)
     (c .turn .ensures .1))
 
 is-early-requires : tie.Need-is-early-requires Inv-loop μ-loop
@@ -144,7 +144,7 @@ loop-again c =
     let a = c .before .before .before .before .before .before .before .before .before .before .before .before .args in
     let l = c .before .before .before .before .before .before .before .before .before .before .loop in (
       omega (arith, more (c .before .before .before .before .before .before)),
-      subst (λ (k : ℕ). Stands (a .prices .now) (a .threshold) k (c .before .before .turn .result)) (sym (add-one (l .i)))
+      subst (λ (k : ℕ). Represents (a .prices .now) (a .threshold) k (c .before .before .turn .result)) (sym (add-one (l .i)))
           (next (c .before .before)),
       sym (c .before .is-early .ensures) ∙ c .if1 .left,
     )

@@ -1,6 +1,6 @@
 -- The oldest is within the sum, so nothing wraps. Assumes nothing.
 use mathlib.Core.Path.{refl}
-use Rattle.volatile.specs.Carried.{pushed}
+use Rattle.volatile.specs.Internal.{pushed}
 use borrow.Author.Needs.{needs}
 use Rattle.volatile.proofs.push.Statement.{statement}
 use Rattle.volatile.proofs.push.Tie as tie

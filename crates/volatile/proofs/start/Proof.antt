@@ -1,6 +1,6 @@
 -- No day yet. Assumes nothing.
 use mathlib.Core.Path.{refl}
-use Rattle.volatile.specs.Carried.{fresh}
+use Rattle.volatile.specs.Internal.{fresh}
 use Rattle.volatile.proofs.start.Statement.{statement}
 use Rattle.volatile.proofs.start.Tie as tie
 

@@ -9,7 +9,7 @@ use Rattle.rules.specs.Answers.{accepted, done}
 use Rattle.rules.specs.Book.{Close, goodCharges}
 use Rattle.month.specs.declared.Month.{Month}
 use Rattle.month.specs.Represents.{Answered}
-use Rattle.month.specs.Parts.{withoutQuantum, counted}
+use Rattle.month.specs.Internal.{withoutQuantum, counted}
 use Rattle.month.proofs.Answers.{handed}
 use Rattle.month.proofs.Fields.{quantum-reached, place-inside}
 use Rattle.month.proofs.Calls.{close-range, close-idle, close-done}

@@ -7,7 +7,7 @@ use Rattle.rules.specs.Answers.{accepted, done}
 use Rattle.rules.specs.Book.{Drop}
 use Rattle.month.specs.declared.Month.{Month}
 use Rattle.month.specs.Represents.{Answered}
-use Rattle.month.specs.Parts.{counted}
+use Rattle.month.specs.Internal.{counted}
 use Rattle.month.proofs.Answers.{handed}
 use Rattle.month.proofs.Calls.{drop-idle, drop-done}
 use borrow.Author.Needs.{needs}

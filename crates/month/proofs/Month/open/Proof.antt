@@ -9,7 +9,7 @@ use borrow.Author.Needs.{needs}
 use Rattle.month.proofs.Month.open.Statement.{statement}
 use Rattle.month.proofs.Month.open.Tie as tie
 
-was-read : (k : tie.After-read2) → ReadAs (k .before .before .before .before .args .told .spread) (now (k .before .before .before .before .args .words)) (k .read2 .given .0 .0)
+was-read : (k : tie.After-read2) → ReadAs (k .before .before .before .before .args .opening .spread) (now (k .before .before .before .before .args .words)) (k .read2 .given .0 .0)
 was-read k = read-as _ _ _ (ap shownRow (sym (k .read2 .given .1)) ∙ k .before .before .read .ensures)
 
 read-requires : tie.Need-read-requires
@@ -35,8 +35,8 @@ returns c =
 returns-2 : tie.Need-returns-2
 returns-2 c =
     let a = c .before .before .before .before .before .before .args in
-    handed (a .self) (Open (now (a .words)) (a .day) (a .told)) (c .refused .result) (a .self) _ (c .refused .ensures)
-    (open-unread (a .self) (now (a .words)) (a .day) (a .told) _ (ap shownRow (sym (c .before .before .read3 .given .1)) ∙ c .before .before .before .before .read .ensures))
+    handed (a .self) (Open (now (a .words)) (a .day) (a .opening)) (c .refused .result) (a .self) _ (c .refused .ensures)
+    (open-unread (a .self) (now (a .words)) (a .day) (a .opening) _ (ap shownRow (sym (c .before .before .read3 .given .1)) ∙ c .before .before .before .before .read .ensures))
 
 pub open-spec : {M : Type 1} → statement M
 open-spec =

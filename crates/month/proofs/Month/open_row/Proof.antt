@@ -9,26 +9,26 @@ use Rattle.rules.specs.declared.Cell.{Cell}
 use Rattle.rules.specs.declared.Refusal.the-variants.{ArgumentOutOfRange, CellFilled, QuantumOpen, LapseLimitOutOfRange, StrikesOutOfRange}
 use Rattle.rules.specs.Lists.{within}
 use Rattle.rules.specs.Cells.{goodCell, placeOf, cellAt}
-use Rattle.rules.specs.Book.{Open, goodSettlement, goodSpread}
+use Rattle.rules.specs.Book.{Open, goodSettlement, goodSpreadRule}
 use Rattle.rules.proofs.Lists.{both}
 use Rattle.rules.proofs.Bounds.{cell-small}
 use Rattle.month.proofs.Answers.{handed}
 use Rattle.month.proofs.Fields.{row-names}
-use Rattle.month.proofs.Calls.{open-range, open-filled, open-running, open-limit, open-strike, open-done}
+use Rattle.month.proofs.Calls.{open-range, open-filled, open-running, open-allowed, open-strike, open-done}
 use borrow.Author.Needs.{needs}
 use Rattle.month.proofs.Month.open_row.Statement.{statement}
 use Rattle.month.proofs.Month.open_row.Tie as tie
 
-tested : (k : tie.After-both) → let a = k .before .before .before .args in k .both .result ≡ (within 1 31 (a .day) && goodSettlement (a .told .spread))
+tested : (k : tie.After-both) → let a = k .before .before .before .args in k .both .result ≡ (within 1 31 (a .day) && goodSettlement (a .opening .spread))
 tested k = k .both .ensures ∙ λ i. k .before .before .between .ensures i && k .before .settlement .ensures i
 
-good : (k : tie.Else1) → let a = k .before .before .before .before .args in (within 1 31 (a .day) && goodSettlement (a .told .spread)) ≡ true
+good : (k : tie.Else1) → let a = k .before .before .before .before .args in (within 1 31 (a .day) && goodSettlement (a .opening .spread)) ≡ true
 good k = sym (tested (k .before)) ∙ not-false _ (k .if1 .left)
 
 cell-named : (k : tie.Else1) → let a = k .before .before .before .before .args in goodCell (a .day) (a .row .expiry) (a .row .quantum) ≡ true
 cell-named k =
     let s = k .before .before .before .before in
-    row-names (s .args .row) (s .args .day) (s .args .told .spread) (s .pre .1) (both (within 1 31 (s .args .day)) (goodSettlement (s .args .told .spread)) (good k) .0)
+    row-names (s .args .row) (s .args .day) (s .args .opening .spread) (s .pre .1) (both (within 1 31 (s .args .day)) (goodSettlement (s .args .opening .spread)) (good k) .0)
 
 filled : (k : tie.After-cell-at) (b : Bool) → k .cell-at .result .filled ≡ b
     → let a = k .before .before .before .before .before .before .args in cellAt (a .self .cells) (placeOf (a .day) (a .row .expiry) (a .row .quantum)) .filled ≡ b
@@ -52,8 +52,8 @@ returns : tie.Need-returns
 returns c = λ words seven is.
     let s = c .before .before .before .before .before in
     let a = s .args in
-    handed (a .self) (Open words (a .day) (a .told)) (c .refused .result) (a .self) (Refused ArgumentOutOfRange) (c .refused .ensures)
-    (open-range (a .self) words (a .row) (a .day) (a .told) (record { seven = seven; is = is; good = s .pre .1 })
+    handed (a .self) (Open words (a .day) (a .opening)) (c .refused .result) (a .self) (Refused ArgumentOutOfRange) (c .refused .ensures)
+    (open-range (a .self) words (a .row) (a .day) (a .opening) (record { seven = seven; is = is; good = s .pre .1 })
     (sym (tested (c .before .before)) ∙ not-true _ (c .before .if1 .taken)))
 
 place-of-requires : tie.Need-place-of-requires
@@ -70,8 +70,8 @@ returns-2 : tie.Need-returns-2
 returns-2 c = λ words seven is.
     let s = c .before .before .before .before .before .before .before .before in
     let a = s .args in
-    handed (a .self) (Open words (a .day) (a .told)) (c .refused2 .result) (a .self) (Refused CellFilled) (c .refused2 .ensures)
-    (open-filled (a .self) words (a .row) (a .day) (a .told) (record { seven = seven; is = is; good = s .pre .1 }) (good (c .before .before .before .before))
+    handed (a .self) (Open words (a .day) (a .opening)) (c .refused2 .result) (a .self) (Refused CellFilled) (c .refused2 .ensures)
+    (open-filled (a .self) words (a .row) (a .day) (a .opening) (record { seven = seven; is = is; good = s .pre .1 }) (good (c .before .before .before .before))
     (filled (c .before .before) _ (c .before .if2 .taken)))
 
 refused-requires-3 : tie.Need-refused-requires-3
@@ -81,8 +81,8 @@ returns-3 : tie.Need-returns-3
 returns-3 c = λ words seven is.
     let s = c .before .before .before .before .before .before .before .before .before in
     let a = s .args in
-    handed (a .self) (Open words (a .day) (a .told)) (c .refused3 .result) (a .self) (Refused QuantumOpen) (c .refused3 .ensures)
-    (open-running (a .self) words (a .row) (a .day) (a .told) (record { seven = seven; is = is; good = s .pre .1 }) (good (c .before .before .before .before .before))
+    handed (a .self) (Open words (a .day) (a .opening)) (c .refused3 .result) (a .self) (Refused QuantumOpen) (c .refused3 .ensures)
+    (open-running (a .self) words (a .row) (a .day) (a .opening) (record { seven = seven; is = is; good = s .pre .1 }) (good (c .before .before .before .before .before))
     (filled (c .before .before .before) _ (c .before .before .if2 .left)) (c .before .if3 .taken))
 
 lapse-limit-requires : tie.Need-lapse-limit-requires
@@ -96,8 +96,8 @@ returns-4 c = λ words seven is.
     let f = c .before .before .before in
     let s = f .before .before .before .before .before .before .before .before in
     let a = s .args in
-    handed (a .self) (Open words (a .day) (a .told)) (c .refused4 .result) (a .self) (Refused LapseLimitOutOfRange) (c .refused4 .ensures)
-    (open-limit (a .self) words (a .row) (a .day) (a .told) (record { seven = seven; is = is; good = s .pre .1 }) (good (f .before .before .before .before))
+    handed (a .self) (Open words (a .day) (a .opening)) (c .refused4 .result) (a .self) (Refused LapseLimitOutOfRange) (c .refused4 .ensures)
+    (open-allowed (a .self) words (a .row) (a .day) (a .opening) (record { seven = seven; is = is; good = s .pre .1 }) (good (f .before .before .before .before))
     (filled (f .before .before) _ (f .before .if2 .left)) (f .if3 .left)
     (sym (c .before .before .lapse-limit .ensures) ∙ not-true _ (c .before .if4 .taken)))
 
@@ -113,13 +113,13 @@ returns-5 c = λ words seven is.
     let f = e .before .before in
     let s = f .before .before .before .before .before .before .before .before in
     let a = s .args in
-    handed (a .self) (Open words (a .day) (a .told)) (c .refused5 .result) (a .self) (Refused StrikesOutOfRange) (c .refused5 .ensures)
-    (open-strike (a .self) words (a .row) (a .day) (a .told) (record { seven = seven; is = is; good = s .pre .1 }) (good (f .before .before .before .before))
+    handed (a .self) (Open words (a .day) (a .opening)) (c .refused5 .result) (a .self) (Refused StrikesOutOfRange) (c .refused5 .ensures)
+    (open-strike (a .self) words (a .row) (a .day) (a .opening) (record { seven = seven; is = is; good = s .pre .1 }) (good (f .before .before .before .before))
     (filled (f .before .before) _ (f .before .if2 .left)) (f .if3 .left)
     (sym (e .before .lapse-limit .ensures) ∙ not-false _ (e .if4 .left)) (sym (c .before .before .in-range .ensures) ∙ not-true _ (c .before .if5 .taken)))
 
 -- the strike's numbers passed
-in-range : (k : tie.Else5) → let a = k .before .before .before .before .before .before .before .before .before .before .before .before .args in goodSpread (a .told .spread) ≡ true
+in-range : (k : tie.Else5) → let a = k .before .before .before .before .before .before .before .before .before .before .before .before .args in goodSpreadRule (a .opening .spread) ≡ true
 in-range k = sym (k .before .in-range .ensures) ∙ not-false _ (k .if5 .left)
 
 opened-requires : tie.Need-opened-requires
@@ -136,8 +136,8 @@ returns-6 c = λ words seven is.
     let f = e .before .before in
     let s = f .before .before .before .before .before .before .before .before in
     let a = s .args in
-    handed (a .self) (Open words (a .day) (a .told)) (c .accepted .result) _ Accepted (c .accepted .ensures)
-    (open-done (a .self) words (a .row) (a .day) (a .told) (record { seven = seven; is = is; good = s .pre .1 }) (good (f .before .before .before .before))
+    handed (a .self) (Open words (a .day) (a .opening)) (c .accepted .result) _ Accepted (c .accepted .ensures)
+    (open-done (a .self) words (a .row) (a .day) (a .opening) (record { seven = seven; is = is; good = s .pre .1 }) (good (f .before .before .before .before))
     (filled (f .before .before) _ (f .before .if2 .left)) (f .if3 .left)
     (sym (e .before .lapse-limit .ensures) ∙ not-false _ (e .if4 .left)) (in-range g) (c .before .before .opened .result)
     (f .before .before .before .place-of .result) (c .before .before .opened .ensures) (f .before .before .before .place-of .ensures))

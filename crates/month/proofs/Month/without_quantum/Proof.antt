@@ -12,7 +12,7 @@ idle-requires c κs = search needs
 returns : tie.Need-returns
 returns c =
     let m = c .before .before .args .self in
-    ap (λ (q : Quantum). record { running = false; place = 0; share = 0; limit = 0; count = m .count; quantum = q; cells = m .cells }) (c .idle .ensures)
+    ap (λ (q : Quantum). record { running = false; place = 0; share = 0; allowed = 0; count = m .count; quantum = q; cells = m .cells }) (c .idle .ensures)
 
 pub without-quantum-spec : {M : Type 1} → statement M
 without-quantum-spec = tie.close (tie.spec idle-requires returns)

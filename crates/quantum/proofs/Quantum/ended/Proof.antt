@@ -5,8 +5,8 @@ use native.Mathlib.Omega.{arith}
 use Rattle.rules.specs.Kept.{keptBelow}
 use Rattle.rules.specs.Lapses.{lapsesBelow}
 use Rattle.quantum.specs.declared.Clock.{Clock}
-use Rattle.quantum.proofs.Standing.{time-is, length-is, onward, kept-at, lapses-at}
-use Rattle.quantum.proofs.Answers.{stands-for}
+use Rattle.quantum.proofs.Represents.{time-is, length-is, onward, kept-at, lapses-at}
+use Rattle.quantum.proofs.Answers.{represents-all}
 use Rattle.quantum.proofs.Quantum.ended.Statement.{statement}
 use Rattle.quantum.proofs.Quantum.ended.Tie as tie
 
@@ -15,7 +15,7 @@ onward-requires c κs =
     let s = c .before .before .before in
     let p = s .pre in
     let q = s .args .self in
-    let h = stands-for (p .row) (p .sp) (p .events) q (p .is) (p .bounds) in
+    let h = represents-all (p .row) (p .sp) (p .events) q (p .is) (p .bounds) in
     onward (p .row) (p .sp) (p .events) (q .clock) (h .clock-is) (q .duty .length)
     (omega (
       arith,
@@ -28,7 +28,7 @@ returns : tie.Need-returns
 returns c = λ row sp es g is.
     let s = c .before .before .before .before .before in
     let q = s .args .self in
-    let h = stands-for row sp es q is g in
+    let h = represents-all row sp es q is g in
     let t = time-is row sp es (q .clock) (h .clock-is) in
     let l = length-is row sp es (q .duty) (q .clock) (q .table) h in
     let end = q .duty .length .0 in

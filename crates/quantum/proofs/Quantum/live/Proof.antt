@@ -1,7 +1,7 @@
 -- Read off the table. Assumes nothing.
 use Rattle.rules.specs.Orders.{live as liveOrders}
-use Rattle.quantum.proofs.Standing.{good-orders}
-use Rattle.quantum.proofs.Answers.{stands-for, held-in}
+use Rattle.quantum.proofs.Represents.{good-orders}
+use Rattle.quantum.proofs.Answers.{represents-all, held-in}
 use borrow.Author.Needs.{needs}
 use Rattle.quantum.proofs.Quantum.live.Statement.{statement}
 use Rattle.quantum.proofs.Quantum.live.Tie as tie
@@ -17,7 +17,7 @@ count-requires c κs =
 returns : tie.Need-returns
 returns c = λ row sp es g is.
     let q = c .before .before .before .args .self in
-    c .count .ensures (row .least .0) (liveOrders es) (good-orders row es g) (stands-for row sp es q is g .table-is)
+    c .count .ensures (row .minimum .0) (liveOrders es) (good-orders row es g) (represents-all row sp es q is g .table-is)
 
 pub live-spec : {M : Type 1} → statement M
 live-spec = tie.close (tie.spec slice-aggregate-count count-requires returns)

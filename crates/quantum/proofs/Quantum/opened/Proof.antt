@@ -17,7 +17,7 @@ returns : tie.Need-returns
 returns c =
     let s = c .before .before .before in
     opened-is (s .args .row) (s .args .spread) (c .before .before .duty-of .result) (c .before .started .result) (c .empty .result)
-    (c .before .before .duty-of .ensures) (c .before .started .ensures (s .args .row) (s .args .spread)) (c .empty .ensures (s .args .row .least .0))
+    (c .before .before .duty-of .ensures) (c .before .started .ensures (s .args .row) (s .args .spread)) (c .empty .ensures (s .args .row .minimum .0))
 
 pub opened-spec : {M : Type 1} → statement M
 opened-spec = tie.close (tie.spec duty-of-requires started-requires empty-requires returns)

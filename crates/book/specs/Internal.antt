@@ -1,0 +1,83 @@
+-- What the functions on the table promise to each other.
+use Prim.Native.Nat.{ℕ, zero, suc, _+_, _*_, _≤_, _<_}
+use mathlib.Core.Path.{_≡_}
+use mathlib.Core.List.{List, _++_}
+use lib.ListN.{length, getD}
+use Rattle.rules.specs.declared.Side.{Side}
+use Rattle.rules.specs.declared.Side.the-variants.{Buy, Sell}
+use Rattle.rules.specs.declared.Order.{Order}
+use Rattle.rules.specs.declared.Event.{Event}
+use Rattle.rules.specs.declared.Event.the-variants.{Add, Amend, Cancel, Deal, Tick}
+use Rattle.rules.specs.Book.{lowest, traderCauses}
+use Rattle.side.specs.Slots.{sideOf, bestIn, GoodSlots}
+use Rattle.side.specs.declared.Change.{Change}
+use Rattle.side.specs.Internal.{change, Changed}
+use Rattle.book.specs.declared.Answer.{Answer}
+use Rattle.book.specs.Table.{slotsIn, sideIn, tableOf, slotIn, sentTo, GoodOrders}
+
+-- a side by its number: buys 0, sells 1
+abbrev pub sideAt : ℕ → Side
+sideAt zero = Buy
+sideAt (suc n) = Sell
+
+abbrev pub other : Side → Side
+other Buy = Sell
+other Sell = Buy
+
+pub record Numbers (side : Side) (s : ℕ) : Type 0 where
+  pub is : sideAt s ≡ side
+  pub small : s < 2
+
+-- the id that an event names; a tick names none
+abbrev pub idOf : Event → ℕ
+idOf (Add t id side price volume) = id
+idOf (Amend t id price volume) = id
+idOf (Cancel t id) = id
+idOf (Deal t id volume) = id
+idOf (Tick t) = 0
+
+-- the table of the words of a side, by its number, and of the other side
+abbrev pub joined : ℕ → List ℕ → List ℕ → List ℕ
+joined zero own others = own ++ others
+joined (suc n) own others = others ++ own
+
+-- the table after an event, but for the best level of its side, which is that of before
+unfoldable pub appliedTo : ℕ → ℕ → List Order → List Order → List ℕ
+appliedTo s minimum before after =
+    joined s (sideOf (slotsIn (sideAt s) after) (bestIn minimum (slotsIn (sideAt s) before))) (sideIn minimum (other (sideAt s)) after)
+
+-- a table that stands for live orders
+pub record Represents (table : List ℕ) (minimum : ℕ) (live : List Order) : Type 0 where
+  pub good : GoodOrders live
+  pub is : table ≡ tableOf minimum live
+
+-- some such orders, and a slot of an id among them
+pub record Located (table : List ℕ) (slot : ℕ) : Type 0 where
+  pub id : ℕ
+  pub minimum : ℕ
+  pub live : List Order
+  pub represents : Represents table minimum live
+  pub long : length table ≡ 512
+  pub at : slot ≡ slotIn id live
+
+-- the places of a side's orders, to write down in the hints
+pub record Placed (table hints : List ℕ) (s : ℕ) : Type 0 where
+  pub long : length table ≡ 512
+  pub hinted : length hints ≡ 1024
+  pub number : s < 2
+  pub few : getD table (256 * s + 192) 0 ≤ 64
+
+abbrev pub answer : ℕ → ℕ → Change → Answer
+answer refusal s change = record { refusal = refusal; s = s; change = change }
+
+abbrev pub noChange : Change
+noChange = change 0 0 0 0
+
+-- what an event answers and leaves: the refusal, the table, and what changes on its side
+pub record Applied (e : Event) (minimum : ℕ) (live : List Order) (exit : List ℕ) (r : Answer) : Type 0 where
+  pub number : r .s < 2
+  pub refusal : r .refusal ≡ lowest (traderCauses live e)
+  pub table : exit ≡ appliedTo (r .s) minimum live (sentTo (r .refusal) live e)
+  pub others : slotsIn (other (sideAt (r .s))) (sentTo (r .refusal) live e) ≡ slotsIn (other (sideAt (r .s))) live
+  pub good : GoodSlots (slotsIn (sideAt (r .s)) (sentTo (r .refusal) live e))
+  pub answers : Changed (r .change) (slotsIn (sideAt (r .s)) live) (slotsIn (sideAt (r .s)) (sentTo (r .refusal) live e))

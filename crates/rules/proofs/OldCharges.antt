@@ -1,0 +1,167 @@
+-- The theorem: a larger greatest charge changes nothing for a list with no charge past the old one. The terms' greatest charge is read by
+-- refusal 3 alone. Assumes nothing.
+use Prim.Native.Nat.{ℕ, zero, suc, _≤_}
+use native.Mathlib.Omega.{arith}
+use mathlib.Core.Path.{_≡_, refl, sym, ap, _∙_}
+use mathlib.Core.List.{List, [], _∷_, map}
+use mathlib.Core.Bool.{Bool, not, _&&_}
+use borrow.Author.Tests.{le-leb}
+use Rattle.rules.specs.declared.Kopecks.{Kopecks}
+use Rattle.rules.specs.declared.Cell.{Cell}
+use Rattle.rules.specs.declared.SpreadRule.{SpreadRule}
+use Rattle.rules.specs.declared.Row.{Row}
+use Rattle.rules.specs.Terms.{Terms}
+use Rattle.rules.specs.Units.{goodCharge}
+use Rattle.rules.specs.Rows.{goodRow, goodRowFor}
+use Rattle.rules.specs.Cells.{goodCell, placeOf, cellAt}
+use Rattle.rules.specs.Pay.{met, weightMet, viewOf, cellFailed, failures, allFailures, earned, fee}
+use Rattle.rules.specs.Answers.{outcomeBy}
+use Rattle.rules.specs.Book.{Call, Open, Send, Ask, Commit, Close, Drop, Charge, Withdraw, Look, Report, Book, freshBook, isOpen, cause, lowest, goodCharges, causes, refusalOf, reportOf, replyOf, answerOf, stepBy, step, run, after}
+use Rattle.rules.specs.Histories.{refusalsFrom, answersFrom}
+use Rattle.rules.specs.OldMonths.{tenfold}
+use Rattle.rules.specs.OldCharges.{chargesTo, NotPast, NonePast, SameAnswers, LargerCharges}
+
+module _ (old : Terms) (most : ℕ) (more : old .most-charge ≤ most) where
+  abbrev new : Terms
+  new = chargesTo most old
+
+  -- ---- what does not read it
+
+  failures-same : (cells : List Cell) → allFailures new cells ≡ allFailures old cells
+  unfolding allFailures failures cellFailed met
+  failures-same cells = refl
+
+  fee-same : (cells : List Cell) → fee new cells ≡ fee old cells
+  unfolding fee allFailures failures cellFailed earned met weightMet
+  fee-same cells = refl
+
+  report-same : (b : Book) → reportOf new b ≡ reportOf old b
+  unfolding reportOf fee allFailures failures cellFailed earned met weightMet
+  report-same b = refl
+
+  view-same : (c : Cell) → viewOf new c ≡ viewOf old c
+  unfolding viewOf met weightMet
+  view-same c = refl
+
+  row-same : (spread : SpreadRule) (row : Row) → goodRowFor new spread row ≡ goodRowFor old spread row
+  unfolding goodRowFor goodRow
+  row-same spread row = refl
+
+  -- ---- what does
+
+  good : (c : ℕ) → c ≤ old .most-charge → goodCharge new c ≡ goodCharge old c
+  unfolding goodCharge
+  good c h = le-leb c most (omega (arith, h, more)) ∙ sym (le-leb c (old .most-charge) h)
+
+  charges-same : (active passive : Kopecks) → (active .0 ≤ old .most-charge) × (passive .0 ≤ old .most-charge)
+      → goodCharges new active passive ≡ goodCharges old active passive
+  charges-same active passive h =
+      let a = good (active .0) (h .0) in
+      let p = good (passive .0) (h .1) in
+      λ i. a i && p i
+
+  -- ---- call by call
+
+  refused-same : (b : Book) (c : Call) → NotPast (old .most-charge) c → refusalOf new b c ≡ refusalOf old b c
+  unfolding refusalOf causes goodRowFor goodRow
+  refused-same b (Open words day opening) h = refl
+  refused-same b (Send e) h = refl
+  refused-same b (Ask a) h = refl
+  refused-same b (Commit a ticket) h = refl
+  refused-same b (Close active passive) h =
+      ap (λ (t : Bool). lowest (cause 3 (not t) ∷ cause 7 (not (isOpen (b .running))) ∷ [])) (charges-same active passive h)
+  refused-same b Drop h = refl
+  refused-same b (Charge day expiry quantum active passive) h =
+      ap
+      (λ (t : Bool).
+      lowest (cause 3 (not (goodCell day expiry quantum && t)) ∷ cause 5 (not (cellAt (b .cells) (placeOf day expiry quantum) .filled)) ∷ []))
+      (charges-same active passive h)
+  refused-same b (Withdraw day expiry quantum) h = refl
+  refused-same b (Look day expiry quantum) h = refl
+  refused-same b Report h = refl
+
+  reply-same : (b : Book) (c : Call) → replyOf new b c ≡ replyOf old b c
+  unfolding viewOf reportOf fee allFailures failures cellFailed earned met weightMet
+  reply-same b (Open words day opening) = refl
+  reply-same b (Send e) = refl
+  reply-same b (Ask a) = refl
+  reply-same b (Commit a ticket) = refl
+  reply-same b (Close active passive) = refl
+  reply-same b Drop = refl
+  reply-same b (Charge day expiry quantum active passive) = refl
+  reply-same b (Withdraw day expiry quantum) = refl
+  reply-same b (Look day expiry quantum) = refl
+  reply-same b Report = refl
+
+  answer-same : (b : Book) (c : Call) → NotPast (old .most-charge) c → answerOf new b c ≡ answerOf old b c
+  unfolding answerOf
+  answer-same b c h =
+      let number = refused-same b c h in
+      let reply = reply-same b c in
+      λ i. outcomeBy (number i) (reply i)
+
+  step-same : (b : Book) (c : Call) → NotPast (old .most-charge) c → step new b c ≡ step old b c
+  unfolding step
+  step-same b c h = ap (λ (n : ℕ). stepBy new n b c) (refused-same b c h) ∙ go (refusalOf old b c)
+    where
+      go : (n : ℕ) → stepBy new n b c ≡ stepBy old n b c
+      go zero = refl
+      go (suc n) = refl
+
+  -- ---- the list
+
+  run-same : (b : Book) (calls : List Call) → NonePast (old .most-charge) calls → run new b calls ≡ run old b calls
+  unfolding run
+  run-same b [] h = refl
+  run-same b (c ∷ cs) h = ap (λ (x : Book). run new x cs) (step-same b c (h .0)) ∙ run-same (step old b c) cs (h .1)
+
+  refusals-same : (b : Book) (calls : List Call) → NonePast (old .most-charge) calls → refusalsFrom new b calls ≡ refusalsFrom old b calls
+  unfolding refusalsFrom
+  refusals-same b [] h = refl
+  refusals-same b (c ∷ cs) h =
+      let first = refused-same b c (h .0) in
+      let rest = ap (λ (x : Book). refusalsFrom new x cs) (step-same b c (h .0)) ∙ refusals-same (step old b c) cs (h .1) in
+      λ i. first i ∷ rest i
+
+  answers-same : (b : Book) (calls : List Call) → NonePast (old .most-charge) calls → answersFrom new b calls ≡ answersFrom old b calls
+  unfolding answersFrom
+  answers-same b [] h = refl
+  answers-same b (c ∷ cs) h =
+      let first = answer-same b c (h .0) in
+      let rest = ap (λ (x : Book). answersFrom new x cs) (step-same b c (h .0)) ∙ answers-same (step old b c) cs (h .1) in
+      λ i. first i ∷ rest i
+
+  same : (calls : List Call) → NonePast (old .most-charge) calls → SameAnswers old new calls
+  unfolding after
+  same calls h =
+      let book = run-same freshBook calls h in
+      record {
+        refusals = refusals-same freshBook calls h;
+        answers = answers-same freshBook calls h;
+        next = λ c k. ap (λ (b : Book). answerOf new b c) book ∙ answer-same (after old calls) c k;
+        book = book;
+        failures = ap (λ (b : Book). allFailures new (b .cells)) book ∙ failures-same (after old calls .cells);
+        fee = ap (λ (b : Book). fee new (b .cells)) book ∙ fee-same (after old calls .cells);
+        report = ap (reportOf new) book ∙ report-same (after old calls);
+      }
+
+pub larger-charges : LargerCharges
+larger-charges old most more calls h = same old most more calls h
+
+-- ---- with p multiplied by ten (W6)
+
+pub not-past-tenfold : (most : ℕ) (c : Call) → NotPast most c → NotPast most (tenfold c)
+not-past-tenfold most (Open words day opening) h = tt
+not-past-tenfold most (Send e) h = tt
+not-past-tenfold most (Ask a) h = tt
+not-past-tenfold most (Commit a ticket) h = tt
+not-past-tenfold most (Close active passive) h = h
+not-past-tenfold most Drop h = tt
+not-past-tenfold most (Charge day expiry quantum active passive) h = h
+not-past-tenfold most (Withdraw day expiry quantum) h = tt
+not-past-tenfold most (Look day expiry quantum) h = tt
+not-past-tenfold most Report h = tt
+
+pub none-past-tenfold : (most : ℕ) (calls : List Call) → NonePast most calls → NonePast most (map tenfold calls)
+none-past-tenfold most [] h = tt
+none-past-tenfold most (c ∷ cs) h = (not-past-tenfold most c (h .0), none-past-tenfold most cs (h .1))

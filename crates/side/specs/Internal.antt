@@ -1,0 +1,62 @@
+-- What the functions on a side promise to each other.
+use Prim.Native.Nat.{ℕ, suc, _+_, _-_, _≤_, _<_}
+use mathlib.Core.Path.{_≡_}
+use mathlib.Core.List.{List, [], _∷_, _++_}
+use mathlib.Core.Bool.{Bool}
+use lib.ListN.{length, getD, take, drop, set}
+use Rattle.rules.specs.declared.Contracts.{Contracts}
+use Rattle.rules.specs.Lists.{if_then_else_}
+use Rattle.rules.specs.Units.{contracts}
+use Rattle.quote.specs.declared.Level.{Level}
+use Rattle.side.specs.declared.Change.{Change}
+use Rattle.side.specs.Slots.{Slot, slot, blankSlot, sideOf, heldIn, bestIn, GoodSlots}
+
+abbrev pub change : ℕ → ℕ → ℕ → ℕ → Change
+change old held key volume = record { old = old; held = contracts held; key = key; volume = contracts volume }
+
+-- what stands at a key counts where the key passes
+abbrev pub volumeWhere : (ℕ → Bool) → ℕ → ℕ → ℕ
+volumeWhere t key volume = if t key then volume else 0
+
+-- the change says what every sum of contracts gains and loses
+abbrev pub Changed : Change → List Slot → List Slot → Type 0
+Changed c before after =
+    (t : ℕ → Bool) → heldIn t after + volumeWhere t (c .old) (c .held .0) ≡ heldIn t before + volumeWhere t (c .key) (c .volume .0)
+
+-- words of a side's size, with an order's place below its number of orders
+pub record Sized (words : List ℕ) : Type 0 where
+  pub all : length words ≡ 256
+  pub few : getD words 192 0 ≤ 64
+
+-- an order more, behind the others
+pub record Added (id key : ℕ) (volume : Contracts) (entry exit : List ℕ) (r : Change) : Type 0 where
+  pub words : (slots : List Slot) (level : Level) → length slots < 64 → entry ≡ sideOf slots level
+      → exit ≡ sideOf (slots ++ (slot id key (volume .0) ∷ [])) level
+  pub answers : r ≡ change 0 0 key (volume .0)
+
+-- another key and volume in the place of an order's
+pub record Amended (place key : ℕ) (volume : Contracts) (entry exit : List ℕ) (r : Change) : Type 0 where
+  pub words : (slots : List Slot) (level : Level) → length slots ≤ 64 → place < length slots → entry ≡ sideOf slots level
+      → exit ≡ sideOf (set slots place (slot (getD slots place blankSlot .id) key (volume .0))) level
+  pub answers : (slots : List Slot) (level : Level) → length slots ≤ 64 → place < length slots → entry ≡ sideOf slots level
+      → r ≡ change (getD slots place blankSlot .key) (getD slots place blankSlot .volume) key (volume .0)
+
+-- without an order: those behind it move up
+pub record Removed (place : ℕ) (entry exit : List ℕ) (r : Change) : Type 0 where
+  pub words : (slots : List Slot) (level : Level) → length slots ≤ 64 → place < length slots → entry ≡ sideOf slots level
+      → exit ≡ sideOf (take place slots ++ drop (suc place) slots) level
+  pub answers : (slots : List Slot) (level : Level) → length slots ≤ 64 → place < length slots → entry ≡ sideOf slots level
+      → r ≡ change (getD slots place blankSlot .key) (getD slots place blankSlot .volume) 0 0
+
+-- what stands behind a place of a column moves up to it, and the last one is 0
+abbrev pub shifted : List ℕ → ℕ → ℕ → List ℕ
+shifted xs place last = take place xs ++ (take (last - place) (drop (suc place) xs) ++ (0 ∷ drop (suc last) xs))
+
+-- the orders have changed, and the best level is still that of before
+pub record StaleLevel (words : List ℕ) (c : Change) (minimum : ℕ) : Type 0 where
+  pub before : List Slot
+  pub after : List Slot
+  pub good-before : GoodSlots before
+  pub good : GoodSlots after
+  pub changed : Changed c before after
+  pub is : words ≡ sideOf after (bestIn minimum before)

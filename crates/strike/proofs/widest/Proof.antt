@@ -1,0 +1,24 @@
+-- The nearest step is the product rounded. Assumes nothing.
+use Rattle.strike.proofs.Rounding.{widest-is}
+use borrow.Author.Needs.{needs}
+use Rattle.strike.proofs.widest.Statement.{statement}
+use Rattle.strike.proofs.widest.Tie as tie
+
+square-requires : tie.Need-square-requires
+square-requires c κs = search needs
+
+nearest-requires : tie.Need-nearest-requires
+nearest-requires c κs = search needs
+
+greater-requires : tie.Need-greater-requires
+greater-requires c κs = search needs
+
+returns : tie.Need-returns
+returns c =
+    let near = c .before .nearest in
+    let square = c .before .before .square in
+    widest-is (c .before .before .before .args .s) (square .result) (near .result) (c .greater .result) (square .ensures .0)
+    (near .ensures .0) (near .ensures .1) (c .greater .ensures)
+
+pub widest-spec : {M : Type 1} → statement M
+widest-spec = tie.close (tie.spec square-requires nearest-requires greater-requires returns)
