@@ -11,7 +11,7 @@ use lib.ListN.{length, getD}
 use Rattle.rules.specs.Lists.{within, sum}
 use Rattle.rules.specs.Rows.{goodLength}
 use Rattle.rules.specs.Answers.{Outcome, accepted, refused}
-use Rattle.rules.specs.Book.{lowest}
+use Rattle.rules.specs.Causes.{lowest}
 use Rattle.rules.specs.Boards.{keptOf, lengthIn, boardLength, goodQuantumOf, goodBoard, reaches, boardMet, judged}
 use Rattle.rules.proofs.Lists.{both}
 use Rattle.rules.proofs.Refusals.{within-parts}

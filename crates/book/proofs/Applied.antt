@@ -16,7 +16,7 @@ use Rattle.rules.specs.declared.Event.the-variants.{Add, Amend, Cancel, Deal, T
 use Rattle.rules.specs.Orders.{isLive, left, apply}
 use Rattle.rules.specs.Units.{contracts}
 use Rattle.rules.specs.Quotes.{same}
-use Rattle.rules.specs.Book.{lowest, traderCauses}
+use Rattle.rules.specs.Causes.{lowest, traderCauses}
 use Rattle.rules.proofs.Members.{length-filter, getD-in}
 use Rattle.rules.proofs.Orders.{cancel-at, deal-all}
 use Rattle.rules.proofs.Bounds.{volume-bounds}

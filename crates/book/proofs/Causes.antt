@@ -14,7 +14,7 @@ use Rattle.rules.specs.declared.Contracts.{Contracts}
 use Rattle.rules.specs.declared.Event.the-variants.{Add, Amend, Cancel, Deal}
 use Rattle.rules.specs.Units.{goodPrice, goodVolume}
 use Rattle.rules.specs.Orders.{isLive, left}
-use Rattle.rules.specs.Book.{lowest, traderCauses}
+use Rattle.rules.specs.Causes.{lowest, traderCauses}
 use Rattle.rules.proofs.Refusals.{skip, stop, clear}
 use Rattle.book.specs.Table.{slotIn, GoodOrders}
 use Rattle.book.proofs.Slots.{slot-live}

@@ -8,7 +8,7 @@ use Rattle.rules.specs.declared.Side.the-variants.{Buy, Sell}
 use Rattle.rules.specs.declared.Order.{Order}
 use Rattle.rules.specs.declared.Event.{Event}
 use Rattle.rules.specs.declared.Event.the-variants.{Add, Amend, Cancel, Deal, Tick}
-use Rattle.rules.specs.Book.{lowest, traderCauses}
+use Rattle.rules.specs.Causes.{lowest, traderCauses}
 use Rattle.side.specs.Slots.{sideOf, bestIn, GoodSlots}
 use Rattle.side.specs.declared.Change.{Change}
 use Rattle.side.specs.Internal.{change, Changed}

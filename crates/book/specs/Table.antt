@@ -14,7 +14,7 @@ use Rattle.rules.specs.Units.{goodPrice, goodVolume}
 use Rattle.rules.specs.Orders.{apply}
 use Rattle.rules.specs.Quotes.{same}
 use Rattle.rules.specs.Bounds.{Distinct}
-use Rattle.rules.specs.Book.{lowest, traderCauses}
+use Rattle.rules.specs.Causes.{lowest, traderCauses}
 use Rattle.quote.specs.Keys.{keyIn}
 use Rattle.side.specs.Slots.{Slot, slot, sideOf, bestIn, seen}
 

@@ -15,7 +15,9 @@ use Rattle.rules.specs.Rows.{rowOf, goodRow}
 use Rattle.rules.specs.Kept.{keptBelow}
 use Rattle.rules.specs.Answers.{accepted}
 use Rattle.rules.specs.Cells.{placeOf}
-use Rattle.rules.specs.Book.{Open, Book, Quoting, lowest, readRow, changed}
+use Rattle.rules.specs.Calls.{Open, Book, Quoting}
+use Rattle.rules.specs.Causes.{lowest, readRow}
+use Rattle.rules.specs.Changes.{changed}
 use Rattle.ease.specs.Easing.{easedRow, wordsOf, passes, eased}
 use Rattle.ease.proofs.Rows.{good-for, eased-good}
 use Rattle.ease.proofs.Words.{seven, passed, eased-is}

@@ -3,7 +3,7 @@ use Prim.Native.Nat.{ℕ}
 use mathlib.Core.Path.{_≡_, refl, sym, ap}
 use mathlib.Core.Bool.{true, false, _||_}
 use Rattle.rules.specs.Answers.{Outcome, accepted, refused}
-use Rattle.rules.specs.Book.{lowest}
+use Rattle.rules.specs.Causes.{lowest}
 use Rattle.rules.proofs.Answers.{not-refused}
 use Rattle.game.specs.declared.SafeAnswer.{SafeAnswer}
 use Rattle.game.specs.declared.SafeAnswer.the-variants.{Safe, AboveSixty}

@@ -4,7 +4,7 @@ use mathlib.Core.List.{[], _∷_}
 use mathlib.Core.Bool.{Bool, _||_}
 use lib.Dec.{ltb}
 use Rattle.rules.specs.Answers.{Outcome, accepted, refused, outcomeBy}
-use Rattle.rules.specs.Book.{cause, lowest}
+use Rattle.rules.specs.Causes.{cause, lowest}
 use Rattle.game.specs.declared.SafeAnswer.{SafeAnswer}
 use Rattle.game.specs.declared.SafeAnswer.the-variants.{Safe, AboveSixty}
 use Rattle.game.specs.Value.{value}

@@ -14,7 +14,7 @@ use lib.ListN.{length, take, drop, length-append, length-drop}
 use lib.Seq.{take-at, length-take-le}
 use borrow.Author.Tests.{eqb-true, eqb-false, eq-eqb, ne-eqb}
 use Rattle.rules.specs.Lists.{if_then_else_, any}
-use Rattle.rules.specs.Book.{Cause, cause, lowest}
+use Rattle.rules.specs.Causes.{Cause, cause, lowest}
 use Rattle.rules.proofs.Members.{any-none, some-any}
 use Rattle.rules.proofs.Refusals.{skip}
 use Rattle.makers.specs.declared.Maker.{Maker}

@@ -10,7 +10,7 @@ use lib.Seq.{take-append-le, drop-append-le, length-take-le}
 use borrow.Author.Tests.{ltb-true, ltb-false, le-ltb, lt-ltb, leb-false, eqb-true, eqb-false, eq-eqb, ne-eqb, not-false}
 use Rattle.rules.specs.Lists.{if_then_else_, filter, howMany}
 use Rattle.rules.specs.Answers.{outcomeBy}
-use Rattle.rules.specs.Book.{Cause, cause, lowest}
+use Rattle.rules.specs.Causes.{Cause, cause, lowest}
 use Rattle.rules.proofs.Lists.{both}
 use Rattle.rules.proofs.Members.{or-false}
 use Rattle.rules.proofs.Refusals.{passed}

@@ -7,7 +7,7 @@ use lib.Dec.{eqb, leb, ltb}
 use lib.ListN.{length, take, drop}
 use Rattle.rules.specs.Lists.{if_then_else_, filter}
 use Rattle.rules.specs.Answers.{Outcome, outcomeBy}
-use Rattle.rules.specs.Book.{Cause, cause, lowest}
+use Rattle.rules.specs.Causes.{Cause, cause, lowest}
 use Rattle.makers.specs.declared.Maker.{Maker}
 use Rattle.makers.specs.declared.Answer.{Answer}
 use Rattle.makers.specs.Order.{maker, above, sorted, isOf, present, once}

@@ -8,7 +8,7 @@ use mathlib.Core.Bool.{Bool, true, false, not}
 use lib.Dec.{eqb, leb}
 use lib.ListN.{length}
 use Rattle.rules.specs.Lists.{if_then_else_}
-use Rattle.rules.specs.Book.{Cause, cause, lowest}
+use Rattle.rules.specs.Causes.{Cause, cause, lowest}
 use Rattle.makers.specs.declared.Maker.{Maker}
 use Rattle.makers.specs.Order.{sorted, once}
 use Rattle.makers.specs.Calls.{Standing, standing, used, Call, Join, Change, Leave, refusalOf, after, outcomesFrom}

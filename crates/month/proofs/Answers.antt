@@ -6,7 +6,11 @@ use mathlib.Core.List.{List, [], _∷_, _++_}
 use Rattle.rules.specs.declared.Answer.{Answer}
 use Rattle.rules.specs.Terms.{paper}
 use Rattle.rules.specs.Answers.{Outcome, accepted, refused, outcomeBy, Reply, done, shownAnswer}
-use Rattle.rules.specs.Book.{Call, Book, refusalOf, changed, replyOf, answerOf, step, after}
+use Rattle.rules.specs.Calls.{Call, Book}
+use Rattle.rules.specs.Causes.{refusalOf}
+use Rattle.rules.specs.Changes.{changed}
+use Rattle.rules.specs.Replies.{replyOf}
+use Rattle.rules.specs.Book.{answerOf, step, after}
 use Rattle.rules.specs.Bounds.{BookBounds}
 use Rattle.rules.proofs.Answers.{refused-by}
 use Rattle.rules.proofs.Refusals.{step-accepted, step-refused, answer-accepted, answer-refused}

@@ -12,7 +12,11 @@ use Rattle.rules.specs.declared.Answer.{Answer}
 use Rattle.rules.specs.declared.Answer.the-variants.{Accepted, Refused}
 use Rattle.rules.specs.Terms.{paper}
 use Rattle.rules.specs.Answers.{accepted, refused, outcomeBy, done, asked, numberOf, shownAnswer, shownAsked}
-use Rattle.rules.specs.Book.{Call, Send, Ask, Commit, Running, Quoting, Book, sendCauses, amendOf, goodTicket, causes, refusalOf, eventRefusal, changed, noted, bidIn, askIn, previewOf, answerOf, step, after}
+use Rattle.rules.specs.Calls.{Call, Send, Ask, Commit, Running, Quoting, Book, amendOf}
+use Rattle.rules.specs.Causes.{sendCauses, goodTicket, causes, refusalOf, eventRefusal}
+use Rattle.rules.specs.Changes.{changed, noted}
+use Rattle.rules.specs.Replies.{bidIn, askIn, previewOf}
+use Rattle.rules.specs.Book.{answerOf, step, after}
 use Rattle.rules.specs.Bounds.{EventBounds}
 use Rattle.rules.proofs.Answers.{accepted-by, refused-by}
 use Rattle.rules.proofs.Refusals.{skip, stop, clear, first-stops, first-passes, send-numbered, step-accepted, step-refused, answer-accepted, answer-refused}

@@ -31,8 +31,11 @@ use Rattle.rules.specs.Stretches.{stretches}
 use Rattle.rules.specs.Lapses.{lapses as lapsesOf, lapsesBelow, goodLapseLimit}
 use Rattle.rules.specs.Pay.{viewOf, allFailures, fee}
 use Rattle.rules.specs.Answers.{accepted, refused, outcomeBy, done, cell, report, numberOf, shownAnswer}
-use Rattle.rules.specs.Book.{Open, Send, Close, Drop, Charge, Withdraw, Look, Running, Idle, Quoting, Book, isOpen, Cause, lowest, rowCauses, readRow, goodCharges, sendCauses, goodSettlement, goodSpreadRule, following, eventRefusal, causes, refusalOf, noted, closed, closedCell, charged, changed, timeIn, ordersIn, bidIn, askIn, keptIn, lapsesIn, reportOf}
-use Rattle.rules.specs.Book as B
+use Rattle.rules.specs.Calls.{Open, Send, Close, Drop, Charge, Withdraw, Look, Running, Idle, Quoting, Book, isOpen}
+use Rattle.rules.specs.Causes.{Cause, lowest, rowCauses, readRow, goodCharges, sendCauses, goodSettlement, goodSpreadRule, eventRefusal, causes, refusalOf}
+use Rattle.rules.specs.Changes.{following, noted, closed, closedCell, charged, changed}
+use Rattle.rules.specs.Replies.{timeIn, ordersIn, bidIn, askIn, keptIn, lapsesIn, reportOf}
+use Rattle.rules.specs.Calls as B
 use Rattle.rules.specs.Bounds.{EventBounds, RunningBounds}
 use Rattle.rules.proofs.Answers.{refused-by, accepted-by}
 use Rattle.rules.proofs.Refusals.{skip, stop, clear, passed, first-stops}

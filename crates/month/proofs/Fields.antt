@@ -19,7 +19,8 @@ use Rattle.rules.specs.Terms.{paper}
 use Rattle.rules.specs.Units.{steps}
 use Rattle.rules.specs.Rows.{goodRowFor}
 use Rattle.rules.specs.Cells.{goodCell, cellAt, blankCell, blankCells}
-use Rattle.rules.specs.Book.{Running, Idle, Quoting, Book, isOpen, freshBook, run, after}
+use Rattle.rules.specs.Calls.{Running, Idle, Quoting, Book, isOpen, freshBook}
+use Rattle.rules.specs.Book.{run, after}
 use Rattle.rules.specs.Bounds.{OpenBounds, RunningBounds, CellBounds, BookBounds}
 use Rattle.rules.proofs.Lists.{both, and}
 use Rattle.rules.proofs.Members.{getD-in}

@@ -17,7 +17,8 @@ use Rattle.quantum.specs.declared.Quantum.{Quantum}
 use Rattle.quantum.specs.Represents.{quantumOf}
 use Rattle.rules.specs.Lists.{if_then_else_}
 use Rattle.rules.specs.Cells.{goodCell, placeOf, cellAt}
-use Rattle.rules.specs.Book.{Idle, following}
+use Rattle.rules.specs.Calls.{Idle}
+use Rattle.rules.specs.Changes.{following}
 use Rattle.month.specs.declared.Month.{Month}
 use Rattle.month.specs.declared.Named.{Named}
 use Rattle.month.specs.declared.Named.the-variants.{OutOfRange, Blank, Filled}

@@ -8,7 +8,8 @@ use Rattle.rules.specs.declared.SpreadRule.the-variants.{Settled}
 use Rattle.rules.specs.Terms.{paper}
 use Rattle.rules.specs.Units.{millis, steps, contracts}
 use Rattle.rules.specs.Answers.{Outcome, Reply}
-use Rattle.rules.specs.Book.{Call, Running, Idle, Quoting, Book, isOpen, after, answerOf}
+use Rattle.rules.specs.Calls.{Call, Running, Idle, Quoting, Book, isOpen}
+use Rattle.rules.specs.Book.{after, answerOf}
 use Rattle.quantum.specs.declared.Quantum.{Quantum}
 use Rattle.quantum.specs.Represents.{quantumOf}
 use Rattle.month.specs.declared.Month.{Month}

@@ -11,8 +11,11 @@ ghost use Rattle.rules.specs.declared.SpreadRule.the-variants.{OfStrike};
 ghost use Rattle.rules.specs.Rows.{goodRowFor, rowOf};
 ghost use Rattle.rules.specs.Cells.{goodCell, placeOf, blankCell, cellAt};
 ghost use Rattle.rules.specs.Answers.{shownAnswer, shownLooked, shownAsked, shownReport};
-ghost use Rattle.rules.specs.Book.{Idle, after, charged};
-ghost use Rattle.rules.specs.Book as B;
+ghost use Rattle.rules.specs.Calls.{Idle};
+ghost use Rattle.rules.specs.Changes.{charged};
+ghost use Rattle.rules.specs.Book.{after};
+ghost use Rattle.rules.specs.Causes.{goodCharges};
+ghost use Rattle.rules.specs.Calls as B;
 ghost use Rattle.quantum.specs.Represents as Q;
 ghost use Rattle.month.specs.Represents.{monthOf, quantumIn, Reached, Answered};
 ghost use Rattle.month.specs.Internal.{withCell, withoutQuantum, counted, Previewed, namedIn};
@@ -150,7 +153,7 @@ fn place_of(day: u32, expiry: u32, quantum: u32) -> usize
 }
 
 fn both_charges(active: Kopecks, passive: Kopecks) -> bool
-    ensures { λ r. ⌜ r ≡ B.goodCharges paper active passive ⌝ }
+    ensures { λ r. ⌜ r ≡ goodCharges paper active passive ⌝ }
 {
     both(ranges::charge(active), ranges::charge(passive))
 }

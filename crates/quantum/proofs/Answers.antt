@@ -16,7 +16,7 @@ use Rattle.rules.specs.declared.Refusal.{Refusal}
 use Rattle.rules.specs.declared.Answer.the-variants.{Accepted, Refused}
 use Rattle.rules.specs.Answers.{Outcome, Reply, refused, outcomeBy, done, numberOf}
 use Rattle.rules.specs.Orders.{live, applyAll}
-use Rattle.rules.specs.Book.{Cause, cause, lowest, traderCauses, eventCauses, eventRefusal}
+use Rattle.rules.specs.Causes.{Cause, cause, lowest, traderCauses, eventCauses, eventRefusal}
 use Rattle.rules.specs.Bounds.{EventBounds}
 use Rattle.book.specs.Table.{tableOf, Held}
 use Rattle.quantum.specs.declared.Duty.{Duty}

@@ -22,7 +22,7 @@ use Rattle.rules.specs.Orders.{live, present, timeOf, apply}
 use Rattle.rules.specs.Kept.{ordersKeep, keptAt, keptBelow}
 use Rattle.rules.specs.Runs.{before}
 use Rattle.rules.specs.Lapses.{lapsesBelow, begins}
-use Rattle.rules.specs.Book.{lowest, traderCauses, eventCauses, eventRefusal}
+use Rattle.rules.specs.Causes.{lowest, traderCauses, eventCauses, eventRefusal}
 use Rattle.rules.specs.Bounds.{EventBounds}
 use Rattle.rules.proofs.Orders.{live-snoc, present-snoc}
 use Rattle.rules.proofs.Kept.{kept-onward, kept-snoc, kept-le}

@@ -12,7 +12,7 @@ use Rattle.rules.specs.declared.Event.{Event}
 use Rattle.rules.specs.declared.Order.{Order}
 use Rattle.rules.specs.Orders.{live, apply}
 use Rattle.rules.specs.Kept.{ordersKeep}
-use Rattle.rules.specs.Book.{eventRefusal}
+use Rattle.rules.specs.Causes.{eventRefusal}
 use Rattle.rules.proofs.Orders.{live-snoc}
 use Rattle.rules.proofs.Bounds.{event-bounds-more}
 use Rattle.book.specs.Table.{tableOf, GoodOrders, Holding, Sends, sentTo}

@@ -18,7 +18,7 @@ use Rattle.rules.specs.Kept.{ordersKeep, keptAt, keptBelow}
 use Rattle.rules.specs.Runs.{before}
 use Rattle.rules.specs.Lapses.{lapsesBelow}
 use Rattle.rules.specs.Answers.{outcomeBy, done, shownAnswer}
-use Rattle.rules.specs.Book.{eventRefusal}
+use Rattle.rules.specs.Causes.{eventRefusal}
 use Rattle.rules.specs.Bounds.{EventBounds}
 use Rattle.strike.specs.Widest.{widestOfStrike}
 use Rattle.quote.specs.Widest.{widestOf}

@@ -15,7 +15,7 @@ ghost use Rattle.rules.specs.Orders.{live as liveOrders, timeOf};
 ghost use Rattle.rules.specs.Kept.{bestBid, bestAsk, keptBelow};
 ghost use Rattle.rules.specs.Lapses.{lapsesBelow};
 ghost use Rattle.rules.specs.Answers.{numberOf};
-ghost use Rattle.rules.specs.Book.{goodSpreadRule};
+ghost use Rattle.rules.specs.Causes.{goodSpreadRule};
 ghost use Rattle.rules.specs.Bounds.{EventBounds};
 ghost use Rattle.quantum.specs.Represents.{widestFor, dutyOf, clockOf, quantumOf, Reached, Answered, Running, Stepping, Onward, startingBy, ranOn, InTime, isTick};
 use rules::Answer;

@@ -8,7 +8,7 @@ ghost use Rattle.rules.specs.Terms.{paper};
 ghost use Rattle.rules.specs.Units.{goodPrice, goodVolume, goodCharge};
 ghost use Rattle.rules.specs.Cells.{goodCell};
 ghost use Rattle.rules.specs.Lapses.{goodLapseLimit};
-ghost use Rattle.rules.specs.Book.{goodSettlement};
+ghost use Rattle.rules.specs.Causes.{goodSettlement};
 use rules::Contracts;
 use rules::Kopecks;
 use rules::SpreadRule;

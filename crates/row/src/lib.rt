@@ -5,7 +5,7 @@ ghost use lib.ListN.{length};
 ghost use Rattle.rules.specs.Terms.{paper};
 ghost use Rattle.rules.specs.Rows.{goodLength, goodRow, asRead};
 ghost use Rattle.rules.specs.Answers.{shownRow};
-ghost use Rattle.rules.specs.Book.{readRow};
+ghost use Rattle.rules.specs.Causes.{readRow};
 ghost use Rattle.rules.specs.Choosing.{rowWords, isFor, firstRow, chosenRow};
 ghost use Rattle.row.specs.Internal.{Found};
 use ranges::at_most;

@@ -25,7 +25,10 @@ use Rattle.rules.specs.Units.{goodPrice, goodVolume, goodCharge}
 use Rattle.rules.specs.Rows.{goodExpiry, goodQuantum, goodLength, rowOf, goodRow, asRead, goodRowFor}
 use Rattle.rules.specs.Cells.{blankCell, goodCell, placeOf, cellAt}
 use Rattle.rules.specs.Orders.{lessenedOrder, apply, applyAll, live, timeFrom, present}
-use Rattle.rules.specs.Book.{Call, Open, Send, Ask, Commit, Close, Drop, Charge, Withdraw, Look, Report, Running, Idle, Quoting, Book, freshBook, amendOf, goodSettlement, goodSpreadRule, eventRefusal, refusalOf, noted, closedCell, closed, charged, changed, stepBy, step, run, after}
+use Rattle.rules.specs.Calls.{Call, Open, Send, Ask, Commit, Close, Drop, Charge, Withdraw, Look, Report, Running, Idle, Quoting, Book, freshBook, amendOf}
+use Rattle.rules.specs.Causes.{goodSettlement, goodSpreadRule, eventRefusal, refusalOf}
+use Rattle.rules.specs.Changes.{noted, closedCell, closed, charged, changed}
+use Rattle.rules.specs.Book.{stepBy, step, run, after}
 use Rattle.rules.specs.Bounds.{Distinct, EventBounds, OpenBounds, RunningBounds, CellBounds, BookBounds}
 use Rattle.rules.proofs.Lists.{both, and}
 use Rattle.rules.proofs.Members.{getD-in, in-set, in-replicate}

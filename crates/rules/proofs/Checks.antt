@@ -12,7 +12,10 @@ use Rattle.rules.specs.Lapses.{lapses, lapsesBelow, goodLapseLimit, with
 use Rattle.rules.specs.Stretches.{stretch, grown, stretches, keptStretches}
 use Rattle.rules.specs.Units.{goodPrice, goodVolume, goodCharge}
 use Rattle.rules.specs.Rows.{rowOf, goodRow, goodRowFor}
-use Rattle.rules.specs.Book.{freshBook, lowest, eventCauses, causes, refusalOf, changed, step}
+use Rattle.rules.specs.Calls.{freshBook}
+use Rattle.rules.specs.Causes.{lowest, eventCauses, causes, refusalOf}
+use Rattle.rules.specs.Changes.{changed}
+use Rattle.rules.specs.Book.{step}
 use Rattle.rules.specs.Records.{wordBytes, signedOf, unsignedOf, eventFields, fieldBytes, recordOf, fieldsOf, eventOf, unusedZero, paddingZero, goodRecord, readRecord}
 use Rattle.rules.specs.Session.{whole, recordsOf, recordRefusal, closing, runRecords, session}
 use Rattle.rules.specs.Checks.{checks, allFound, allPrinted, failing, sheetSession}

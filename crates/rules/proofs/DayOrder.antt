@@ -21,7 +21,10 @@ use Rattle.rules.specs.Terms.{Terms}
 use Rattle.rules.specs.Rows.{rowOf}
 use Rattle.rules.specs.Cells.{blankCell, placeOf, cellAt}
 use Rattle.rules.specs.Pay.{allFailures, fee}
-use Rattle.rules.specs.Book.{Call, Open, Send, Ask, Commit, Close, Drop, Charge, Withdraw, Look, Report, Running, Idle, Quoting, Book, freshBook, isOpen, cause, lowest, sendCauses, goodCharges, causes, refusalOf, amendOf, noted, following, changed, step, run, after}
+use Rattle.rules.specs.Calls.{Call, Open, Send, Ask, Commit, Close, Drop, Charge, Withdraw, Look, Report, Running, Idle, Quoting, Book, freshBook, isOpen, amendOf}
+use Rattle.rules.specs.Causes.{cause, lowest, sendCauses, goodCharges, causes, refusalOf}
+use Rattle.rules.specs.Changes.{noted, following, changed}
+use Rattle.rules.specs.Book.{step, run, after}
 use Rattle.rules.specs.Histories.{refusalsFrom}
 use Rattle.rules.specs.DayOrder.{AllBetween, Whole, joined, NoneRefused, AllWhole, placeIn, cellFrom, cellIn, countedIn, countAfter, filedBy, Filed, Rearranged, AllAnywhere, AcceptedToo}
 use Rattle.rules.proofs.Refusals.{within-parts, OpenPasses, call-passes, passes-call, step-accepted}

@@ -16,7 +16,10 @@ use Rattle.rules.specs.Rows.{goodRow, goodRowFor}
 use Rattle.rules.specs.Cells.{goodCell, placeOf, cellAt}
 use Rattle.rules.specs.Pay.{met, weightMet, viewOf, cellFailed, failures, allFailures, earned, fee}
 use Rattle.rules.specs.Answers.{outcomeBy}
-use Rattle.rules.specs.Book.{Call, Open, Send, Ask, Commit, Close, Drop, Charge, Withdraw, Look, Report, Book, freshBook, isOpen, cause, lowest, goodCharges, causes, refusalOf, reportOf, replyOf, answerOf, stepBy, step, run, after}
+use Rattle.rules.specs.Calls.{Call, Open, Send, Ask, Commit, Close, Drop, Charge, Withdraw, Look, Report, Book, freshBook, isOpen}
+use Rattle.rules.specs.Causes.{cause, lowest, goodCharges, causes, refusalOf}
+use Rattle.rules.specs.Replies.{reportOf, replyOf}
+use Rattle.rules.specs.Book.{answerOf, stepBy, step, run, after}
 use Rattle.rules.specs.Histories.{refusalsFrom, answersFrom}
 use Rattle.rules.specs.OldMonths.{tenfold}
 use Rattle.rules.specs.OldCharges.{chargesTo, NotPast, NonePast, SameAnswers, LargerCharges}

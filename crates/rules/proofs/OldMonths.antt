@@ -28,7 +28,11 @@ use Rattle.rules.specs.Kept.{quotesKeep, ordersKeep, bestBid, bestAsk, u
 use Rattle.rules.specs.Lapses.{lapses, lapsesBelow, goodLapseLimit, withinLapseLimit}
 use Rattle.rules.specs.Pay.{thousandths, met, weightMet, cellMet, cellWeight, viewOf, cellFailed, failures, allFailures, earned, fee}
 use Rattle.rules.specs.Answers.{outcomeBy, cell, asked, report}
-use Rattle.rules.specs.Book.{Call, Open, Send, Ask, Commit, Close, Drop, Charge, Withdraw, Look, Report, Running, Idle, Quoting, Book, freshBook, isOpen, Cause, cause, lowest, eventCauses, sendCauses, amendOf, goodTicket, goodSettlement, goodSpreadRule, goodCharges, causes, refusalOf, noted, closedCell, closed, charged, following, changed, timeIn, ordersIn, bidIn, askIn, keptIn, lapsesIn, previewOf, reportOf, replyOf, answerOf, stepBy, step, run, after}
+use Rattle.rules.specs.Calls.{Call, Open, Send, Ask, Commit, Close, Drop, Charge, Withdraw, Look, Report, Running, Idle, Quoting, Book, freshBook, isOpen, amendOf}
+use Rattle.rules.specs.Causes.{Cause, cause, lowest, eventCauses, sendCauses, goodTicket, goodSettlement, goodSpreadRule, goodCharges, causes, refusalOf}
+use Rattle.rules.specs.Changes.{noted, closedCell, closed, charged, following, changed}
+use Rattle.rules.specs.Replies.{timeIn, ordersIn, bidIn, askIn, keptIn, lapsesIn, previewOf, reportOf, replyOf}
+use Rattle.rules.specs.Book.{answerOf, stepBy, step, run, after}
 use Rattle.rules.specs.Histories.{refusalsFrom, answersFrom}
 use Rattle.rules.specs.OldMonths.{inPercents, inTenths, AtMost79, AllAtMost79, tenfoldWords, tenfold, tenfoldRow, tenfoldCell, tenfoldRunning, tenfoldBook, tenfoldView, tenfoldReply, tenfoldAnswer, SamePay, OldMonths}
 use Rattle.rules.proofs.Refusals.{stop, call-passes}

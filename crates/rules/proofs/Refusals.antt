@@ -26,7 +26,11 @@ use Rattle.rules.specs.Cells.{goodCell, placeOf, cellAt}
 use Rattle.rules.specs.Lapses.{goodLapseLimit}
 use Rattle.rules.specs.Orders.{isLive, left, live, timeOf, present}
 use Rattle.rules.specs.Answers.{accepted, refused, outcomeBy}
-use Rattle.rules.specs.Book.{Call, Open, Send, Ask, Commit, Close, Drop, Charge, Withdraw, Look, Report, Running, Idle, Quoting, Book, isOpen, Cause, cause, lowest, traderCauses, eventCauses, eventRefusal, sendCauses, amendOf, goodTicket, goodSettlement, goodSpreadRule, goodCharges, causes, refusalOf, changed, replyOf, answerOf, stepBy, step}
+use Rattle.rules.specs.Calls.{Call, Open, Send, Ask, Commit, Close, Drop, Charge, Withdraw, Look, Report, Running, Idle, Quoting, Book, isOpen, amendOf}
+use Rattle.rules.specs.Causes.{Cause, cause, lowest, traderCauses, eventCauses, eventRefusal, sendCauses, goodTicket, goodSettlement, goodSpreadRule, goodCharges, causes, refusalOf}
+use Rattle.rules.specs.Changes.{changed}
+use Rattle.rules.specs.Replies.{replyOf}
+use Rattle.rules.specs.Book.{answerOf, stepBy, step}
 use Rattle.rules.proofs.Lists.{both, and}
 
 -- ---- the lowest number

@@ -20,7 +20,10 @@ use Rattle.rules.specs.Rows.{rowOf}
 use Rattle.rules.specs.Cells.{placeOf}
 use Rattle.rules.specs.Stretches.{Stretch, keptStretches, pairWords}
 use Rattle.rules.specs.Answers.{Outcome, accepted, refused, Ran, finished, stopped}
-use Rattle.rules.specs.Book.{Open, Send, Running, Quoting, Book, freshBook, noted, refusalOf, changed, step}
+use Rattle.rules.specs.Calls.{Open, Send, Running, Quoting, Book, freshBook}
+use Rattle.rules.specs.Causes.{refusalOf}
+use Rattle.rules.specs.Changes.{noted, changed}
+use Rattle.rules.specs.Book.{step}
 use Rattle.rules.specs.Records.{goodRecord, eventOf, fieldsOf, readRecord}
 use Rattle.rules.specs.Session.{Session, whole, halted, recordsOf, stretchesIn, withoutLapseLimit, unless, readRefusal, recordRefusal, readStep, closing, runRecords, session, isShort, ran, front, bufferAfter}
 use Rattle.rules.specs.Fewest.{FewestKept, pairsIn, FewestWritten}

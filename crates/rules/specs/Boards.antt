@@ -7,7 +7,7 @@ use lib.ListN.{length, getD}
 use Rattle.rules.specs.Lists.{within, sum, any}
 use Rattle.rules.specs.Rows.{goodLength}
 use Rattle.rules.specs.Answers.{Outcome, outcomeBy}
-use Rattle.rules.specs.Book.{cause, lowest}
+use Rattle.rules.specs.Causes.{cause, lowest}
 
 -- "closed quanta, one a strike": each a pair of K and L
 abbrev pub keptOf : List ℕ → ℕ

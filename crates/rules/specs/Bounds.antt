@@ -14,7 +14,8 @@ use Rattle.rules.specs.Units.{goodPrice, goodVolume}
 use Rattle.rules.specs.Rows.{goodRowFor}
 use Rattle.rules.specs.Orders.{isLive, live, timeOf, present}
 use Rattle.rules.specs.Kept.{keptBelow}
-use Rattle.rules.specs.Book.{Running, Idle, Quoting, Book, goodSettlement, goodSpreadRule}
+use Rattle.rules.specs.Calls.{Running, Idle, Quoting, Book}
+use Rattle.rules.specs.Causes.{goodSettlement, goodSpreadRule}
 
 -- ids all different
 abbrev pub Distinct : List Order → Type 0

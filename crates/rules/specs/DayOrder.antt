@@ -12,7 +12,10 @@ use Rattle.rules.specs.Terms.{Terms}
 use Rattle.rules.specs.Rows.{rowOf}
 use Rattle.rules.specs.Cells.{blankCell, placeOf, cellAt}
 use Rattle.rules.specs.Pay.{allFailures, fee}
-use Rattle.rules.specs.Book.{Call, Open, Send, Ask, Commit, Close, Drop, Charge, Withdraw, Look, Report, Running, Idle, Quoting, Book, freshBook, refusalOf, amendOf, noted, closedCell, following, step, run, after}
+use Rattle.rules.specs.Calls.{Call, Open, Send, Ask, Commit, Close, Drop, Charge, Withdraw, Look, Report, Running, Idle, Quoting, Book, freshBook, amendOf}
+use Rattle.rules.specs.Causes.{refusalOf}
+use Rattle.rules.specs.Changes.{noted, closedCell, following}
+use Rattle.rules.specs.Book.{step, run, after}
 
 -- ---- whole quanta
 

@@ -3,7 +3,9 @@ use Prim.Native.Nat.{ℕ}
 use mathlib.Core.List.{List, [], _∷_}
 use Rattle.rules.specs.Terms.{Terms}
 use Rattle.rules.specs.Answers.{Outcome, Reply}
-use Rattle.rules.specs.Book.{Call, Book, refusalOf, answerOf, step}
+use Rattle.rules.specs.Calls.{Call, Book}
+use Rattle.rules.specs.Causes.{refusalOf}
+use Rattle.rules.specs.Book.{answerOf, step}
 
 -- the number that refuses each call, 0 where it is accepted
 unfoldable pub refusalsFrom : Terms → Book → List Call → List ℕ

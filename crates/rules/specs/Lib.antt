@@ -21,6 +21,10 @@ pub mod Lapses
 pub mod Pay
 -- "Refused calls" and "Afresh"
 pub mod Answers
+pub mod Calls
+pub mod Causes
+pub mod Changes
+pub mod Replies
 pub mod Book
 pub mod Histories
 pub mod Bounds

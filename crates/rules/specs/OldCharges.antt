@@ -5,7 +5,9 @@ use mathlib.Core.Path.{_≡_}
 use mathlib.Core.List.{List, [], _∷_}
 use Rattle.rules.specs.Terms.{Terms}
 use Rattle.rules.specs.Pay.{allFailures, fee}
-use Rattle.rules.specs.Book.{Call, Open, Send, Ask, Commit, Close, Drop, Charge, Withdraw, Look, Report, freshBook, reportOf, answerOf, after}
+use Rattle.rules.specs.Calls.{Call, Open, Send, Ask, Commit, Close, Drop, Charge, Withdraw, Look, Report, freshBook}
+use Rattle.rules.specs.Replies.{reportOf}
+use Rattle.rules.specs.Book.{answerOf, after}
 use Rattle.rules.specs.Histories.{refusalsFrom, answersFrom}
 
 -- the same terms with another greatest charge

@@ -13,7 +13,9 @@ use Rattle.rules.specs.Terms.{Terms}
 use Rattle.rules.specs.Cells.{cellAt}
 use Rattle.rules.specs.Pay.{viewOf, allFailures, fee}
 use Rattle.rules.specs.Answers.{Outcome, accepted, refused, Reply, done, cell, asked, report}
-use Rattle.rules.specs.Book.{Call, Open, Send, Ask, Commit, Close, Drop, Charge, Withdraw, Look, Report, Running, Idle, Quoting, Book, freshBook, reportOf, answerOf, after}
+use Rattle.rules.specs.Calls.{Call, Open, Send, Ask, Commit, Close, Drop, Charge, Withdraw, Look, Report, Running, Idle, Quoting, Book, freshBook}
+use Rattle.rules.specs.Replies.{reportOf}
+use Rattle.rules.specs.Book.{answerOf, after}
 use Rattle.rules.specs.Histories.{refusalsFrom, answersFrom}
 
 -- ---- the two terms

@@ -17,7 +17,9 @@ use Rattle.rules.specs.Stretches.{Stretch, keptStretches, pairWords}
 use Rattle.rules.specs.Lapses.{noLapseLimit}
 use Rattle.rules.specs.Pay.{cellWeight}
 use Rattle.rules.specs.Answers.{Outcome, accepted, refused, Ran, finished, stopped}
-use Rattle.rules.specs.Book.{Open, Send, Close, Running, Idle, Quoting, Book, freshBook, refusalOf, step}
+use Rattle.rules.specs.Calls.{Open, Send, Close, Running, Idle, Quoting, Book, freshBook}
+use Rattle.rules.specs.Causes.{refusalOf}
+use Rattle.rules.specs.Book.{step}
 use Rattle.rules.specs.Records.{wordAt, signedOf, readRecord}
 
 -- "A run takes at most 4,000,000 records"; the program `sheet` "1,600 records at most"

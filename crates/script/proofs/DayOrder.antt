@@ -6,8 +6,9 @@ use mathlib.Core.List.{List, List·Permᴰ}
 use lib.ListN.{length, take, drop}
 use Rattle.rules.specs.Terms.{paper}
 use Rattle.rules.specs.Answers.{Outcome, Reply, shownLooked, shownReport}
-use Rattle.rules.specs.Book.{Call, freshBook, after}
-use Rattle.rules.specs.Book as B
+use Rattle.rules.specs.Calls.{Call, freshBook}
+use Rattle.rules.specs.Book.{after}
+use Rattle.rules.specs.Calls as B
 use Rattle.rules.specs.DayOrder.{NoneRefused, joined, Filling, AllAnywhere}
 use Rattle.rules.proofs.Answers.{looked-shown, report-shown}
 use Rattle.rules.proofs.DayOrder.{zeros-accepted, accepted-zeros, perm-whole, rearranged, accepted-too}

@@ -10,8 +10,11 @@ use Rattle.rules.specs.declared.Report.{Report}
 use Rattle.rules.specs.Lists.{if_then_else_}
 use Rattle.rules.specs.Terms.{paper}
 use Rattle.rules.specs.Answers.{shownReport}
-use Rattle.rules.specs.Book.{Book, lowest, causes, refusalOf, reportOf, answerOf, after}
-use Rattle.rules.specs.Book as B
+use Rattle.rules.specs.Calls.{Book}
+use Rattle.rules.specs.Causes.{lowest, causes, refusalOf}
+use Rattle.rules.specs.Replies.{reportOf}
+use Rattle.rules.specs.Book.{answerOf, after}
+use Rattle.rules.specs.Calls as B
 use Rattle.rules.proofs.Answers.{report-shown}
 use Rattle.month.specs.declared.Reported.{Reported}
 use Rattle.month.specs.Represents.{monthOf, Answered}

@@ -17,7 +17,7 @@ use Rattle.rules.specs.declared.Event.the-variants.{Add, Amend, Cancel, Deal, T
 use Rattle.rules.specs.Units.{steps, kopecks}
 use Rattle.rules.specs.Records.{signedOf, unsignedOf}
 use Rattle.rules.specs.Widths.{Word, SignedWord, Fits}
-use Rattle.rules.specs.Book.{Call, Open, Send, Ask, Commit, Close, Drop, Charge, Withdraw, Look, Report}
+use Rattle.rules.specs.Calls.{Call, Open, Send, Ask, Commit, Close, Drop, Charge, Withdraw, Look, Report}
 use Rattle.rules.proofs.Records.{signed-unsigned, unsigned-fits}
 use Rattle.script.specs.Words.{fixedDue, addDue, due, dueAt, blockSize, callOf, callsOf, wordsRead, sideWord, eventWords, low, high, openKind, openingWords, wordsOf, scriptOf, Words, Wide, SpreadRuleFits, AmendmentFits, CallFits, AllFit}
 use Rattle.script.proofs.Reading.{whole, short, calls-none, calls-more, words-none, words-more}

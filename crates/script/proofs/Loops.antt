@@ -5,7 +5,7 @@ use mathlib.Core.Path.{_≡_, refl, sym, ap, _∙_}
 use mathlib.Core.List.{List, [], _∷_}
 use lib.ListN.{length, drop, length-drop}
 use lib.Seq.{drop-drop}
-use Rattle.rules.specs.Book.{Call}
+use Rattle.rules.specs.Calls.{Call}
 use Rattle.script.specs.Words.{blockSize, callOf, callsOf, wordsRead}
 use Rattle.script.specs.Measures.{Measures}
 use Rattle.script.proofs.Reading.{size-fits, calls-none, calls-more, words-none, words-more}

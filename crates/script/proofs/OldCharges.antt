@@ -7,8 +7,11 @@ use mathlib.Core.List.{List, _++_}
 use lib.ListN.{length, drop}
 use Rattle.rules.specs.Terms.{paper, tenths}
 use Rattle.rules.specs.Answers.{Outcome, Reply, shownLooked, shownReport}
-use Rattle.rules.specs.Book.{Call, Book, lowest, causes, refusalOf, reportOf, answerOf, after}
-use Rattle.rules.specs.Book as B
+use Rattle.rules.specs.Calls.{Call, Book}
+use Rattle.rules.specs.Causes.{lowest, causes, refusalOf}
+use Rattle.rules.specs.Replies.{reportOf}
+use Rattle.rules.specs.Book.{answerOf, after}
+use Rattle.rules.specs.Calls as B
 use Rattle.rules.specs.OldCharges.{NotPast, NonePast, SameAnswers}
 use Rattle.rules.proofs.Answers.{report-shown}
 use Rattle.rules.proofs.OldCharges.{larger-charges}

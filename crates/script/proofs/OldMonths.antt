@@ -6,8 +6,11 @@ use mathlib.Core.List.{List, [], _∷_, _++_, map}
 use lib.ListN.{length, drop}
 use Rattle.rules.specs.Terms.{paper, tenths, percents}
 use Rattle.rules.specs.Answers.{Outcome, Reply, shownLooked, shownReport}
-use Rattle.rules.specs.Book.{Call, freshBook, lowest, causes, refusalOf, reportOf, answerOf, after}
-use Rattle.rules.specs.Book as B
+use Rattle.rules.specs.Calls.{Call, freshBook}
+use Rattle.rules.specs.Causes.{lowest, causes, refusalOf}
+use Rattle.rules.specs.Replies.{reportOf}
+use Rattle.rules.specs.Book.{answerOf, after}
+use Rattle.rules.specs.Calls as B
 use Rattle.rules.specs.Histories.{refusalsFrom}
 use Rattle.rules.specs.OldMonths.{AtMost79, AllAtMost79, tenfold, tenfoldAnswer, SameInTenths}
 use Rattle.rules.specs.OldCharges.{NotPast, NonePast, SameAnswers}

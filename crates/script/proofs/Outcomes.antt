@@ -4,7 +4,9 @@ use mathlib.Core.Path.{_≡_, refl, ap}
 use mathlib.Core.List.{List, [], _∷_, _++_}
 use lib.ListN.{length, take}
 use Rattle.rules.specs.Terms.{paper}
-use Rattle.rules.specs.Book.{Call, Book, freshBook, refusalOf, step, run, after}
+use Rattle.rules.specs.Calls.{Call, Book, freshBook}
+use Rattle.rules.specs.Causes.{refusalOf}
+use Rattle.rules.specs.Book.{step, run, after}
 use Rattle.rules.specs.Histories.{refusalsFrom}
 use Rattle.script.specs.Words.{outcomesFrom, outcomesOf}
 

@@ -15,7 +15,7 @@ use Rattle.rules.specs.declared.Asked.the-variants as KK
 use Rattle.rules.specs.declared.Refusal.{Refusal}
 use Rattle.rules.specs.Answers.{Reply, numberOf, shownAnswer, shownLooked, shownAsked}
 use Rattle.rules.specs.Answers as A
-use Rattle.rules.specs.Book.{Call}
+use Rattle.rules.specs.Calls.{Call}
 use Rattle.month.specs.declared.Month.{Month}
 use Rattle.month.specs.Represents.{Answered}
 use Rattle.script.specs.declared.Shown.{Shown}

@@ -10,7 +10,10 @@ use lib.ListN.{length, getD, take, drop, set, length-append, length-drop}
 use lib.Seq.{length-take-le, take-length, take-add, drop-cons, set-at}
 use Rattle.rules.specs.Terms.{paper}
 use Rattle.rules.specs.Answers.{Reply, done, cell, asked, report, outcomeBy}
-use Rattle.rules.specs.Book.{Call, Book, refusalOf, replyOf, answerOf, after}
+use Rattle.rules.specs.Calls.{Call, Book}
+use Rattle.rules.specs.Causes.{refusalOf}
+use Rattle.rules.specs.Replies.{replyOf}
+use Rattle.rules.specs.Book.{answerOf, after}
 use Rattle.month.specs.declared.Month.{Month}
 use Rattle.month.specs.Represents.{monthOf, Reached}
 use Rattle.script.specs.declared.Done.{Done}

@@ -19,7 +19,7 @@ use Rattle.rules.specs.declared.Kopecks.{Kopecks}
 use Rattle.rules.specs.declared.Event.the-variants.{Add, Amend, Cancel, Deal, Tick}
 use Rattle.rules.specs.Lists.{if_then_else_}
 use Rattle.rules.specs.Units.{millis, contracts}
-use Rattle.rules.specs.Book.{Open, Send, Ask, Commit, Close, Drop, Charge, Withdraw, Look, Report}
+use Rattle.rules.specs.Calls.{Open, Send, Ask, Commit, Close, Drop, Charge, Withdraw, Look, Report}
 use Rattle.script.specs.Words.{due, dueAt, blockSize, stepsAt, openingAt, strikeAt, wideAt, chargeAt, amendmentAt, ticketAt, sideOf, isEvent, callOf}
 use Rattle.script.proofs.Sizes.{other-kind, other-due}
 

@@ -10,7 +10,8 @@ use Rattle.rules.specs.Terms.{paper}
 use Rattle.rules.specs.Units.{millis, kopecks}
 use Rattle.rules.specs.Answers.{accepted, refused, Reply, done, cell, asked, report}
 use Rattle.rules.specs.Answers as A
-use Rattle.rules.specs.Book.{Call, after, answerOf}
+use Rattle.rules.specs.Calls.{Call}
+use Rattle.rules.specs.Book.{after, answerOf}
 use Rattle.month.specs.declared.Month.{Month}
 use Rattle.month.specs.Represents.{monthOf}
 use Rattle.script.specs.declared.Outcome.{Outcome}

@@ -4,8 +4,8 @@ use mathlib.Core.Path.{_≡_}
 use mathlib.Core.List.{List}
 use lib.ListN.{length, take, replicate}
 use Rattle.rules.specs.Answers.{shownLooked, shownReport}
-use Rattle.rules.specs.Book.{Call}
-use Rattle.rules.specs.Book as B
+use Rattle.rules.specs.Calls.{Call}
+use Rattle.rules.specs.Calls as B
 use Rattle.rules.specs.DayOrder.{AllWhole, joined}
 use Rattle.month.specs.declared.LookedAt.{LookedAt}
 use Rattle.month.specs.declared.Reported.{Reported}

@@ -12,8 +12,10 @@ use Rattle.rules.specs.Terms.{paper}
 use Rattle.rules.specs.Units.{millis, kopecks}
 use Rattle.rules.specs.Pay.{allFailures, fee}
 use Rattle.rules.specs.Answers.{shownAnswer, shownLooked, shownAsked, shownReport}
-use Rattle.rules.specs.Book.{Book, bidIn, askIn, keptIn, lapsesIn, reportOf, answerOf, after}
-use Rattle.rules.specs.Book as B
+use Rattle.rules.specs.Calls.{Book}
+use Rattle.rules.specs.Replies.{bidIn, askIn, keptIn, lapsesIn, reportOf}
+use Rattle.rules.specs.Book.{answerOf, after}
+use Rattle.rules.specs.Calls as B
 use Rattle.month.specs.declared.AfterCall.{AfterCall}
 use Rattle.month.specs.declared.LookedAt.{LookedAt}
 use Rattle.month.specs.declared.AskedAbout.{AskedAbout}

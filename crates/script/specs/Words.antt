@@ -22,7 +22,9 @@ use Rattle.rules.specs.Terms.{paper}
 use Rattle.rules.specs.Units.{millis, steps, contracts, kopecks}
 use Rattle.rules.specs.Records.{signedOf, unsignedOf}
 use Rattle.rules.specs.Widths.{Word, SignedWord, Fits}
-use Rattle.rules.specs.Book.{Call, Open, Send, Ask, Commit, Close, Drop, Charge, Withdraw, Look, Report, Book, freshBook, refusalOf, step}
+use Rattle.rules.specs.Calls.{Call, Open, Send, Ask, Commit, Close, Drop, Charge, Withdraw, Look, Report, Book, freshBook}
+use Rattle.rules.specs.Causes.{refusalOf}
+use Rattle.rules.specs.Book.{step}
 
 -- ---- one block
 

@@ -4,7 +4,7 @@ ghost use mathlib.Core.Bool.{false};
 ghost use Prim.Native.Nat.{_+_, _≤_, _<_};
 ghost use lib.ListN.{length, getD, drop};
 ghost use Rattle.rules.specs.Answers.{shownAnswer, shownLooked, shownAsked};
-ghost use Rattle.rules.specs.Book.{Send};
+ghost use Rattle.rules.specs.Calls.{Send};
 ghost use Rattle.month.specs.Represents.{Reached, Answered};
 ghost use Rattle.script.specs.declared.Outcome.the-variants as O;
 ghost use Rattle.script.specs.Words.{fixedDue, addDue, due, blockSize, stepsAt, openingAt, strikeAt, wideAt, chargeAt, amendmentAt, ticketAt, sideOf, isEvent, callOf};

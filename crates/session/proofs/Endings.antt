@@ -21,7 +21,7 @@ use Rattle.rules.specs.Terms.{paper}
 use Rattle.rules.specs.Units.{steps, goodPrice}
 use Rattle.rules.specs.Rows.{rowOf, goodRow}
 use Rattle.rules.specs.Cells.{placeOf}
-use Rattle.rules.specs.Book.{readRow}
+use Rattle.rules.specs.Causes.{readRow}
 use Rattle.rules.specs.Stretches.{Stretch, pairWords}
 use Rattle.rules.specs.Answers.{accepted, refused, finished, stopped, numberOf, shownSession}
 use Rattle.rules.specs.Records.{wordAt, signedOf}

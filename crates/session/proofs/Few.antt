@@ -23,7 +23,7 @@ use Rattle.rules.specs.Kept.{quotesKeep, ordersKeep, keptAt}
 use Rattle.rules.specs.Stretches.{Stretch, stretch, stretches, keptStretches}
 use Rattle.rules.specs.Runs.{before}
 use Rattle.rules.specs.Answers.{Outcome, accepted, refused}
-use Rattle.rules.specs.Book.{eventRefusal}
+use Rattle.rules.specs.Causes.{eventRefusal}
 use Rattle.rules.specs.Bounds.{EventBounds}
 use Rattle.rules.specs.Records.{readRecord}
 use Rattle.rules.specs.Session.{mostSheetRecords, whole, recordsOf, runRecords, session}

@@ -19,7 +19,10 @@ use Rattle.rules.specs.Cells.{goodCell, placeOf, cellAt}
 use Rattle.rules.specs.Pay.{weight, viewOf, cellWeight}
 use Rattle.rules.specs.Stretches.{Stretch}
 use Rattle.rules.specs.Answers.{Outcome, accepted, refused, cell}
-use Rattle.rules.specs.Book.{Call, Open, Send, Close, Look, Book, eventRefusal, closedCell, answerOf, step, run, after}
+use Rattle.rules.specs.Calls.{Call, Open, Send, Close, Look, Book}
+use Rattle.rules.specs.Causes.{eventRefusal}
+use Rattle.rules.specs.Changes.{closedCell}
+use Rattle.rules.specs.Book.{answerOf, step, run, after}
 use Rattle.rules.specs.Records.{goodRecord, eventOf, fieldsOf, readRecord}
 use Rattle.rules.specs.Session.{whole, recordsOf, withoutLapseLimit, runRecords, session}
 use Rattle.rules.proofs.Lists.{and}

@@ -25,7 +25,10 @@ use Rattle.rules.specs.Lapses.{noLapseLimit, lapsesBelow, goodLapseLimit, withi
 use Rattle.rules.specs.Pay.{met, weightBy, weight, cellWeight}
 use Rattle.rules.specs.Stretches.{Stretch, keptStretches}
 use Rattle.rules.specs.Answers.{Outcome, accepted, refused, outcomeBy}
-use Rattle.rules.specs.Book.{Open, Send, Close, Quoting, Book, freshBook, isOpen, Cause, lowest, cause, causes, eventRefusal, readRow, refusalOf, closedCell, following, changed, step}
+use Rattle.rules.specs.Calls.{Open, Send, Close, Quoting, Book, freshBook, isOpen}
+use Rattle.rules.specs.Causes.{Cause, lowest, cause, causes, eventRefusal, readRow, refusalOf}
+use Rattle.rules.specs.Changes.{closedCell, following, changed}
+use Rattle.rules.specs.Book.{step}
 use Rattle.rules.specs.Records.{readRecord}
 use Rattle.rules.specs.Session.{Session, whole, halted, withoutLapseLimit, unless, recordsOf, readRefusal, recordRefusal, readStep, closing, runRecords, session}
 use Rattle.rules.proofs.Refusals.{stop, call-passes, passes-call, step-accepted, OpenPasses}

@@ -18,7 +18,7 @@ use Rattle.rules.specs.Kept.{ordersKeep, keptAt, keptBelow}
 use Rattle.rules.specs.Stretches.{Stretch, stretches, keptStretches}
 use Rattle.rules.specs.Pay.{weight}
 use Rattle.rules.specs.Answers.{Outcome, accepted, refused, finished}
-use Rattle.rules.specs.Book.{eventRefusal}
+use Rattle.rules.specs.Causes.{eventRefusal}
 use Rattle.rules.specs.Bounds.{EventBounds}
 use Rattle.rules.proofs.Orders.{present-snoc}
 use Rattle.rules.proofs.Kept.{keptAt-now, keptAt-snoc}

@@ -24,7 +24,9 @@ use Rattle.rules.specs.Stretches.{Stretch, stretches, keptStretches, pairWords}
 use Rattle.rules.specs.Runs.{before}
 use Rattle.rules.specs.Pay.{weight}
 use Rattle.rules.specs.Answers.{Outcome, accepted, refused, Ran, finished, stopped, shownSession}
-use Rattle.rules.specs.Book.{Quoting, Book, eventRefusal, following}
+use Rattle.rules.specs.Calls.{Quoting, Book}
+use Rattle.rules.specs.Causes.{eventRefusal}
+use Rattle.rules.specs.Changes.{following}
 use Rattle.rules.specs.Bounds.{EventBounds}
 use Rattle.rules.specs.Session.{Session, whole, halted, recordsOf, withoutLapseLimit, runRecords}
 use Rattle.quantum.specs.declared.Duty.{Duty}

@@ -3,7 +3,7 @@ ghost use mathlib.Core.Path.{_≡_};
 ghost use mathlib.Core.Bool.{true};
 ghost use Prim.Native.Nat.{_+_, _-_, _*_, _^_, max, _≤_, _<_};
 ghost use lib.Dec.{leb};
-ghost use Rattle.rules.specs.Book.{goodSpreadRule};
+ghost use Rattle.rules.specs.Causes.{goodSpreadRule};
 ghost use Rattle.rules.specs.Strikes.{goodStrike, squareOf};
 ghost use Rattle.strike.specs.Widest.{widestOfStrike};
 use rules::SpreadRule;

@@ -1,7 +1,8 @@
 // Tickets: the month's count of accepted calls, and whether a ticket is the present one.
 ghost use mathlib.Core.Path.{_≡_};
 ghost use lib.Dec.{eqb};
-ghost use Rattle.rules.specs.Book.{following, samePrice, sameAmendment, goodTicket};
+ghost use Rattle.rules.specs.Causes.{samePrice, sameAmendment, goodTicket};
+ghost use Rattle.rules.specs.Changes.{following};
 use ranges::both;
 use rules::Amendment;
 use rules::Steps;

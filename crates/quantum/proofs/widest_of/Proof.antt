@@ -11,7 +11,7 @@ use Rattle.rules.specs.declared.SpreadRule.the-variants.{Settled, OfStrike}
 use Rattle.rules.specs.Terms.{paper}
 use Rattle.rules.specs.Rows.{goodRowFor}
 use Rattle.rules.specs.Strikes.{goodStrike}
-use Rattle.rules.specs.Book.{goodSpreadRule}
+use Rattle.rules.specs.Causes.{goodSpreadRule}
 use Rattle.rules.proofs.Bounds.{row-bounds}
 use Rattle.quantum.specs.Represents.{widestFor}
 use Rattle.quantum.proofs.widest_of.Statement.{statement}

@@ -1,6 +1,6 @@
 -- The test of SP, where there is one. Assumes nothing.
 use mathlib.Core.Path.{sym, ap, _∙_}
-use Rattle.rules.specs.Book.{goodSettlement}
+use Rattle.rules.specs.Causes.{goodSettlement}
 use borrow.Author.Needs.{needs}
 use Rattle.ranges.proofs.settlement.Statement.{statement}
 use Rattle.ranges.proofs.settlement.Tie as tie

@@ -11,7 +11,7 @@ use Rattle.rules.specs.declared.SpreadRule.{SpreadRule}
 use Rattle.rules.specs.Terms.{paper}
 use Rattle.rules.specs.Rows.{rowOf, asRead, goodRow, goodRowFor}
 use Rattle.rules.specs.Answers.{accepted, refused}
-use Rattle.rules.specs.Book.{lowest, readRow}
+use Rattle.rules.specs.Causes.{lowest, readRow}
 use Rattle.row.proofs.read.Statement.{statement}
 use Rattle.row.proofs.read.Tie as tie
 

@@ -1,6 +1,6 @@
 -- The test of the four numbers, where there is a strike. Assumes nothing.
 use mathlib.Core.Path.{sym, ap, _∙_}
-use Rattle.rules.specs.Book.{goodSpreadRule}
+use Rattle.rules.specs.Causes.{goodSpreadRule}
 use borrow.Author.Needs.{needs}
 use Rattle.strike.proofs.in_range.Statement.{statement}
 use Rattle.strike.proofs.in_range.Tie as tie

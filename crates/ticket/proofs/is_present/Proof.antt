@@ -1,7 +1,7 @@
 -- The amendment and the count. Assumes nothing.
 use mathlib.Core.Path.{_∙_}
 use mathlib.Core.Bool.{_&&_}
-use Rattle.rules.specs.Book.{goodTicket}
+use Rattle.rules.specs.Causes.{goodTicket}
 use borrow.Author.Needs.{needs}
 use Rattle.ticket.proofs.is_present.Statement.{statement}
 use Rattle.ticket.proofs.is_present.Tie as tie

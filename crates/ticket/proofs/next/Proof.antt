@@ -3,7 +3,7 @@ use Prim.Native.Nat.{ℕ, _+_, _%_, _≤_, _<_}
 use mathlib.Core.Path.{_≡_, sym}
 use native.Mathlib.Omega.{arith}
 use borrow.Author.Needs.{needs}
-use Rattle.rules.specs.Book.{following}
+use Rattle.rules.specs.Changes.{following}
 use Rattle.ticket.proofs.next.Statement.{statement}
 use Rattle.ticket.proofs.next.Tie as tie
 

@@ -3,7 +3,7 @@ use borrow.Author.Tests.{not-true, not-false}
 use Rattle.rules.specs.declared.Amendment.{Amendment}
 use Rattle.rules.specs.declared.Asked.the-variants.{Shown, Refused}
 use Rattle.rules.specs.declared.Refusal.the-variants.{NoQuantumOpen}
-use Rattle.rules.specs.Book.{Ask}
+use Rattle.rules.specs.Calls.{Ask}
 use Rattle.month.proofs.Fields.{quantum-reached}
 use Rattle.month.proofs.Asks.{ask-idle, ask-refused, ask-reached, ask-done, ask-handed}
 use borrow.Author.Needs.{needs}

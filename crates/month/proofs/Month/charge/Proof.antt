@@ -8,7 +8,9 @@ use Rattle.rules.specs.declared.Refusal.the-variants.{ArgumentOutOfRange, CellB
 use Rattle.rules.specs.Terms.{paper}
 use Rattle.rules.specs.Cells.{goodCell}
 use Rattle.rules.specs.Answers.{accepted, done}
-use Rattle.rules.specs.Book.{Call, Charge, goodCharges, charged}
+use Rattle.rules.specs.Calls.{Call, Charge}
+use Rattle.rules.specs.Causes.{goodCharges}
+use Rattle.rules.specs.Changes.{charged}
 use Rattle.rules.proofs.Lists.{and}
 use Rattle.rules.proofs.Bounds.{cell-small}
 use Rattle.month.specs.declared.Month.{Month}

@@ -6,7 +6,8 @@ use Rattle.rules.specs.declared.Answer.the-variants.{Accepted, Refused}
 use Rattle.rules.specs.declared.Refusal.the-variants.{ArgumentOutOfRange, NoQuantumOpen}
 use Rattle.rules.specs.Terms.{paper}
 use Rattle.rules.specs.Answers.{accepted, done}
-use Rattle.rules.specs.Book.{Close, goodCharges}
+use Rattle.rules.specs.Calls.{Close}
+use Rattle.rules.specs.Causes.{goodCharges}
 use Rattle.month.specs.declared.Month.{Month}
 use Rattle.month.specs.Represents.{Answered}
 use Rattle.month.specs.Internal.{withoutQuantum, counted}

@@ -3,7 +3,7 @@ use mathlib.Core.Path.{sym, _∙_}
 use Rattle.rules.specs.declared.Amendment.{Amendment}
 use Rattle.rules.specs.declared.Answer.the-variants.{Refused}
 use Rattle.rules.specs.declared.Refusal.the-variants.{WrongTicket}
-use Rattle.rules.specs.Book.{Commit}
+use Rattle.rules.specs.Calls.{Commit}
 use Rattle.month.proofs.Answers.{handed}
 use Rattle.month.proofs.Asks.{commit-refused, commit-ticket, commit-done}
 use borrow.Author.Needs.{needs}

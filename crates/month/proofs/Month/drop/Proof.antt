@@ -4,7 +4,7 @@ use borrow.Author.Tests.{not-true, not-false}
 use Rattle.rules.specs.declared.Answer.the-variants.{Accepted, Refused}
 use Rattle.rules.specs.declared.Refusal.the-variants.{NoQuantumOpen}
 use Rattle.rules.specs.Answers.{accepted, done}
-use Rattle.rules.specs.Book.{Drop}
+use Rattle.rules.specs.Calls.{Drop}
 use Rattle.month.specs.declared.Month.{Month}
 use Rattle.month.specs.Represents.{Answered}
 use Rattle.month.specs.Internal.{counted}

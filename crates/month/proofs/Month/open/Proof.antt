@@ -2,7 +2,7 @@
 use mathlib.Core.Path.{ap, sym, _∙_}
 use denote.Ref.{now}
 use Rattle.rules.specs.Answers.{shownRow}
-use Rattle.rules.specs.Book.{Open}
+use Rattle.rules.specs.Calls.{Open}
 use Rattle.month.proofs.Answers.{handed}
 use Rattle.month.proofs.Calls.{ReadAs, read-as, open-unread}
 use borrow.Author.Needs.{needs}

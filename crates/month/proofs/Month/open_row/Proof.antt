@@ -9,7 +9,8 @@ use Rattle.rules.specs.declared.Cell.{Cell}
 use Rattle.rules.specs.declared.Refusal.the-variants.{ArgumentOutOfRange, CellFilled, QuantumOpen, LapseLimitOutOfRange, StrikesOutOfRange}
 use Rattle.rules.specs.Lists.{within}
 use Rattle.rules.specs.Cells.{goodCell, placeOf, cellAt}
-use Rattle.rules.specs.Book.{Open, goodSettlement, goodSpreadRule}
+use Rattle.rules.specs.Calls.{Open}
+use Rattle.rules.specs.Causes.{goodSettlement, goodSpreadRule}
 use Rattle.rules.proofs.Lists.{both}
 use Rattle.rules.proofs.Bounds.{cell-small}
 use Rattle.month.proofs.Answers.{handed}

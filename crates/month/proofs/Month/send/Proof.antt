@@ -2,7 +2,7 @@
 use borrow.Author.Tests.{not-true, not-false}
 use Rattle.rules.specs.declared.Answer.the-variants.{Accepted, Refused}
 use Rattle.rules.specs.declared.Refusal.the-variants.{NoQuantumOpen}
-use Rattle.rules.specs.Book.{Send}
+use Rattle.rules.specs.Calls.{Send}
 use Rattle.month.proofs.Answers.{handed}
 use Rattle.month.proofs.Fields.{quantum-reached}
 use Rattle.month.proofs.Calls.{send-idle, send-refused, send-done}

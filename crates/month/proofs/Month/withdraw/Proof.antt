@@ -4,7 +4,7 @@ use native.Mathlib.Omega.{arith}
 use Rattle.rules.specs.declared.Answer.the-variants.{Accepted, Refused}
 use Rattle.rules.specs.declared.Refusal.the-variants.{ArgumentOutOfRange, CellBlank}
 use Rattle.rules.specs.Answers.{accepted, done}
-use Rattle.rules.specs.Book.{Withdraw}
+use Rattle.rules.specs.Calls.{Withdraw}
 use Rattle.rules.proofs.Bounds.{cell-small}
 use Rattle.month.specs.declared.Month.{Month}
 use Rattle.month.specs.Represents.{Answered}

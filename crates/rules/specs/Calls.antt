@@ -1,0 +1,56 @@
+-- Document 01, "A row and a month" and "Afresh": the calls, and what the plain book holds.
+use Prim.Native.Nat.{ℕ}
+use mathlib.Core.List.{List}
+use mathlib.Core.Bool.{Bool, true, false}
+use Rattle.rules.specs.declared.Opening.{Opening}
+use Rattle.rules.specs.declared.Kopecks.{Kopecks}
+use Rattle.rules.specs.declared.Row.{Row}
+use Rattle.rules.specs.declared.Cell.{Cell}
+use Rattle.rules.specs.declared.Event.{Event}
+use Rattle.rules.specs.declared.Event.the-variants.{Amend}
+use Rattle.rules.specs.declared.Amendment.{Amendment}
+use Rattle.rules.specs.declared.Ticket.{Ticket}
+use Rattle.rules.specs.Cells.{blankCells}
+
+-- The calls, "each by its name and its arguments other than the month". Send is add, amend, cancel, deal or tick: an event.
+pub data Call : Type 0 where
+  -- the row's words, the day, and what else open is told: SP or, by document 02, W4, a strike's four numbers in its place, and, by W1,
+  -- the lapse limit
+  Open : List ℕ → ℕ → Opening → Call
+  Send : Event → Call
+  -- document 02, W5: asking names an amendment; "Committing names the amendment again and gives the ticket"
+  Ask : Amendment → Call
+  Commit : Amendment → Ticket → Call
+  -- A, P
+  Close : Kopecks → Kopecks → Call
+  Drop : Call
+  -- day, expiry, quantum, A, P
+  Charge : ℕ → ℕ → ℕ → Kopecks → Kopecks → Call
+  -- day, expiry, quantum
+  Withdraw : ℕ → ℕ → ℕ → Call
+  Look : ℕ → ℕ → ℕ → Call
+  Report : Call
+
+-- "Open notes cell, row and SP, with an empty list of events": no quantum, or the open one's cell, row, what else open was told, and the
+-- accepted events
+pub data Running : Type 0 where
+  Idle : Running
+  Quoting : ℕ → Row → Opening → List Event → Running
+
+pub record Book : Type 0 where
+  pub running : Running
+  pub cells : List Cell
+  -- document 02, W5: "the book counts its accepted calls likewise"
+  pub count : ℕ
+
+-- "At first it has no quantum open and 186 blank cells."
+unfoldable pub freshBook : Book
+freshBook = record { running = Idle; cells = blankCells; count = 0 }
+
+abbrev pub isOpen : Running → Bool
+isOpen Idle = false
+isOpen (Quoting place row opening events) = true
+
+-- document 02, W5: "the refusal that amend would give", and "exactly that amend"
+abbrev pub amendOf : Amendment → Event
+amendOf a = Amend (a .t) (a .id) (a .price) (a .volume)
