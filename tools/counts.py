@@ -36,7 +36,7 @@ def row(name, cells):
 
 def main():
     listed = (ROOT / "crates.txt").read_text(encoding="utf-8").splitlines()
-    names = [line.split(":")[0] for line in listed if line.strip()]
+    names = [line.split(":")[0] for line in listed if line.strip() and not line.startswith("#")]
     table = [counts(ROOT / "crates" / name) for name in names]
     print("| crate | functions | code | clauses | definitions | proof | must-fail edits |")
     print("|---|--:|--:|--:|--:|--:|--:|")

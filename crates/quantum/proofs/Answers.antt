@@ -58,19 +58,6 @@ unfolding eventRefusal eventCauses
 event-numbered row es e =
     numbered-next 8 _ _ (omega arith) (omega arith) (numbered-next 9 _ _ (omega arith) (omega arith) (trader-numbered (live es) e))
 
--- a number that is not the least one is above it
-above : (k n : ℕ) → k ≤ n → (n ≡ k → ⊥) → suc k ≤ n
-above k n l h = go (ltb k n) refl
-  where
-    go : (b : Bool) → ltb k n ≡ b → suc k ≤ n
-    go true e = omega (arith, ltb-true k n e)
-    go false e = absurd (h (omega (arith, ltb-false k n e)))
-
-pub fifteen : (n : ℕ) → 8 ≤ n → n ≤ 15 → (n ≡ 8 → ⊥) → (n ≡ 9 → ⊥) → (n ≡ 10 → ⊥) → (n ≡ 11 → ⊥) → (n ≡ 12 → ⊥) → (n ≡ 13 → ⊥) → (n ≡ 14 → ⊥)
-    → _≡_ {A = ℕ} 15 n
-fifteen n l u a b c d e f g =
-    let h = above 14 n (above 13 n (above 12 n (above 11 n (above 10 n (above 9 n (above 8 n l a) b) c) d) e) f) g in omega arith
-
 -- ---- the quantum
 
 module _ (row : Row) (sp : SpreadRule) (es : List Event) (q : Quantum) (is : q ≡ quantumOf row sp es) where

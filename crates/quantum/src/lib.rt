@@ -14,7 +14,6 @@ ghost use Rattle.rules.specs.Rows.{goodRowFor};
 ghost use Rattle.rules.specs.Orders.{live as liveOrders, timeOf};
 ghost use Rattle.rules.specs.Kept.{bestBid, bestAsk, keptBelow};
 ghost use Rattle.rules.specs.Lapses.{lapsesBelow};
-ghost use Rattle.rules.specs.Answers.{numberOf};
 ghost use Rattle.rules.specs.Causes.{goodSpreadRule};
 ghost use Rattle.rules.specs.Bounds.{EventBounds};
 ghost use Rattle.quantum.specs.Represents.{widestFor, dutyOf, clockOf, quantumOf, Reached, Answered, Running, Stepping, Onward, startingBy, ranOn, InTime, isTick};
@@ -23,7 +22,6 @@ use rules::Contracts;
 use rules::Event;
 use rules::Millis;
 use rules::Quote;
-use rules::Refusal;
 use rules::Row;
 use rules::Side;
 use rules::SpreadRule;
@@ -256,23 +254,6 @@ pub fn step(duty: Duty, clock: Clock, table: &mut [u32], hints: &mut [u8], e: Ev
     taken(duty, clock, table, hints, e, t)
 }
 
-// The refusal of a number that a record can have.
-pub fn refusal_of(n: u32) -> Refusal
-    requires { ⌜ (8 ≤ n) × (n ≤ 15) ⌝ }
-    ensures { λ r. ⌜ numberOf r ≡ n ⌝ }
-{
-    match n {
-        8 => Refusal::TimeBackwards,
-        9 => Refusal::TimePastEnd,
-        10 => Refusal::IdLive,
-        11 => Refusal::IdNotLive,
-        12 => Refusal::PriceOrVolumeOutOfRange,
-        13 => Refusal::TooManyOrders,
-        14 => Refusal::DealAboveLeft,
-        _ => Refusal::BadRecord,
-    }
-}
-
 // ---- the quantum
 
 // An event on the table of a quantum, lent with hints that say nothing yet.
@@ -288,7 +269,7 @@ fn stepped_on(duty: Duty, clock: Clock, table: [u32; 512], e: Event) -> Sent
     if 0 < n {
         return Sent {
             quantum: Quantum { duty, clock, table },
-            answer: Answer::Refused(refusal_of(n)),
+            answer: Answer::Refused(rules::refusal_of(n)),
         };
     }
     Sent {

@@ -1,5 +1,6 @@
 // The types that the meter's crates hand to each other, and the refusal's number. What they mean is in specs/.
 ghost use mathlib.Core.Path.{_≡_};
+ghost use Prim.Native.Nat.{_≤_};
 ghost use Rattle.rules.specs.Answers.{numberOf};
 
 // Units: milliseconds, price steps, contracts and kopecks.
@@ -232,5 +233,22 @@ pub fn number(refusal: Refusal) -> u32
         Refusal::LapseLimitOutOfRange => 17,
         Refusal::StrikesOutOfRange => 18,
         Refusal::WrongTicket => 19,
+    }
+}
+
+// The refusal of a number that an event of a record can have.
+pub fn refusal_of(n: u32) -> Refusal
+    requires { ⌜ (8 ≤ n) × (n ≤ 15) ⌝ }
+    ensures { λ r. ⌜ numberOf r ≡ n ⌝ }
+{
+    match n {
+        8 => Refusal::TimeBackwards,
+        9 => Refusal::TimePastEnd,
+        10 => Refusal::IdLive,
+        11 => Refusal::IdNotLive,
+        12 => Refusal::PriceOrVolumeOutOfRange,
+        13 => Refusal::TooManyOrders,
+        14 => Refusal::DealAboveLeft,
+        _ => Refusal::BadRecord,
     }
 }

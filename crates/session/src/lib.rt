@@ -214,7 +214,7 @@ fn run_records(most: u32, row: Row, sp: Steps, records: &[u8], buffer: &mut [u32
         let n = stepped.refusal;
         if 0 < n {
             return SessionAnswer::Refused {
-                refusal: quantum::refusal_of(n),
+                refusal: rules::refusal_of(n),
                 place,
             };
         }
