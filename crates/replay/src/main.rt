@@ -2,7 +2,7 @@
 ghost use mathlib.Core.Path.{_≡_};
 ghost use Prim.Native.Nat.{_≤_};
 ghost use lib.ListN.{length};
-ghost use Rattle.script.specs.Words.{wordsRead};
+ghost use Rattle.blocks.specs.Reading.{wordsRead};
 use libc::STDIN_FILENO;
 use libc::STDOUT_FILENO;
 use month::Month;

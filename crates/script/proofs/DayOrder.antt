@@ -15,7 +15,7 @@ use Rattle.rules.proofs.DayOrder.{zeros-accepted, accepted-zeros, perm-whole, r
 use Rattle.month.specs.declared.Month.{Month}
 use Rattle.month.specs.Represents.{monthOf, Answered}
 use Rattle.script.specs.declared.Ran.{Ran}
-use Rattle.script.specs.Words.{callsOf}
+use Rattle.blocks.specs.Reading.{callsOf}
 use Rattle.script.specs.Demand.{ListAnswers}
 use Rattle.script.specs.DayOrder.{Fills, SameMonths}
 use Rattle.script.proofs.Outcomes.{outcomes-front}

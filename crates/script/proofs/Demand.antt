@@ -19,7 +19,8 @@ use Rattle.rules.proofs.Answers.{report-shown}
 use Rattle.month.specs.declared.Reported.{Reported}
 use Rattle.month.specs.Represents.{monthOf, Answered}
 use Rattle.script.specs.declared.Ran.{Ran}
-use Rattle.script.specs.Words.{callsOf, outcomesOf}
+use Rattle.blocks.specs.Reading.{callsOf}
+use Rattle.script.specs.Outcomes.{outcomesOf}
 use Rattle.script.specs.Demand.{ListAnswers, Shows, Afresh}
 
 -- a report is never refused

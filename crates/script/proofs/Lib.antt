@@ -1,9 +1,5 @@
--- Laws about lists of calls as words, by subject.
-pub mod Reading
-pub mod Sizes
-pub mod Loops
+-- Laws about lists of calls that run, by subject.
 pub mod Outcomes
-pub mod Said
 pub mod Performing
 pub mod Running
 pub mod Demand
@@ -11,4 +7,3 @@ pub mod OldCharges
 pub mod OldMonths
 pub mod DayOrder
 pub mod Playing
-pub mod Format

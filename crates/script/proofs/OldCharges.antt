@@ -18,7 +18,7 @@ use Rattle.rules.proofs.OldCharges.{larger-charges}
 use Rattle.month.specs.declared.Month.{Month}
 use Rattle.month.specs.Represents.{Answered}
 use Rattle.script.specs.declared.Ran.{Ran}
-use Rattle.script.specs.Words.{callsOf}
+use Rattle.blocks.specs.Reading.{callsOf}
 use Rattle.script.specs.Demand.{ListAnswers}
 use Rattle.script.specs.OldCharges.{AsWithOldLimit}
 use Rattle.script.proofs.Outcomes.{outcomes-refusals}

@@ -20,7 +20,8 @@ use Rattle.rules.proofs.OldCharges.{not-past-tenfold, none-past-tenfold}
 use Rattle.month.specs.declared.Month.{Month}
 use Rattle.month.specs.Represents.{monthOf, Answered}
 use Rattle.script.specs.declared.Ran.{Ran}
-use Rattle.script.specs.Words.{callsOf, outcomesOf}
+use Rattle.blocks.specs.Reading.{callsOf}
+use Rattle.script.specs.Outcomes.{outcomesOf}
 use Rattle.script.specs.Demand.{ListAnswers}
 use Rattle.script.specs.OldMonths.{AsInPercents}
 use Rattle.script.proofs.OldCharges.{limit-raised}

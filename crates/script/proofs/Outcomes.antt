@@ -8,22 +8,22 @@ use Rattle.rules.specs.Calls.{Call, Book, freshBook}
 use Rattle.rules.specs.Causes.{refusalOf}
 use Rattle.rules.specs.Book.{step, run, after}
 use Rattle.rules.specs.Histories.{refusalsFrom}
-use Rattle.script.specs.Words.{outcomesFrom, outcomesOf}
+use Rattle.script.specs.Outcomes.{outcomesOf}
 
-pub outcomes-snoc : (b : Book) (cs : List Call) (c : Call)
-    → outcomesFrom b (cs ++ (c ∷ [])) ≡ outcomesFrom b cs ++ (refusalOf paper (run paper b cs) c ∷ [])
-unfolding outcomesFrom run
-outcomes-snoc b [] c = refl
-outcomes-snoc b (d ∷ cs) c = ap {B = List ℕ} (λ l. refusalOf paper b d ∷ l) (outcomes-snoc (step paper b d) cs c)
+from-snoc : (b : Book) (cs : List Call) (c : Call)
+    → refusalsFrom paper b (cs ++ (c ∷ [])) ≡ refusalsFrom paper b cs ++ (refusalOf paper (run paper b cs) c ∷ [])
+unfolding refusalsFrom run
+from-snoc b [] c = refl
+from-snoc b (d ∷ cs) c = ap {B = List ℕ} (λ l. refusalOf paper b d ∷ l) (from-snoc (step paper b d) cs c)
 
 pub outcomes-more : (cs : List Call) (c : Call)
     → outcomesOf (cs ++ (c ∷ [])) ≡ outcomesOf cs ++ (refusalOf paper (after paper cs) c ∷ [])
 unfolding outcomesOf after
-outcomes-more cs c = outcomes-snoc freshBook cs c
+outcomes-more cs c = from-snoc freshBook cs c
 
 -- an outcome for each call
-from-length : (b : Book) (cs : List Call) → length (outcomesFrom b cs) ≡ length cs
-unfolding outcomesFrom
+from-length : (b : Book) (cs : List Call) → length (refusalsFrom paper b cs) ≡ length cs
+unfolding refusalsFrom
 from-length b [] = refl
 from-length b (c ∷ cs) = ap suc (from-length (step paper b c) cs)
 
@@ -32,17 +32,12 @@ unfolding outcomesOf
 outcomes-length cs = from-length freshBook cs
 
 -- they are the plain book's numbers
-from-refusals : (b : Book) (cs : List Call) → outcomesFrom b cs ≡ refusalsFrom paper b cs
-unfolding outcomesFrom refusalsFrom
-from-refusals b [] = refl
-from-refusals b (c ∷ cs) = ap {B = List ℕ} (λ l. refusalOf paper b c ∷ l) (from-refusals (step paper b c) cs)
-
 pub outcomes-refusals : (cs : List Call) → outcomesOf cs ≡ refusalsFrom paper freshBook cs
 unfolding outcomesOf
-outcomes-refusals cs = from-refusals freshBook cs
+outcomes-refusals cs = refl
 
-from-front : (b : Book) (cs : List Call) (rest : List ℕ) → take (length cs) (outcomesFrom b cs ++ rest) ≡ refusalsFrom paper b cs
-unfolding outcomesFrom refusalsFrom
+from-front : (b : Book) (cs : List Call) (rest : List ℕ) → take (length cs) (refusalsFrom paper b cs ++ rest) ≡ refusalsFrom paper b cs
+unfolding refusalsFrom
 from-front b [] rest = refl
 from-front b (c ∷ cs) rest = ap {B = List ℕ} (λ l. refusalOf paper b c ∷ l) (from-front (step paper b c) cs rest)
 

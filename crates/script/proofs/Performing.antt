@@ -1,41 +1,41 @@
 -- From the month's promises to a block's. Assumes nothing.
 use Prim.Native.Nat.{ℕ, _+_}
 use native.Mathlib.Omega.{arith}
-use mathlib.Core.Path.{_≡_, refl, sym, ap, subst, _∙_}
+use mathlib.Core.Path.{_≡_, sym, ap, subst, _∙_}
 use mathlib.Core.List.{List}
 use lib.ListN.{drop}
-use Rattle.rules.specs.declared.Answer.{Answer}
-use Rattle.rules.specs.declared.Answer.the-variants as AA
-use Rattle.rules.specs.declared.CellView.{CellView}
-use Rattle.rules.specs.declared.Looked.{Looked}
-use Rattle.rules.specs.declared.Looked.the-variants as LL
-use Rattle.rules.specs.declared.Preview.{Preview}
-use Rattle.rules.specs.declared.Asked.{Asked}
-use Rattle.rules.specs.declared.Asked.the-variants as KK
-use Rattle.rules.specs.declared.Refusal.{Refusal}
-use Rattle.rules.specs.Answers.{Reply, numberOf, shownAnswer, shownLooked, shownAsked}
-use Rattle.rules.specs.Answers as A
+use Rattle.rules.specs.Answers.{Outcome, Reply}
 use Rattle.rules.specs.Calls.{Call}
 use Rattle.month.specs.declared.Month.{Month}
 use Rattle.month.specs.Represents.{Answered}
+use Rattle.blocks.specs.declared.Decoded.{Decoded}
+use Rattle.blocks.specs.Kinds.{blockSize, rowAt, callOf}
+use Rattle.blocks.specs.Decoded.{callWith}
 use Rattle.script.specs.declared.Shown.{Shown}
 use Rattle.script.specs.declared.Done.{Done}
 use Rattle.script.specs.declared.Outcome.the-variants as O
-use Rattle.script.specs.Words.{blockSize, callOf}
 use Rattle.script.specs.Blocks.{showing, shownOf, Performed, Stepped}
+use Rattle.script.specs.Internal.{Tells}
 
--- the same call under another name
-pub renamed : {m next : Month} {c d : Call} {shown : A.Outcome Reply} → c ≡ d → Answered m c next shown → Answered m d next shown
-renamed {m} {next} {c} {d} {shown} e a = subst (λ (x : Call). Answered m x next shown) e a
+-- what an answer shows, where it is known
+pub shown-by : {A : Type 0} (show : A → Outcome Reply) {a b : A} {s : Shown} → a ≡ b → s ≡ shownOf (show b) → s ≡ shownOf (show a)
+shown-by show e f = f ∙ ap (λ x. shownOf (show x)) (sym e)
 
-pub performed : {m next : Month} {c : Call} {shown : A.Outcome Reply} {s : Shown} → Answered m c next shown → s ≡ shownOf shown
-    → Performed m c next s
-performed a e = record { month = a .month; shown = λ calls is. e ∙ ap shownOf (a .answer calls is) }
+-- what a call of the month promises, told on: the call is the one that was decoded
+pub told : {m month : Month} {next : ℕ} {answer : Outcome Reply} {r : Done} (row : List ℕ) {said d : Decoded} → said ≡ d
+    → Answered m (callWith row d) month answer → Tells month next answer r
+    → (r .next ≡ next) × Performed m (callWith row said) (r .month) (r .shown)
+told {m} {month} {next} {answer} {r} row {said} {d} e a t = (
+  t .1,
+  subst (λ (c : Call). Performed m c (r .month) (r .shown)) (ap (callWith row) (sym e))
+      (record { month = λ calls is. t .0 ∙ a .month calls is; shown = λ calls is. t .2 ∙ ap shownOf (a .answer calls is) }),
+)
 
--- the month and what is shown, copied
-pub copied : {m next month : Month} {c : Call} {shown : A.Outcome Reply} {s : Shown} → Answered m c next shown → month ≡ next
-    → s ≡ shownOf shown → Performed m c month s
-copied a n e = record { month = λ calls is. n ∙ a .month calls is; shown = λ calls is. e ∙ ap shownOf (a .answer calls is) }
+-- the call that was decoded is the one that the block says
+pub said : {m month : Month} {shown : Shown} (part row : List ℕ) (d : Decoded) → row ≡ rowAt part → callWith (rowAt part) d ≡ callOf part
+    → Performed m (callWith row d) month shown → Performed m (callOf part) month shown
+said {m} {month} {shown} part row d e f p =
+    subst (λ (c : Call). Performed m c month shown) (ap (λ (l : List ℕ). callWith l d) e ∙ f) p
 
 module _ (m : Month) (ws : List ℕ) (at size : ℕ) (part : List ℕ) (p : part ≡ drop at ws) (e : size ≡ blockSize part) where
   size-is : size ≡ blockSize (drop at ws)
@@ -56,26 +56,3 @@ module _ (m : Month) (ws : List ℕ) (at size : ℕ) (part : List ℕ) (p : part
         none = λ h. absurd (z (size-is ∙ h));
         some = λ _. subst (λ (l : List ℕ). Performed m (callOf l) (r .month) (r .shown)) p d;
       }
-
--- ---- what the month's answers show
-
-pub accepted-shown : {a : Answer} {s : Shown} → a ≡ AA.Accepted → s ≡ showing O.Accepted → s ≡ shownOf (shownAnswer a)
-accepted-shown e f = f ∙ ap (λ (a : Answer). shownOf (shownAnswer a)) (sym e)
-
-pub refused-shown : {a : Answer} {r : Refusal} {n : ℕ} {s : Shown} → a ≡ AA.Refused r → n ≡ numberOf r → s ≡ showing (O.Refused n)
-    → s ≡ shownOf (shownAnswer a)
-refused-shown e n f = f ∙ ap (λ (k : ℕ). showing (O.Refused k)) n ∙ ap (λ (a : Answer). shownOf (shownAnswer a)) (sym e)
-
-pub found-shown : {a : Looked} {v : CellView} {s : Shown} → a ≡ LL.Found v → s ≡ showing (O.Found v) → s ≡ shownOf (shownLooked a)
-found-shown e f = f ∙ ap (λ (a : Looked). shownOf (shownLooked a)) (sym e)
-
-pub asked-shown : {a : Asked} {p : Preview} {s : Shown} → a ≡ KK.Shown p → s ≡ showing (O.Asked p) → s ≡ shownOf (shownAsked a)
-asked-shown e f = f ∙ ap (λ (a : Asked). shownOf (shownAsked a)) (sym e)
-
-pub ask-refused-shown : {a : Asked} {r : Refusal} {n : ℕ} {s : Shown} → a ≡ KK.Refused r → n ≡ numberOf r → s ≡ showing (O.Refused n)
-    → s ≡ shownOf (shownAsked a)
-ask-refused-shown e n f = f ∙ ap (λ (k : ℕ). showing (O.Refused k)) n ∙ ap (λ (a : Asked). shownOf (shownAsked a)) (sym e)
-
-pub look-refused-shown : {a : Looked} {r : Refusal} {n : ℕ} {s : Shown} → a ≡ LL.Refused r → n ≡ numberOf r → s ≡ showing (O.Refused n)
-    → s ≡ shownOf (shownLooked a)
-look-refused-shown e n f = f ∙ ap (λ (k : ℕ). showing (O.Refused k)) n ∙ ap (λ (a : Looked). shownOf (shownLooked a)) (sym e)

@@ -10,9 +10,10 @@ use Rattle.rules.specs.Book.{after}
 use Rattle.month.specs.declared.Month.{Month}
 use Rattle.month.specs.Represents.{monthOf, Reached}
 use Rattle.script.specs.declared.Done.{Done}
-use Rattle.script.specs.Words.{blockSize, callOf, wordsRead}
+use Rattle.blocks.specs.Kinds.{blockSize, callOf}
+use Rattle.blocks.specs.Reading.{wordsRead}
 use Rattle.script.specs.Blocks.{Stepped}
-use Rattle.script.proofs.Loops.{Passed, at-start, one-more, all-words}
+use Rattle.blocks.proofs.Loops.{Passed, at-start, one-more, all-words}
 
 -- so many calls are done, and the month is reached
 pub record Underway (ws : List ℕ) (month : Month) (at : ℕ) : Type 0 where

@@ -14,16 +14,19 @@ use Rattle.rules.specs.Calls.{Call, Book}
 use Rattle.rules.specs.Causes.{refusalOf}
 use Rattle.rules.specs.Replies.{replyOf}
 use Rattle.rules.specs.Book.{answerOf, after}
+use Rattle.rules.specs.Histories.{refusalsFrom}
 use Rattle.month.specs.declared.Month.{Month}
 use Rattle.month.specs.Represents.{monthOf, Reached}
 use Rattle.script.specs.declared.Done.{Done}
 use Rattle.script.specs.declared.Shown.{Shown}
-use Rattle.script.specs.declared.Measured.{Measured}
-use Rattle.script.specs.Words.{blockSize, callOf, callsOf, outcomesFrom, outcomesOf}
-use Rattle.script.specs.Measures.{Measures}
+use Rattle.blocks.specs.declared.Measured.{Measured}
+use Rattle.blocks.specs.Kinds.{blockSize, callOf}
+use Rattle.blocks.specs.Reading.{callsOf}
+use Rattle.script.specs.Outcomes.{outcomesOf}
+use Rattle.blocks.specs.Measures.{Measures}
 use Rattle.script.specs.Blocks.{shownOf, outcomeNumber, Stepped}
 use Rattle.script.specs.Demand.{ListAnswers}
-use Rattle.script.proofs.Loops.{Passed, at-start, next-call, one-more, none-left}
+use Rattle.blocks.proofs.Loops.{Passed, at-start, next-call, one-more, none-left}
 use Rattle.script.proofs.Outcomes.{outcomes-more, outcomes-length}
 
 -- ---- lists
@@ -67,7 +70,7 @@ pub record Ongoing (ws before out : List ℕ) (month : Month) (at k : ℕ) : Typ
 
 pub starts : (ws before : List ℕ) (month : Month) → length (callsOf ws) ≤ length before → month ≡ monthOf (after paper [])
     → Ongoing ws before before month 0 0
-unfolding outcomesOf outcomesFrom
+unfolding outcomesOf refusalsFrom
 starts ws before month h e =
     record {
       passed = at-start ws (blockSize (drop 0 ws)) refl;

@@ -14,11 +14,11 @@ use Rattle.rules.specs.Calls.{Call}
 use Rattle.rules.specs.Book.{after, answerOf}
 use Rattle.month.specs.declared.Month.{Month}
 use Rattle.month.specs.Represents.{monthOf}
+use Rattle.blocks.specs.Kinds.{blockSize, callOf}
 use Rattle.script.specs.declared.Outcome.{Outcome}
 use Rattle.script.specs.declared.Outcome.the-variants as O
 use Rattle.script.specs.declared.Shown.{Shown}
 use Rattle.script.specs.declared.Done.{Done}
-use Rattle.script.specs.Words.{blockSize, callOf}
 
 -- what stands in the place of a report where none is shown
 abbrev pub blankReport : Report

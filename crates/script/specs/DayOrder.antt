@@ -11,7 +11,7 @@ use Rattle.month.specs.declared.LookedAt.{LookedAt}
 use Rattle.month.specs.declared.Reported.{Reported}
 use Rattle.month.specs.Represents.{Answered}
 use Rattle.script.specs.declared.Ran.{Ran}
-use Rattle.script.specs.Words.{callsOf}
+use Rattle.blocks.specs.Reading.{callsOf}
 use Rattle.script.specs.Demand.{ListAnswers}
 
 -- a list of words whose calls are these "whole quanta", run from a fresh month, "none refused": every outcome written is 0

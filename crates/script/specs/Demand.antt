@@ -22,7 +22,8 @@ use Rattle.month.specs.declared.AskedAbout.{AskedAbout}
 use Rattle.month.specs.declared.Reported.{Reported}
 use Rattle.month.specs.Represents.{monthOf, Reached, Answered}
 use Rattle.script.specs.declared.Ran.{Ran}
-use Rattle.script.specs.Words.{callsOf, wordsRead, outcomesOf}
+use Rattle.blocks.specs.Reading.{callsOf, wordsRead}
+use Rattle.script.specs.Outcomes.{outcomesOf}
 
 -- The words of a list, the lent buffer before and after, and the answer. Whatever the list: the month is the month of that list, and
 -- each call's outcome is the plain book's; words behind the outcomes keep their contents. A buffer with fewer words than the list has

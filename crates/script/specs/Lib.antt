@@ -1,6 +1,6 @@
-pub mod Words
-pub mod Measures
+pub mod Outcomes
 pub mod Blocks
+pub mod Internal
 pub mod Demand
 pub mod OldCharges
 pub mod OldMonths

@@ -5,7 +5,7 @@ use native.Mathlib.Omega.{arith}
 use mathlib.Core.Path.{_≡_}
 use borrow.Author.Needs.{needs}
 use lib.ListN.{length}
-use Rattle.script.specs.Words.{callsOf}
+use Rattle.blocks.specs.Reading.{callsOf}
 use Rattle.script.proofs.Running.{Ongoing, starts, is-reached, out-length, goes-on, too-short, finished}
 use Rattle.script.proofs.run.Statement.{statement}
 use Rattle.script.proofs.run.Tie as tie
