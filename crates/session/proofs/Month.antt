@@ -11,7 +11,6 @@ use Rattle.rules.specs.declared.Row.{Row}
 use Rattle.rules.specs.declared.Cell.{Cell}
 use Rattle.rules.specs.declared.CellView.{CellView}
 use Rattle.rules.specs.declared.Event.{Event}
-use Rattle.rules.specs.Lists.{if_then_else_}
 use Rattle.rules.specs.Terms.{paper}
 use Rattle.rules.specs.Units.{kopecks}
 use Rattle.rules.specs.Rows.{rowOf, goodRow}
@@ -23,7 +22,7 @@ use Rattle.rules.specs.Calls.{Call, Open, Send, Close, Look, Book}
 use Rattle.rules.specs.Causes.{eventRefusal}
 use Rattle.rules.specs.Changes.{closedCell}
 use Rattle.rules.specs.Book.{answerOf, step, run, after}
-use Rattle.rules.specs.Records.{goodRecord, eventOf, fieldsOf, readRecord}
+use Rattle.rules.specs.Records.{readRecord}
 use Rattle.rules.specs.Session.{whole, recordsOf, withoutLapseLimit, runRecords, session}
 use Rattle.rules.proofs.Lists.{and}
 use Rattle.rules.proofs.Refusals.{passes-call, answer-accepted}
