@@ -18,7 +18,7 @@ ghost use Rattle.rules.specs.Kept.{ordersKeep};
 ghost use Rattle.quote.specs.Widest.{WidestFor};
 ghost use Rattle.book.specs.Table.{tableOf, slotBy, slotIn, GoodOrders, Held, Holding, Sends};
 ghost use Rattle.book.specs.Internal.{Numbers, sideAt, idOf, Represents, Located, Placed, answer, noChange, Applied};
-use ranges::both;
+use numbers::both;
 use rules::Contracts;
 use rules::Event;
 use rules::Quote;
