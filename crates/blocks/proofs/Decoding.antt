@@ -1,0 +1,107 @@
+-- A block's arguments, and the call by its kind. Assumes nothing.
+use Prim.Native.Nat.{ℕ, _+_, _-_, _*_, _≤_, min}
+use native.Mathlib.Omega.{arith}
+use mathlib.Core.Path.{_≡_, refl, sym, ap, _∙_}
+use mathlib.Core.List.{List, [], _∷_}
+use mathlib.Core.Bool.{Bool, true, false}
+use borrow.Author.Tests.{ne-eqb, leb-true, leb-false}
+use lib.Dec.{leb}
+use lib.ListN.{length, getD, take, drop, length-take, length-drop}
+use lib.Seq.{take-all}
+use Rattle.rules.specs.declared.Side.the-variants.{Buy, Sell}
+use Rattle.rules.specs.declared.Opening.{Opening}
+use Rattle.rules.specs.Calls.{Report}
+use Rattle.rules.specs.Calls as B
+use Rattle.blocks.specs.declared.Decoded.{Decoded}
+use Rattle.blocks.specs.declared.Decoded.the-variants as D
+use Rattle.blocks.specs.Kinds.{wideAt, sideOf, rowAt, openingAt, strikeOpeningAt, callBy, callOf}
+use Rattle.blocks.specs.Decoded.{callWith}
+use Rattle.blocks.proofs.Sizes.{NoneOf}
+
+-- ---- arguments
+
+pub is-buy : (w : ℕ) → w ≡ 1 → Buy ≡ sideOf w
+is-buy w e = rw e refl
+
+pub is-sell : (w : ℕ) → (w ≡ 1 → ⊥) → Sell ≡ sideOf w
+is-sell w h = rw (ne-eqb w 1 h) refl
+
+pub wide-is : (ws : List ℕ) (i : ℕ) {a b low high : ℕ} → a ≡ getD ws i 0 → b ≡ getD ws (i + 1) 0 → low ≡ a → high ≡ b
+    → low + 4294967296 * high ≡ wideAt ws i
+wide-is ws i a b l h = λ j. (l ∙ a) j + 4294967296 * (h ∙ b) j
+
+nil : (l : List ℕ) → length l ≤ 0 → l ≡ []
+nil [] h = refl
+nil (x ∷ l) h = absurd (omega arith)
+
+-- a row that runs past the words ends with them
+pub row-is : (ws : List ℕ) (n start end : ℕ) → end ≡ min (2 + n) (length ws) → start ≡ min 2 end
+    → take (end - start) (drop start ws) ≡ take n (drop 2 ws)
+row-is ws n start end e s = go (leb 2 (length ws)) (leb n (length ws - 2)) refl refl
+  where
+    go : (a b : Bool) → leb 2 (length ws) ≡ a → leb n (length ws - 2) ≡ b → take (end - start) (drop start ws) ≡ take n (drop 2 ws)
+    go false b p q =
+        let h = leb-false 2 (length ws) p in
+        nil (take (end - start) (drop start ws)) (simp (length-take, length-drop) (omega arith))
+        ∙ sym (nil (take n (drop 2 ws)) (simp (length-take, length-drop) (omega arith)))
+    go true true p q =
+        let h = leb-true 2 (length ws) p in
+        let k = leb-true n (length ws - 2) q in
+        let f : start ≡ 2 = omega arith in
+        let g : end - start ≡ n = omega arith in
+        λ i. take (g i) (drop (f i) ws)
+    go true false p q =
+        let h = leb-true 2 (length ws) p in
+        let k = leb-false n (length ws - 2) q in
+        let f : start ≡ 2 = omega arith in
+        let g : end - start ≡ length ws - 2 = omega arith in
+        (λ i. take (g i) (drop (f i) ws))
+        ∙ take-all (length ws - 2) (drop 2 ws) (rw (length-drop 2 ws) (omega arith))
+        ∙ sym (take-all n (drop 2 ws) (rw (length-drop 2 ws) (omega arith)))
+
+-- ---- the call by its kind
+
+-- a kind that says no other call is a report
+not-said : (ws : List ℕ) (kind : ℕ) → NoneOf kind (15 ∷ 14 ∷ 13 ∷ 11 ∷ 10 ∷ 9 ∷ 8 ∷ 7 ∷ 6 ∷ 5 ∷ 4 ∷ 3 ∷ 2 ∷ 1 ∷ []) → callBy kind ws ≡ Report
+not-said ws kind h =
+    rw (
+      ne-eqb kind 1 (h .0 .0 .0 .0 .0 .0 .0 .0 .0 .0 .0 .0 .0 .1),
+      ne-eqb kind 2 (h .0 .0 .0 .0 .0 .0 .0 .0 .0 .0 .0 .0 .1),
+      ne-eqb kind 3 (h .0 .0 .0 .0 .0 .0 .0 .0 .0 .0 .0 .1),
+      ne-eqb kind 4 (h .0 .0 .0 .0 .0 .0 .0 .0 .0 .0 .1),
+      ne-eqb kind 5 (h .0 .0 .0 .0 .0 .0 .0 .0 .0 .1),
+      ne-eqb kind 6 (h .0 .0 .0 .0 .0 .0 .0 .0 .1),
+      ne-eqb kind 7 (h .0 .0 .0 .0 .0 .0 .0 .1),
+      ne-eqb kind 8 (h .0 .0 .0 .0 .0 .0 .1),
+      ne-eqb kind 9 (h .0 .0 .0 .0 .0 .1),
+      ne-eqb kind 10 (h .0 .0 .0 .0 .1),
+      ne-eqb kind 11 (h .0 .0 .0 .1),
+      ne-eqb kind 13 (h .0 .0 .1),
+      ne-eqb kind 14 (h .0 .1),
+      ne-eqb kind 15 (h .1),
+    )
+    refl
+
+module _ (ws : List ℕ) where
+  -- the first word is the kind
+  pub by-kind : (kind k : ℕ) → kind ≡ getD ws 0 0 → kind ≡ k → callBy k ws ≡ callOf ws
+  unfolding callOf
+  by-kind kind k e f = ap (λ (j : ℕ). callBy j ws) (sym f ∙ e)
+
+  -- an open of either kind: what it is told besides the row and the day stands behind the day
+  pub open-is : {r : Decoded} {o : Opening} (end : ℕ) → end ≡ 2 + getD ws 1 0 → r ≡ D.Open (getD ws (2 + getD ws 1 0) 0) o → o ≡ openingAt ws (end + 1)
+      → callWith (rowAt ws) r ≡ callBy 1 ws
+  open-is end e r o =
+      let f : end + 1 ≡ 3 + getD ws 1 0 = omega arith in
+      ap (callWith (rowAt ws)) r ∙ ap (B.Open (rowAt ws) (getD ws (2 + getD ws 1 0) 0)) (o ∙ ap (openingAt ws) f)
+
+  pub strike-is : {r : Decoded} {o : Opening} (end : ℕ) → end ≡ 2 + getD ws 1 0 → r ≡ D.Open (getD ws (2 + getD ws 1 0) 0) o → o ≡ strikeOpeningAt ws (end + 1)
+      → callWith (rowAt ws) r ≡ callBy 13 ws
+  strike-is end e r o =
+      let f : end + 1 ≡ 3 + getD ws 1 0 = omega arith in
+      ap (callWith (rowAt ws)) r ∙ ap (B.Open (rowAt ws) (getD ws (2 + getD ws 1 0) 0)) (o ∙ ap (strikeOpeningAt ws) f)
+
+  -- any other kind
+  pub other-is : (kind : ℕ) → kind ≡ getD ws 0 0 → NoneOf kind (15 ∷ 14 ∷ 13 ∷ 11 ∷ 10 ∷ 9 ∷ 8 ∷ 7 ∷ 6 ∷ 5 ∷ 4 ∷ 3 ∷ 2 ∷ 1 ∷ []) → Report ≡ callOf ws
+  unfolding callOf
+  other-is kind e h = sym (not-said ws kind h) ∙ ap (λ (j : ℕ). callBy j ws) e

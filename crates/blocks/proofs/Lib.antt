@@ -1,0 +1,6 @@
+-- Laws about blocks and lists of words, by subject.
+pub mod Reading
+pub mod Sizes
+pub mod Loops
+pub mod Decoding
+pub mod Writing

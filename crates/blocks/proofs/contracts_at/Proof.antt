@@ -1,0 +1,15 @@
+-- `blocks::contracts_at` meets its contract: the word at its place. Assumes nothing.
+use mathlib.Core.Path.{ap}
+use Rattle.rules.specs.Units.{contracts}
+use borrow.Author.Needs.{needs}
+use Rattle.blocks.proofs.contracts_at.Statement.{statement}
+use Rattle.blocks.proofs.contracts_at.Tie as tie
+
+word-requires : tie.Need-word-requires
+word-requires c κs = search needs
+
+returns : tie.Need-returns
+returns c = ap contracts (c .word .ensures)
+
+pub contracts-at-spec : {M : Type 1} → statement M
+contracts-at-spec = tie.close (tie.spec word-requires returns)

@@ -1,0 +1,20 @@
+-- `blocks::steps_at` meets its contract: the word in two's complement. Assumes nothing.
+use Prim.Native.Nat.{ℕ}
+use mathlib.Core.Path.{ap, _∙_}
+use Rattle.rules.specs.Units.{steps}
+use Rattle.rules.specs.Records.{signedOf}
+use borrow.Author.Needs.{needs}
+use Rattle.blocks.proofs.steps_at.Statement.{statement}
+use Rattle.blocks.proofs.steps_at.Tie as tie
+
+word-requires : tie.Need-word-requires
+word-requires c κs = search needs
+
+to-steps-requires : tie.Need-to-steps-requires
+to-steps-requires c κs = search needs
+
+returns : tie.Need-returns
+returns c = c .to-steps .ensures ∙ ap (λ (w : ℕ). steps (signedOf w)) (c .before .word .ensures)
+
+pub steps-at-spec : {M : Type 1} → statement M
+steps-at-spec = tie.close (tie.spec word-requires to-steps-requires returns)

@@ -1,0 +1,6 @@
+pub mod Kinds
+pub mod Reading
+pub mod Writing
+pub mod Measures
+pub mod Decoded
+pub mod Internal
