@@ -9,9 +9,9 @@ ghost use Rattle.rules.specs.Lists.{within, sum};
 ghost use Rattle.rules.specs.Boards.{keptOf, lengthIn, goodQuantumOf, reaches, judged};
 ghost use Rattle.board.specs.Answers.{shownBoard};
 ghost use Rattle.board.specs.Internal.{every, numbersGood, sharesMet};
+use numbers::both;
 use ranges::at_most;
 use ranges::between;
-use ranges::both;
 
 // Whether the board is met, or refusal 18.
 pub enum BoardAnswer {

@@ -154,7 +154,7 @@ module _ (t : Millis) (minimum : ℕ) (live : List Order) (table : List ℕ) (re
     abbrev slots : List Slot
     slots = slotsIn (sideAt (at / 64)) live
 
-    pub has-slot : Has id (ofSide (sideAt (at / 64)) live) (at % 64)
+    has-slot : Has id (ofSide (sideAt (at / 64)) live) (at % 64)
     has-slot =
         subst (λ (m : ℕ). Has id (ofSide (sideAt (m / 64)) live) (m % 64)) (sym is-slot)
         (slot-represents live (represents .good) id (subst (λ (m : ℕ). m < 128) is-slot there) .1)
@@ -166,7 +166,7 @@ module _ (t : Millis) (minimum : ℕ) (live : List Order) (table : List ℕ) (re
     within = inside live (represents .good) (sideAt (at / 64)) (at % 64) id has-slot
 
     -- what its words hold
-    pub its-key : getD table (256 * (at / 64) + (64 + at % 64)) 0 ≡ getD (slotsIn (sideAt (at / 64)) live) (at % 64) blankSlot .key
+    its-key : getD table (256 * (at / 64) + (64 + at % 64)) 0 ≡ getD (slotsIn (sideAt (at / 64)) live) (at % 64) blankSlot .key
     its-key = side-key table minimum live represents (at / 64) small (at % 64) (omega arith)
 
     pub its-left : getD table (256 * (at / 64) + (128 + at % 64)) 0 ≡ left id live

@@ -26,7 +26,7 @@ module _ (live : List Order) (good : GoodOrders live) (id slot : ℕ) (at : slot
   pub known : slot < 128 → isLive id live ≡ true
   known h = sym is-live ∙ lt-ltb slot 128 h
 
-  pub unknown : 128 ≤ slot → isLive id live ≡ false
+  unknown : 128 ≤ slot → isLive id live ≡ false
   unknown h = sym is-live ∙ le-ltb slot 128 h
 
   module _ (side : Side) (price : Steps) (volume : Contracts) where

@@ -1,5 +1,5 @@
 -- What an accepted event does to the slots of a side, and that they stay within their bounds. Assumes nothing.
-use Prim.Native.Nat.{ℕ, suc, _+_, _-_, _≤_, _<_}
+use Prim.Native.Nat.{ℕ, suc, _-_, _≤_, _<_}
 use native.Mathlib.Omega.{arith}
 use mathlib.Core.Path.{_≡_, refl, sym, ap, _∙_, subst}
 use mathlib.Core.List.{List, [], _∷_, _++_, map, map-append, append-nil, List·Memᴰ, Memᴰ·of-map}
@@ -18,7 +18,7 @@ use Rattle.rules.specs.Units.{contracts}
 use Rattle.rules.specs.Orders.{left, apply}
 use Rattle.rules.specs.Quotes.{same}
 use Rattle.rules.proofs.Members.{getD-in}
-use Rattle.rules.proofs.Orders.{amend-at, cancel-at, deal-some, deal-all, left-at}
+use Rattle.rules.proofs.Orders.{amend-at, cancel-at, deal-some, left-at}
 use Rattle.rules.proofs.Bounds.{volume-bounds}
 use Rattle.quote.specs.Keys.{keyOf}
 use Rattle.quote.proofs.Keys.{key-least, key-most}
@@ -161,11 +161,3 @@ module _ (live : List Order) (good : GoodOrders live) (s : Side) (k id : ℕ) (h
         ∙ deal-some id (ofSide s live) k blankOrder (distinct-side s live good) (h .inside) (h .has) some t volume (omega (arith, held)))
         ∙ set-slots (record { id = o .id; side = o .side; price = o .price; volume = contracts (o .volume .0 - volume .0) })
         ∙ ap (λ (x : Slot). set (slotsIn s live) k (slot (x .id) (x .key) (x .volume - volume .0))) (sym is-slot)
-
-    pub dealt-all : volume .0 ≡ getD (slotsIn s live) k blankSlot .volume
-        → slotsIn s (apply live (Deal t id volume)) ≡ take k (slotsIn s live) ++ drop (suc k) (slotsIn s live)
-    dealt-all l =
-        ap (map (slotOf s))
-        (side-named s live id (Deal t id volume) refl
-        ∙ deal-all id (ofSide s live) k blankOrder (distinct-side s live good) (h .inside) (h .has) some t volume (omega (arith, held)))
-        ∙ without

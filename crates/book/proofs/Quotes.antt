@@ -56,7 +56,7 @@ module _ (table : List ℕ) (minimum : ℕ) (live : List Order) (represents : Re
   good-best s =
       subst GoodQuote (sym (best-key s minimum live (represents .good .prices))) (good-quote s (bestOf s minimum (ofSide s live)) (most s))
 
-  pub words-filter : (row : Row) (sp : SpreadRule) (widest : ℕ) → WidestFor row sp widest
+  words-filter : (row : Row) (sp : SpreadRule) (widest : ℕ) → WidestFor row sp widest
       → keysKeep widest (getD table 193 0) (getD table 449 0) ≡ quotesKeep row sp (best Buy minimum live) (best Sell minimum live)
   words-filter row sp widest law =
       ap (λ (k : ℕ). keysKeep widest k (getD table 449 0)) (word-key 0 (omega arith))

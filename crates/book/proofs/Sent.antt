@@ -1,5 +1,5 @@
 -- The table after an event: with the best level of its side moved, it stands for the orders after it. Assumes nothing.
-use Prim.Native.Nat.{ℕ, zero, suc, _-_, _≤_, _<_}
+use Prim.Native.Nat.{ℕ, zero, suc, _≤_, _<_}
 use native.Mathlib.Omega.{arith}
 use mathlib.Core.Path.{_≡_, refl, ap, _∙_}
 use mathlib.Core.List.{List}
@@ -17,7 +17,7 @@ use Rattle.book.proofs.Events.{good-slots}
 use Rattle.book.proofs.Applied.{lent, putBack}
 
 -- the two halves by the number of either
-pub both-halves : (n minimum : ℕ) (live : List Order) → n < 2 → joined n (sideIn minimum (sideAt n) live) (sideIn minimum (other (sideAt n)) live) ≡ tableOf minimum live
+both-halves : (n minimum : ℕ) (live : List Order) → n < 2 → joined n (sideIn minimum (sideAt n) live) (sideIn minimum (other (sideAt n)) live) ≡ tableOf minimum live
 unfolding tableOf
 both-halves zero minimum live h = refl
 both-halves (suc zero) minimum live h = refl

@@ -98,7 +98,7 @@ module _ (live : List Order) (good : GoodOrders live) (id : ℕ) where
       go false e = absurd (false≢true e)
   slot-there (suc (suc n)) k l h = absurd (omega arith)
 
-  pub slot-none : isLive id live ≡ false → slotIn id live ≡ 128
+  slot-none : isLive id live ≡ false → slotIn id live ≡ 128
   slot-none h =
       let (b, s) = or-false (isLive id (ofSide Buy live)) (isLive id (ofSide Sell live)) (sym (live-sides id live) ∙ h) in
       rw (none-there Buy b, none-there Sell s) refl

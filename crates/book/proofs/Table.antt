@@ -33,7 +33,7 @@ slot-at s (o ∷ os) zero h = refl
 slot-at s (o ∷ os) (suc k) h = slot-at s os k (le-of-suc-le-suc h)
 
 -- an id that is not a blank's stands where an order is
-pub has-at : (s : Side) (os : List Order) (k id : ℕ) → (id ≡ 0 → ⊥) → getD (map (slotOf s) os) k blankSlot .id ≡ id → Has id os k
+has-at : (s : Side) (os : List Order) (k id : ℕ) → (id ≡ 0 → ⊥) → getD (map (slotOf s) os) k blankSlot .id ≡ id → Has id os k
 has-at s os k id some e = go (leb (length os) k) refl
   where
     go : (b : Bool) → leb (length os) k ≡ b → Has id os k
@@ -85,7 +85,7 @@ module _ (table : List ℕ) (minimum : ℕ) (live : List Order) (represents : Re
   pub half-length : (s : Side) → length (sideIn minimum s live) ≡ 256
   half-length s = words-length (sideIn minimum s live) (slotsIn s live) (bestIn minimum (slotsIn s live)) (few-slots s) refl
 
-  pub halves : (n : ℕ) → n < 2 → table ≡ joined n (sideIn minimum (sideAt n) live) (sideIn minimum (other (sideAt n)) live)
+  halves : (n : ℕ) → n < 2 → table ≡ joined n (sideIn minimum (sideAt n) live) (sideIn minimum (other (sideAt n)) live)
   unfolding tableOf
   halves zero h = represents .is
   halves (suc zero) h = represents .is
@@ -123,7 +123,7 @@ module _ (table : List ℕ) (minimum : ℕ) (live : List Order) (represents : Re
         ∙ length-map (ofSide (sideAt n) live) (slotOf (sideAt n))
 
     -- what a side's words say
-    pub side-count : getD table (256 * n + 192) 0 ≡ length (ofSide (sideAt n) live)
+    side-count : getD table (256 * n + 192) 0 ≡ length (ofSide (sideAt n) live)
     side-count =
         at 192 (omega arith)
         ∙ count-is (sideIn minimum (sideAt n) live) (slotsIn (sideAt n) live) (bestIn minimum (slotsIn (sideAt n) live)) (few-slots (sideAt n)) refl
@@ -142,7 +142,7 @@ module _ (table : List ℕ) (minimum : ℕ) (live : List Order) (represents : Re
         ∙ key-is (sideIn minimum (sideAt n) live) (slotsIn (sideAt n) live) (bestIn minimum (slotsIn (sideAt n) live)) (few-slots (sideAt n)) refl
 
     module _ (k : ℕ) (l : k < 64) where
-      pub side-id : getD table (256 * n + k) 0 ≡ getD (slotsIn (sideAt n) live) k blankSlot .id
+      side-id : getD table (256 * n + k) 0 ≡ getD (slotsIn (sideAt n) live) k blankSlot .id
       side-id =
           at k (omega arith)
           ∙ id-at (sideIn minimum (sideAt n) live) (slotsIn (sideAt n) live) (bestIn minimum (slotsIn (sideAt n) live)) (few-slots (sideAt n)) refl k l
@@ -161,7 +161,7 @@ module _ (table : List ℕ) (minimum : ℕ) (live : List Order) (represents : Re
   all-count = omega (arith, side-count 0 (omega arith), side-count 1 (omega arith), length-sides live)
 
   -- a slot that has the id is the id's: the id of a blank is 0
-  pub hint-is : (id h : ℕ) → h < 128 → (id ≡ 0 → ⊥) → getD table (256 * (h / 64) + h % 64) 0 ≡ id → h ≡ slotIn id live
+  hint-is : (id h : ℕ) → h < 128 → (id ≡ 0 → ⊥) → getD table (256 * (h / 64) + h % 64) 0 ≡ id → h ≡ slotIn id live
   hint-is id h l some e =
       let side : h / 64 < 2 = omega arith in
       let place : h % 64 < 64 = omega arith in

@@ -18,13 +18,24 @@ ghost use Rattle.rules.specs.Kept.{ordersKeep};
 ghost use Rattle.quote.specs.Widest.{WidestFor};
 ghost use Rattle.book.specs.Table.{tableOf, slotBy, slotIn, GoodOrders, Held, Holding, Sends};
 ghost use Rattle.book.specs.Internal.{Numbers, sideAt, idOf, Represents, Located, Placed, answer, noChange, Applied};
-use ranges::both;
+use numbers::both;
 use rules::Contracts;
 use rules::Event;
 use rules::Quote;
 use rules::Side;
 use rules::Steps;
+use side::BEST;
+use side::COUNT;
 use side::Change;
+use side::KEYS;
+use side::VOLUMES;
+use side::WORDS;
+
+// The words of the table: the buys', then the sells'.
+pub const TABLE: usize = 512;
+
+// The number of hints.
+const HINTS: u32 = 1024;
 
 // The answer to an event: the refusal's number; or 0, and what changes on which side, buys 0 and sells 1.
 struct Answer {
@@ -83,7 +94,7 @@ pub fn count(table: &[u32]) -> u32
     requires { ⌜ Held (now table) ⌝ }
     ensures { λ r. ⌜ ((minimum : ℕ) (live : List Order) → GoodOrders live → now (table .entry) ≡ tableOf minimum live → r ≡ length live) ⌝ }
 {
-    table[192] + table[448]
+    table[COUNT] + table[WORDS + COUNT]
 }
 
 // The slot of what the scans of both sides found, or 128; buys have 0 to 63, sells 64 to 127.
@@ -110,7 +121,7 @@ fn names(word: u32, id: u32) -> bool
 fn note(hints: &mut [u8], id: u32, slot: usize)
     requires { ⌜ (length (now hints) ≡ 1024) × (slot ≤ 128) ⌝ }
 {
-    hints[(id % 1024) as usize] = slot as u8;
+    hints[(id % HINTS) as usize] = slot as u8;
 }
 
 // The slot of the order with the id, or 128: the one that was last found for an id like this, where it stands there.
@@ -118,14 +129,14 @@ fn find(table: &[u32], hints: &mut [u8], id: u32) -> usize
     requires { ⌜ Held (now table) × (length (now hints) ≡ 1024) ⌝ }
     ensures { λ r. ⌜ ((minimum : ℕ) (live : List Order) → Represents (now (table .entry)) minimum live → r ≡ slotIn id live) ⌝ }
 {
-    let hint = (hints[(id % 1024) as usize] % 128) as usize;
-    let word = table[256 * (hint / 64) + hint % 64];
+    let hint = (hints[(id % HINTS) as usize] % 128) as usize;
+    let word = table[WORDS * (hint / 64) + hint % 64];
     if names(word, id) {
         return hint;
     }
     let slot = slot_of(
-        side::located(&table[0..256], id),
-        side::located(&table[256..512], id),
+        side::located(&table[0..WORDS], id),
+        side::located(&table[WORDS..TABLE], id),
     );
     note(hints, id, slot);
     slot
@@ -135,22 +146,24 @@ fn find(table: &[u32], hints: &mut [u8], id: u32) -> usize
 fn rehint(table: &[u32], hints: &mut [u8], s: usize, place: usize)
     requires { ⌜ Placed (now table) (now hints) s ⌝ }
 {
-    let to = table[256 * s + 192] as usize;
+    let to = table[WORDS * s + COUNT] as usize;
     let mut i = place;
     while i < to {
-        note(hints, table[256 * s + i], 64 * s + i);
+        note(hints, table[WORDS * s + i], 64 * s + i);
         i += 1;
     }
 }
 
 // ---- the events
 
+// What an add and an amendment are refused for by 12.
 fn in_range(price: Steps, volume: Contracts) -> bool
     ensures { λ r. ⌜ r ≡ (goodPrice (price .0) && goodVolume (volume .0)) ⌝ }
 {
     both(ranges::price(price), ranges::volume(volume))
 }
 
+// One more order, behind the others of its side: refused by 10, 12 or 13, in this order.
 fn add(
     table: &mut [u32],
     hints: &mut [u8],
@@ -171,16 +184,17 @@ fn add(
             return refused(13);
         }
         let s = side_number(side);
-        note(hints, id, 64 * s + table[256 * s + 192] as usize);
+        note(hints, id, 64 * s + table[WORDS * s + COUNT] as usize);
         let key = quote::key_of(side, price);
         return done(
             s,
-            side::add(&mut table[256 * s..256 * s + 256], id, key, volume),
+            side::add(&mut table[WORDS * s..WORDS * s + WORDS], id, key, volume),
         );
     }
     refused(12)
 }
 
+// Another price and volume for the order in a slot, which keeps its id, its side and its place: refused by 11 or 12.
 fn amend(table: &mut [u32], slot: usize, price: Steps, volume: Contracts) -> Answer
     requires { ⌜ Located (now table) slot ⌝ }
     ensures { λ r. ⌜ ((t : Millis) (id minimum : ℕ) (live : List Order) → Represents (now (table .entry)) minimum live → slot ≡ slotIn id live → Applied (Amend t id price volume) minimum live (now (table .exit)) r) ⌝ }
@@ -193,12 +207,18 @@ fn amend(table: &mut [u32], slot: usize, price: Steps, volume: Contracts) -> Ans
         let key = quote::key_of(side_at(s), price);
         return done(
             s,
-            side::amend(&mut table[256 * s..256 * s + 256], slot % 64, key, volume),
+            side::amend(
+                &mut table[WORDS * s..WORDS * s + WORDS],
+                slot % 64,
+                key,
+                volume,
+            ),
         );
     }
     refused(12)
 }
 
+// The order in a slot goes: refused by 11 where there is none. The orders behind it move up, and the hints with them.
 fn cancel(table: &mut [u32], hints: &mut [u8], slot: usize) -> Answer
     requires { ⌜ Located (now table) slot × (length (now hints) ≡ 1024) ⌝ }
     ensures { λ r. ⌜ ((t : Millis) (id minimum : ℕ) (live : List Order) → Represents (now (table .entry)) minimum live → slot ≡ slotIn id live → Applied (Cancel t id) minimum live (now (table .exit)) r) ⌝ }
@@ -208,12 +228,12 @@ fn cancel(table: &mut [u32], hints: &mut [u8], slot: usize) -> Answer
     }
     let s = slot / 64;
     let place = slot % 64;
-    let change = side::remove(&mut table[256 * s..256 * s + 256], place);
+    let change = side::remove(&mut table[WORDS * s..WORDS * s + WORDS], place);
     rehint(table, hints, s, place);
     done(s, change)
 }
 
-// What is left of the order stands in its place, or the order goes where nothing is.
+// What is left of the order stands in its place, or the order goes where nothing is: refused by 11, 12 or 14.
 fn deal(table: &mut [u32], hints: &mut [u8], slot: usize, volume: Contracts) -> Answer
     requires { ⌜ Located (now table) slot × (length (now hints) ≡ 1024) ⌝ }
     ensures { λ r. ⌜ ((t : Millis) (id minimum : ℕ) (live : List Order) → Represents (now (table .entry)) minimum live → slot ≡ slotIn id live → Applied (Deal t id volume) minimum live (now (table .exit)) r) ⌝ }
@@ -224,7 +244,7 @@ fn deal(table: &mut [u32], hints: &mut [u8], slot: usize, volume: Contracts) -> 
     if ranges::volume(volume) {
         let s = slot / 64;
         let place = slot % 64;
-        let held = table[256 * s + (128 + place)];
+        let held = table[WORDS * s + (VOLUMES + place)];
         let dealt = volume.0;
         if held < dealt {
             return refused(14);
@@ -232,11 +252,11 @@ fn deal(table: &mut [u32], hints: &mut [u8], slot: usize, volume: Contracts) -> 
         if held == dealt {
             return cancel(table, hints, slot);
         }
-        let key = table[256 * s + (64 + place)];
+        let key = table[WORDS * s + (KEYS + place)];
         return done(
             s,
             side::amend(
-                &mut table[256 * s..256 * s + 256],
+                &mut table[WORDS * s..WORDS * s + WORDS],
                 place,
                 key,
                 Contracts(held - dealt),
@@ -316,7 +336,7 @@ pub fn send(table: &mut [u32], hints: &mut [u8], e: Event, minimum: Contracts) -
     }
     let s = answer.s;
     level::requote(
-        &mut table[256 * s..256 * s + 256],
+        &mut table[WORDS * s..WORDS * s + WORDS],
         side_at(s),
         answer.change,
         minimum,
@@ -331,7 +351,7 @@ pub fn keeps(table: &[u32], widest: u32) -> u32
     requires { ⌜ length (now table) ≡ 512 ⌝ }
     ensures { λ r. ⌜ ((row : Row) (sp : SpreadRule) (live : List Order) → GoodOrders live → now (table .entry) ≡ tableOf (row .minimum .0) live → WidestFor row sp widest → r ≡ (if ordersKeep row sp live then 1 else 0)) ⌝ }
 {
-    quote::keys_keep(widest, table[193], table[449])
+    quote::keys_keep(widest, table[BEST], table[WORDS + BEST])
 }
 
 // The best quote of a side.
@@ -340,12 +360,12 @@ pub fn best(table: &[u32], side: Side) -> Quote
     ensures { λ r. ⌜ ((minimum : ℕ) (live : List Order) → GoodOrders live → now (table .entry) ≡ tableOf minimum live → r ≡ bestQuote side minimum live) ⌝ }
 {
     let s = side_number(side);
-    quote::quote_at(side, table[256 * s + 193])
+    quote::quote_at(side, table[WORDS * s + BEST])
 }
 
 // The table of no orders.
 pub fn empty() -> [u32; 512]
     ensures { λ r. ⌜ ((minimum : ℕ) → r ≡ tableOf minimum []) ⌝ }
 {
-    [0u32; 512]
+    [0u32; TABLE]
 }

@@ -12,16 +12,13 @@ ghost use Rattle.level.specs.Internal.{IsLevel, SumFits, LevelBefore, le
 use quote::Level;
 use rules::Contracts;
 use rules::Side;
+use side::AT;
+use side::BEFORE;
+use side::BEST;
+use side::COUNT;
 use side::Change;
-
-// The places of the number of orders and of the best level in a side's words (crate side).
-const COUNT: usize = 192;
-
-const BEST: usize = 193;
-
-const BEFORE: usize = 194;
-
-const AT: usize = 195;
+use side::KEYS;
+use side::VOLUMES;
 
 // A sum of contracts that gains and loses: in 64 bits, since what it gains may be what it loses.
 fn changed(sum: u32, gained: u32, lost: u32) -> u32
@@ -258,11 +255,20 @@ fn guessed(words: &[u32], change: Change, minimum: Contracts) -> Level
 {
     let count = words[COUNT];
     if count <= 4 {
-        return few(&words[64..68], &words[128..132], minimum);
+        return few(
+            &words[KEYS..KEYS + 4],
+            &words[VOLUMES..VOLUMES + 4],
+            minimum,
+        );
     }
     let to = side::room(count);
     let old = moved(level_of(words), change);
-    near(&words[64..64 + to], &words[128..128 + to], old, minimum)
+    near(
+        &words[KEYS..KEYS + to],
+        &words[VOLUMES..VOLUMES + to],
+        old,
+        minimum,
+    )
 }
 
 // The level by the search, from a key that the best one is not below. Only where it finds nothing better is the start's own level
@@ -306,8 +312,8 @@ fn settled(words: &[u32], side: Side, change: Change, minimum: Contracts) -> Lev
     let to = side::room(words[COUNT]);
     by_search(
         side,
-        &words[64..64 + to],
-        &words[128..128 + to],
+        &words[KEYS..KEYS + to],
+        &words[VOLUMES..VOLUMES + to],
         start_from(guess, minimum),
         minimum,
     )

@@ -4,8 +4,6 @@ use mathlib.Core.Path.{_≡_, refl, ap, sym, _∙_}
 use mathlib.Core.Bool.{Bool, true, false}
 use mathlib.Core.List.{List, [], _∷_}
 use native.Mathlib.Omega.{arith}
-use borrow.Author.Tests.{ltb-true, ltb-false}
-use lib.Dec.{ltb}
 use lib.ListN.{length}
 use Rattle.rules.specs.declared.Row.{Row}
 use Rattle.rules.specs.declared.SpreadRule.{SpreadRule}
@@ -23,7 +21,7 @@ use Rattle.quantum.specs.declared.Duty.{Duty}
 use Rattle.quantum.specs.declared.Clock.{Clock}
 use Rattle.quantum.specs.declared.Stepped.{Stepped}
 use Rattle.quantum.specs.declared.Quantum.{Quantum}
-use Rattle.quantum.specs.Represents.{dutyOf, clockOf, quantumOf, taken, Reached, Answered, Running, Represents, Stepping}
+use Rattle.quantum.specs.Represents.{dutyOf, clockOf, quantumOf, taken, Reached, Answered, ReachedParts, Represents, Stepping}
 use Rattle.quantum.proofs.Represents.{good-orders}
 
 -- ---- the numbers
@@ -75,8 +73,8 @@ module _ (row : Row) (sp : SpreadRule) (es : List Event) (q : Quantum) (is : q �
   unfolding quantumOf dutyOf
   whole-is = ap (λ (x : Quantum). x .duty .length) is
 
-pub running-of : (q : Quantum) (hints : List ℕ) → Reached q → length hints ≡ 1024 → Running (q .duty) (q .clock) (q .table) hints
-running-of q hints r h =
+pub reached-parts : (q : Quantum) (hints : List ℕ) → Reached q → length hints ≡ 1024 → ReachedParts (q .duty) (q .clock) (q .table) hints
+reached-parts q hints r h =
     let s = represents-all (r .row) (r .sp) (r .events) q (r .is) (r .bounds) in
     record {
       row = r .row;

@@ -34,12 +34,12 @@ use Rattle.quote.proofs.Spread.{widest-law}
 use Rattle.book.specs.Table.{tableOf, GoodOrders}
 use Rattle.quantum.specs.declared.Duty.{Duty}
 use Rattle.quantum.specs.declared.Clock.{Clock}
-use Rattle.quantum.specs.Represents.{widestFor, dutyOf, clockOf, tableAfter, taken, Running, Represents, Onward, startingBy, ranOn, InTime, isTick}
+use Rattle.quantum.specs.Represents.{widestFor, dutyOf, clockOf, tableAfter, taken, ReachedParts, Represents, Onward, startingBy, ranOn, InTime, isTick}
 
 pub good-orders : (row : Row) (es : List Event) → EventBounds row es → GoodOrders (live es)
 good-orders row es g = record { few = g .few; distinct = g .distinct; prices = g .prices; volumes = g .volumes }
 
-abbrev pub represents : {duty : Duty} {clock : Clock} {table hints : List ℕ} (s : Running duty clock table hints) → Represents (s .row) (s .sp) (s .events) duty clock table
+abbrev pub represents : {duty : Duty} {clock : Clock} {table hints : List ℕ} (s : ReachedParts duty clock table hints) → Represents (s .row) (s .sp) (s .events) duty clock table
 represents s = record { bounds = s .bounds; duty-is = s .duty-is; clock-is = s .clock-is; table-is = s .table-is }
 
 -- what is fixed at open says the same as the definition
@@ -179,7 +179,7 @@ module _ (row : Row) (sp : SpreadRule) (es : List Event) (clock : Clock) (is : c
           let same : present es ≡ t = omega (arith, h, ltb-false (clock .time .0) t e, time-is) in
           lapses-is ∙ ap (lapsesBelow row sp es) same
 
-  pub last-at : EventBounds row es → (t : ℕ) → clock .time .0 ≤ t
+  last-at : EventBounds row es → (t : ℕ) → clock .time .0 ≤ t
       → (if ltb (clock .time .0) t then clock .keeps else clock .last) ≡ one (before (keptAt row sp es) t)
   last-at g t h = go (ltb (clock .time .0) t) refl
     where
@@ -192,7 +192,7 @@ module _ (row : Row) (sp : SpreadRule) (es : List Event) (clock : Clock) (is : c
           last-is ∙ ap (λ (n : ℕ). one (before (keptAt row sp es) n)) same
 
   -- at an accepted event
-  pub clock-event : EventBounds row es → (e : Event) (t : Millis) (keeps : ℕ) → t .0 ≡ timeOf e → clock .time .0 ≤ t .0
+  clock-event : EventBounds row es → (e : Event) (t : Millis) (keeps : ℕ) → t .0 ≡ timeOf e → clock .time .0 ≤ t .0
       → keeps ≡ one (ordersKeep row sp (apply (live es) e)) → ranOn clock t keeps ≡ clockOf row sp (es ++ (e ∷ []))
   unfolding clockOf
   clock-event g e t keeps f h k = λ i.

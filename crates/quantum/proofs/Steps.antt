@@ -19,7 +19,7 @@ use Rattle.book.specs.Table.{tableOf, GoodOrders, Holding, Sends, sentTo}
 use Rattle.quantum.specs.declared.Duty.{Duty}
 use Rattle.quantum.specs.declared.Clock.{Clock}
 use Rattle.quantum.specs.declared.Stepped.{Stepped}
-use Rattle.quantum.specs.Represents.{tableAfter, taken, Running, Represents, Stepping, ranOn, InTime, isTick}
+use Rattle.quantum.specs.Represents.{tableAfter, taken, ReachedParts, Represents, Stepping, ranOn, InTime, isTick}
 use Rattle.quantum.proofs.Represents.{good-orders, one, represents, keeps-is, minimum-is, in-time, same-clock, same-table, next-clock, next-table, tick-live, tick-causes}
 
 module _ {duty : Duty} {clock : Clock} where
@@ -28,7 +28,7 @@ module _ {duty : Duty} {clock : Clock} where
   minimum-table {table} {row} {sp} {es} s =
       s .table-is ∙ ap (λ (m : Contracts). tableOf (m .0) (live es)) (sym (minimum-is row sp es duty clock table s))
 
-  pub holding : {table hints : List ℕ} → Running duty clock table hints → Holding table hints (duty .minimum .0)
+  pub holding : {table hints : List ℕ} → ReachedParts duty clock table hints → Holding table hints (duty .minimum .0)
   holding {table} {hints} s =
       let m = ap (λ (m : Contracts). m .0) (minimum-is (s .row) (s .sp) (s .events) duty clock table (represents s)) in
       record {

@@ -81,7 +81,7 @@ pub record Answered (q : Quantum) (e : Event) (r : Sent) : Type 0 where
 -- ---- the same in parts, with the table and the hints lent
 
 -- a duty, a clock and a table that stand for some accepted events, and hints of their size
-pub record Running (duty : Duty) (clock : Clock) (table hints : List ℕ) : Type 0 where
+pub record ReachedParts (duty : Duty) (clock : Clock) (table hints : List ℕ) : Type 0 where
   pub row : Row
   pub sp : SpreadRule
   pub events : List Event

@@ -12,11 +12,12 @@ ghost use Rattle.rules.specs.Terms.{paper};
 ghost use Rattle.rules.specs.declared.SpreadRule.{SpreadRule};
 ghost use Rattle.rules.specs.Rows.{goodRowFor};
 ghost use Rattle.rules.specs.Orders.{live as liveOrders, timeOf};
+ghost use Rattle.rules.specs.Quotes.{best as bestQuote};
 ghost use Rattle.rules.specs.Kept.{bestBid, bestAsk, keptBelow};
 ghost use Rattle.rules.specs.Lapses.{lapsesBelow};
 ghost use Rattle.rules.specs.Causes.{goodSpreadRule};
 ghost use Rattle.rules.specs.Bounds.{EventBounds};
-ghost use Rattle.quantum.specs.Represents.{widestFor, dutyOf, clockOf, quantumOf, Reached, Answered, Running, Stepping, Onward, startingBy, ranOn, InTime, isTick};
+ghost use Rattle.quantum.specs.Represents.{widestFor, dutyOf, clockOf, quantumOf, Reached, Answered, ReachedParts, Stepping, Onward, startingBy, ranOn, InTime, isTick};
 use rules::Answer;
 use rules::Contracts;
 use rules::Event;
@@ -217,7 +218,7 @@ fn taken(
     e: Event,
     t: Millis,
 ) -> Stepped
-    requires { ⌜ Running duty clock (now table) (now hints) × InTime duty clock e t ⌝ }
+    requires { ⌜ ReachedParts duty clock (now table) (now hints) × InTime duty clock e t ⌝ }
     ensures { λ r. ⌜ Stepping duty clock e (now (table .entry)) (now (table .exit)) r ⌝ }
 {
     let minimum = duty.minimum;
@@ -233,7 +234,7 @@ fn taken(
 
 // An event: the causes in the order of their numbers, then what it does. A tick changes no order.
 pub fn step(duty: Duty, clock: Clock, table: &mut [u32], hints: &mut [u8], e: Event) -> Stepped
-    requires { ⌜ Running duty clock (now table) (now hints) ⌝ }
+    requires { ⌜ ReachedParts duty clock (now table) (now hints) ⌝ }
     ensures { λ r. ⌜ Stepping duty clock e (now (table .entry)) (now (table .exit)) r ⌝ }
 {
     let t = time_of(e);
@@ -350,20 +351,27 @@ impl Quantum {
         clock.lapses
     }
 
+    // The best quote of a side.
+    fn best(self, side: Side) -> Quote
+        requires { ⌜ Reached self ⌝ }
+        ensures { λ r. ⌜ ((row : Row) (sp : SpreadRule) (events : List Event) → EventBounds row events → self ≡ quantumOf row sp events → r ≡ bestQuote side (row .minimum .0) (liveOrders events)) ⌝ }
+    {
+        let table = self.table;
+        book::best(&table, side)
+    }
+
     pub fn best_bid(self) -> Quote
         requires { ⌜ Reached self ⌝ }
         ensures { λ r. ⌜ ((row : Row) (sp : SpreadRule) (events : List Event) → EventBounds row events → self ≡ quantumOf row sp events → r ≡ bestBid row (liveOrders events)) ⌝ }
     {
-        let table = self.table;
-        book::best(&table, Side::Buy)
+        self.best(Side::Buy)
     }
 
     pub fn best_ask(self) -> Quote
         requires { ⌜ Reached self ⌝ }
         ensures { λ r. ⌜ ((row : Row) (sp : SpreadRule) (events : List Event) → EventBounds row events → self ≡ quantumOf row sp events → r ≡ bestAsk row (liveOrders events)) ⌝ }
     {
-        let table = self.table;
-        book::best(&table, Side::Sell)
+        self.best(Side::Sell)
     }
 
     pub fn live(self) -> u32

@@ -33,7 +33,7 @@ use Rattle.quote.proofs.Short.{short-all}
 abbrev pub Good : List Order → Type 0
 Good xs = (o : Order) → List·Memᴰ o xs → goodPrice (o .price .0) ≡ true
 
-abbrev pub Sided : Side → List Order → Type 0
+abbrev Sided : Side → List Order → Type 0
 Sided s xs = (o : Order) → List·Memᴰ o xs → same s (o .side) ≡ true
 
 -- a test before or after a map

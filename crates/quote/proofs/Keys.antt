@@ -85,7 +85,7 @@ key-order Sell (negsuc a) (negsuc b) h k = leb-by b a (1000000002 + b) (10000000
 
 -- ---- the price of a key
 
-pub price-key : (s : Side) (p : ℤ) → goodPrice p ≡ true → priceAt s (keyOf s p) ≡ p
+price-key : (s : Side) (p : ℤ) → goodPrice p ≡ true → priceAt s (keyOf s p) ≡ p
 unfolding keyOf priceAt
 price-key Buy (pos n) h = rw (le-leb 1000000001 (1000000001 + n) (omega arith)) (ap pos (omega arith))
 price-key Buy (negsuc n) h =
@@ -127,16 +127,8 @@ GoodQuote Absent = Unit {0}
 GoodQuote (At p) = goodPrice (p .0) ≡ true
 
 -- .. as the code's contract says it
-pub good-said : (q : Quote) → ((p : Steps) → q ≡ At p → goodPrice (p .0) ≡ true) → GoodQuote q
-good-said Absent h = tt
-good-said (At p) h = h p refl
-
 pub say-good : (q : Quote) → GoodQuote q → (p : Steps) → q ≡ At p → goodPrice (p .0) ≡ true
 say-good q h p e = subst GoodQuote e h
-
-pub quote-most : (s : Side) (q : Quote) → GoodQuote q → quoteKey s q ≤ 2000000001
-quote-most s Absent h = omega arith
-quote-most s (At p) h = key-most s (p .0) h
 
 pub good-quote : (s : Side) (k : ℕ) → k ≤ 2000000001 → GoodQuote (quoteAt s k)
 good-quote s zero h = tt
@@ -157,7 +149,7 @@ quote-key s (At p) h =
     quote-some s (keyOf s (p .0)) (key-least s (p .0) h) ∙ ap (λ (z : ℤ). At (record { 0 = z })) (price-key s (p .0) h)
 
 -- the better of two has the greater key
-pub better-key : (s : Side) (x y : Quote) → GoodQuote x → GoodQuote y → quoteKey s (better s x y) ≡ max (quoteKey s x) (quoteKey s y)
+better-key : (s : Side) (x y : Quote) → GoodQuote x → GoodQuote y → quoteKey s (better s x y) ≡ max (quoteKey s x) (quoteKey s y)
 better-key s Absent y h k = omega arith
 better-key s (At p) Absent h k = omega arith
 better-key s (At p) (At q) h k = rw (key-order s (p .0) (q .0) h k) (go (leb (keyOf s (q .0)) (keyOf s (p .0))) refl)
@@ -167,7 +159,7 @@ better-key s (At p) (At q) h k = rw (key-order s (p .0) (q .0) h k) (go (leb (ke
     go true e = omega (arith, leb-true (keyOf s (q .0)) (keyOf s (p .0)) e)
     go false e = omega (arith, leb-false (keyOf s (q .0)) (keyOf s (p .0)) e)
 
-pub better-good : (s : Side) (x y : Quote) → GoodQuote x → GoodQuote y → GoodQuote (better s x y)
+better-good : (s : Side) (x y : Quote) → GoodQuote x → GoodQuote y → GoodQuote (better s x y)
 better-good s Absent y h k = k
 better-good s (At p) Absent h k = h
 better-good s (At p) (At q) h k = go (atLeast s (p .0) (q .0))

@@ -44,7 +44,7 @@ held-most t (k ∷ ks) (v ∷ vs) = go (t k) (held-most t ks vs)
     go false l = omega (arith, l)
 
 -- where a test holds more than another, some key passes it and not the other
-pub held-some : (t u : ℕ → Bool) (ks vs : List ℕ) → held t ks vs < held u ks vs
+held-some : (t u : ℕ → Bool) (ks vs : List ℕ) → held t ks vs < held u ks vs
     → (k : ℕ) × List·Memᴰ k ks × (u k ≡ true) × (t k ≡ false)
 unfolding held
 held-some t u [] vs h = absurd (omega (arith, h))
@@ -112,7 +112,7 @@ greatest-append [] ys = omega arith
 greatest-append (x ∷ xs) ys = omega (arith, greatest-append xs ys)
 
 -- keys of 0 add nothing to the greatest
-pub greatest-zeros : (t : ℕ → Bool) (n : ℕ) → greatest (filter t (replicate n 0)) ≡ 0
+greatest-zeros : (t : ℕ → Bool) (n : ℕ) → greatest (filter t (replicate n 0)) ≡ 0
 unfolding greatest filter
 greatest-zeros t zero = refl
 greatest-zeros t (suc n) = go (t 0) (greatest-zeros t n)
@@ -123,7 +123,7 @@ greatest-zeros t (suc n) = go (t 0) (greatest-zeros t n)
     go false e = e
 
 module _ (ks vs : List ℕ) (even : length ks ≡ length vs) (n : ℕ) where
-  pub held-blanks : (t : ℕ → Bool) → held t (ks ++ replicate n 0) (vs ++ replicate n 0) ≡ held t ks vs
+  held-blanks : (t : ℕ → Bool) → held t (ks ++ replicate n 0) (vs ++ replicate n 0) ≡ held t ks vs
   held-blanks t = omega (arith, held-append t ks vs (replicate n 0) (replicate n 0) even, held-zeros t n)
 
   pub levelAt-blanks : (k : ℕ) → levelAt (ks ++ replicate n 0) (vs ++ replicate n 0) k ≡ levelAt ks vs k
@@ -158,19 +158,19 @@ greatest-under b (k ∷ ks) h = omega (arith, h k (List·Memᴰ·head refl), gre
 
 module _ (minimum : ℕ) (ks vs : List ℕ) where
   -- it is at least every key with enough ..
-  pub best-over : {k : ℕ} → List·Memᴰ k ks → minimum ≤ held (leb k) ks vs → k ≤ bestKey minimum ks vs
+  best-over : {k : ℕ} → List·Memᴰ k ks → minimum ≤ held (leb k) ks vs → k ≤ bestKey minimum ks vs
   unfolding bestKey enough
   best-over {k} m h = greatest-over (in-kept (enough minimum ks vs) m (le-leb minimum (held (leb k) ks vs) h))
 
   -- .. and at most what is at least all of them
-  pub best-under : (b : ℕ) → ((k : ℕ) → List·Memᴰ k ks → minimum ≤ held (leb k) ks vs → k ≤ b) → bestKey minimum ks vs ≤ b
+  best-under : (b : ℕ) → ((k : ℕ) → List·Memᴰ k ks → minimum ≤ held (leb k) ks vs → k ≤ b) → bestKey minimum ks vs ≤ b
   unfolding bestKey enough
   best-under b h =
       greatest-under b (filter (enough minimum ks vs) ks)
       (λ k m. let r = kept-in (enough minimum ks vs) ks m in h k (r .0) (leb-true minimum (held (leb k) ks vs) (r .1)))
 
   -- with fewer than `minimum` at better keys, no better key has enough
-  pub best-most : (k : ℕ) → held (ltb k) ks vs < minimum → bestKey minimum ks vs ≤ k
+  best-most : (k : ℕ) → held (ltb k) ks vs < minimum → bestKey minimum ks vs ≤ k
   best-most k few = best-under k (λ x m h. go x h (leb x k) refl)
     where
       go : (x : ℕ) → minimum ≤ held (leb x) ks vs → (b : Bool) → leb x k ≡ b → x ≤ k
@@ -185,7 +185,7 @@ module _ (minimum : ℕ) (ks vs : List ℕ) where
           ))
 
   -- with enough at it besides, a key is there that has enough
-  pub best-there : (k : ℕ) → held (ltb k) ks vs < minimum → minimum ≤ held (leb k) ks vs → k ≤ bestKey minimum ks vs
+  best-there : (k : ℕ) → held (ltb k) ks vs < minimum → minimum ≤ held (leb k) ks vs → k ≤ bestKey minimum ks vs
   best-there k few h = go (held-some (ltb k) (leb k) ks vs (omega (arith, few, h)))
     where
       go : ((x : ℕ) × List·Memᴰ x ks × (leb k x ≡ true) × (ltb k x ≡ false)) → k ≤ bestKey minimum ks vs
@@ -195,7 +195,7 @@ module _ (minimum : ℕ) (ks vs : List ℕ) where
           best-over (Memᴰ·cast (sym at) m) h
 
   -- the level that is best is the best key's
-  pub best-level : (k : ℕ) → isBest (levelAt ks vs k) minimum ≡ true → bestKey minimum ks vs ≡ k
+  best-level : (k : ℕ) → isBest (levelAt ks vs k) minimum ≡ true → bestKey minimum ks vs ≡ k
   unfolding isBest levelAt
   best-level k h =
       let b = both (ltb (held (ltb k) ks vs) minimum) (eqb k 0 || leb minimum (held (ltb k) ks vs + held (eqb k) ks vs)) h in

@@ -1,20 +1,20 @@
 -- The sums of the search that were not enough: they are those of the keys better than what is found, so the most of them is what stands
 -- before it. Assumes nothing.
-use Prim.Native.Nat.{ℕ, suc, _+_, _-_, _≤_, _<_, max}
+use Prim.Native.Nat.{ℕ, _+_, _-_, _≤_, _<_, max}
 use native.Mathlib.Omega.{arith}
 use native.Mathlib.Numerals.{add-one}
-use mathlib.Core.Path.{_≡_, refl, sym, ap, _∙_}
+use mathlib.Core.Path.{_≡_, refl, ap, _∙_}
 use mathlib.Core.Logic.{_⊎_, inl, inr}
 use mathlib.Core.List.{List, [], _∷_, _++_, map, List·Memᴰ, List·Memᴰ·head, List·Memᴰ·tail}
-use mathlib.Core.Bool.{Bool, true, false, not, _&&_, true≢false}
-use borrow.Author.Tests.{ltb-true, ltb-false, leb-true, leb-false, lt-ltb, le-leb}
+use mathlib.Core.Bool.{Bool, true, false, not, _&&_}
+use borrow.Author.Tests.{ltb-true, leb-true, leb-false, lt-ltb, le-leb}
 use lib.Dec.{leb, ltb}
 use lib.ListN.{length, getD, take}
 use lib.Seq.{take-suc, take-length}
 use Rattle.rules.specs.Lists.{if_then_else_, filter}
 use Rattle.rules.proofs.Lists.{kept-in, in-kept}
 use Rattle.quote.specs.Levels.{held, enough, greatest, foundBy, shortAt, shortBy}
-use Rattle.quote.proofs.Levels.{held-le, held-le-in, held-none, greatest-append, greatest-over, greatest-under, nearest}
+use Rattle.quote.proofs.Levels.{held-le, held-le-in, held-none, greatest-over, greatest-under, nearest}
 
 -- ---- the most of what a function gives
 

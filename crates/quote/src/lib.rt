@@ -114,6 +114,7 @@ pub fn is_best(level: Level, minimum: Contracts) -> bool
     (level.before < m) & ((level.key == 0) | (m <= level.before + level.at))
 }
 
+// The greater of two sums.
 fn most(sum: u32, other: u32) -> u32
     ensures { λ r. ⌜ r ≡ max sum other ⌝ }
 {

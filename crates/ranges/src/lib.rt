@@ -1,6 +1,5 @@
-// The ranges of document 01's numbers, each as a test.
+// The ranges of document 01's numbers, each as a test. Tests are joined by calls of `both`, so that no branches meet.
 ghost use mathlib.Core.Path.{_≡_};
-ghost use mathlib.Core.Bool.{_&&_};
 ghost use lib.Dec.{leb};
 ghost use lib.Signed.{leZ};
 ghost use Rattle.rules.specs.Lists.{within};
@@ -9,30 +8,27 @@ ghost use Rattle.rules.specs.Units.{goodPrice, goodVolume, goodCharge};
 ghost use Rattle.rules.specs.Cells.{goodCell};
 ghost use Rattle.rules.specs.Lapses.{goodLapseLimit};
 ghost use Rattle.rules.specs.Causes.{goodSettlement};
+use numbers::both;
 use rules::Contracts;
 use rules::Kopecks;
 use rules::SpreadRule;
 use rules::Steps;
 
-// Tests are joined by calls, so that no branches meet.
-pub fn both(a: bool, b: bool) -> bool
-    ensures { λ r. ⌜ r ≡ a && b ⌝ }
-{
-    if a { b } else { false }
-}
-
+// A number up to an end.
 pub fn at_most(n: u32, high: u32) -> bool
     ensures { λ r. ⌜ r ≡ leb n high ⌝ }
 {
     n <= high
 }
 
+// A number from one end to the other, both taken in.
 pub fn between(low: u32, high: u32, n: u32) -> bool
     ensures { λ r. ⌜ r ≡ within low high n ⌝ }
 {
     both(at_most(low, n), at_most(n, high))
 }
 
+// A price up to another. A signed comparison stands in a function of its own, so that callers go by its answer alone.
 pub fn price_at_most(p: Steps, q: Steps) -> bool
     ensures { λ r. ⌜ r ≡ leZ (p .0) (q .0) ⌝ }
 {
@@ -59,6 +55,7 @@ pub fn settlement(spread: SpreadRule) -> bool
     }
 }
 
+// The volume of an order or a deal.
 pub fn volume(v: Contracts) -> bool
     ensures { λ r. ⌜ r ≡ goodVolume (v .0) ⌝ }
 {

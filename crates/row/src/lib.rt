@@ -7,10 +7,11 @@ ghost use Rattle.rules.specs.Rows.{goodLength, goodRow, asRead};
 ghost use Rattle.rules.specs.Answers.{shownRow};
 ghost use Rattle.rules.specs.Causes.{readRow};
 ghost use Rattle.rules.specs.Choosing.{rowWords, isFor, firstRow, chosenRow};
+ghost use Rattle.row.specs.Starts.{startIn, chosenStart};
 ghost use Rattle.row.specs.Internal.{Found};
+use numbers::both;
 use ranges::at_most;
 use ranges::between;
-use ranges::both;
 use rules::Contracts;
 use rules::Millis;
 use rules::Refusal;
@@ -102,7 +103,8 @@ fn find(table: &[u32], expiry: u32, quantum: u32) -> usize
 
 // The seven words of that row, or an empty part.
 fn first(table: &[u32], expiry: u32, quantum: u32) -> &[u32]
-    ensures { λ r. ⌜ now r ≡ firstRow expiry quantum (now (table .entry)) ⌝ }
+    ensures words { λ r. ⌜ now r ≡ firstRow expiry quantum (now (table .entry)) ⌝ }
+    ensures place { λ r. ⌜ r .ptr ≡ startIn expiry quantum (table .entry .ptr) (now (table .entry)) ⌝ }
 {
     let k = find(table, expiry, quantum);
     if k < table.len() / 7 {
@@ -113,7 +115,7 @@ fn first(table: &[u32], expiry: u32, quantum: u32) -> &[u32]
     &table[0..0]
 }
 
-// Choosing the row: seven words of one of two lent tables, or an empty part.
+// Choosing the row: seven words of one of two lent tables, or an empty part; and of which table it is a part, and where it starts.
 pub fn choose<'r>(
     usual: &'r [u32],
     holiday: &'r [u32],
@@ -121,7 +123,8 @@ pub fn choose<'r>(
     expiry: u32,
     quantum: u32,
 ) -> &'r [u32]
-    ensures { λ r. ⌜ now r ≡ chosenRow «is_holiday» expiry quantum (now (usual .entry)) (now (holiday .entry)) ⌝ }
+    ensures words { λ r. ⌜ now r ≡ chosenRow «is_holiday» expiry quantum (now (usual .entry)) (now (holiday .entry)) ⌝ }
+    ensures place { λ r. ⌜ r .ptr ≡ chosenStart «is_holiday» expiry quantum (usual .entry .ptr) (now (usual .entry)) (holiday .entry .ptr) (now (holiday .entry)) ⌝ }
 {
     if !is_holiday {
         return first(usual, expiry, quantum);

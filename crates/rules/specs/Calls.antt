@@ -1,6 +1,6 @@
 -- Document 01, "A row and a month" and "Afresh": the calls, and what the plain book holds.
 use Prim.Native.Nat.{ℕ}
-use mathlib.Core.List.{List}
+use mathlib.Core.List.{List, [], _∷_}
 use mathlib.Core.Bool.{Bool, true, false}
 use Rattle.rules.specs.declared.Opening.{Opening}
 use Rattle.rules.specs.declared.Kopecks.{Kopecks}
@@ -30,6 +30,58 @@ pub data Call : Type 0 where
   Withdraw : ℕ → ℕ → ℕ → Call
   Look : ℕ → ℕ → ℕ → Call
   Report : Call
+
+-- the rows that a call names
+abbrev pub rowsIn : Call → List (List ℕ)
+rowsIn (Open words day opening) = words ∷ []
+rowsIn (Send e) = []
+rowsIn (Ask a) = []
+rowsIn (Commit a ticket) = []
+rowsIn (Close active passive) = []
+rowsIn Drop = []
+rowsIn (Charge day expiry quantum active passive) = []
+rowsIn (Withdraw day expiry quantum) = []
+rowsIn (Look day expiry quantum) = []
+rowsIn Report = []
+
+-- the charges that it names
+abbrev pub chargesIn : Call → List Kopecks
+chargesIn (Open words day opening) = []
+chargesIn (Send e) = []
+chargesIn (Ask a) = []
+chargesIn (Commit a ticket) = []
+chargesIn (Close active passive) = active ∷ passive ∷ []
+chargesIn Drop = []
+chargesIn (Charge day expiry quantum active passive) = active ∷ passive ∷ []
+chargesIn (Withdraw day expiry quantum) = []
+chargesIn (Look day expiry quantum) = []
+chargesIn Report = []
+
+-- the same call with each of its rows turned into another
+abbrev pub mapRows : (List ℕ → List ℕ) → Call → Call
+mapRows f (Open words day opening) = Open (f words) day opening
+mapRows f (Send e) = Send e
+mapRows f (Ask a) = Ask a
+mapRows f (Commit a ticket) = Commit a ticket
+mapRows f (Close active passive) = Close active passive
+mapRows f Drop = Drop
+mapRows f (Charge day expiry quantum active passive) = Charge day expiry quantum active passive
+mapRows f (Withdraw day expiry quantum) = Withdraw day expiry quantum
+mapRows f (Look day expiry quantum) = Look day expiry quantum
+mapRows f Report = Report
+
+-- document 02, W5: "accepted calls other than asks, looks and reports" are counted
+abbrev pub counts : Call → Bool
+counts (Open words day opening) = true
+counts (Send e) = true
+counts (Ask a) = false
+counts (Commit a ticket) = true
+counts (Close active passive) = true
+counts Drop = true
+counts (Charge day expiry quantum active passive) = true
+counts (Withdraw day expiry quantum) = true
+counts (Look day expiry quantum) = false
+counts Report = false
 
 -- "Open notes cell, row and SP, with an empty list of events": no quantum, or the open one's cell, row, what else open was told, and the
 -- accepted events

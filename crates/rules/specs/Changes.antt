@@ -8,12 +8,13 @@ use Rattle.rules.specs.declared.Kopecks.{Kopecks}
 use Rattle.rules.specs.declared.Row.{Row}
 use Rattle.rules.specs.declared.Cell.{Cell}
 use Rattle.rules.specs.declared.Event.{Event}
+use Rattle.rules.specs.Lists.{if_then_else_}
 use Rattle.rules.specs.Units.{millis}
 use Rattle.rules.specs.Rows.{rowOf}
 use Rattle.rules.specs.Cells.{blankCell, placeOf, cellAt}
 use Rattle.rules.specs.Kept.{keptBelow}
 use Rattle.rules.specs.Lapses.{lapsesBelow}
-use Rattle.rules.specs.Calls.{Call, Running, Book, amendOf, Open, Send, Ask, Commit, Close, Drop, Charge, Withdraw, Look, Report, Idle, Quoting}
+use Rattle.rules.specs.Calls.{Call, Running, Book, counts, amendOf, Open, Send, Ask, Commit, Close, Drop, Charge, Withdraw, Look, Report, Idle, Quoting}
 
 -- an event "goes to the end of that list"
 abbrev pub noted : Running → Event → Running
@@ -53,31 +54,30 @@ charged active passive c =
       passive = passive;
     }
 
--- document 02, W5: a "count, modulo 2^64, of accepted calls other than asks, looks and reports"
+-- document 02, W5: a "count, modulo 2^64"
 unfoldable pub following : ℕ → ℕ
 following count = (count + 1) % 18446744073709551616
 
-unfoldable pub changed : Book → Call → Book
-changed b (Open words day opening) =
-    record {
-      running = Quoting (placeOf day (rowOf words .expiry) (rowOf words .quantum)) (rowOf words) opening [];
-      cells = b .cells;
-      count = following (b .count);
-    }
-changed b (Send e) = record { running = noted (b .running) e; cells = b .cells; count = following (b .count) }
-changed b (Ask a) = b
-changed b (Commit a ticket) = record { running = noted (b .running) (amendOf a); cells = b .cells; count = following (b .count) }
-changed b (Close active passive) =
-    record { running = Idle; cells = closed (b .running) active passive (b .cells); count = following (b .count) }
-changed b Drop = record { running = Idle; cells = b .cells; count = following (b .count) }
-changed b (Charge day expiry quantum active passive) =
+-- the quantum and the cells after an accepted call
+abbrev pub quantumAndCells : Book → Call → Running × List Cell
+quantumAndCells b (Open words day opening) =
+    (Quoting (placeOf day (rowOf words .expiry) (rowOf words .quantum)) (rowOf words) opening [], b .cells)
+quantumAndCells b (Send e) = (noted (b .running) e, b .cells)
+quantumAndCells b (Ask a) = (b .running, b .cells)
+quantumAndCells b (Commit a ticket) = (noted (b .running) (amendOf a), b .cells)
+quantumAndCells b (Close active passive) = (Idle, closed (b .running) active passive (b .cells))
+quantumAndCells b Drop = (Idle, b .cells)
+quantumAndCells b (Charge day expiry quantum active passive) =
     let place = placeOf day expiry quantum in
+    (b .running, set (b .cells) place (charged active passive (cellAt (b .cells) place)))
+quantumAndCells b (Withdraw day expiry quantum) = (b .running, set (b .cells) (placeOf day expiry quantum) blankCell)
+quantumAndCells b (Look day expiry quantum) = (b .running, b .cells)
+quantumAndCells b Report = (b .running, b .cells)
+
+unfoldable pub changed : Book → Call → Book
+changed b c =
     record {
-      running = b .running;
-      cells = set (b .cells) place (charged active passive (cellAt (b .cells) place));
-      count = following (b .count);
+      running = quantumAndCells b c .0;
+      cells = quantumAndCells b c .1;
+      count = if counts c then following (b .count) else b .count;
     }
-changed b (Withdraw day expiry quantum) =
-    record { running = b .running; cells = set (b .cells) (placeOf day expiry quantum) blankCell; count = following (b .count) }
-changed b (Look day expiry quantum) = b
-changed b Report = b

@@ -1,4 +1,4 @@
--- Words of general use: choosing by a test, keeping, counting and adding up.
+-- Words of general use: choosing by a test, filtering, counting, adding up, and what holds of a whole list.
 use Prim.Native.Nat.{ℕ, zero, suc, _+_}
 use mathlib.Core.List.{List, [], _∷_, _++_}
 use mathlib.Core.Bool.{Bool, true, false, _&&_, _||_}
@@ -52,3 +52,13 @@ module _ {A : Type 0} where
   unfoldable pub firstOr : A → (A → Bool) → List A → A
   firstOr other p [] = other
   firstOr other p (x ∷ xs) = let rest = firstOr other p xs in if p x then x else rest
+
+  -- whether all of them pass
+  unfoldable pub every : (A → Bool) → List A → Bool
+  every p [] = true
+  every p (x ∷ xs) = p x && every p xs
+
+  -- it holds of all of them
+  abbrev pub All : (A → Type 0) → List A → Type 0
+  All P [] = Unit {0}
+  All P (x ∷ xs) = P x × All P xs

@@ -125,7 +125,7 @@ pub bytes-short : (most : ℕ) (head bytes : List ℕ) → (length head ≡ 32 �
 unfolding sessionBytes oneNumber
 bytes-short most head bytes h = rw (ne-eqb (length head) 32 h) refl
 
-pub bytes-whole : (most : ℕ) (head bytes : List ℕ) → length head ≡ 32
+bytes-whole : (most : ℕ) (head bytes : List ℕ) → length head ≡ 32
     → sessionBytes paper most head bytes
     ≡ session paper most (wordAt head 0 ∷ wordAt head 4 ∷ wordAt head 8 ∷ wordAt head 12 ∷ wordAt head 16 ∷ wordAt head 20 ∷ wordAt head 24 ∷ []) (steps (signedOf (wordAt head 28))) bytes
 unfolding sessionBytes below

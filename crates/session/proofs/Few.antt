@@ -36,7 +36,7 @@ use Rattle.session.specs.Internal.{bookWith, refusalBy, followed}
 use Rattle.session.proofs.Pairs.{length-snoc, before-in, before-ext}
 use Rattle.session.proofs.Loop.{not-whole}
 use Rattle.session.proofs.Runs.{runs-past, runs-refused, runs-taken, runs-end, session-begun, cell-inside}
-use Rattle.session.proofs.Month.{unread}
+use Rattle.session.proofs.Loop.{fifteen-only}
 
 -- what some pairs cost in events: two each, a pair that has begun but has no length yet with them; and one when nothing is kept now
 abbrev cost : ℕ → Bool → Bool → ℕ
@@ -156,7 +156,7 @@ module _ (most cell : ℕ) (row : Row) (sp : Steps) (inside : cell < 186) (k w :
         ∙ h in
         let f = further (es ++ (e ∷ [])) (event-bounds-more row es e g passes) (few-more row (Settled sp) es g e passes few) (omega arith) runs in
         (omega (arith, f .0, length-append es (e ∷ [])), omega (arith, f .1))
-    taken (refused n) o l z = absurd (let a = unread r n o in let b : n ≡ 0 = sym (ap (refusalBy row es) o) ∙ z in omega arith)
+    taken (refused n) o l z = absurd (let a = fifteen-only r n o in let b : n ≡ 0 = sym (ap (refusalBy row es) o) ∙ z in omega arith)
 
     by-refusal : (n : ℕ) → refusalBy row es (readRecord r) ≡ n → place ≤ most → Halves place es (r ∷ rs)
     by-refusal zero z l = taken (readRecord r) refl l z

@@ -32,7 +32,7 @@ use Rattle.quantum.specs.Represents.{dutyOf, tableAfter}
 use Rattle.quantum.proofs.Answers.{event-numbered}
 use Rattle.session.specs.declared.Progress.{Progress}
 use Rattle.session.specs.declared.Stepped.{Stepped}
-use Rattle.session.specs.Internal.{Holds, progressAt, pairsOf, refusalBy, followed, ReachedRun, RepresentsRun, Ending, Ends, Advanced, bookWith, counted, Going, Passed}
+use Rattle.session.specs.Internal.{Holds, progressAt, pairsOf, refusalBy, followed, ReachedRun, RepresentsRun, ReachedEnd, FinalAnswer, Advanced, bookWith, counted, LoopState, Passed}
 use Rattle.session.proofs.Runs.{records-none, records-some, runs-past, runs-refused, runs-taken, runs-end}
 
 -- ---- how a pass ends
@@ -49,7 +49,7 @@ passed-halted s f place entry exit e =
 whole-pairs : (s : Session) (k w k′ w′ : ℕ) (ss ss′ : List Stretch) → s ≡ whole k w ss → s ≡ whole k′ w′ ss′ → ss ≡ ss′
 whole-pairs s k w k′ w′ ss ss′ e f = cc
 
-pub passed-whole : (s : Session) (k w : ℕ) (ss : List Stretch) (entry exit : List ℕ) (r : SessionAnswer) → s ≡ whole k w ss
+passed-whole : (s : Session) (k w : ℕ) (ss : List Stretch) (entry exit : List ℕ) (r : SessionAnswer) → s ≡ whole k w ss
     → shownSession r ≡ finished k w (length ss) → Holds entry ss exit → Passed s entry exit r
 unfolding counted
 passed-whole s k w ss entry exit r e a h =
@@ -75,7 +75,7 @@ unfolding readRecord goodRecord
 short-record bytes l = rw (lt-leb 20 (length bytes) l) refl
 
 -- a record that is no event is refused by 15
-fifteen-only : (bytes : List ℕ) (n : ℕ) → readRecord bytes ≡ refused n → n ≡ 15
+pub fifteen-only : (bytes : List ℕ) (n : ℕ) → readRecord bytes ≡ refused n → n ≡ 15
 unfolding readRecord
 fifteen-only bytes n = go (goodRecord bytes)
   where
@@ -100,9 +100,9 @@ module _ (most : ℕ) (row : Row) (sp : Steps) (bytes base : List ℕ) where
   abbrev Run : ℕ → Session
   Run cell = runRecords paper most cell 1 (bookWith cell row sp []) (recordsOf bytes)
 
-  pub going-start : (w : Progress) (table : List ℕ) → w ≡ progressAt row (Settled sp) [] → table ≡ tableAfter row [] → Going most row sp bytes base w 0 1 table base
+  pub loop-start : (w : Progress) (table : List ℕ) → w ≡ progressAt row (Settled sp) [] → table ≡ tableAfter row [] → LoopState most row sp bytes base w 0 1 table base
   unfolding present timeFrom stretches pairWords
-  going-start w table is t =
+  loop-start w table is t =
       record {
         events = [];
         bounds = event-bounds-none row;
@@ -114,9 +114,9 @@ module _ (most : ℕ) (row : Row) (sp : Steps) (bytes base : List ℕ) where
         runs = λ cell. refl;
       }
 
-  module _ (w : Progress) (at place : ℕ) (table buffer : List ℕ) (g : Going most row sp bytes base w at place table buffer) where
-    pub going-reached : (duty : Duty) (hints : List ℕ) → goodRow paper row ≡ true → duty ≡ dutyOf row (Settled sp) → length hints ≡ 1024 → ReachedRun w duty table hints
-    going-reached duty hints good d h =
+  module _ (w : Progress) (at place : ℕ) (table buffer : List ℕ) (g : LoopState most row sp bytes base w at place table buffer) where
+    pub loop-reached : (duty : Duty) (hints : List ℕ) → goodRow paper row ≡ true → duty ≡ dutyOf row (Settled sp) → length hints ≡ 1024 → ReachedRun w duty table hints
+    loop-reached duty hints good d h =
         record {
           row = row;
           sp = Settled sp;
@@ -129,13 +129,13 @@ module _ (most : ℕ) (row : Row) (sp : Steps) (bytes base : List ℕ) where
           hinted = h;
         }
 
-    pub going-ending : goodRow paper row ≡ true → Ending w row
-    going-ending good = record { sp = Settled sp; events = g .events; good = good; bounds = g .bounds; is = g .is }
+    pub loop-at-end : goodRow paper row ≡ true → ReachedEnd w row
+    loop-at-end good = record { sp = Settled sp; events = g .events; good = good; bounds = g .bounds; is = g .is }
 
     -- no record is left
-    pub going-end : (r : SessionAnswer) (exit : List ℕ) → length bytes ≤ at → Ends w row r buffer exit
+    pub loop-end : (r : SessionAnswer) (exit : List ℕ) → length bytes ≤ at → FinalAnswer w row r buffer exit
         → (cell : ℕ) → cell < 186 → Passed (Run cell) base exit r
-    going-end r exit l ends cell c =
+    loop-end r exit l ends cell c =
         let e = ends (Settled sp) (g .events) base (g .bounds) (g .is) (g .holds) in
         let none : recordsOf (drop at bytes) ≡ [] = records-none (drop at bytes) (omega (arith, length-drop at bytes)) in
         let run = g .runs cell ∙ ap (runRecords paper most cell place (bookWith cell row sp (g .events))) none ∙ runs-end most cell row sp place (g .events) c in
@@ -149,8 +149,8 @@ module _ (most : ℕ) (row : Row) (sp : Steps) (bytes base : List ℕ) where
           g .runs cell
           ∙ ap (runRecords paper most cell place (bookWith cell row sp (g .events))) (records-some (drop at bytes) (omega (arith, length-drop at bytes)))
 
-      pub going-past : (exit : List ℕ) → most < place → (cell : ℕ) → cell < 186 → Passed (Run cell) base exit (S.Refused BadRecord place)
-      going-past exit p cell c =
+      pub loop-past : (exit : List ℕ) → most < place → (cell : ℕ) → cell < 186 → Passed (Run cell) base exit (S.Refused BadRecord place)
+      loop-past exit p cell c =
           passed-halted (Run cell) BadRecord place base exit
           (next-record cell ∙ runs-past most cell row sp place (g .events) (take 20 (drop at bytes)) (recordsOf (drop 20 (drop at bytes))) p)
 
@@ -164,14 +164,14 @@ module _ (most : ℕ) (row : Row) (sp : Steps) (bytes base : List ℕ) where
           ∙ ap (λ (m : ℕ). halted m place) (sym z))
 
       -- fewer than 20 bytes are left
-      pub going-short : (exit : List ℕ) → length bytes < at + 20 → (cell : ℕ) → cell < 186 → Passed (Run cell) base exit (S.Refused BadRecord place)
-      going-short exit h cell c = go (ltb most place) refl
+      pub loop-short : (exit : List ℕ) → length bytes < at + 20 → (cell : ℕ) → cell < 186 → Passed (Run cell) base exit (S.Refused BadRecord place)
+      loop-short exit h cell c = go (ltb most place) refl
         where
           few : length (take 20 (drop at bytes)) < 20
           few = omega (arith, length-take 20 (drop at bytes), length-drop at bytes)
 
           go : (b : Bool) → ltb most place ≡ b → Passed (Run cell) base exit (S.Refused BadRecord place)
-          go true e = going-past exit (ltb-true most place e) cell c
+          go true e = loop-past exit (ltb-true most place e) cell c
           go false e =
               stops exit BadRecord 14 refl (ltb-false most place e) (ap (refusalBy row (g .events)) (short-record (take 20 (drop at bytes)) few)) cell
 
@@ -183,20 +183,20 @@ module _ (most : ℕ) (row : Row) (sp : Steps) (bytes base : List ℕ) where
         judged : r .refusal ≡ refusalBy row (g .events) (readRecord (take 20 (drop at bytes)))
         judged = adv .number row (Settled sp) (g .events) stood ∙ ap (λ (l : List ℕ). refusalBy row (g .events) (readRecord l)) cut
 
-        pub going-numbered : 0 < r .refusal → (8 ≤ r .refusal) × (r .refusal ≤ 15)
-        going-numbered h =
+        pub loop-numbered : 0 < r .refusal → (8 ≤ r .refusal) × (r .refusal ≤ 15)
+        loop-numbered h =
             let b = record-numbered row (g .events) (readRecord (take 20 (drop at bytes))) (fifteen-only (take 20 (drop at bytes))) (omega (arith, judged, h)) in
             (omega (arith, judged, b .0), omega (arith, judged, b .1))
 
-        pub going-refused : (f : Refusal) → 0 < r .refusal → numberOf f ≡ r .refusal → (cell : ℕ) → cell < 186 → Passed (Run cell) base exit (S.Refused f place)
-        going-refused f h e cell c = go (r .refusal) refl
+        pub loop-refused : (f : Refusal) → 0 < r .refusal → numberOf f ≡ r .refusal → (cell : ℕ) → cell < 186 → Passed (Run cell) base exit (S.Refused f place)
+        loop-refused f h e cell c = go (r .refusal) refl
           where
             go : (n : ℕ) → r .refusal ≡ n → Passed (Run cell) base exit (S.Refused f place)
             go zero z = absurd (omega (arith, h, z))
             go (suc n) z = stops exit f n (e ∙ z) p (sym judged ∙ z) cell
 
-        pub going-on : at + 20 ≤ length bytes → r .refusal ≤ 0 → Going most row sp bytes base (r .progress) (at + 20) (place + 1) next exit
-        going-on room e =
+        pub loop-on : at + 20 ≤ length bytes → r .refusal ≤ 0 → LoopState most row sp bytes base (r .progress) (at + 20) (place + 1) next exit
+        loop-on room e =
             let o = readRecord (take 20 (drop at bytes)) in
             let zero : refusalBy row (g .events) o ≡ 0 = omega (arith, judged, e) in
             let same = ap readRecord cut in

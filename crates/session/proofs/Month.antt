@@ -11,7 +11,6 @@ use Rattle.rules.specs.declared.Row.{Row}
 use Rattle.rules.specs.declared.Cell.{Cell}
 use Rattle.rules.specs.declared.CellView.{CellView}
 use Rattle.rules.specs.declared.Event.{Event}
-use Rattle.rules.specs.Lists.{if_then_else_}
 use Rattle.rules.specs.Terms.{paper}
 use Rattle.rules.specs.Units.{kopecks}
 use Rattle.rules.specs.Rows.{rowOf, goodRow}
@@ -23,23 +22,14 @@ use Rattle.rules.specs.Calls.{Call, Open, Send, Close, Look, Book}
 use Rattle.rules.specs.Causes.{eventRefusal}
 use Rattle.rules.specs.Changes.{closedCell}
 use Rattle.rules.specs.Book.{answerOf, step, run, after}
-use Rattle.rules.specs.Records.{goodRecord, eventOf, fieldsOf, readRecord}
+use Rattle.rules.specs.Records.{readRecord}
 use Rattle.rules.specs.Session.{whole, recordsOf, withoutLapseLimit, runRecords, session}
 use Rattle.rules.proofs.Lists.{and}
 use Rattle.rules.proofs.Refusals.{passes-call, answer-accepted}
 use Rattle.rules.proofs.Bounds.{row-bounds, after-snoc}
 use Rattle.session.specs.Internal.{bookWith, refusalBy, followed}
-use Rattle.session.proofs.Loop.{not-whole}
+use Rattle.session.proofs.Loop.{not-whole, fifteen-only}
 use Rattle.session.proofs.Runs.{runs-past, runs-refused, runs-taken, runs-end, step-send, closed-cell, closed-weight, open-accepted, session-begun, cell-inside}
-
--- a record that is no event is refused by 15
-pub unread : (bytes : List ℕ) (n : ℕ) → readRecord bytes ≡ refused n → n ≡ 15
-unfolding readRecord
-unread bytes n e = go (goodRecord bytes) e
-  where
-    go : (b : Bool) → (if b then accepted (eventOf (fieldsOf bytes)) else refused 15) ≡ refused n → n ≡ 15
-    go true e = let z : _≡_ {A = ℕ} 0 1 = cc in absurd (omega arith)
-    go false e = cc
 
 append-one : (es : List Event) (e : Event) (fs : List Event) → (es ++ (e ∷ [])) ++ fs ≡ es ++ (e ∷ fs)
 append-one es e fs = append-assoc es (e ∷ []) fs
@@ -76,7 +66,7 @@ module _ (most place₀ : ℕ) (row : Row) (sp : Steps) where
 
     read-by : (o : Outcome Event) → readRecord r ≡ o → place ≤ most → refusalBy row es (readRecord r) ≡ 0 → Taken es (r ∷ rs) place k w ss
     read-by (accepted e) o l z = one-more e o l z
-    read-by (refused n) o l z = absurd (let a = unread r n o in let b : n ≡ 0 = sym (ap (refusalBy row es) o) ∙ z in omega arith)
+    read-by (refused n) o l z = absurd (let a = fifteen-only r n o in let b : n ≡ 0 = sym (ap (refusalBy row es) o) ∙ z in omega arith)
 
     judged-by : (n : ℕ) → refusalBy row es (readRecord r) ≡ n → place ≤ most → Taken es (r ∷ rs) place k w ss
     judged-by zero z l = read-by (readRecord r) refl l z

@@ -102,7 +102,7 @@ module _ (base : List ℕ) (init : List Stretch) (x y : ℕ) (buffer : List ℕ)
       ∙ ap (λ (l : List ℕ). l ++ drop (k + 2) base) (sym (pairWords-append init (stretch x y ∷ [])))
       ∙ ap (λ (n : ℕ). pairWords (init ++ (stretch x y ∷ [])) ++ drop n base) (sym more)
 
-  pub put-holds : Holds base (init ++ (stretch x y ∷ [])) (putPair buffer (length init) x y)
+  put-holds : Holds base (init ++ (stretch x y ∷ [])) (putPair buffer (length init) x y)
   unfolding putPair
   put-holds = go (leb (2 * length init + 2) (length buffer)) refl
     where
@@ -127,7 +127,7 @@ unfolding putPair
 put-not buffer n x y h = rw (lt-leb (2 * n + 2) (length buffer) h) refl
 
 -- one more pair
-pub holds-new : (base : List ℕ) (ss : List Stretch) (x y : ℕ) (buffer : List ℕ) → Holds base ss buffer
+holds-new : (base : List ℕ) (ss : List Stretch) (x y : ℕ) (buffer : List ℕ) → Holds base ss buffer
     → Holds base (ss ++ (stretch x y ∷ [])) (putPair buffer (length ss) x y)
 holds-new base ss x y buffer h =
     put-holds base ss x y buffer (h .size)
@@ -142,7 +142,7 @@ holds-new base ss x y buffer h =
     ))
 
 -- the last pair written over
-pub holds-longer : (base : List ℕ) (ss : List Stretch) (s : Stretch) (x y : ℕ) (buffer : List ℕ) → Holds base (ss ++ (s ∷ [])) buffer
+holds-longer : (base : List ℕ) (ss : List Stretch) (s : Stretch) (x y : ℕ) (buffer : List ℕ) → Holds base (ss ++ (s ∷ [])) buffer
     → Holds base (ss ++ (stretch x y ∷ [])) (putPair buffer (length ss) x y)
 holds-longer base ss s x y buffer h =
     put-holds base ss x y buffer (h .size)

@@ -238,7 +238,7 @@ module _ (most : ℕ) (words : List ℕ) (sp : Steps) (bytes : List ℕ) where
   unfolding session
   opened e f = rw (f, e) refl
 
-  pub changed-open : changed freshBook (Open words 1 (withoutLapseLimit sp)) ≡ bookWith cellOf (rowOf words) sp []
+  changed-open : changed freshBook (Open words 1 (withoutLapseLimit sp)) ≡ bookWith cellOf (rowOf words) sp []
   unfolding changed freshBook
   changed-open = refl
 

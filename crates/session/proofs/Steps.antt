@@ -28,12 +28,12 @@ use Rattle.rules.proofs.Bounds.{row-bounds}
 use Rattle.quantum.specs.declared.Duty.{Duty}
 use Rattle.quantum.specs.declared.Clock.{Clock}
 use Rattle.quantum.specs.declared.Stepped.{Stepped as SteppedOn}
-use Rattle.quantum.specs.Represents.{clockOf, tableAfter, taken, Running, Represents, Stepping, Onward}
+use Rattle.quantum.specs.Represents.{clockOf, tableAfter, taken, ReachedParts, Represents, Stepping, Onward}
 use Rattle.rules.specs.Runs.{before}
 use Rattle.quantum.proofs.Represents.{time-is, keeps-is, last-is, onward}
 use Rattle.session.specs.declared.Marks.{Marks}
 use Rattle.session.specs.declared.Progress.{Progress}
-use Rattle.session.specs.Internal.{lastOffset, marksAt, Holds, Growing, Grows, progressAt, pairsOf, ReachedRun, RepresentsRun, Advanced}
+use Rattle.session.specs.Internal.{lastOffset, marksAt, Holds, MarksBounds, MarksAfter, progressAt, pairsOf, ReachedRun, RepresentsRun, Advanced}
 use Rattle.session.proofs.Pairs.{marks-ext, pairs-are, pairs-few, start-early, last-some}
 
 -- ---- the fields
@@ -43,7 +43,7 @@ module _ (row : Row) (sp : SpreadRule) (es : List Event) (w : Progress) (is : w 
   unfolding progressAt
   clock-is = ap (λ (x : Progress). x .clock) is
 
-  pub marks-are : w .marks ≡ marksAt (keptAt row sp es) (present es)
+  marks-are : w .marks ≡ marksAt (keptAt row sp es) (present es)
   unfolding progressAt
   marks-are = ap (λ (x : Progress). x .marks) is
 
@@ -68,9 +68,9 @@ module _ (row : Row) (sp : SpreadRule) (es : List Event) (w : Progress) (is : w 
       ∙ one-test (before (keptAt row sp es) (present es))
       ∙ ap (before (keptAt row sp es)) (sym from-is)
 
-  pub growing : (to : Millis) → present es ≤ to .0 → to .0 ≤ row .length .0 → goodRow paper row ≡ true
-      → Growing (w .marks) (w .clock .time) to (eqb (w .clock .last) 1)
-  growing to h l good =
+  pub marks-bounds : (to : Millis) → present es ≤ to .0 → to .0 ≤ row .length .0 → goodRow paper row ≡ true
+      → MarksBounds (w .marks) (w .clock .time) to (eqb (w .clock .last) 1)
+  marks-bounds to h l good =
       let r = row-bounds paper row good in
       let p = keptAt row sp es in
       record {
@@ -82,8 +82,8 @@ module _ (row : Row) (sp : SpreadRule) (es : List Event) (w : Progress) (is : w 
       }
 
   -- time has run on to a time
-  pub grown-to : EventBounds row es → (to : Millis) (keeps : Bool) (r : Marks) (entry exit base : List ℕ) → keeps ≡ eqb (w .clock .keeps) 1
-      → Grows (w .marks) (w .clock .time) to keeps (eqb (w .clock .last) 1) r entry exit → Holds base (pairsOf row sp es) entry
+  grown-to : EventBounds row es → (to : Millis) (keeps : Bool) (r : Marks) (entry exit base : List ℕ) → keeps ≡ eqb (w .clock .keeps) 1
+      → MarksAfter (w .marks) (w .clock .time) to keeps (eqb (w .clock .last) 1) r entry exit → Holds base (pairsOf row sp es) entry
       → (r ≡ marksAt (keptAt row sp es) (to .0)) × Holds base (stretches (keptAt row sp es) (to .0)) exit
   grown-to g to keeps r entry exit base k grows h =
       grows (keptAt row sp es) base marks-from last-test
@@ -95,10 +95,10 @@ module _ (row : Row) (sp : SpreadRule) (es : List Event) (w : Progress) (is : w 
     to-is : next .time .0 ≡ timeOf e
     to-is = time-is row sp (es ++ (e ∷ [])) next next-is ∙ present-snoc es e
 
-    pub growing-event : goodRow paper row ≡ true → Growing (w .marks) (w .clock .time) (next .time) (eqb (w .clock .last) 1)
-    growing-event good =
+    bounds-event : goodRow paper row ≡ true → MarksBounds (w .marks) (w .clock .time) (next .time) (eqb (w .clock .last) 1)
+    bounds-event good =
         let p = event-passes row es e passes in
-        growing (next .time) (omega (arith, to-is, p .onward)) (omega (arith, to-is, p .inside)) good
+        marks-bounds (next .time) (omega (arith, to-is, p .onward)) (omega (arith, to-is, p .inside)) good
 
     marks-then : marksAt (keptAt row sp es) (next .time .0) ≡ marksAt (keptAt row sp (es ++ (e ∷ []))) (present (es ++ (e ∷ [])))
     marks-then =
@@ -112,8 +112,8 @@ module _ (row : Row) (sp : SpreadRule) (es : List Event) (w : Progress) (is : w 
         ∙ stretches-ext (keptAt row sp es) (keptAt row sp (es ++ (e ∷ []))) (present (es ++ (e ∷ [])))
         (λ m l. sym (keptAt-snoc row sp es e m (omega (arith, present-snoc es e))))
 
-    pub took : (keeps : Bool) (r : Marks) (entry exit base : List ℕ) → keeps ≡ eqb (w .clock .keeps) 1
-        → Grows (w .marks) (w .clock .time) (next .time) keeps (eqb (w .clock .last) 1) r entry exit → Holds base (pairsOf row sp es) entry
+    took : (keeps : Bool) (r : Marks) (entry exit base : List ℕ) → keeps ≡ eqb (w .clock .keeps) 1
+        → MarksAfter (w .marks) (w .clock .time) (next .time) keeps (eqb (w .clock .last) 1) r entry exit → Holds base (pairsOf row sp es) entry
         → _≡_ {A = Progress} (record { clock = next; marks = r }) (progressAt row sp (es ++ (e ∷ []))) × Holds base (pairsOf row sp (es ++ (e ∷ []))) exit
     unfolding progressAt
     took keeps r entry exit base k grows h =
@@ -129,8 +129,8 @@ begins row sp clock is = ap (λ (x : Clock). record { clock = x; marks = record 
 
 -- ---- what the functions promise
 
-pub running : (w : Progress) (duty : Duty) (table hints : List ℕ) → ReachedRun w duty table hints → Running duty (w .clock) table hints
-running w duty table hints h =
+pub reached-parts : (w : Progress) (duty : Duty) (table hints : List ℕ) → ReachedRun w duty table hints → ReachedParts duty (w .clock) table hints
+reached-parts w duty table hints h =
     record {
       row = h .row;
       sp = h .sp;
@@ -171,14 +171,14 @@ module _ (w : Progress) (duty : Duty) (e : Event) (table next : List ℕ) (stepp
     next-is row sp es h =
         steps .clock-after row sp es (represents row sp es w duty table h) ∙ ap (λ (n : ℕ). clockOf row sp (taken n es e)) (passes row sp es h)
 
-    pub growing-taken : (hints : List ℕ) → ReachedRun w duty table hints → Growing (w .marks) (w .clock .time) (stepped .clock .time) (eqb (w .clock .last) 1)
-    growing-taken hints h =
+    pub bounds-taken : (hints : List ℕ) → ReachedRun w duty table hints → MarksBounds (w .marks) (w .clock .time) (stepped .clock .time) (eqb (w .clock .last) 1)
+    bounds-taken hints h =
         let k = run-records w duty table hints h in
-        growing-event (h .row) (h .sp) (h .events) w (h .is) (h .bounds) e (passes (h .row) (h .sp) (h .events) k) (stepped .clock)
+        bounds-event (h .row) (h .sp) (h .events) w (h .is) (h .bounds) e (passes (h .row) (h .sp) (h .events) k) (stepped .clock)
         (next-is (h .row) (h .sp) (h .events) k) (h .good)
 
     pub advanced-taken : (keeps : Bool) (r : Marks) (entry exit : List ℕ) → keeps ≡ eqb (w .clock .keeps) 1
-        → Grows (w .marks) (w .clock .time) (stepped .clock .time) keeps (eqb (w .clock .last) 1) r entry exit
+        → MarksAfter (w .marks) (w .clock .time) (stepped .clock .time) keeps (eqb (w .clock .last) 1) r entry exit
         → Advanced w duty (accepted e) (record { progress = record { clock = stepped .clock; marks = r }; refusal = 0 }) table next entry exit
     advanced-taken keeps r entry exit k grows =
         record {
@@ -206,7 +206,7 @@ module _ (row : Row) (sp : SpreadRule) (es : List Event) (w : Progress) (is : w 
       onward row sp es (w .clock) (clock-is row sp es w is) (row .length) (omega (arith, from-is row sp es w is, g .ends))
 
   pub ended-is : (keeps : Bool) (r : Marks) (entry exit base : List ℕ) → keeps ≡ eqb (w .clock .keeps) 1
-      → Grows (w .marks) (w .clock .time) (row .length) keeps (eqb (w .clock .last) 1) r entry exit → Holds base (pairsOf row sp es) entry
+      → MarksAfter (w .marks) (w .clock .time) (row .length) keeps (eqb (w .clock .last) 1) r entry exit → Holds base (pairsOf row sp es) entry
       → (kept : ℕ) (worth : ℕ) → kept ≡ keptBelow row sp es (row .length .0) → worth ≡ weight paper kept (row .length .0) (row .share)
       → (finished kept worth (r .pairs) ≡ finished (keptBelow row sp es (row .length .0)) (weight paper (keptBelow row sp es (row .length .0)) (row .length .0) (row .share)) (length (keptStretches row sp es)))
       × Holds base (keptStretches row sp es) exit

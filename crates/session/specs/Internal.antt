@@ -4,7 +4,7 @@ use Prim.Native.Nat.{ℕ, _+_, _*_, _≤_, _<_}
 use mathlib.Core.Path.{_≡_}
 use mathlib.Core.List.{List, [], _∷_, _++_}
 use mathlib.Core.Bool.{Bool, true}
-use lib.Dec.{leb, eqb}
+use lib.Dec.{leb}
 use lib.ListN.{length, drop, set}
 use Rattle.rules.specs.declared.Millis.{Millis}
 use Rattle.rules.specs.declared.Steps.{Steps}
@@ -61,7 +61,7 @@ unfoldable pub begunAt : Marks → ℕ → Bool → Marks
 begunAt m a reaches = if reaches then m else record { pairs = m .pairs + 1; start = a }
 
 -- what lets the marks grow to a time
-pub record Growing (m : Marks) (from to : Millis) (reaches : Bool) : Type 0 where
+pub record MarksBounds (m : Marks) (from to : Millis) (reaches : Bool) : Type 0 where
   pub onward : from .0 ≤ to .0
   pub small : to .0 ≤ 86400000
   pub started : m .start ≤ from .0
@@ -69,8 +69,8 @@ pub record Growing (m : Marks) (from to : Millis) (reaches : Bool) : Type 0 wher
   pub some : reaches ≡ true → 1 ≤ m .pairs
 
 -- the marks and the buffer when time has run on, and all of it passed or none
-abbrev pub Grows : Marks → Millis → Millis → Bool → Bool → Marks → List ℕ → List ℕ → Type 0
-Grows m from to keeps reaches r entry exit =
+abbrev pub MarksAfter : Marks → Millis → Millis → Bool → Bool → Marks → List ℕ → List ℕ → Type 0
+MarksAfter m from to keeps reaches r entry exit =
     (p : ℕ → Bool) (base : List ℕ) → m ≡ marksAt p (from .0) → reaches ≡ before p (from .0) → ((k : ℕ) → from .0 ≤ k → k < to .0 → p k ≡ keeps)
     → Holds base (stretches p (from .0)) entry → (r ≡ marksAt p (to .0)) × Holds base (stretches p (to .0)) exit
 
@@ -118,7 +118,7 @@ pub record Advanced (w : Progress) (duty : Duty) (o : Outcome Event) (r : Steppe
       → refusalBy row es o ≡ 0 → (r .progress ≡ progressAt row sp (followed es o)) × Holds base (pairsOf row sp (followed es o)) exit
 
 -- a run at its last record, of that row
-pub record Ending (w : Progress) (row : Row) : Type 0 where
+pub record ReachedEnd (w : Progress) (row : Row) : Type 0 where
   pub sp : SpreadRule
   pub events : List Event
   pub good : goodRow paper row ≡ true
@@ -126,8 +126,8 @@ pub record Ending (w : Progress) (row : Row) : Type 0 where
   pub is : w ≡ progressAt row sp events
 
 -- what the end promises
-abbrev pub Ends : Progress → Row → SessionAnswer → List ℕ → List ℕ → Type 0
-Ends w row r entry exit =
+abbrev pub FinalAnswer : Progress → Row → SessionAnswer → List ℕ → List ℕ → Type 0
+FinalAnswer w row r entry exit =
     (sp : SpreadRule) (es : List Event) (base : List ℕ) → EventBounds row es → w ≡ progressAt row sp es → Holds base (pairsOf row sp es) entry
     → (shownSession r ≡ finished (keptBelow row sp es (row .length .0)) (weight paper (keptBelow row sp es (row .length .0)) (row .length .0) (row .share)) (length (keptStretches row sp es)))
     × Holds base (keptStretches row sp es) exit
@@ -144,13 +144,8 @@ abbrev pub bookWith : ℕ → Row → Steps → List Event → Book
 bookWith cell row sp es =
     record { running = Quoting cell row (withoutLapseLimit sp) es; cells = blankCells; count = countFrom (following 0) es }
 
--- K, w and the number of pairs, or the refusal and its place, whatever the buffer
-unfoldable pub counted : Session → Ran
-counted (whole kept weight pairs) = finished kept weight (length pairs)
-counted (halted number place) = stopped number place
-
 -- in the loop over the records: at the byte that the record of this place starts with
-pub record Going (most : ℕ) (row : Row) (sp : Steps) (bytes base : List ℕ) (w : Progress) (at place : ℕ) (table buffer : List ℕ) : Type 0 where
+pub record LoopState (most : ℕ) (row : Row) (sp : Steps) (bytes base : List ℕ) (w : Progress) (at place : ℕ) (table buffer : List ℕ) : Type 0 where
   pub events : List Event
   pub bounds : EventBounds row events
   pub is : w ≡ progressAt row (Settled sp) events
@@ -161,6 +156,12 @@ pub record Going (most : ℕ) (row : Row) (sp : Steps) (bytes base : List ℕ) (
   pub runs : (cell : ℕ)
       → runRecords paper most cell 1 (bookWith cell row sp []) (recordsOf bytes) ≡ runRecords paper most cell place (bookWith cell row sp events) (recordsOf (drop at bytes))
 
+-- K, w and the number of pairs, or the refusal and its place, whatever the buffer
+unfoldable pub counted : Session → Ran
+counted (whole kept weight pairs) = finished kept weight (length pairs)
+counted (halted number place) = stopped number place
+
+-- what a pass over the records promises
 pub record Passed (s : Session) (entry exit : List ℕ) (r : SessionAnswer) : Type 0 where
   pub answer : shownSession r ≡ counted s
   pub words : (kept weight : ℕ) (pairs : List Stretch) → s ≡ whole kept weight pairs → 2 * length pairs ≤ length entry

@@ -11,7 +11,7 @@ ghost use Rattle.rules.specs.Rows.{goodRow};
 ghost use Rattle.rules.specs.Answers.{accepted, shownSession};
 ghost use Rattle.rules.specs.Records.{readRecord};
 ghost use Rattle.rules.specs.Session.{mostRecords, recordsOf, runRecords, session, sessionBytes, ran, front as frontOf, bufferAfter, oneNumber};
-ghost use Rattle.session.specs.Internal.{putPair, begunAt, Growing, Grows, ReachedRun, Advanced, Ending, Ends, progressAt, bookWith, Passed, filledBy, numberBy};
+ghost use Rattle.session.specs.Internal.{putPair, begunAt, MarksBounds, MarksAfter, ReachedRun, Advanced, ReachedEnd, FinalAnswer, progressAt, bookWith, Passed, filledBy, numberBy};
 use quantum::Clock;
 use quantum::Duty;
 use rules::Event;
@@ -77,8 +77,8 @@ fn grow(
     reaches: bool,
     buffer: &mut [u32],
 ) -> Marks
-    requires { ⌜ Growing marks from to reaches ⌝ }
-    ensures { λ r. ⌜ Grows marks from to keeps reaches r (now (buffer .entry)) (now (buffer .exit)) ⌝ }
+    requires { ⌜ MarksBounds marks from to reaches ⌝ }
+    ensures { λ r. ⌜ MarksAfter marks from to keeps reaches r (now (buffer .entry)) (now (buffer .exit)) ⌝ }
 {
     if to.0 <= from.0 {
         return marks;
@@ -149,8 +149,8 @@ fn step(
 
 // Time runs on to L; K, w and the number of pairs.
 fn finish(progress: Progress, row: Row, buffer: &mut [u32]) -> SessionAnswer
-    requires { ⌜ Ending progress row ⌝ }
-    ensures { λ r. ⌜ Ends progress row r (now (buffer .entry)) (now (buffer .exit)) ⌝ }
+    requires { ⌜ ReachedEnd progress row ⌝ }
+    ensures { λ r. ⌜ FinalAnswer progress row r (now (buffer .entry)) (now (buffer .exit)) ⌝ }
 {
     let clock = progress.clock;
     let marks = progress.marks;

@@ -3,7 +3,7 @@ use Prim.Native.Nat.{ℕ, zero, suc, _+_, _≤_, _<_}
 use mathlib.Core.Path.{_≡_, refl, ap}
 use mathlib.Core.Bool.{Bool, true, false}
 use mathlib.Core.Logic.{⊎-elim}
-use mathlib.Core.List.{List, [], _∷_, _++_, List·Memᴰ, List·Memᴰ·append-cases, List·Memᴰ·eq-of-singleton, List·Memᴰ·not-nil}
+use mathlib.Core.List.{List, [], _∷_, _++_, List·Memᴰ, List·Memᴰ·append-cases, List·Memᴰ·eq-of-singleton}
 use native.Mathlib.Omega.{arith}
 use lib.ListN.{length, take, drop, set, getD, length-append, length-set, length-take, length-drop}
 use Rattle.rules.specs.Lists.{if_then_else_}
@@ -90,9 +90,6 @@ same-good s o e g =
       key-most = omega (arith, g .key-most);
       volume-most = omega (arith, g .volume-most);
     }
-
-pub good-none : GoodSlots []
-good-none = all-good [] (omega arith) (λ s m. absurd (List·Memᴰ·not-nil m))
 
 pub good-added : (slots : List Slot) (s : Slot) → GoodSlots slots → length slots < 64 → GoodSlot s → GoodSlots (slots ++ (s ∷ []))
 good-added slots s g room new =

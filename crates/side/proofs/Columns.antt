@@ -136,10 +136,10 @@ module _ (a b c d : List ℕ) (la : length a ≡ 64) (lb : length b ≡ 64) (lc 
       ∙ ap (λ (r : List ℕ). a ++ r) (behind-set b (c ++ d) 64 lb (64 + i) v)
       ∙ ap (λ (r : List ℕ). a ++ (b ++ r)) (behind-set c d 64 lc i v)
 
-  pub behind-first : drop 64 (four a b c d) ≡ b ++ (c ++ d)
+  behind-first : drop 64 (four a b c d) ≡ b ++ (c ++ d)
   behind-first = drop-at a (b ++ (c ++ d)) 64 la
 
-  pub behind-second : drop 128 (four a b c d) ≡ c ++ d
+  behind-second : drop 128 (four a b c d) ≡ c ++ d
   behind-second = behind-drop a (b ++ (c ++ d)) 64 la 64 ∙ drop-at b (c ++ d) 64 lb
 
   pub first-taken : (n : ℕ) → n ≤ 64 → take n (four a b c d) ≡ take n a

@@ -5,5 +5,4 @@ pub mod Shifting
 pub mod Words
 pub mod Stores
 pub mod Seen
-pub mod Found
 pub mod Changes

@@ -8,7 +8,7 @@ use lib.ListN.{length, take, drop, set, getD}
 use lib.Seq.{getD-append-add, drop-append-add}
 
 module _ {A : Type 0} where
-  pub set-append-add : (xs ys : List A) (n : ℕ) (a : A) → set (xs ++ ys) (length xs + n) a ≡ xs ++ set ys n a
+  set-append-add : (xs ys : List A) (n : ℕ) (a : A) → set (xs ++ ys) (length xs + n) a ≡ xs ++ set ys n a
   set-append-add [] ys n a = ap (λ (k : ℕ). set ys k a) (zero-add n)
   set-append-add (x ∷ xs) ys n a =
       ap (λ (k : ℕ). set (x ∷ (xs ++ ys)) k a) (suc-add (length xs) n) ∙ ap (λ (r : List A). x ∷ r) (set-append-add xs ys n a)

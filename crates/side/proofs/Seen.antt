@@ -55,7 +55,7 @@ seen-blanks n id (suc k) ne =
     omega (arith, seen-blanks (n + 1) id k ne)
 
 -- any id but 0 is not found among them
-pub seen-padded : (n id k : ℕ) (xs : List ℕ) → (id ≡ 0 → ⊥) → seenFrom n id (xs ++ replicate k 0) ≡ seenFrom n id xs
+seen-padded : (n id k : ℕ) (xs : List ℕ) → (id ≡ 0 → ⊥) → seenFrom n id (xs ++ replicate k 0) ≡ seenFrom n id xs
 unfolding seenFrom
 seen-padded n id k [] ne = seen-blanks n id k ne
 seen-padded n id k (x ∷ xs) ne = ap (λ (m : ℕ). (if eqb x id then n else 0) + m) (seen-padded (n + 1) id k xs ne)

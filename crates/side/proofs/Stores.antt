@@ -1,5 +1,5 @@
 -- The stores that change a side's orders or its level. Assumes nothing.
-use Prim.Native.Nat.{ℕ, suc, _+_, _-_, _≤_, _<_}
+use Prim.Native.Nat.{ℕ, suc, _+_, _≤_, _<_}
 use mathlib.Core.Path.{_≡_, refl, ap, sym, _∙_}
 use mathlib.Core.List.{List, [], _∷_, _++_, map, map-append}
 use native.Mathlib.Omega.{arith}
@@ -28,14 +28,14 @@ module _ (f : Slot → ℕ) (slots : List Slot) where
   field-set place s h =
       column-set (map f slots) place (f s) (omega (arith, length-map slots f)) ∙ ap column (sym (map-set f slots place s))
 
-  pub field-shifted : (place last : ℕ) → length slots ≤ 64 → suc last ≡ length slots → place ≤ last
+  field-shifted : (place last : ℕ) → length slots ≤ 64 → suc last ≡ length slots → place ≤ last
       → shifted (column (map f slots)) place last ≡ column (map f (take place slots ++ drop (suc place) slots))
   field-shifted place last few e h =
       column-shifted (map f slots) place last (omega (arith, length-map slots f)) (omega (arith, length-map slots f)) h
       ∙ (λ i. column (sym (map-take f place slots) i ++ sym (map-drop f (suc place) slots) i))
       ∙ ap column (sym (map-append f (take place slots) (drop (suc place) slots)))
 
-pub count-set : (slots after : List Slot) (level : Level) (n : ℕ) → n ≡ length after
+count-set : (slots after : List Slot) (level : Level) (n : ℕ) → n ≡ length after
     → set (column (header slots level)) 0 n ≡ column (header after level)
 count-set slots after level n e =
     column-set (header slots level) 0 n (omega arith) ∙ ap (λ (k : ℕ). column (k ∷ level .key ∷ level .before ∷ level .at ∷ [])) e
@@ -116,7 +116,7 @@ module _ (slots : List Slot) (level : Level) (place key volume : ℕ) (few : len
 abbrev pub putKeys : List ℕ → List ℕ → List ℕ
 putKeys w keys = take 64 w ++ (keys ++ drop 64 (drop 64 w))
 
-abbrev pub putVolumes : List ℕ → List ℕ → List ℕ
+abbrev putVolumes : List ℕ → List ℕ → List ℕ
 putVolumes w volumes = take 128 w ++ (volumes ++ drop 64 (drop 128 w))
 
 -- ---- an order less: what the three calls leave, one part after the other

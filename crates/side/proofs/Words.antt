@@ -15,16 +15,16 @@ module _ (f : Slot → ℕ) (slots : List Slot) where
   pub field-length : length slots ≤ 64 → length (column (map f slots)) ≡ 64
   field-length few = column-length (map f slots) (omega (arith, length-map slots f))
 
-  pub field-at : (i : ℕ) → f blankSlot ≡ 0 → getD (column (map f slots)) i 0 ≡ f (getD slots i blankSlot)
+  field-at : (i : ℕ) → f blankSlot ≡ 0 → getD (column (map f slots)) i 0 ≡ f (getD slots i blankSlot)
   field-at i e =
       column-at (map f slots) i ∙ ap (getD (map f slots) i) (sym e) ∙ List·getD-map f slots i blankSlot
 
-  pub field-take : (to : ℕ) → length slots ≤ to → to ≤ 64 → take to (column (map f slots)) ≡ map f slots ++ replicate (to - length slots) 0
+  field-take : (to : ℕ) → length slots ≤ to → to ≤ 64 → take to (column (map f slots)) ≡ map f slots ++ replicate (to - length slots) 0
   field-take to h k =
       column-take (map f slots) to (omega (arith, length-map slots f)) k
       ∙ ap (λ (n : ℕ). map f slots ++ replicate (to - n) 0) (length-map slots f)
 
-pub header-length : (slots : List Slot) (level : Level) → length (column (header slots level)) ≡ 64
+header-length : (slots : List Slot) (level : Level) → length (column (header slots level)) ≡ 64
 header-length slots level = column-length (header slots level) (omega arith)
 
 -- ---- the words

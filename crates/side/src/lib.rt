@@ -3,7 +3,7 @@
 // is no price (crate quote).
 ghost use mathlib.Core.Path.{_≡_};
 ghost use mathlib.Core.List.{List};
-ghost use Prim.Native.Nat.{ℕ, _≤_, _<_};
+ghost use Prim.Native.Nat.{_≤_, _<_};
 ghost use lib.ListN.{length, getD};
 ghost use Rattle.quote.specs.declared.Level.{Level};
 ghost use Rattle.side.specs.Slots.{Slot, sideOf, seenFrom, seen};
@@ -18,12 +18,23 @@ pub struct Change {
     pub volume: Contracts,
 }
 
-// Where the columns start: ids at 0, then these; the last one starts with the number of orders.
-const KEYS: usize = 64;
+// The places of a side's words (specs/Slots): where the columns of ids, keys and volumes start; in the last column the number of
+// orders and the best level, which is its key, the contracts at better keys, and those at it; and how many words there are.
+pub const IDS: usize = 0;
 
-const VOLUMES: usize = 128;
+pub const KEYS: usize = 64;
 
-const COUNT: usize = 192;
+pub const VOLUMES: usize = 128;
+
+pub const COUNT: usize = 192;
+
+pub const BEST: usize = 193;
+
+pub const BEFORE: usize = 194;
+
+pub const AT: usize = 195;
+
+pub const WORDS: usize = 256;
 
 // ---- the orders
 
@@ -58,11 +69,12 @@ pub fn located(words: &[u32], id: u32) -> u32
 {
     let count = words[COUNT];
     if id == 0 {
-        return scan(&words[0..count as usize], id);
+        return scan(&words[IDS..count as usize], id);
     }
-    scan(&words[0..room(count)], id)
+    scan(&words[IDS..room(count)], id)
 }
 
+// An order more, behind the others: what its side gains, and loses nothing.
 pub fn add(words: &mut [u32], id: u32, key: u32, volume: Contracts) -> Change
     requires { ⌜ (length (now words) ≡ 256) × (getD (now words) 192 0 < 64) ⌝ }
     ensures { λ r. ⌜ Added id key volume (now (words .entry)) (now (words .exit)) r ⌝ }
@@ -81,6 +93,7 @@ pub fn add(words: &mut [u32], id: u32, key: u32, volume: Contracts) -> Change
     }
 }
 
+// The order at a place has another key and volume; its id, and its place among the orders, stay.
 pub fn amend(words: &mut [u32], place: usize, key: u32, volume: Contracts) -> Change
     requires { ⌜ (length (now words) ≡ 256) × (place < 64) ⌝ }
     ensures { λ r. ⌜ Amended place key volume (now (words .entry)) (now (words .exit)) r ⌝ }
@@ -111,6 +124,7 @@ fn shift(column: &mut [u32], place: usize, last: usize)
     column[last] = 0;
 }
 
+// The order at a place goes; those behind it move up, so that the orders stay in the order in which they were added.
 pub fn remove(words: &mut [u32], place: usize) -> Change
     requires { ⌜ Sized (now words) × (place < getD (now words) 192 0) ⌝ }
     ensures { λ r. ⌜ Removed place (now (words .entry)) (now (words .exit)) r ⌝ }
@@ -118,9 +132,9 @@ pub fn remove(words: &mut [u32], place: usize) -> Change
     let old = words[KEYS + place];
     let held = words[VOLUMES + place];
     let rest = words[COUNT] - 1;
-    shift(&mut words[0..64], place, rest as usize);
-    shift(&mut words[64..128], place, rest as usize);
-    shift(&mut words[128..192], place, rest as usize);
+    shift(&mut words[IDS..KEYS], place, rest as usize);
+    shift(&mut words[KEYS..VOLUMES], place, rest as usize);
+    shift(&mut words[VOLUMES..COUNT], place, rest as usize);
     words[COUNT] = rest;
     Change {
         old,

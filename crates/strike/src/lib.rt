@@ -13,12 +13,12 @@ use rules::Strike;
 pub fn is_good(s: Strike) -> bool
     ensures { λ r. ⌜ r ≡ goodStrike s ⌝ }
 {
-    let product = ranges::both(
+    let product = numbers::both(
         ranges::at_most(s.a, 200),
         ranges::at_most(s.difference, 100000),
     );
-    let root = ranges::both(product, ranges::at_most(s.days, 365));
-    ranges::both(root, ranges::at_most(s.b, 1000000))
+    let root = numbers::both(product, ranges::at_most(s.days, 365));
+    numbers::both(root, ranges::at_most(s.b, 1000000))
 }
 
 // The same, where open goes by a strike.

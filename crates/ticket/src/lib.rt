@@ -3,7 +3,7 @@ ghost use mathlib.Core.Path.{_≡_};
 ghost use lib.Dec.{eqb};
 ghost use Rattle.rules.specs.Causes.{samePrice, sameAmendment, goodTicket};
 ghost use Rattle.rules.specs.Changes.{following};
-use ranges::both;
+use numbers::both;
 use rules::Amendment;
 use rules::Steps;
 use rules::Ticket;

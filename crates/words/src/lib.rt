@@ -29,7 +29,8 @@ pub fn from_steps(p: Steps) -> u32
     4294967295 - d
 }
 
-fn wide(b: u8) -> u32
+// A byte as a word.
+fn of_byte(b: u8) -> u32
     ensures { λ r. ⌜ (r ≡ b) × (r < 256) ⌝ }
 {
     b as u32
@@ -40,8 +41,8 @@ pub fn word_at(bytes: &[u8], at: usize) -> u32
     requires { ⌜ at + 4 ≤ length (now bytes) ⌝ }
     ensures { λ r. ⌜ r ≡ wordAt (now (bytes .entry)) at ⌝ }
 {
-    wide(bytes[at])
-        + 256 * wide(bytes[at + 1])
-        + 65536 * wide(bytes[at + 2])
-        + 16777216 * wide(bytes[at + 3])
+    of_byte(bytes[at])
+        + 256 * of_byte(bytes[at + 1])
+        + 65536 * of_byte(bytes[at + 2])
+        + 16777216 * of_byte(bytes[at + 3])
 }

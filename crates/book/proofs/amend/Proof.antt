@@ -1,4 +1,4 @@
--- `book::amend` meets its contract. Assumes nothing.
+-- Each refusal by `refuses` with the law of its cause (Causes); an accepted amendment by `applied-amend`. Assumes nothing.
 use mathlib.Core.Path.{sym, ap, _∙_}
 use borrow.Author.Needs.{needs}
 use Rattle.rules.specs.declared.Side.{Side}

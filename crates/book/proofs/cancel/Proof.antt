@@ -1,4 +1,4 @@
--- `book::cancel` meets its contract. Assumes nothing.
+-- An unknown id by `refuses`; an accepted cancel by `applied-cancel`, and what the hints need by `placed`. Assumes nothing.
 use borrow.Author.Needs.{needs}
 use Rattle.rules.specs.declared.Event.the-variants.{Cancel}
 use Rattle.rules.specs.Units.{millis}

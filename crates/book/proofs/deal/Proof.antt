@@ -1,4 +1,4 @@
--- `book::deal` meets its contract. Assumes nothing.
+-- Each refusal by `refuses`; a deal of all is a cancel (`deal-cancels`), of a part an amendment (`applied-deal`). Assumes nothing.
 use Prim.Native.Nat.{ℕ, _≤_, _<_}
 use native.Mathlib.Nat.{le-refl}
 use native.Mathlib.Omega.{arith}

@@ -1,4 +1,4 @@
--- `book::id_of` meets its contract. Assumes nothing.
+-- By the event's kind. Assumes nothing.
 use mathlib.Core.Path.{sym, ap}
 use borrow.Author.Needs.{needs}
 use Rattle.book.specs.Internal.{idOf}

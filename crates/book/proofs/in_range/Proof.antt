@@ -1,4 +1,4 @@
--- `book::in_range` meets its contract. Assumes nothing.
+-- Both tests are those of the definitions. Assumes nothing.
 use borrow.Author.Needs.{needs}
 use Rattle.book.proofs.in_range.Statement.{statement}
 use Rattle.book.proofs.in_range.Tie as tie

@@ -1,4 +1,5 @@
--- `book::send` meets its contract. Assumes nothing.
+-- The orders by `changed`, the best level of their side by `requote`; both halves of the table are then those of the orders after the
+-- event (Sent). Assumes nothing.
 use Prim.Native.Nat.{ℕ}
 use native.Mathlib.Omega.{arith}
 use mathlib.Core.Path.{_≡_, sym, ap, _∙_}

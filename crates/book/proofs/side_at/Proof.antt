@@ -1,4 +1,4 @@
--- `book::side_at` meets its contract. Assumes nothing.
+-- By the number. Assumes nothing.
 use Prim.Native.Nat.{ℕ, zero, suc}
 use mathlib.Core.Path.{_≡_, refl}
 use borrow.Author.Needs.{needs}

@@ -1,4 +1,4 @@
--- `book::side_number` meets its contract. Assumes nothing.
+-- By the side. Assumes nothing.
 use native.Mathlib.Omega.{arith}
 use mathlib.Core.Path.{_≡_, sym}
 use borrow.Author.Needs.{needs}

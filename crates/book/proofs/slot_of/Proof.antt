@@ -1,4 +1,4 @@
--- `book::slot_of` meets its contract. Assumes nothing.
+-- By which scan found something. Assumes nothing.
 use borrow.Author.Needs.{needs}
 use borrow.Author.Tests.{lt-ltb, le-ltb}
 use Rattle.book.proofs.slot_of.Statement.{statement}

@@ -18,6 +18,9 @@ shared-slice-read-count c =
     let long : length (s .args .words .now) ≡ 256 = moving-length (s .args .words .now) (s .args .change) (s .args .minimum .0) (s .pre) in
     search needs
 
+add-few : tie.Need-add-few
+add-few c = search needs
+
 sub-few : tie.Need-sub-few
 sub-few c = search needs
 
@@ -29,6 +32,9 @@ part-few-end c =
     let s = c .before .before .before in
     let long : length (s .args .words .now) ≡ 256 = moving-length (s .args .words .now) (s .args .change) (s .args .minimum .0) (s .pre) in
     search needs
+
+add-few-2 : tie.Need-add-few-2
+add-few-2 c = search needs
 
 sub-few-2 : tie.Need-sub-few-2
 sub-few-2 c = search needs
@@ -149,9 +155,11 @@ guessed-spec =
     tie.close
     (tie.spec
     shared-slice-read-count
+    add-few
     sub-few
     part-few-start
     part-few-end
+    add-few-2
     sub-few-2
     part-few-start-2
     part-few-end-2

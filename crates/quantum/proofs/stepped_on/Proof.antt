@@ -2,7 +2,7 @@
 use mathlib.Core.Path.{refl}
 use native.Mathlib.Omega.{arith}
 use Rattle.quantum.specs.declared.Quantum.{Quantum}
-use Rattle.quantum.proofs.Answers.{event-numbered, represents-all, running-of, sent-accepted, sent-refused}
+use Rattle.quantum.proofs.Answers.{event-numbered, represents-all, reached-parts, sent-accepted, sent-refused}
 use borrow.Author.Needs.{needs}
 use Rattle.quantum.proofs.stepped_on.Statement.{statement}
 use Rattle.quantum.proofs.stepped_on.Tie as tie
@@ -16,7 +16,7 @@ slice-aggregate-step-2 c = search needs
 step-requires : tie.Need-step-requires
 step-requires c κs =
     let s = c .before .before in
-    running-of (record { duty = s .args .duty; clock = s .args .clock; table = s .args .table }) _ (s .pre) refl
+    reached-parts (record { duty = s .args .duty; clock = s .args .clock; table = s .args .table }) _ (s .pre) refl
 
 refusal-of-requires : tie.Need-refusal-of-requires
 refusal-of-requires c κs =

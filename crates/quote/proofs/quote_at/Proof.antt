@@ -1,4 +1,4 @@
--- `quote::quote_at` meets its contract. Assumes nothing.
+-- By whether the key is 0. Assumes nothing.
 use Prim.Native.Nat.{ℕ, zero, suc}
 use mathlib.Core.Path.{_≡_, refl, ap, _∙_}
 use borrow.Author.Needs.{needs}

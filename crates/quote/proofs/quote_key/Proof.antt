@@ -1,4 +1,4 @@
--- `quote::quote_key` meets its contract. Assumes nothing.
+-- By whether there is a quote. Assumes nothing.
 use mathlib.Core.Path.{sym, ap, _∙_}
 use borrow.Author.Needs.{needs}
 use Rattle.quote.specs.Keys.{quoteKey}

@@ -1,4 +1,4 @@
--- `record::event_of` meets its contract, kind by kind. Assumes nothing.
+-- The event of each kind is that of `eventOf` (`buy-of` .. `tick-of`). Assumes nothing.
 use borrow.Author.Needs.{needs}
 use Rattle.record.specs.Internal.{said}
 use Rattle.record.proofs.Reading.{buy-of, sell-of, amend-of, cancel-of, deal-of, tick-of}

@@ -1,4 +1,4 @@
--- `record::event_parts` meets its contract, event by event. Assumes nothing.
+-- The fields of each event are those of `eventFields`. Assumes nothing.
 use borrow.Author.Needs.{needs}
 use Rattle.record.proofs.Writing.{add-fields, amend-fields, cancel-fields, deal-fields, tick-fields}
 use Rattle.record.proofs.event_parts.Statement.{statement}

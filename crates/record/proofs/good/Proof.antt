@@ -1,4 +1,4 @@
--- `record::good` meets its contract: its tests are those of the definition, after the length. Assumes nothing.
+-- The tests of `goodRecord`, after the length (`cut-short`, `whole`). Assumes nothing.
 use borrow.Author.Needs.{needs}
 use denote.Ref.{now}
 use Rattle.record.proofs.Reading.{cut-short, whole}

@@ -1,4 +1,4 @@
--- `record::padding_zero` meets its contract: its three tests are those of the definition. Assumes nothing.
+-- The three tests of `paddingZero`. Assumes nothing.
 use borrow.Author.Needs.{needs}
 use denote.Ref.{now}
 use Rattle.record.proofs.Reading.{padding}

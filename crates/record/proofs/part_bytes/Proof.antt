@@ -1,4 +1,4 @@
--- `record::part_bytes` meets its contract: each byte is one of a word's. Assumes nothing.
+-- Each byte is one of `wordBytes`. Assumes nothing.
 use borrow.Author.Needs.{needs}
 use Rattle.rules.specs.Records.{fieldBytes, wordBytes}
 use Rattle.record.proofs.part_bytes.Statement.{statement}

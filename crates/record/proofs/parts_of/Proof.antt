@@ -1,4 +1,4 @@
--- `record::parts_of` meets its contract: each word stands at its place. Assumes nothing.
+-- Each word stands at its place (`fields-are`). Assumes nothing.
 use borrow.Author.Needs.{needs}
 use denote.Ref.{now}
 use Rattle.record.proofs.Reading.{fields-are}

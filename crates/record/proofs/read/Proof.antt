@@ -1,4 +1,4 @@
--- `record::read` meets its contract, from what `good`, `parts_of` and `event_of` ensure. Assumes nothing.
+-- A good record is accepted as the event of its fields (`accepts`), another refused (`refuses`). Assumes nothing.
 use mathlib.Core.Path.{sym, _∙_}
 use borrow.Author.Needs.{needs}
 use denote.Ref.{now}

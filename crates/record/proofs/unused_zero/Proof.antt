@@ -1,4 +1,4 @@
--- `record::unused_zero` meets its contract, kind by kind. Assumes nothing.
+-- The fields that each kind leaves unused, as `unusedZero` has them. Assumes nothing.
 use borrow.Author.Needs.{needs}
 use Rattle.record.specs.Internal.{said}
 use Rattle.record.proofs.Reading.{cancel-unused, deal-unused, tick-unused, all-used}

@@ -1,4 +1,4 @@
--- `record::write` meets its contract: the bytes of the event's fields. Assumes nothing.
+-- The bytes of the event's fields. Assumes nothing.
 use mathlib.Core.Path.{ap, _∙_}
 use borrow.Author.Needs.{needs}
 use Rattle.rules.specs.Records.{fieldBytes, recordOf}

@@ -7,7 +7,9 @@ use borrow.Author.Needs.{needs}
 use lib.ListN.{length, take, drop}
 use Rattle.rules.specs.Choosing.{firstRow}
 use Rattle.rules.proofs.Choosing.{row-none, row-at}
+use Rattle.row.specs.Starts.{Place, startIn}
 use Rattle.row.specs.Internal.{Found}
+use Rattle.row.proofs.Starts.{at-none, at-first}
 use Rattle.row.proofs.first.Statement.{statement}
 use Rattle.row.proofs.first.Tie as tie
 
@@ -20,6 +22,12 @@ module _ (expiry quantum : ℕ) (table : List ℕ) (k : ℕ) (found : Found expi
 
   missing : length table / 7 ≤ k → [] ≡ firstRow expiry quantum table
   missing l = sym (row-none expiry quantum table (λ j m. found .none-before j (omega arith)))
+
+  starts : (p : Place) → k < length table / 7 → _≡_ {A = Place} (p .0, 7 * k * 4 + p .1) (startIn expiry quantum p table)
+  starts p l = ap (λ (n : ℕ). (p .0, 7 * n * 4 + p .1)) (sym (at-first expiry quantum table k l (found .none-before) (found .passes l)))
+
+  empty : (p : Place) → length table / 7 ≤ k → _≡_ {A = Place} (p .0, 0 + p .1) (startIn expiry quantum p table)
+  empty p l = ap (λ (n : ℕ). (p .0, 7 * n * 4 + p .1)) (sym (at-none expiry quantum table (λ j m. found .none-before j (omega arith))))
 
 find-requires : tie.Need-find-requires
 find-requires c κs = search needs
@@ -45,8 +53,10 @@ part-result-end c = search needs
 returns : tie.Need-returns
 returns c =
     let a = c .before .before .before .before .args in
-    there (a .expiry) (a .quantum) (a .table .now) (c .before .before .find .result) (c .before .before .find .ensures)
-    (omega arith)
+    let k = c .before .before .find in (
+      there (a .expiry) (a .quantum) (a .table .now) (k .result) (k .ensures) (omega arith),
+      starts (a .expiry) (a .quantum) (a .table .now) (k .result) (k .ensures) (a .table .ptr) (omega arith),
+    )
 
 sub-result-2 : tie.Need-sub-result-2
 sub-result-2 c = search needs
@@ -60,8 +70,10 @@ part-result-end-2 c = search needs
 returns-2 : tie.Need-returns-2
 returns-2 c =
     let a = c .before .before .before .before .args in
-    missing (a .expiry) (a .quantum) (a .table .now) (c .before .before .find .result) (c .before .before .find .ensures)
-    (omega arith)
+    let k = c .before .before .find in (
+      missing (a .expiry) (a .quantum) (a .table .now) (k .result) (k .ensures) (omega arith),
+      empty (a .expiry) (a .quantum) (a .table .now) (k .result) (k .ensures) (a .table .ptr) (omega arith),
+    )
 
 pub first-spec : {M : Type 1} → statement M
 first-spec =

@@ -5,7 +5,7 @@ use Rattle.rules.specs.Terms.{paper}
 use Rattle.rules.proofs.Bounds.{row-bounds}
 use Rattle.quantum.specs.declared.Clock.{Clock}
 use Rattle.quantum.proofs.Represents.{time-is, kept-at}
-use Rattle.session.proofs.Steps.{clock-is, growing, may-end, ended-is}
+use Rattle.session.proofs.Steps.{clock-is, marks-bounds, may-end, ended-is}
 use borrow.Author.Needs.{needs}
 use Rattle.session.proofs.finish.Statement.{statement}
 use Rattle.session.proofs.finish.Tie as tie
@@ -20,7 +20,7 @@ grow-requires : tie.Need-grow-requires
 grow-requires c κs =
     let s = c .before .before .before .before .before .before .before .before .before .before in
     let h = s .pre in
-    growing (s .args .row) (h .sp) (h .events) (s .args .progress) (h .is) (s .args .row .length) (h .bounds .ends) (omega arith) (h .good)
+    marks-bounds (s .args .row) (h .sp) (h .events) (s .args .progress) (h .is) (s .args .row .length) (h .bounds .ends) (omega arith) (h .good)
 
 weight-of-requires : tie.Need-weight-of-requires
 weight-of-requires c κs =

@@ -9,14 +9,14 @@ use Rattle.rules.specs.declared.Steps.{Steps}
 use Rattle.rules.specs.declared.SpreadRule.the-variants.{Settled}
 use Rattle.rules.specs.Rows.{goodRowFor}
 use Rattle.quantum.specs.Represents.{dutyOf}
-use Rattle.session.specs.Internal.{Going}
-use Rattle.session.proofs.Loop.{going-start, going-reached, going-ending, going-end, going-past, going-short, going-numbered, going-refused, going-on, part-is, none-live}
+use Rattle.session.specs.Internal.{LoopState}
+use Rattle.session.proofs.Loop.{loop-start, loop-reached, loop-at-end, loop-end, loop-past, loop-short, loop-numbered, loop-refused, loop-on, part-is, none-live}
 use Rattle.session.proofs.run_records.Statement.{statement}
 use Rattle.session.proofs.run_records.Tie as tie
 
 abbrev Inv-loop : tie.InvT-loop
 Inv-loop most row records buffer₀ duty table₀ hints₀ progress₀ at₀ place₀ full buffer table hints progress at place = (at + 20 ≡ 20 * place) × (at ≤ full) × (full ≤ length records) × (length records < full + 20) × (place ≤ most + 1) × (length buffer ≡ length buffer₀) × (length table ≡ 512) × (length hints ≡ 1024)
-    × ((sp : Steps) → duty ≡ dutyOf row (Settled sp) → Going most row sp records buffer₀ progress at place table buffer)
+    × ((sp : Steps) → duty ≡ dutyOf row (Settled sp) → LoopState most row sp records buffer₀ progress at place table buffer)
 
 abbrev μ-loop : tie.MeasureT-loop
 μ-loop most row records buffer₀ duty table₀ hints₀ progress₀ at₀ place₀ full buffer table hints progress at place = length records - at
@@ -46,7 +46,7 @@ loop-holds c =
       search needs,
       refl,
       λ sp is.
-          going-start (s .args .most) (s .args .row) sp (s .args .records .now) (s .args .buffer .now) (c .begin .result) (c .before .empty .result) (c .begin .ensures (s .args .row) (Settled sp))
+          loop-start (s .args .most) (s .args .row) sp (s .args .records .now) (s .args .buffer .now) (c .begin .result) (c .before .empty .result) (c .begin .ensures (s .args .row) (Settled sp))
           (none-live (s .args .row) (c .before .empty .result) (c .before .empty .ensures (s .args .row .minimum .0))),
     )
 
@@ -59,7 +59,7 @@ returns c =
     let b = l .before in
     let s = b .before .before .before .before .before in
     let g = l .loop .inv .8 (s .args .sp) (b .before .before .duty-of .ensures) in
-    going-past (s .args .most) (s .args .row) (s .args .sp) (s .args .records .now) (s .args .buffer .now) (l .loop .progress) (l .loop .at) (l .loop .place) (l .loop .table) (l .loop .buffer) g
+    loop-past (s .args .most) (s .args .row) (s .args .sp) (s .args .records .now) (s .args .buffer .now) (l .loop .progress) (l .loop .at) (l .loop .place) (l .loop .table) (l .loop .buffer) g
     (omega (arith, l .loop .inv .2, c .before .loop-test .taken)) (l .loop .buffer) (omega arith)
 
 add-step : tie.Need-add-step Inv-loop μ-loop
@@ -87,7 +87,7 @@ step-requires c κs =
     let s = b .before .before .before .before .before in
     let d = b .before .before .duty-of in
     let g = l .loop .inv .8 (s .args .sp) (d .ensures) in
-    going-reached (s .args .most) (s .args .row) (s .args .sp) (s .args .records .now) (s .args .buffer .now) (l .loop .progress) (l .loop .at) (l .loop .place) (l .loop .table) (l .loop .buffer) g
+    loop-reached (s .args .most) (s .args .row) (s .args .sp) (s .args .records .now) (s .args .buffer .now) (l .loop .progress) (l .loop .at) (l .loop .place) (l .loop .table) (l .loop .buffer) g
     (d .result) (l .loop .hints) (s .pre .1) (d .ensures) (l .loop .inv .7)
 
 refusal-of-requires : tie.Need-refusal-of-requires Inv-loop μ-loop
@@ -102,7 +102,7 @@ refusal-of-requires c κs =
     let inside : l .loop .at < length (s .args .records .now) = omega (arith, l .loop .inv .2, i .loop-test .taken) in
     let few : l .loop .place ≤ s .args .most = omega (arith, k .before .before .before .before .before .if1 .left) in
     let cut = part-is (s .args .records .now) (l .loop .at) in
-    going-numbered (s .args .most) (s .args .row) (s .args .sp) (s .args .records .now) (s .args .buffer .now) (l .loop .progress) (l .loop .at) (l .loop .place) (l .loop .table) (l .loop .buffer) g
+    loop-numbered (s .args .most) (s .args .row) (s .args .sp) (s .args .records .now) (s .args .buffer .now) (l .loop .progress) (l .loop .at) (l .loop .place) (l .loop .table) (l .loop .buffer) g
     inside few (d .result) (d .ensures) (k .step .result) (k .step .last .1 .1 .1 .0) (k .step .last .1 .1 .1 .1 .1 .0) _ cut (k .step .ensures) (c .if2 .taken)
 
 same-length-2 : tie.Need-same-length-2 Inv-loop μ-loop
@@ -120,7 +120,7 @@ returns-2 c =
     let inside : l .loop .at < length (s .args .records .now) = omega (arith, l .loop .inv .2, i .loop-test .taken) in
     let few : l .loop .place ≤ s .args .most = omega (arith, k .before .before .before .before .before .if1 .left) in
     let cut = part-is (s .args .records .now) (l .loop .at) in
-    going-refused (s .args .most) (s .args .row) (s .args .sp) (s .args .records .now) (s .args .buffer .now) (l .loop .progress) (l .loop .at) (l .loop .place) (l .loop .table) (l .loop .buffer) g
+    loop-refused (s .args .most) (s .args .row) (s .args .sp) (s .args .records .now) (s .args .buffer .now) (l .loop .progress) (l .loop .at) (l .loop .place) (l .loop .table) (l .loop .buffer) g
     inside few (d .result) (d .ensures) (k .step .result) (k .step .last .1 .1 .1 .0) (k .step .last .1 .1 .1 .1 .1 .0) _ cut (k .step .ensures) (c .refusal-of .result) (c .before .if2 .taken) (c .refusal-of .ensures)
 
 add-at : tie.Need-add-at Inv-loop μ-loop
@@ -150,9 +150,9 @@ loop-again c =
     let few : l .loop .place ≤ s .args .most = omega (arith, k .before .before .before .before .before .if1 .left) in
     let cut = part-is (s .args .records .now) (l .loop .at) in
     let whole : l .loop .at + 20 ≤ length (s .args .records .now) / 20 * 20 = omega (arith, l .loop .inv .0, i .loop-test .taken) in
-    let next : (sp : Steps) → d .result ≡ dutyOf (s .args .row) (Settled sp) → Going (s .args .most) (s .args .row) sp (s .args .records .now) (s .args .buffer .now) (k .step .result .progress) (l .loop .at + 20) (l .loop .place + 1) (k .step .last .1 .1 .1 .0) (k .step .last .1 .1 .1 .1 .1 .0) =
+    let next : (sp : Steps) → d .result ≡ dutyOf (s .args .row) (Settled sp) → LoopState (s .args .most) (s .args .row) sp (s .args .records .now) (s .args .buffer .now) (k .step .result .progress) (l .loop .at + 20) (l .loop .place + 1) (k .step .last .1 .1 .1 .0) (k .step .last .1 .1 .1 .1 .1 .0) =
     λ sp is.
-    going-on (s .args .most) (s .args .row) sp (s .args .records .now) (s .args .buffer .now) (l .loop .progress) (l .loop .at) (l .loop .place) (l .loop .table) (l .loop .buffer) (l .loop .inv .8 sp is)
+    loop-on (s .args .most) (s .args .row) sp (s .args .records .now) (s .args .buffer .now) (l .loop .progress) (l .loop .at) (l .loop .place) (l .loop .table) (l .loop .buffer) (l .loop .inv .8 sp is)
     inside few (d .result) is (k .step .result) (k .step .last .1 .1 .1 .0) (k .step .last .1 .1 .1 .1 .1 .0) _ cut (k .step .ensures) (omega (arith, whole, l .loop .inv .2)) (c .before .if2 .left) in
     (omega (arith, l .loop .inv .0), whole, l .loop .inv .2, l .loop .inv .3, omega (arith, few), next (s .args .sp) (d .ensures) .holds .size, c .before .before .before .before .before .table2 .given, c .before .before .before .before .hints2 .given, next)
 
@@ -165,7 +165,7 @@ returns-3 c =
     let b = l .before in
     let s = b .before .before .before .before .before in
     let g = l .loop .inv .8 (s .args .sp) (b .before .before .duty-of .ensures) in
-    going-short (s .args .most) (s .args .row) (s .args .sp) (s .args .records .now) (s .args .buffer .now) (l .loop .progress) (l .loop .at) (l .loop .place) (l .loop .table) (l .loop .buffer) g
+    loop-short (s .args .most) (s .args .row) (s .args .sp) (s .args .records .now) (s .args .buffer .now) (l .loop .progress) (l .loop .at) (l .loop .place) (l .loop .table) (l .loop .buffer) g
     (omega (arith, l .loop .inv .1, c .if3 .taken)) (l .loop .buffer) (omega (arith, l .loop .inv .3, c .before .loop-test .left))
 
 finish-requires : tie.Need-finish-requires Inv-loop μ-loop
@@ -174,7 +174,7 @@ finish-requires c κs =
     let b = l .before in
     let s = b .before .before .before .before .before in
     let g = l .loop .inv .8 (s .args .sp) (b .before .before .duty-of .ensures) in
-    going-ending (s .args .most) (s .args .row) (s .args .sp) (s .args .records .now) (s .args .buffer .now) (l .loop .progress) (l .loop .at) (l .loop .place) (l .loop .table) (l .loop .buffer) g (s .pre .1)
+    loop-at-end (s .args .most) (s .args .row) (s .args .sp) (s .args .records .now) (s .args .buffer .now) (l .loop .progress) (l .loop .at) (l .loop .place) (l .loop .table) (l .loop .buffer) g (s .pre .1)
 
 same-length-4 : tie.Need-same-length-4 Inv-loop μ-loop
 same-length-4 c = search needs
@@ -187,7 +187,7 @@ returns-4 c =
     let b = l .before in
     let s = b .before .before .before .before .before in
     let g = l .loop .inv .8 (s .args .sp) (b .before .before .duty-of .ensures) in
-    going-end (s .args .most) (s .args .row) (s .args .sp) (s .args .records .now) (s .args .buffer .now) (l .loop .progress) (l .loop .at) (l .loop .place) (l .loop .table) (l .loop .buffer) g
+    loop-end (s .args .most) (s .args .row) (s .args .sp) (s .args .records .now) (s .args .buffer .now) (l .loop .progress) (l .loop .at) (l .loop .place) (l .loop .table) (l .loop .buffer) g
     (f .finish .result) (f .finish .last .1 .1 .0) (omega (arith, e .if3 .left, e .before .loop-test .left)) (f .finish .ensures)
 
 pub run-records-spec : {M : Type 1} → statement M

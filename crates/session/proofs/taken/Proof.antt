@@ -1,6 +1,6 @@
 -- The event passes, and time runs on to it; or the quantum refuses it. Assumes nothing.
 use mathlib.Core.Path.{refl}
-use Rattle.session.proofs.Steps.{running, growing-taken, advanced-taken, advanced-refused}
+use Rattle.session.proofs.Steps.{reached-parts, bounds-taken, advanced-taken, advanced-refused}
 use borrow.Author.Needs.{needs}
 use Rattle.session.proofs.taken.Statement.{statement}
 use Rattle.session.proofs.taken.Tie as tie
@@ -8,7 +8,7 @@ use Rattle.session.proofs.taken.Tie as tie
 step-requires : tie.Need-step-requires
 step-requires c κs =
     let s = c .before .before .before .before .before .before .before in
-    running (s .args .progress) (s .args .duty) (s .args .table .now) (s .args .hints .now) (s .pre)
+    reached-parts (s .args .progress) (s .args .duty) (s .args .table .now) (s .args .hints .now) (s .pre)
 
 same-length : tie.Need-same-length
 same-length c = search needs
@@ -28,7 +28,7 @@ grow-requires c κs =
     let f = c .before .before .before .before .before in
     let g = f .before .before .before .before .before .before in
     let s = g .before .before .before .before .before .before .before .before in
-    growing-taken (s .args .progress) (s .args .duty) (s .args .e) (s .args .table .now) (g .step .last .1 .1 .0) (g .step .result) (g .step .ensures) (f .if1 .left)
+    bounds-taken (s .args .progress) (s .args .duty) (s .args .e) (s .args .table .now) (g .step .last .1 .1 .0) (g .step .result) (g .step .ensures) (f .if1 .left)
     (s .args .hints .now) (s .pre)
 
 same-length-3 : tie.Need-same-length-3

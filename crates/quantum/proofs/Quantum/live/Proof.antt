@@ -1,4 +1,4 @@
--- Read off the table. Assumes nothing.
+-- The numbers of both sides' orders, read off the table that stands for them. Assumes nothing.
 use Rattle.rules.specs.Orders.{live as liveOrders}
 use Rattle.quantum.proofs.Represents.{good-orders}
 use Rattle.quantum.proofs.Answers.{represents-all, held-in}

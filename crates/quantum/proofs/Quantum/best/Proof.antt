@@ -1,10 +1,10 @@
--- Read off the table. Assumes nothing.
+-- The best key of the side, read off the table that stands for the live orders. Assumes nothing.
 use Rattle.rules.specs.Orders.{live as liveOrders}
 use Rattle.quantum.proofs.Represents.{good-orders}
 use Rattle.quantum.proofs.Answers.{represents-all, held-in}
 use borrow.Author.Needs.{needs}
-use Rattle.quantum.proofs.Quantum.best_ask.Statement.{statement}
-use Rattle.quantum.proofs.Quantum.best_ask.Tie as tie
+use Rattle.quantum.proofs.Quantum.best.Statement.{statement}
+use Rattle.quantum.proofs.Quantum.best.Tie as tie
 
 slice-aggregate-best : tie.Need-slice-aggregate-best
 slice-aggregate-best c = search needs
@@ -19,5 +19,5 @@ returns c = λ row sp es g is.
     let q = c .before .before .before .args .self in
     c .best .ensures (row .minimum .0) (liveOrders es) (good-orders row es g) (represents-all row sp es q is g .table-is)
 
-pub best-ask-spec : {M : Type 1} → statement M
-best-ask-spec = tie.close (tie.spec slice-aggregate-best best-requires returns)
+pub best-spec : {M : Type 1} → statement M
+best-spec = tie.close (tie.spec slice-aggregate-best best-requires returns)

@@ -1,0 +1,2 @@
+-- Where the chosen row's part starts.
+pub mod Starts
