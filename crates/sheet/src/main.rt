@@ -57,7 +57,7 @@ fn verdict(kept: Millis, length: Millis, share: u32) {
         kept,
         length,
         share,
-        limit: 65535,
+        allowed: 65535,
         lapses: 0,
         active: Kopecks(0),
         passive: Kopecks(0),
