@@ -14,7 +14,6 @@ use Rattle.rules.specs.declared.Row.{Row}
 use Rattle.rules.specs.declared.SpreadRule.{SpreadRule}
 use Rattle.rules.specs.declared.SpreadRule.the-variants.{Settled, OfStrike}
 use Rattle.rules.specs.declared.Event.{Event}
-use Rattle.rules.specs.declared.Event.the-variants.{Add, Amend, Cancel, Deal, Tick}
 use Rattle.rules.specs.declared.Order.{Order}
 use Rattle.rules.specs.Lists.{if_then_else_}
 use Rattle.rules.specs.Units.{millis}
@@ -34,7 +33,8 @@ use Rattle.quote.proofs.Spread.{widest-law}
 use Rattle.book.specs.Table.{tableOf, GoodOrders}
 use Rattle.quantum.specs.declared.Duty.{Duty}
 use Rattle.quantum.specs.declared.Clock.{Clock}
-use Rattle.quantum.specs.Represents.{widestFor, dutyOf, clockOf, tableAfter, taken, ReachedParts, Represents, Onward, startingBy, ranOn, InTime, isTick}
+use Rattle.quantum.specs.Represents.{widestFor, dutyOf, clockOf, tableAfter, taken, ReachedParts, Represents, Onward, startingBy, ranOn}
+use Rattle.quantum.specs.Internal.{InTime}
 
 pub good-orders : (row : Row) (es : List Event) → EventBounds row es → GoodOrders (live es)
 good-orders row es g = record { few = g .few; distinct = g .distinct; prices = g .prices; volumes = g .volumes }
@@ -215,23 +215,6 @@ module _ (row : Row) (sp : SpreadRule) (es : List Event) (clock : Clock) (is : c
             ∙ ap (λ (n : ℕ). one (before (keptAt row sp (es ++ (e ∷ []))) n)) (sym (present-snoc es e))) i;
       }
 
--- a tick changes no order
-pub tick-live : (orders : List Order) (e : Event) → isTick e ≡ true → apply orders e ≡ orders
-unfolding apply
-tick-live orders (Add t id side price volume) h = let z : _≡_ {A = ℕ} 0 1 = cc in absurd (omega arith)
-tick-live orders (Amend t id price volume) h = let z : _≡_ {A = ℕ} 0 1 = cc in absurd (omega arith)
-tick-live orders (Cancel t id) h = let z : _≡_ {A = ℕ} 0 1 = cc in absurd (omega arith)
-tick-live orders (Deal t id volume) h = let z : _≡_ {A = ℕ} 0 1 = cc in absurd (omega arith)
-tick-live orders (Tick t) h = refl
-
-pub tick-causes : (orders : List Order) (e : Event) → isTick e ≡ true → lowest (traderCauses orders e) ≡ 0
-unfolding lowest
-tick-causes orders (Add t id side price volume) h = let z : _≡_ {A = ℕ} 0 1 = cc in absurd (omega arith)
-tick-causes orders (Amend t id price volume) h = let z : _≡_ {A = ℕ} 0 1 = cc in absurd (omega arith)
-tick-causes orders (Cancel t id) h = let z : _≡_ {A = ℕ} 0 1 = cc in absurd (omega arith)
-tick-causes orders (Deal t id volume) h = let z : _≡_ {A = ℕ} 0 1 = cc in absurd (omega arith)
-tick-causes orders (Tick t) h = refl
-
 -- ---- what an event does
 
 module _ (row : Row) (sp : SpreadRule) (es : List Event) (duty : Duty) (clock : Clock) (table : List ℕ) (s : Represents row sp es duty clock table) where
@@ -261,11 +244,11 @@ module _ (row : Row) (sp : SpreadRule) (es : List Event) (duty : Duty) (clock : 
         (skip _ _ (le-ltb (timeOf e) (present es) (omega (arith, time-is row sp es clock (s .clock-is))))
         (stop _ _ (lt-ltb (row .length .0) (timeOf e) (omega (arith, length-is)))))
 
-  pub in-time : (e : Event) (t : Millis) → InTime duty clock e t → eventRefusal row es e ≡ lowest (traderCauses (live es) e)
-  unfolding eventRefusal eventCauses
-  in-time e t i =
-      skip _ _ (le-ltb (timeOf e) (present es) (omega (arith, time-is row sp es clock (s .clock-is), i .is, i .onward)))
-      (skip _ _ (le-ltb (row .length .0) (timeOf e) (omega (arith, length-is, i .is, i .inside))) refl)
+    pub in-time : InTime duty clock t → eventRefusal row es e ≡ lowest (traderCauses (live es) e)
+    unfolding eventRefusal eventCauses
+    in-time i =
+        skip _ _ (le-ltb (timeOf e) (present es) (omega (arith, time-is row sp es clock (s .clock-is), f, i .onward)))
+        (skip _ _ (le-ltb (row .length .0) (timeOf e) (omega (arith, length-is, f, i .inside))) refl)
 
   -- ---- refused: nothing changes
 
@@ -277,10 +260,10 @@ module _ (row : Row) (sp : SpreadRule) (es : List Event) (duty : Duty) (clock : 
 
   -- ---- accepted
 
-  pub next-clock : (e : Event) (t : Millis) (keeps : ℕ) → InTime duty clock e t → eventRefusal row es e ≡ 0
+  pub next-clock : (e : Event) (t : Millis) (keeps : ℕ) → t .0 ≡ timeOf e → InTime duty clock t → eventRefusal row es e ≡ 0
       → keeps ≡ one (ordersKeep row sp (apply (live es) e)) → ranOn clock t keeps ≡ clockOf row sp (taken (eventRefusal row es e) es e)
-  next-clock e t keeps i h k =
-      clock-event row sp es clock (s .clock-is) (s .bounds) e t keeps (i .is) (i .onward) k
+  next-clock e t keeps f i h k =
+      clock-event row sp es clock (s .clock-is) (s .bounds) e t keeps f (i .onward) k
       ∙ ap (λ (n : ℕ). clockOf row sp (taken n es e)) (sym h)
 
   pub next-table : (e : Event) (exit : List ℕ) → eventRefusal row es e ≡ 0 → exit ≡ tableOf (row .minimum .0) (apply (live es) e)

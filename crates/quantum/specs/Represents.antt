@@ -2,7 +2,7 @@
 use Prim.Native.Nat.{ℕ, zero, suc, _+_, _*_, _-_, _≤_}
 use mathlib.Core.Path.{_≡_}
 use mathlib.Core.List.{List, [], _∷_, _++_}
-use mathlib.Core.Bool.{Bool, true, false, _||_}
+use mathlib.Core.Bool.{_||_}
 use lib.Dec.{ltb, eqb}
 use lib.ListN.{length}
 use Rattle.rules.specs.declared.Millis.{Millis}
@@ -10,14 +10,13 @@ use Rattle.rules.specs.declared.Row.{Row}
 use Rattle.rules.specs.declared.SpreadRule.{SpreadRule}
 use Rattle.rules.specs.declared.SpreadRule.the-variants.{Settled, OfStrike}
 use Rattle.rules.specs.declared.Event.{Event}
-use Rattle.rules.specs.declared.Event.the-variants.{Add, Amend, Cancel, Deal, Tick}
 use Rattle.rules.specs.Lists.{if_then_else_}
 use Rattle.rules.specs.Units.{millis}
-use Rattle.rules.specs.Orders.{live, present, timeOf}
+use Rattle.rules.specs.Orders.{live, present}
 use Rattle.rules.specs.Kept.{ordersKeep, keptAt, keptBelow}
 use Rattle.rules.specs.Runs.{before}
 use Rattle.rules.specs.Lapses.{lapsesBelow}
-use Rattle.rules.specs.Answers.{outcomeBy, done, shownAnswer}
+use Rattle.rules.specs.Answers.{Outcome, accepted, refused, outcomeBy, done, shownAnswer}
 use Rattle.rules.specs.Causes.{eventRefusal}
 use Rattle.rules.specs.Bounds.{EventBounds}
 use Rattle.strike.specs.Widest.{widestOfStrike}
@@ -107,6 +106,11 @@ pub record Stepping (duty : Duty) (clock : Clock) (e : Event) (entry exit : List
   pub table-after : (row : Row) (sp : SpreadRule) (events : List Event) → Represents row sp events duty clock entry
       → exit ≡ tableAfter row (taken (eventRefusal row events e) events e)
 
+-- what a record's fields promise: those that say an event what it promises; others their refusal, with the clock and the table as they were
+abbrev pub SteppingRead : Duty → Clock → Outcome Event → List ℕ → List ℕ → Stepped → Type 0
+SteppingRead duty clock (accepted e) entry exit r = Stepping duty clock e entry exit r
+SteppingRead duty clock (refused n) entry exit r = (r .clock ≡ clock) × (r .refusal ≡ n) × (exit ≡ entry)
+
 -- ---- time running on
 
 -- a clock that may run on to t
@@ -131,16 +135,3 @@ ranOn c t keeps =
       lapses = if ltb (c .time .0) (t .0) then c .lapses + startingBy c else c .lapses;
       last = if ltb (c .time .0) (t .0) then c .keeps else c .last;
     }
-
-abbrev pub isTick : Event → Bool
-isTick (Add t id side price volume) = false
-isTick (Amend t id price volume) = false
-isTick (Cancel t id) = false
-isTick (Deal t id volume) = false
-isTick (Tick t) = true
-
--- an event whose time is t, neither backwards nor past the end
-pub record InTime (duty : Duty) (c : Clock) (e : Event) (t : Millis) : Type 0 where
-  pub is : t .0 ≡ timeOf e
-  pub onward : c .time .0 ≤ t .0
-  pub inside : t .0 ≤ duty .length .0

@@ -1,9 +1,10 @@
-// An open quantum: its duty, its clock (time, kept time, lapses, whether the quote is kept now) and the table of its live orders. `step` takes an
-// event on a lent table, for a run over many; a Quantum holds all three by value, for the month.
+// An open quantum: its duty, its clock (time, kept time, lapses, whether the quote is kept now) and the table of its live orders.
+// `step_fields` takes a record's fields on a lent table, for a run over many; a Quantum holds all three by value, for the month.
 ghost use mathlib.Core.Path.{_≡_};
 ghost use mathlib.Core.List.{List, []};
-ghost use mathlib.Core.Bool.{true};
+ghost use mathlib.Core.Bool.{true, _&&_};
 ghost use Prim.Native.Nat.{_≤_};
+ghost use lib.Dec.{leb};
 ghost use lib.ListN.{length};
 ghost use Rattle.rules.specs.declared.Event.{Event};
 ghost use Rattle.rules.specs.declared.Row.{Row};
@@ -11,13 +12,17 @@ ghost use Rattle.rules.specs.declared.Side.the-variants.{Buy, Sell};
 ghost use Rattle.rules.specs.Terms.{paper};
 ghost use Rattle.rules.specs.declared.SpreadRule.{SpreadRule};
 ghost use Rattle.rules.specs.Rows.{goodRowFor};
-ghost use Rattle.rules.specs.Orders.{live as liveOrders, timeOf};
+ghost use Rattle.rules.specs.Orders.{live as liveOrders};
 ghost use Rattle.rules.specs.Quotes.{best as bestQuote};
 ghost use Rattle.rules.specs.Kept.{bestBid, bestAsk, keptBelow};
 ghost use Rattle.rules.specs.Lapses.{lapsesBelow};
 ghost use Rattle.rules.specs.Causes.{goodSpreadRule};
 ghost use Rattle.rules.specs.Bounds.{EventBounds};
-ghost use Rattle.quantum.specs.Represents.{widestFor, dutyOf, clockOf, quantumOf, Reached, Answered, ReachedParts, Stepping, Onward, startingBy, ranOn, InTime, isTick};
+ghost use Rattle.record.specs.Fields.{readFields};
+ghost use Rattle.book.specs.Table.{Holding};
+ghost use Rattle.quantum.specs.Represents.{widestFor, dutyOf, clockOf, quantumOf, Reached, Answered, ReachedParts, Stepping, SteppingRead, Onward, startingBy, ranOn};
+ghost use Rattle.quantum.specs.Internal.{InTime, untimelyBy, tickedBy, SendsRead};
+use record::Fields;
 use rules::Answer;
 use rules::Contracts;
 use rules::Event;
@@ -149,110 +154,108 @@ pub fn onward(clock: Clock, t: Millis, keeps: u32) -> Clock
     }
 }
 
-fn time_of(e: Event) -> Millis
-    ensures { λ r. ⌜ r .0 ≡ timeOf e ⌝ }
-{
-    match e {
-        Event::Add {
-            t,
-            id: _,
-            side: _,
-            price: _,
-            volume: _,
-        } => t,
-        Event::Amend {
-            t,
-            id: _,
-            price: _,
-            volume: _,
-        } => t,
-        Event::Cancel { t, id: _ } => t,
-        Event::Deal {
-            t,
-            id: _,
-            volume: _,
-        } => t,
-        Event::Tick { t } => t,
-    }
-}
-
-fn is_tick(e: Event) -> bool
-    ensures { λ r. ⌜ r ≡ isTick e ⌝ }
-{
-    match e {
-        Event::Add {
-            t: _,
-            id: _,
-            side: _,
-            price: _,
-            volume: _,
-        } => false,
-        Event::Amend {
-            t: _,
-            id: _,
-            price: _,
-            volume: _,
-        } => false,
-        Event::Cancel { t: _, id: _ } => false,
-        Event::Deal {
-            t: _,
-            id: _,
-            volume: _,
-        } => false,
-        Event::Tick { t: _ } => true,
-    }
-}
-
 fn refused(clock: Clock, refusal: u32) -> Stepped
     ensures { λ r. ⌜ (r .clock ≡ clock) × (r .refusal ≡ refusal) ⌝ }
 {
     Stepped { clock, refusal }
 }
 
+// Whether a time can be that of the next event: neither backwards nor past the end.
+fn in_time(duty: Duty, clock: Clock, t: Millis) -> bool
+    ensures { λ r. ⌜ r ≡ (leb (clock .time .0) (t .0) && leb (t .0) (duty .length .0)) ⌝ }
+{
+    let now = clock.time;
+    let end = duty.length;
+    (now.0 <= t.0) & (t.0 <= end.0)
+}
+
+// What refuses fields whose time is out of range. Fields that say no event have no time: 15 is their only cause.
+fn untimely(clock: Clock, f: Fields) -> u32
+    ensures { λ r. ⌜ r ≡ untimelyBy clock f ⌝ }
+{
+    let now = clock.time;
+    let t = f.t;
+    if record::is_good(f) {
+        if t.0 < now.0 {
+            return 8;
+        }
+        return 9;
+    }
+    15
+}
+
+// A tick in time changes no order.
+fn ticked(clock: Clock, f: Fields) -> Stepped
+    requires { ⌜ Onward clock (f .t) ⌝ }
+    ensures { λ r. ⌜ r ≡ tickedBy clock f ⌝ }
+{
+    if record::is_good(f) {
+        let t = f.t;
+        return Stepped {
+            clock: onward(clock, t, clock.keeps),
+            refusal: 0,
+        };
+    }
+    Stepped { clock, refusal: 15 }
+}
+
+// The trader's refusal, or 15, or 0, and then the orders and the best level of their side are those after the event.
+fn send_fields(table: &mut [u32], hints: &mut [u8], f: Fields, minimum: Contracts) -> u32
+    requires { ⌜ Holding (now table) (now hints) (minimum .0) ⌝ }
+    ensures { λ r. ⌜ SendsRead (readFields f) (minimum .0) (now (table .entry)) (now (table .exit)) r ⌝ }
+{
+    if record::is_good(f) {
+        return book::send(table, hints, record::event_of(f), minimum);
+    }
+    15
+}
+
 // The orders and the best quotes after an event in time, then the clock.
-fn taken(
-    duty: Duty,
-    clock: Clock,
-    table: &mut [u32],
-    hints: &mut [u8],
-    e: Event,
-    t: Millis,
-) -> Stepped
-    requires { ⌜ ReachedParts duty clock (now table) (now hints) × InTime duty clock e t ⌝ }
-    ensures { λ r. ⌜ Stepping duty clock e (now (table .entry)) (now (table .exit)) r ⌝ }
+fn taken(duty: Duty, clock: Clock, table: &mut [u32], hints: &mut [u8], f: Fields) -> Stepped
+    requires { ⌜ ReachedParts duty clock (now table) (now hints) × InTime duty clock (f .t) ⌝ }
+    ensures { λ r. ⌜ SteppingRead duty clock (readFields f) (now (table .entry)) (now (table .exit)) r ⌝ }
 {
     let minimum = duty.minimum;
-    let refusal = book::send(table, hints, e, minimum);
+    let refusal = send_fields(table, hints, f, minimum);
     if 0 < refusal {
         return refused(clock, refusal);
     }
+    let t = f.t;
     Stepped {
         clock: onward(clock, t, book::keeps(table, duty.widest)),
         refusal: 0,
     }
 }
 
-// An event: the causes in the order of their numbers, then what it does. A tick changes no order.
+// An event by the fields of its record, with its causes in the order of their numbers; fields that say no event are refused by 15. The
+// time is tested once, and 15 and the trader's causes by kind behind it: only where the time is out of range is 15 looked for first.
+pub fn step_fields(
+    duty: Duty,
+    clock: Clock,
+    table: &mut [u32],
+    hints: &mut [u8],
+    f: Fields,
+) -> Stepped
+    requires { ⌜ ReachedParts duty clock (now table) (now hints) ⌝ }
+    ensures { λ r. ⌜ SteppingRead duty clock (readFields f) (now (table .entry)) (now (table .exit)) r ⌝ }
+{
+    let kind = f.kind;
+    let t = f.t;
+    if in_time(duty, clock, t) {
+        if kind == 6 {
+            return ticked(clock, f);
+        }
+        return taken(duty, clock, table, hints, f);
+    }
+    refused(clock, untimely(clock, f))
+}
+
+// An event, by its fields.
 pub fn step(duty: Duty, clock: Clock, table: &mut [u32], hints: &mut [u8], e: Event) -> Stepped
     requires { ⌜ ReachedParts duty clock (now table) (now hints) ⌝ }
     ensures { λ r. ⌜ Stepping duty clock e (now (table .entry)) (now (table .exit)) r ⌝ }
 {
-    let t = time_of(e);
-    let now = clock.time;
-    let end = duty.length;
-    if t.0 < now.0 {
-        return refused(clock, 8);
-    }
-    if end.0 < t.0 {
-        return refused(clock, 9);
-    }
-    if is_tick(e) {
-        return Stepped {
-            clock: onward(clock, t, clock.keeps),
-            refusal: 0,
-        };
-    }
-    taken(duty, clock, table, hints, e, t)
+    step_fields(duty, clock, table, hints, record::event_fields(e))
 }
 
 // ---- the quantum

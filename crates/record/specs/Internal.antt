@@ -1,6 +1,8 @@
--- The fields of a record as the code holds them, one number each, as the fields of the definitions.
-use Rattle.record.specs.declared.Parts.{Parts}
-use Rattle.rules.specs.Records.{Fields, fields}
+-- What the writer's functions promise to each other.
+use Prim.Native.Nat.{_%_}
+use Rattle.rules.specs.Records.{unsignedOf, Fields as Numbers, fields}
+use Rattle.record.specs.declared.Fields.{Fields}
 
-abbrev pub said : Parts → Fields
-said p = fields (p .kind) (p .t) (p .id) (p .price) (p .volume)
+-- the fields as numbers, of the kind its low byte
+abbrev pub lowKind : Fields → Numbers
+lowKind f = fields (f .kind % 256) (f .t .0) (f .id) (unsignedOf (f .price .0)) (f .volume .0)

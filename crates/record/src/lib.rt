@@ -1,28 +1,46 @@
-// Event records of 20 bytes: the reader and the writer.
+// Event records of 20 bytes: their fields, the event that these say, and the record of an event.
 use rules::Contracts;
 use rules::Event;
 use rules::Millis;
 use rules::RecordRead;
 use rules::Refusal;
 use rules::Side;
+use rules::Steps;
 ghost use mathlib.Core.Path.{_≡_};
 ghost use Prim.Native.Nat.{_≤_, _%_};
 ghost use lib.Dec.{eqb};
 ghost use lib.ListN.{length};
-ghost use Rattle.rules.specs.declared.Event.the-variants.{Add, Amend};
+ghost use Rattle.rules.specs.declared.Event.the-variants.{Add};
 ghost use Rattle.rules.specs.Lists.{within};
-ghost use Rattle.rules.specs.Units.{millis, steps, contracts};
 ghost use Rattle.rules.specs.Answers.{shownRecord};
-ghost use Rattle.rules.specs.Records.{signedOf, fields, addKind, eventFields, fieldBytes, recordOf, fieldsOf, eventOf, unusedZero, paddingZero, goodRecord, readRecord};
-ghost use Rattle.record.specs.Internal.{said};
+ghost use Rattle.rules.specs.Records.{unsignedOf, addKind, fieldBytes, recordOf, readRecord};
+ghost use Rattle.record.specs.Fields.{fieldsIn, fieldsFor, numbers, goodFields, eventBy, readFields};
+ghost use Rattle.record.specs.Internal.{lowKind};
 
-// The fields of a record; the price is its word in two's complement.
-struct Parts {
-    kind: u8,
-    t: u32,
-    id: u32,
-    price: u32,
-    volume: u32,
+// The fields of a record. The kind is its whole first word, so it is 1 to 6 only where the three bytes behind the kind's own are zero.
+pub struct Fields {
+    pub kind: u32,
+    pub t: Millis,
+    pub id: u32,
+    pub price: Steps,
+    pub volume: Contracts,
+}
+
+// ---- reading
+
+// The fields in the first 20 bytes.
+pub fn fields_of(bytes: &[u8]) -> Fields
+    requires { ⌜ 20 ≤ length (now bytes) ⌝ }
+    ensures fields { λ r. ⌜ r ≡ fieldsIn (now (bytes .entry)) ⌝ }
+    ensures read { λ r. ⌜ readFields r ≡ readRecord (now (bytes .entry)) ⌝ }
+{
+    Fields {
+        kind: words::word_at(bytes, 0),
+        t: Millis(words::word_at(bytes, 4)),
+        id: words::word_at(bytes, 8),
+        price: words::to_steps(words::word_at(bytes, 12)),
+        volume: Contracts(words::word_at(bytes, 16)),
+    }
 }
 
 fn is_zero(x: u32) -> bool
@@ -31,130 +49,110 @@ fn is_zero(x: u32) -> bool
     x == 0
 }
 
-fn byte_zero(x: u8) -> bool
-    ensures { λ r. ⌜ r ≡ eqb x 0 ⌝ }
+// No price: its word is zero.
+fn no_price(p: Steps) -> bool
+    ensures { λ r. ⌜ r ≡ eqb (unsignedOf (p .0)) 0 ⌝ }
 {
-    x == 0
+    words::from_steps(p) == 0
+}
+
+fn no_volume(v: Contracts) -> bool
+    ensures { λ r. ⌜ r ≡ eqb (v .0) 0 ⌝ }
+{
+    v.0 == 0
 }
 
 // Kinds 1 to 6.
-fn known(kind: u8) -> bool
+fn known(kind: u32) -> bool
     ensures { λ r. ⌜ r ≡ within 1 6 kind ⌝ }
 {
     (1 <= kind) & (kind <= 6)
 }
 
-fn padding_zero(bytes: &[u8]) -> bool
-    requires { ⌜ 4 ≤ length (now bytes) ⌝ }
-    ensures { λ r. ⌜ r ≡ paddingZero (now (bytes .entry)) ⌝ }
+// A known kind, and the fields that the call of that kind doesn't take are zero.
+pub fn is_good(f: Fields) -> bool
+    ensures { λ r. ⌜ r ≡ goodFields f ⌝ }
 {
-    byte_zero(bytes[1]) & byte_zero(bytes[2]) & byte_zero(bytes[3])
-}
-
-// The fields that the call of that kind doesn't take.
-fn unused_zero(p: Parts) -> bool
-    ensures { λ r. ⌜ r ≡ unusedZero (said p) ⌝ }
-{
-    let kind = p.kind;
-    let id = p.id;
-    let price = p.price;
-    let volume = p.volume;
+    let kind = f.kind;
+    let id = f.id;
+    let price = f.price;
+    let volume = f.volume;
     if kind == 4 {
-        return is_zero(price) & is_zero(volume);
+        return no_price(price) & no_volume(volume);
     }
     if kind == 5 {
-        return is_zero(price);
+        return no_price(price);
     }
     if kind == 6 {
-        return is_zero(id) & is_zero(price) & is_zero(volume);
+        return is_zero(id) & no_price(price) & no_volume(volume);
     }
-    true
+    known(kind)
 }
 
-fn added(p: Parts, side: Side) -> Event
-    ensures { λ r. ⌜ r ≡ Add (millis (p .t)) (p .id) side (steps (signedOf (p .price))) (contracts (p .volume)) ⌝ }
+fn added(f: Fields, side: Side) -> Event
+    ensures { λ r. ⌜ r ≡ Add (f .t) (f .id) side (f .price) (f .volume) ⌝ }
 {
-    let price = words::to_steps(p.price);
+    let t = f.t;
+    let price = f.price;
+    let volume = f.volume;
     Event::Add {
-        t: Millis(p.t),
-        id: p.id,
+        t,
+        id: f.id,
         side,
         price,
-        volume: Contracts(p.volume),
+        volume,
     }
 }
 
-fn amended(p: Parts) -> Event
-    ensures { λ r. ⌜ r ≡ Amend (millis (p .t)) (p .id) (steps (signedOf (p .price))) (contracts (p .volume)) ⌝ }
+// The event that good fields say.
+pub fn event_of(f: Fields) -> Event
+    ensures { λ r. ⌜ r ≡ eventBy f ⌝ }
 {
-    let price = words::to_steps(p.price);
-    Event::Amend {
-        t: Millis(p.t),
-        id: p.id,
-        price,
-        volume: Contracts(p.volume),
-    }
-}
-
-fn event_of(p: Parts) -> Event
-    ensures { λ r. ⌜ r ≡ eventOf (said p) ⌝ }
-{
-    let kind = p.kind;
-    let t = Millis(p.t);
-    let id = p.id;
+    let kind = f.kind;
+    let t = f.t;
+    let id = f.id;
+    let price = f.price;
+    let volume = f.volume;
     if kind == 1 {
-        return added(p, Side::Buy);
+        return added(f, Side::Buy);
     }
     if kind == 2 {
-        return added(p, Side::Sell);
+        return added(f, Side::Sell);
     }
     if kind == 3 {
-        return amended(p);
+        return Event::Amend {
+            t,
+            id,
+            price,
+            volume,
+        };
     }
     if kind == 4 {
         return Event::Cancel { t, id };
     }
     if kind == 5 {
-        let volume = Contracts(p.volume);
         return Event::Deal { t, id, volume };
     }
     Event::Tick { t }
-}
-
-fn parts_of(bytes: &[u8]) -> Parts
-    requires { ⌜ 20 ≤ length (now bytes) ⌝ }
-    ensures { λ r. ⌜ said r ≡ fieldsOf (now (bytes .entry)) ⌝ }
-{
-    Parts {
-        kind: bytes[0],
-        t: words::word_at(bytes, 4),
-        id: words::word_at(bytes, 8),
-        price: words::word_at(bytes, 12),
-        volume: words::word_at(bytes, 16),
-    }
-}
-
-// None of the causes that refuse a record.
-fn good(bytes: &[u8]) -> bool
-    ensures { λ r. ⌜ r ≡ goodRecord (now (bytes .entry)) ⌝ }
-{
-    if bytes.len() < 20 {
-        return false;
-    }
-    known(bytes[0]) & padding_zero(bytes) & unused_zero(parts_of(bytes))
 }
 
 // The event that the first 20 bytes say, or the refusal.
 pub fn read(bytes: &[u8]) -> RecordRead
     ensures { λ r. ⌜ shownRecord r ≡ readRecord (now (bytes .entry)) ⌝ }
 {
-    if good(bytes) {
-        return RecordRead::Read(event_of(parts_of(bytes)));
+    if bytes.len() < 20 {
+        return RecordRead::Refused(Refusal::BadRecord);
+    }
+    let f = fields_of(bytes);
+    if is_good(f) {
+        return RecordRead::Read(event_of(f));
     }
     RecordRead::Refused(Refusal::BadRecord)
 }
 
-fn add_kind(side: Side) -> u8
+// ---- writing
+
+fn add_kind(side: Side) -> u32
     ensures { λ r. ⌜ r ≡ addKind side ⌝ }
 {
     match side {
@@ -163,20 +161,21 @@ fn add_kind(side: Side) -> u8
     }
 }
 
-fn made(kind: u8, t: Millis, id: u32, price: u32, volume: u32) -> Parts
-    ensures { λ r. ⌜ said r ≡ fields kind (t .0) id price volume ⌝ }
+fn made(kind: u32, t: Millis, id: u32, price: Steps, volume: Contracts) -> Fields
+    ensures { λ r. ⌜ r ≡ record { kind = kind; t = t; id = id; price = price; volume = volume } ⌝ }
 {
-    Parts {
+    Fields {
         kind,
-        t: t.0,
+        t,
         id,
         price,
         volume,
     }
 }
 
-fn event_parts(event: Event) -> Parts
-    ensures { λ r. ⌜ said r ≡ eventFields event ⌝ }
+// The fields of an event.
+pub fn event_fields(event: Event) -> Fields
+    ensures { λ r. ⌜ r ≡ fieldsFor event ⌝ }
 {
     match event {
         Event::Add {
@@ -185,16 +184,16 @@ fn event_parts(event: Event) -> Parts
             side,
             price,
             volume,
-        } => made(add_kind(side), t, id, words::from_steps(price), volume.0),
+        } => made(add_kind(side), t, id, price, volume),
         Event::Amend {
             t,
             id,
             price,
             volume,
-        } => made(3, t, id, words::from_steps(price), volume.0),
-        Event::Cancel { t, id } => made(4, t, id, 0, 0),
-        Event::Deal { t, id, volume } => made(5, t, id, 0, volume.0),
-        Event::Tick { t } => made(6, t, 0, 0, 0),
+        } => made(3, t, id, price, volume),
+        Event::Cancel { t, id } => made(4, t, id, Steps(0), Contracts(0)),
+        Event::Deal { t, id, volume } => made(5, t, id, Steps(0), volume),
+        Event::Tick { t } => made(6, t, 0, Steps(0), Contracts(0)),
     }
 }
 
@@ -205,16 +204,17 @@ fn low(w: u32) -> u8
     (w % 256) as u8
 }
 
-fn part_bytes(p: Parts) -> [u8; 20]
-    ensures { λ r. ⌜ r ≡ fieldBytes (said p) ⌝ }
+// The 20 bytes of some fields, their kind in the first alone.
+fn field_bytes(f: Fields) -> [u8; 20]
+    ensures { λ r. ⌜ r ≡ fieldBytes (lowKind f) ⌝ }
 {
-    let kind = p.kind;
-    let t = p.t;
-    let id = p.id;
-    let price = p.price;
-    let volume = p.volume;
+    let kind = f.kind;
+    let t = f.t.0;
+    let id = f.id;
+    let price = words::from_steps(f.price);
+    let volume = f.volume.0;
     [
-        kind,
+        low(kind),
         0,
         0,
         0,
@@ -241,5 +241,5 @@ fn part_bytes(p: Parts) -> [u8; 20]
 pub fn write(event: Event) -> [u8; 20]
     ensures { λ r. ⌜ r ≡ recordOf event ⌝ }
 {
-    part_bytes(event_parts(event))
+    field_bytes(event_fields(event))
 }

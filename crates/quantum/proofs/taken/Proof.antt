@@ -1,14 +1,15 @@
 -- The trader's causes and the orders by the book, then the clock. Assumes nothing.
-use Rattle.rules.specs.Orders.{live, apply}
-use Rattle.book.proofs.Table.{held-length}
-use Rattle.quantum.proofs.Represents.{represents, widest-is, onward}
-use Rattle.quantum.proofs.Steps.{holding, refused-orders, taken-good, taken-table, taken-orders}
 use borrow.Author.Needs.{needs}
+use Rattle.record.specs.Fields.{readFields}
+use Rattle.record.proofs.Reading.{timed, only-fifteen}
+use Rattle.book.proofs.Table.{held-length}
+use Rattle.quantum.proofs.Represents.{onward}
+use Rattle.quantum.proofs.Steps.{holding, refused-read, held-after, taken-read}
 use Rattle.quantum.proofs.taken.Statement.{statement}
 use Rattle.quantum.proofs.taken.Tie as tie
 
-send-requires : tie.Need-send-requires
-send-requires c κs = holding (c .before .before .before .before .before .pre .0)
+send-fields-requires : tie.Need-send-fields-requires
+send-fields-requires c κs = holding (c .before .before .before .before .before .pre .0)
 
 refused-requires : tie.Need-refused-requires
 refused-requires c κs = search needs
@@ -22,28 +23,23 @@ same-length-2 c = search needs
 returns : tie.Need-returns
 returns c =
     let g = c .before .before .before .before .before .before in
-    let s = g .before .before .before .before .before .before in
-    refused-orders (s .args .duty) (s .args .clock) (s .args .e) (s .args .t) (s .args .table .now) (g .send .last .0) (g .send .result) (s .pre .1)
-    (g .send .ensures) (c .refused .result) (c .before .if1 .taken) (c .refused .ensures)
+    let s = c .before .before .before .before .before .before .before .before .before .before .before .before in
+    refused-read (s .args .duty) (s .args .clock) (s .args .f .t) (s .args .table .now) (g .send-fields .last .0) (g .send-fields .result) (s .pre .1) (readFields (s .args .f))
+    (timed (s .args .f)) (g .send-fields .ensures) (c .refused .result) (c .before .if1 .taken) (c .refused .ensures)
 
 keeps-requires : tie.Need-keeps-requires
 keeps-requires c κs =
-    let g = c .before .before .before .before .before .before in
-    let s = g .before .before .before .before .before .before in
-    let r = s .pre .0 in
-    held-length (g .send .last .0)
-    (record {
-      minimum = r .row .minimum .0;
-      live = apply (live (r .events)) (s .args .e);
-      good = taken-good (s .args .duty) (s .args .clock) (s .args .e) (s .args .t) (s .args .table .now) (g .send .last .0) (g .send .result) (s .pre .1) (g .send .ensures) (c .before .if1 .left) (r .row) (r .sp) (r .events) (represents r);
-      is = taken-table (s .args .duty) (s .args .clock) (s .args .e) (s .args .t) (s .args .table .now) (g .send .last .0) (g .send .result) (s .pre .1) (g .send .ensures) (c .before .if1 .left) (r .row) (r .sp) (r .events) (represents r);
-    })
+    let g = c .before .before .before .before .before .before .before in
+    let s = c .before .before .before .before .before .before .before .before .before .before .before .before .before in
+    held-length (g .send-fields .last .0)
+    (held-after (s .args .duty) (s .args .clock) (s .args .f .t) (s .args .table .now) (g .send-fields .last .0) (g .send-fields .result) (s .pre .1) (c .before .before .if1 .left)
+    (readFields (s .args .f)) (timed (s .args .f)) (g .send-fields .ensures) (s .pre .0))
 
 onward-requires : tie.Need-onward-requires
 onward-requires c κs =
-    let s = c .before .before .before .before .before .before .before .before .before .before .before .before .before in
+    let s = c .before .before .before .before .before .before .before .before .before .before .before .before .before .before in
     let r = s .pre .0 in
-    onward (r .row) (r .sp) (r .events) (s .args .clock) (r .clock-is) (s .args .t) (s .pre .1 .onward)
+    onward (r .row) (r .sp) (r .events) (s .args .clock) (r .clock-is) (s .args .f .t) (s .pre .1 .onward)
 
 same-length-3 : tie.Need-same-length-3
 same-length-3 c = search needs
@@ -54,22 +50,16 @@ same-length-4 c = search needs
 returns-2 : tie.Need-returns-2
 returns-2 c =
     let k = c .before in
-    let f = k .before .before in
-    let g = f .before .before .before .before .before in
-    let s = g .before .before .before .before .before .before in
-    taken-orders (s .args .duty) (s .args .clock) (s .args .e) (s .args .t) (s .args .table .now) (g .send .last .0) (g .send .result) (s .pre .1)
-    (g .send .ensures) (c .onward .result) (k .keeps .result) (f .if1 .left) (c .onward .ensures)
-    (λ row sp es h.
-    k .keeps .ensures row sp (apply (live es) (s .args .e))
-    (taken-good (s .args .duty) (s .args .clock) (s .args .e) (s .args .t) (s .args .table .now) (g .send .last .0) (g .send .result) (s .pre .1) (g .send .ensures) (f .if1 .left) row sp es h)
-    (taken-table (s .args .duty) (s .args .clock) (s .args .e) (s .args .t) (s .args .table .now) (g .send .last .0) (g .send .result) (s .pre .1) (g .send .ensures) (f .if1 .left) row sp es h)
-    (widest-is row sp es (s .args .duty) (s .args .clock) (s .args .table .now) h))
+    let g = c .before .before .before .before .before .before .before .before .before in
+    let s = c .before .before .before .before .before .before .before .before .before .before .before .before .before .before .before in
+    taken-read (s .args .duty) (s .args .clock) (s .args .f .t) (s .args .table .now) (g .send-fields .last .0) (g .send-fields .result) (s .pre .1) (c .before .before .before .before .if1 .left)
+    (readFields (s .args .f)) (timed (s .args .f)) (only-fifteen (s .args .f)) (g .send-fields .ensures) (c .onward .result) (k .keeps .result) (c .onward .ensures) (k .keeps .ensures)
 
 pub taken-spec : {M : Type 1} → statement M
 taken-spec =
     tie.close
     (tie.spec
-    send-requires
+    send-fields-requires
     refused-requires
     same-length
     same-length-2

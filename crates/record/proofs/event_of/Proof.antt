@@ -1,6 +1,5 @@
--- The event of each kind is that of `eventOf` (`buy-of` .. `tick-of`). Assumes nothing.
+-- The event of each kind is that of `eventBy` (`buy-of` .. `tick-of`). Assumes nothing.
 use borrow.Author.Needs.{needs}
-use Rattle.record.specs.Internal.{said}
 use Rattle.record.proofs.Reading.{buy-of, sell-of, amend-of, cancel-of, deal-of, tick-of}
 use Rattle.record.proofs.event_of.Statement.{statement}
 use Rattle.record.proofs.event_of.Tie as tie
@@ -9,31 +8,25 @@ added-requires : tie.Need-added-requires
 added-requires c κs = search needs
 
 returns : tie.Need-returns
-returns c = buy-of (said (c .before .before .args .p)) (c .added .ensures) (c .before .if1 .taken)
+returns c = buy-of (c .before .before .before .before .before .args .f) (c .added .ensures) (c .before .if1 .taken)
 
 added-requires-2 : tie.Need-added-requires-2
 added-requires-2 c κs = search needs
 
 returns-2 : tie.Need-returns-2
-returns-2 c = sell-of (said (c .before .before .before .args .p)) (c .added2 .ensures) (c .before .if2 .taken)
-
-amended-requires : tie.Need-amended-requires
-amended-requires c κs = search needs
+returns-2 c = sell-of (c .before .before .before .before .before .before .args .f) (c .added2 .ensures) (c .before .if2 .taken)
 
 returns-3 : tie.Need-returns-3
-returns-3 c = amend-of (said (c .before .before .before .before .args .p)) (c .amended .ensures) (c .before .if3 .taken)
+returns-3 c = amend-of (c .before .before .before .before .before .before .args .f) (c .if3 .taken)
 
 returns-4 : tie.Need-returns-4
-returns-4 c = cancel-of (said (c .before .before .before .before .args .p)) (c .if4 .taken)
+returns-4 c = cancel-of (c .before .before .before .before .before .before .before .args .f) (c .if4 .taken)
 
 returns-5 : tie.Need-returns-5
-returns-5 c = deal-of (said (c .before .before .before .before .before .args .p)) (c .if5 .taken)
+returns-5 c = deal-of (c .before .before .before .before .before .before .before .before .args .f) (c .if5 .taken)
 
 returns-6 : tie.Need-returns-6
-returns-6 c =
-    tick-of (said (c .before .before .before .before .before .args .p)) (c .before .before .before .before .if1 .left)
-    (c .before .before .before .if2 .left) (c .before .before .if3 .left)
-    (c .before .if4 .left) (c .if5 .left)
+returns-6 c = tick-of (c .before .before .before .before .before .before .before .before .args .f) (c .before .before .before .before .if1 .left) (c .before .before .before .if2 .left) (c .before .before .if3 .left) (c .before .if4 .left) (c .if5 .left)
 
 pub event-of-spec : {M : Type 1} → statement M
 event-of-spec =
@@ -43,7 +36,6 @@ event-of-spec =
     returns
     added-requires-2
     returns-2
-    amended-requires
     returns-3
     returns-4
     returns-5

@@ -1,29 +1,30 @@
--- A good record is accepted as the event of its fields (`accepts`), another refused (`refuses`). Assumes nothing.
-use mathlib.Core.Path.{sym, _∙_}
+-- A record cut short, a good one, and another. Assumes nothing.
 use borrow.Author.Needs.{needs}
+use mathlib.Core.Path.{ap, sym, _∙_}
 use denote.Ref.{now}
-use Rattle.record.proofs.Reading.{long, accepts, refuses}
+use Rattle.record.proofs.Reading.{cut-short, says, says-not}
 use Rattle.record.proofs.read.Statement.{statement}
 use Rattle.record.proofs.read.Tie as tie
 
-good-requires : tie.Need-good-requires
-good-requires c κs = search needs
+returns : tie.Need-returns
+returns c = cut-short (now (c .before .before .args .bytes)) (search needs)
 
-parts-of-requires : tie.Need-parts-of-requires
-parts-of-requires c κs = long (now (c .before .before .before .args .bytes)) (sym (c .before .good2 .ensures) ∙ c .if1 .taken)
+fields-of-requires : tie.Need-fields-of-requires
+fields-of-requires c κs = search needs
+
+is-good-requires : tie.Need-is-good-requires
+is-good-requires c κs = search needs
 
 event-of-requires : tie.Need-event-of-requires
 event-of-requires c κs = search needs
 
-returns : tie.Need-returns
-returns c =
-    accepts (now (c .before .before .before .before .before .args .bytes))
-    (sym (c .before .before .before .good2 .ensures) ∙ c .before .before .if1 .taken) (c .event-of .ensures)
-    (c .before .parts-of .ensures)
-
 returns-2 : tie.Need-returns-2
-returns-2 c = refuses (now (c .before .before .before .args .bytes)) (sym (c .before .good2 .ensures) ∙ c .if1 .left)
+returns-2 c = says (c .before .before .before .fields-of .result) (sym (c .before .before .is-good .ensures) ∙ c .before .if2 .taken) (c .event-of .ensures) ∙ c .before .before .before .fields-of .ensures .1
+
+returns-3 : tie.Need-returns-3
+returns-3 c = says-not (c .before .before .fields-of .result) (sym (c .before .is-good .ensures) ∙ c .if2 .left) ∙ c .before .before .fields-of .ensures .1
 
 pub read-spec : {M : Type 1} → statement M
 read-spec =
-    tie.close (tie.spec good-requires parts-of-requires event-of-requires returns returns-2)
+    tie.close
+    (tie.spec returns fields-of-requires is-good-requires event-of-requires returns-2 returns-3)

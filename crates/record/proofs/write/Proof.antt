@@ -1,19 +1,21 @@
--- The bytes of the event's fields. Assumes nothing.
-use mathlib.Core.Path.{ap, _∙_}
+-- The bytes of the event's fields (`written`). Assumes nothing.
 use borrow.Author.Needs.{needs}
-use Rattle.rules.specs.Records.{fieldBytes, recordOf}
+use mathlib.Core.Path.{ap, _∙_}
+use Rattle.rules.specs.Records.{fieldBytes}
+use Rattle.record.specs.declared.Fields.{Fields}
+use Rattle.record.specs.Internal.{lowKind}
+use Rattle.record.proofs.Writing.{written}
 use Rattle.record.proofs.write.Statement.{statement}
 use Rattle.record.proofs.write.Tie as tie
 
-event-parts-requires : tie.Need-event-parts-requires
-event-parts-requires c κs = search needs
+event-fields-requires : tie.Need-event-fields-requires
+event-fields-requires c κs = search needs
 
-part-bytes-requires : tie.Need-part-bytes-requires
-part-bytes-requires c κs = search needs
+field-bytes-requires : tie.Need-field-bytes-requires
+field-bytes-requires c κs = search needs
 
 returns : tie.Need-returns
-unfolding recordOf
-returns c = c .part-bytes .ensures ∙ ap fieldBytes (c .before .event-parts .ensures)
+returns c = c .field-bytes .ensures ∙ ap (λ (f : Fields). fieldBytes (lowKind f)) (c .before .event-fields .ensures) ∙ written (c .before .before .args .event)
 
 pub write-spec : {M : Type 1} → statement M
-write-spec = tie.close (tie.spec event-parts-requires part-bytes-requires returns)
+write-spec = tie.close (tie.spec event-fields-requires field-bytes-requires returns)

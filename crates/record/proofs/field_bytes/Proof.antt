@@ -1,8 +1,11 @@
 -- Each byte is one of `wordBytes`. Assumes nothing.
 use borrow.Author.Needs.{needs}
 use Rattle.rules.specs.Records.{fieldBytes, wordBytes}
-use Rattle.record.proofs.part_bytes.Statement.{statement}
-use Rattle.record.proofs.part_bytes.Tie as tie
+use Rattle.record.proofs.field_bytes.Statement.{statement}
+use Rattle.record.proofs.field_bytes.Tie as tie
+
+from-steps-requires : tie.Need-from-steps-requires
+from-steps-requires c κs = search needs
 
 low-requires : tie.Need-low-requires
 low-requires c κs = search needs
@@ -52,14 +55,18 @@ low-requires-15 c κs = search needs
 low-requires-16 : tie.Need-low-requires-16
 low-requires-16 c κs = search needs
 
+low-requires-17 : tie.Need-low-requires-17
+low-requires-17 c κs = search needs
+
 returns : tie.Need-returns
 unfolding fieldBytes wordBytes
 returns c = cc
 
-pub part-bytes-spec : {M : Type 1} → statement M
-part-bytes-spec =
+pub field-bytes-spec : {M : Type 1} → statement M
+field-bytes-spec =
     tie.close
     (tie.spec
+    from-steps-requires
     low-requires
     low-requires-2
     low-requires-3
@@ -76,4 +83,5 @@ part-bytes-spec =
     low-requires-14
     low-requires-15
     low-requires-16
+    low-requires-17
     returns)

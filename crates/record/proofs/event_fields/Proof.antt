@@ -1,8 +1,8 @@
--- The fields of each event are those of `eventFields`. Assumes nothing.
+-- The fields of each event are those of `fieldsFor`. Assumes nothing.
 use borrow.Author.Needs.{needs}
 use Rattle.record.proofs.Writing.{add-fields, amend-fields, cancel-fields, deal-fields, tick-fields}
-use Rattle.record.proofs.event_parts.Statement.{statement}
-use Rattle.record.proofs.event_parts.Tie as tie
+use Rattle.record.proofs.event_fields.Statement.{statement}
+use Rattle.record.proofs.event_fields.Tie as tie
 
 enum-known-event : tie.Need-enum-known-event
 enum-known-event c = search needs
@@ -10,17 +10,11 @@ enum-known-event c = search needs
 add-kind-requires : tie.Need-add-kind-requires
 add-kind-requires c κs = search needs
 
-from-steps-requires : tie.Need-from-steps-requires
-from-steps-requires c κs = search needs
-
 made-requires : tie.Need-made-requires
 made-requires c κs = search needs
 
 enum-known-event-2 : tie.Need-enum-known-event-2
 enum-known-event-2 c = search needs
-
-from-steps-requires-2 : tie.Need-from-steps-requires-2
-from-steps-requires-2 c κs = search needs
 
 made-requires-2 : tie.Need-made-requires-2
 made-requires-2 c κs = search needs
@@ -44,12 +38,10 @@ made-requires-5 : tie.Need-made-requires-5
 made-requires-5 c κs = search needs
 
 returns : tie.Need-returns
-returns c =
-    add-fields (c .before .before .before .before .event .given .1) (c .before .before .add-kind .ensures)
-    (c .before .from-steps .ensures) (c .made .ensures)
+returns c = add-fields (c .before .before .before .event .given .1) (c .before .add-kind .ensures) (c .made .ensures)
 
 returns-2 : tie.Need-returns-2
-returns-2 c = amend-fields (c .before .before .before .event2 .given .1) (c .before .from-steps2 .ensures) (c .made2 .ensures)
+returns-2 c = amend-fields (c .before .before .event2 .given .1) (c .made2 .ensures)
 
 returns-3 : tie.Need-returns-3
 returns-3 c = cancel-fields (c .before .before .event3 .given .1) (c .made3 .ensures)
@@ -60,16 +52,14 @@ returns-4 c = deal-fields (c .before .before .event4 .given .1) (c .made4 .ensur
 returns-5 : tie.Need-returns-5
 returns-5 c = tick-fields (c .before .before .event5 .given .1) (c .made5 .ensures)
 
-pub event-parts-spec : {M : Type 1} → statement M
-event-parts-spec =
+pub event-fields-spec : {M : Type 1} → statement M
+event-fields-spec =
     tie.close
     (tie.spec
     enum-known-event
     add-kind-requires
-    from-steps-requires
     made-requires
     enum-known-event-2
-    from-steps-requires-2
     made-requires-2
     enum-known-event-3
     made-requires-3

@@ -1,0 +1,15 @@
+-- The word of the price is tested. Assumes nothing.
+use borrow.Author.Needs.{needs}
+use mathlib.Core.Path.{ap}
+use lib.Dec.{eqb}
+use Rattle.record.proofs.no_price.Statement.{statement}
+use Rattle.record.proofs.no_price.Tie as tie
+
+from-steps-requires : tie.Need-from-steps-requires
+from-steps-requires c κs = search needs
+
+returns : tie.Need-returns
+returns c = ap (λ w. eqb w 0) (c .from-steps .ensures)
+
+pub no-price-spec : {M : Type 1} → statement M
+no-price-spec = tie.close (tie.spec from-steps-requires returns)
