@@ -349,7 +349,7 @@ class Quoting:
     def lapses(self, end):
         return lapses(self.row, self.sp, self.events, end)
 
-    def copy(self):
+    def copy(self) -> "Quoting":
         other = Quoting(self.day, self.row, self.sp, self.limit)
         other.events, other.live = list(self.events), dict(self.live)
         return other
@@ -376,7 +376,7 @@ class Book:
             self.count = (self.count + 1) % COUNTS
         return answer
 
-    def message(self, message):
+    def message(self, message: Message) -> Accepted | Refused:
         """20 and 21 first, then the causes of its one or two calls in turn; all of them or none."""
         try:
             events = self.events_of(message)
@@ -390,7 +390,7 @@ class Book:
                 return answer
         return Accepted()
 
-    def events_of(self, message):
+    def events_of(self, message: Message) -> list[Add | Cancel]:
         """The calls that a message is. One before the start has a t below 0, which is before every
         time (8), and one past 32 bits a t above every L (9)."""
         kind, numbers, time = fix.read(message.bytes)

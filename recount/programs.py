@@ -88,7 +88,7 @@ def read_call(words, at):
     return Report(), behind
 
 
-def read_message(words, at):
+def read_message(words: list[int], at: int) -> tuple[Message, int] | None:
     """`16 s m`, then s bytes of the start and m of the message; what fills the last word is not read."""
     if len(words) < at + 3:
         return None
