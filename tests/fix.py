@@ -269,9 +269,8 @@ def main() -> int:
             wrong.append(f"{program.title}: {why or 'an answer differs, see above'}")
             continue
         wrong += [f"{program.title}: no case with {what!r}" for what in program.must if not seen[what]]
-        least = min((seen[what], what) for what in program.must)
-        print(f"fix: {program.title}: {seen['cases']} cases agree with the recount, {least[0]} or more with each of"
-              f" {len(program.must)} sights")
+        print(f"fix: {program.title}: {seen['cases']} cases agree with the recount")
+        print("    cases with " + ", ".join(f"{what}: {seen[what]}" for what in sorted(program.must)))
     for line in wrong:
         print(f"fix: {line}")
     return 1 if wrong else 0
