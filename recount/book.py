@@ -1,4 +1,4 @@
-"""The plain book of document 01 and of document 02, W1, W2, W4, W5 and W6, written from the papers:
+"""The plain book of document 01 and of document 02, W1, W2, W4, W5, W6 and W11, written from the papers:
 calls, refusals, quotes, kept time, lapses, pay.
 
 Open is told SP, or a strike in its place (W4): wherever `sp` stands, a Strike may.
@@ -9,6 +9,7 @@ counts and fee are worked out from the book each time they are asked for.
 
 from collections import namedtuple
 
+from recount import fix
 from recount.strikes import Strike, strike_fits, strike_limit
 
 BUY, SELL = 1, 2
@@ -90,6 +91,7 @@ Look = namedtuple("Look", "day expiry quantum")
 Report = namedtuple("Report", "")
 Ask = namedtuple("Ask", "t id price volume")
 Commit = namedtuple("Commit", "t id price volume ticket")
+Message = namedtuple("Message", "start bytes")  # the quantum's start, given with the message
 
 EVENTS = (Add, Amend, Cancel, Deal, Tick)
 UNCOUNTED = (Ask, Look, Report)  # they alter nothing
@@ -347,6 +349,11 @@ class Quoting:
     def lapses(self, end):
         return lapses(self.row, self.sp, self.events, end)
 
+    def copy(self) -> "Quoting":
+        other = Quoting(self.day, self.row, self.sp, self.limit)
+        other.events, other.live = list(self.events), dict(self.live)
+        return other
+
 
 class Book:
     """The plain book: at most one open quantum, the filled cells of 186, and the count of the
@@ -359,6 +366,8 @@ class Book:
 
     def call(self, call):
         """Refuses by the lowest number that applies and stays as it is, or accepts."""
+        if isinstance(call, Message):
+            return self.message(call)
         causes = self.causes(call)
         if causes:
             return Refused(min(causes))
@@ -366,6 +375,35 @@ class Book:
         if type(call) not in UNCOUNTED:
             self.count = (self.count + 1) % COUNTS
         return answer
+
+    def message(self, message: Message) -> Accepted | Refused:
+        """20 and 21 first, then the causes of its one or two calls in turn; all of them or none."""
+        try:
+            events = self.events_of(message)
+        except fix.Unread as unread:
+            return Refused(unread.number)
+        quoting, count = self.quoting and self.quoting.copy(), self.count
+        for event in events:
+            answer = self.call(event)
+            if isinstance(answer, Refused):
+                self.quoting, self.count = quoting, count
+                return answer
+        return Accepted()
+
+    def events_of(self, message: Message) -> list[Add | Cancel]:
+        """The calls that a message is. One before the start has a t below 0, which is before every
+        time (8), and one past 32 bits a t above every L (9)."""
+        kind, numbers, time = fix.read(message.bytes)
+        t = fix.since(message.start, time)
+        if kind == "F":
+            return [Cancel(t, numbers[41])]
+        add = Add(t, numbers[11], numbers[54], numbers[44], numbers[38])
+        if kind == "D":
+            return [add]
+        old = self.quoting and self.quoting.live.get(numbers[41])
+        if old and old.side != add.side:
+            raise fix.Unread(21, "54 is not the side of the order that 41 names")
+        return [Cancel(t, numbers[41]), add]
 
     def causes(self, call):
         """The numbers of all causes that apply."""

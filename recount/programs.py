@@ -2,10 +2,10 @@
 
 import struct
 
-from recount import game, records, session, standing, strikes, volatile
+from recount import fix, game, records, session, standing, strikes, volatile
 from recount.book import (
     BUY, NO_LIMIT, SELL, Accepted, Add, Amend, Ask, Asked, Cancel, CellView, Charge, Close, Commit, Deal,
-    Drop, Look, Open, Refused, Report, Strike, Tick, Ticket, Withdraw, Book, choose,
+    Drop, Look, Message, Open, Refused, Report, Strike, Tick, Ticket, Withdraw, Book, choose,
 )
 
 REPLAY_BYTES = 262_144
@@ -50,6 +50,8 @@ def read_call(words, at):
         day, *sp, limit = block[-told:]
         sp = signed(sp[0]) if kind == 1 else Strike(*sp)
         return Open(block[1 : 1 + count], day, sp, limit), at + count + told + 2
+    if kind == 16:
+        return read_message(words, at)
     sizes = {2: 5, 3: 4, 4: 2, 5: 3, 6: 1, 7: 4, 8: 0, 9: 7, 10: 3, 11: 3, 12: 0, 14: 4, 15: 10}
     block = take(sizes[kind]) if kind in sizes else None
     if block is None:
@@ -84,6 +86,18 @@ def read_call(words, at):
         ticket = Ticket(*amendment(block[4:8]), low + (high << 32))
         return Commit(*amendment(block[:4]), ticket), behind
     return Report(), behind
+
+
+def read_message(words: list[int], at: int) -> tuple[Message, int] | None:
+    """`16 s m`, then s bytes of the start and m of the message; what fills the last word is not read."""
+    if len(words) < at + 3:
+        return None
+    s, m = words[at + 1 : at + 3]
+    behind = at + 3 + (s + m + 3) // 4
+    if len(words) < behind:
+        return None
+    data = struct.pack(f"<{behind - at - 3}I", *words[at + 3 : behind])
+    return Message(data[:s], data[s : s + m]), behind
 
 
 def charges(block):
@@ -197,6 +211,8 @@ def probe(data):
         out = volatile.probe(words, data)
     elif words[:1] == [7]:
         out = standing.probe(words, data)
+    elif words[:1] in ([9], [10], [11]):
+        out = fix.probe(words, data)
     else:
         out = None
     return lines(["bad case"] if out is None else out)

@@ -7,7 +7,7 @@ counted in two: millisecond by millisecond, and as the gaps that the kept stretc
 
 import random
 
-from recount import game, programs, records, session, standing, strikes, volatile
+from recount import fix_checks, game, message_checks, programs, records, session, standing, strikes, volatile
 from recount.book import (
     BUY, CHARGE_LIMIT, DAYS, EXPIRIES, NO_LIMIT, QUANTA, SELL, Accepted, Add, Amend, Ask, Book,
     Cancel, Cell, Charge, Close, Commit, Deal, Look, Open, Order, Refused, Report, Row, Strike,
@@ -422,6 +422,8 @@ def main():
     volatile.selftest()
     standing.check()
     strikes.check()
+    fix_checks.check()
+    message_checks.check()
     check_counting(rng, 400, 40)
     print("recount: agrees with the paper's checks and with itself")
     return 0

@@ -136,11 +136,12 @@ class Replay(Program):
         ):
             yield calls_text.calls_bytes(calls())
         for path in sorted((ROOT / "examples").glob("*.calls")):
-            yield calls_text.to_bytes(path.read_text())
+            if path.stem != "fix":  # that one is in tests/fix.py
+                yield calls_text.to_bytes(path.read_text())
         report, wrong_open = words(12), words(1, 6, 1, 1, 10_000, 500, 100, 1, 1, 2_000, 5)
         good_open = words(1, 7, 1, 1, 10_000, 500, 100, 1, 600, 1, 2_000, 5)
         yield from [b"", b"\1", report + b"\0\0\0", report * 3]
-        yield from [words(0), words(16), words(2**32 - 1)]
+        yield from [words(0), words(17), words(2**32 - 1)]
         yield from [wrong_open, words(1), words(1, 0), words(1, 0, 1), words(1, 0, 1, 0),
                     words(1, 0, 1, 0, 0) + report]
         yield words(1, 2**32 - 1, 1, 2)
@@ -168,7 +169,7 @@ class Replay(Program):
         data = calls_text.calls_bytes(calls)
         if rng.random() < 0.15:
             name, at = "damaged_words", rng.randrange(len(data) + 1)
-            noise, kind = rng.randbytes(rng.randrange(9)), words(rng.choice([0, 16, 99]))
+            noise, kind = rng.randbytes(rng.randrange(9)), words(rng.choice([0, 17, 99]))
             rest = data[at:] if rng.random() < 0.5 else b""
             data = data[:at] + rng.choice([b"", noise, kind]) + rest
         return name, data

@@ -1,6 +1,7 @@
 """The tools: texts turn into bytes and back, errors name their line, pictures are drawn."""
 
 import random
+import re
 import sys
 from pathlib import Path
 from xml.etree import ElementTree
@@ -8,8 +9,8 @@ from xml.etree import ElementTree
 ROOT = Path(__file__).resolve().parent.parent
 sys.path.insert(0, str(ROOT))
 
-from recount import programs
-from recount.book import Accepted, Book, Open, Row, row_fits
+from recount import fix, programs
+from recount.book import Accepted, Book, Message, Open, Row, row_fits
 from tools import calls, picture, session, text
 
 
@@ -36,6 +37,65 @@ def check_examples():
         assert opened.words[6] == tenths, word
     printed = "kept 6000 of 10000\npair 0 6000\nverdict met\nweight 10000\n"
     assert programs.sheet(session.to_bytes(example)) == printed
+
+
+def check_answers():
+    """What the comments of an example say of refusals is so, and fix.answers has all of its lines."""
+    for path in sorted((ROOT / "examples").glob("*.calls")):
+        answers = programs.replay(calls.to_bytes(path.read_text())).splitlines()
+        lines = [line for line in path.read_text().splitlines() if line.split("#")[0].strip()]
+        assert len(lines) == len(answers), path.name
+        for line, answer in zip(lines, answers):
+            said = re.match(r" *refused [0-9]+", line.partition("#")[2])
+            assert said is None or said[0].strip() == answer, (path.name, line, answer)
+        if path.stem == "fix":
+            assert "".join(f"{answer}\n" for answer in answers) == path.with_suffix(".answers").read_text()
+
+
+MESSAGE = "8=FIX.4.4|9=40|35=F|11=8|41=7|60=20261115-10:00:00.001|10=081|"
+
+
+def check_message_texts():
+    """A message in its several texts, and the one that its bytes turn into."""
+    data = MESSAGE.replace("|", "\1").encode()
+    start, body = "20261115-10:00:00.000", MESSAGE[15:-7]
+    due = Message(start.encode(), data)
+    escaped = MESSAGE.replace("|", r"\x01").replace("=", r"\x3D").replace("8", r"\x38")
+    for line in (f"{start} {MESSAGE}", f"{start} frame {body}", f"{start}   {escaped}  # a comment"):
+        written = calls.to_bytes(f"message {line}")
+        assert programs.read_calls(written) == ([due], None), line
+        assert calls.to_text(written) == f"message {start} frame {body}\n", line
+    size = len(start) + len(data)
+    assert written[:12] == calls.pack([16, len(start), len(data)]) and len(written) == 12 + size + -size % 4
+    # Each other sign, no bytes at all, and words of the text itself as bytes.
+    for data, shown in [
+        (b"", "-"), (b"-", r"\x2d"), (b"--", "--"), (b"frame", r"\x66rame"), (b"\x01\x01", "||"), (b"\\x41", r"\\x41"),
+        (b"a|b\\c#d e\0\x7f\xff~", r"a\|b\\c\x23d\x20e\x00\x7f\xff~"),
+        (b"8=FIX.4.4\x019=0\x0110=200\x01", "frame -"), (b"8=FIX.4.4\x019=00\x0110=248\x01", "8=FIX.4.4|9=00|10=248|"),
+        (b"8=FIX.4.4\x019=5\x0135=D\x0110=183\x01", "frame 35=D|"),
+    ]:
+        line = calls.call_line(Message(b"", data))
+        assert line == f"message - {shown}", line
+        assert programs.read_calls(calls.to_bytes(line))[0] == [Message(b"", data)], line
+
+
+def check_message_bytes(rng):
+    """Any start and message, with any filling, among other calls."""
+    signs = b"\1=|\\#- x0189" + bytes(range(256))
+    filled = 0
+    for _ in range(500):
+        start, data = (bytes(rng.choices(signs, k=rng.randrange(9))) for _ in range(2))
+        if rng.random() < 0.3:
+            data = fix.framed(data)
+        size = -(len(start) + len(data)) % 4
+        filling = rng.choice([bytes(size), rng.randbytes(size)])
+        block = calls.pack([16, len(start), len(data)]) + start + data + filling
+        block = calls.pack([12]) + block + calls.pack([12])
+        shown = calls.to_text(block)
+        assert calls.to_bytes(shown) == block, (block.hex(), shown)
+        assert (f"message {text.message_text(start)} " in shown) == (not any(filling)), shown
+        filled += any(filling)
+    assert 50 < filled < 450, filled
 
 
 def check_pictures():
@@ -80,7 +140,7 @@ def check_rows():
 def check_any_bytes(rng):
     """Whatever the bytes, their text turns into them again."""
     for _ in range(500):
-        data = bytes(rng.choice([0, 0, 0, 1, 2, 3, 6, 13, 14, 15, 255]) for _ in range(rng.randrange(120)))
+        data = bytes(rng.choice([0, 0, 0, 1, 2, 3, 6, 13, 14, 15, 16, 255]) for _ in range(rng.randrange(120)))
         assert session.to_bytes(session.to_text(data)) == data, data.hex()
         assert calls.to_bytes(calls.to_text(data)) == data, data.hex()
 
@@ -111,6 +171,15 @@ ERRORS = [
     (calls, "commit 1 2 3 4", 1, "commit is written"),
     (calls, "commit 1 2 3 4 with 1 2 3 4 5", 1, "commit is written"),
     (calls, "commit 1 2 3 4 ticket 1 2 3 4 18446744073709551616", 1, "count: 18446744073709551616"),
+    (calls, "message", 1, "message is written"),
+    (calls, "report\nmessage 20261115-10:00:00.000", 2, "message is written"),
+    (calls, "message - frame", 1, "message is written"),
+    (calls, "message - 35=D| 11=1|", 1, "message is written"),
+    (calls, "message - frame 35=D| 11=1|", 1, "message is written"),
+    (calls, r"message - 58=\n|", 1, r"'\\n|': write | for byte 1"),
+    (calls, r"message - 58=\xg0|", 1, r"'\\xg0': write | for byte 1"),
+    (calls, "message - 58=\u00e9|", 1, "'\u00e9|': write | for byte 1"),
+    (calls, "message \\ 58=1|", 1, r"'\\': write | for byte 1"),
     (calls, "report 1", 1, "report takes nothing"),
     (calls, "close 1", 1, "close takes active passive"),
     (calls, "close 1 18446744073709551616", 1, "passive: 18446744073709551616"),
@@ -132,6 +201,9 @@ def check_errors():
 
 def main():
     check_examples()
+    check_answers()
+    check_message_texts()
+    check_message_bytes(random.Random(2))
     check_pictures()
     check_picture_limit()
     check_picture_share()

@@ -25,6 +25,10 @@ The text, one call a line, # for comments:
     report
     ask T ID PRICE VOLUME                     what that amend would do, and a ticket for it
     commit T ID PRICE VOLUME ticket T ID PRICE VOLUME COUNT
+    message START BYTES                       a FIX message, with the quantum's start in the form of 60;
+                                              | is byte 1, \\| \\\\ and \\xNN (hex) all other bytes, - none
+    message START frame BYTES                 8, 9 and 10 are put around these bytes, with length and
+                                              checksum worked out
     words N..                                 words as they stand, for what is no call
     bytes HEX..                               bytes as they stand, for what is no word
 
@@ -38,12 +42,14 @@ from pathlib import Path
 
 sys.path.insert(0, str(Path(__file__).resolve().parent.parent))
 
-from recount import programs
+from recount import fix, programs
 from recount.book import (
-    EVENTS, NO_LIMIT, Add, Amend, Ask, Cancel, Charge, Close, Commit, Deal, Drop, Look, Open, Report, Strike,
-    Tick, Ticket, Withdraw,
+    EVENTS, NO_LIMIT, Add, Amend, Ask, Cancel, Charge, Close, Commit, Deal, Drop, Look, Message, Open, Report,
+    Strike, Tick, Ticket, Withdraw,
 )
 from tools import text
+
+FRAME = "frame"  # stands for 8, 9 and 10
 
 OTHER_COLUMNS = {
     "close": (Close, "active passive"),
@@ -83,6 +89,27 @@ def commit_call(words):
     return Commit(*text.event("amend", words[:4]), Ticket(*text.event("amend", words[5:9]), count))
 
 
+def message_call(words: list[str]) -> Message:
+    is_body = words[1:2] == [FRAME]
+    if len(words) != 2 + is_body:
+        raise text.TextError("message is written: message START BYTES, or message START frame BYTES")
+    start, data = text.message_bytes(words[0]), text.message_bytes(words[-1])
+    return Message(start, fix.framed(data) if is_body else data)
+
+
+def framed_body(data: bytes) -> bytes | None:
+    """The body of a message whose 8, 9 and 10 are as `frame` works them out."""
+    body = data.split(fix.END, 2)[-1][:-7]  # the field 10 has seven bytes
+    return body if fix.framed(body) == data else None
+
+
+def message_line(call: Message) -> str:
+    start, body, shown = text.message_text(call.start), framed_body(call.bytes), text.message_text(call.bytes)
+    if body is not None:
+        return f"message {start} {FRAME} {text.message_text(body)}"
+    return f"message {start} " + (r"\x66rame" if shown == FRAME else shown)
+
+
 def read_call(name, words):
     """The call of one line."""
     if name in ("open", "strike"):
@@ -92,11 +119,13 @@ def read_call(name, words):
         return Ask(*text.event("amend", words))
     if name == "commit":
         return commit_call(words)
+    if name == "message":
+        return message_call(words)
     if name in text.EVENT_COLUMNS:
         return text.event(name, words)
     if name not in OTHER_COLUMNS:
-        known = ["open", "strike", *text.EVENT_COLUMNS, *OTHER_COLUMNS, "ask", "commit", "words", "bytes"]
-        known = ", ".join(known)
+        known = ["open", "strike", *text.EVENT_COLUMNS, *OTHER_COLUMNS, "ask", "commit", "message"]
+        known = ", ".join([*known, "words", "bytes"])
         raise text.TextError(f"{name!r} is not known; a line begins with one of {known}")
     kind, names = OTHER_COLUMNS[name]
     values = {}
@@ -131,6 +160,9 @@ def call_words(call):
         return [14, *amendment(call)]
     if kind is Commit:
         return [15, *amendment(call), *amendment(call.ticket), *halves(call.ticket.count)]
+    if kind is Message:
+        data = call.start + call.bytes
+        return [16, len(call.start), len(call.bytes), *programs.to_words(data + bytes(-len(data) % 4))]
     if kind is Close:
         return [7, *halves(call.active), *halves(call.passive)]
     if kind is Charge:
@@ -156,6 +188,8 @@ def call_line(call):
         return " ".join([f"{name} row", *map(str, call.words), told])
     if isinstance(call, EVENTS):
         return text.event_line(call)
+    if isinstance(call, Message):
+        return message_line(call)
     if isinstance(call, Commit):
         return " ".join(["commit", *map(str, call[:4]), "ticket", *map(str, call.ticket)])
     return " ".join([type(call).__name__.lower(), *map(str, call)])
@@ -176,16 +210,29 @@ def to_bytes(source):
     return b"".join(out)
 
 
+def words_line(data: bytes) -> str:
+    return "words " + " ".join(map(str, programs.to_words(data)))
+
+
+def block_lines(calls, data: bytes):
+    """A line a call; one with a message whose filling is not 0 has its words, so that they come back."""
+    at = 0
+    for call in calls:
+        block = calls_bytes([call])
+        given = data[at : at + len(block)]
+        yield call_line(call) if given == block else words_line(given)
+        at += len(block)
+
+
 def to_text(data):
     calls, stop = programs.read_calls(data)
-    out = [call_line(call) for call in calls]
+    out = list(block_lines(calls, data))
     if stop is not None:
         rest = data[4 * stop :]
-        words = programs.to_words(rest)
-        if words:
-            out.append("words " + " ".join(map(str, words)))
+        if len(rest) >= 4:
+            out.append(words_line(rest))
         if len(rest) % 4:
-            out.append("bytes " + rest[4 * len(words) :].hex(" "))
+            out.append("bytes " + rest[len(rest) // 4 * 4 :].hex(" "))
     return "".join(line + "\n" for line in out)
 
 

@@ -2,7 +2,9 @@
 
 A line is words apart by blanks; what follows a # is a comment. A number may have underscores. A
 time is milliseconds from the quantum's start, or h:mm:ss with or without thousandths (.mmm). A
-share is tenths of a percent, or a percentage with or without one decimal (725 is 72.5%).
+share is tenths of a percent, or a percentage with or without one decimal (725 is 72.5%). Bytes of a
+message are one word: | is byte 1, \\| and \\\\ are those two signs, \\xNN is any byte in hex digits (a blank,
+a # or what is not printed), and - alone is no bytes at all.
 """
 
 import re
@@ -117,6 +119,38 @@ def hex_bytes(words):
         return bytes.fromhex(" ".join(words))
     except ValueError:
         raise TextError("bytes takes pairs of hex digits") from None
+
+
+MESSAGE_SIGN = re.compile(r"\\x([0-9a-fA-F]{2})|\\([|\\])|([!-\[\]-~])")
+NO_BYTES = "-"
+
+
+def message_bytes(word: str) -> bytes:
+    """The bytes of a message, or of a quantum's start."""
+    if word == NO_BYTES:
+        return b""
+    out, at = bytearray(), 0
+    while at < len(word):
+        sign = MESSAGE_SIGN.match(word, at)
+        if sign is None:
+            raise TextError(f"{word[at:at + 4]!r}: write | for byte 1, \\| and \\\\ for those signs, \\xNN for the rest")
+        hexed, escaped, plain = sign.groups()
+        if hexed:
+            out.append(int(hexed, 16))
+        else:
+            out += b"\1" if plain == "|" else (escaped or plain).encode()
+        at = sign.end()
+    return bytes(out)
+
+
+def message_text(data: bytes) -> str:
+    """Bytes of a message as one word."""
+    if not data:
+        return NO_BYTES
+    if data == b"-":
+        return r"\x2d"
+    signs = {1: "|", ord("|"): r"\|", ord("\\"): r"\\", ord("#"): r"\x23"}
+    return "".join(signs.get(b) or (chr(b) if 32 < b < 127 else rf"\x{b:02x}") for b in data)
 
 
 def read_by_lines(text, take):

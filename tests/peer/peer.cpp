@@ -1,0 +1,323 @@
+// QuickFIX as the other side of a line. tests/peer/peer.py gives the orders and compares.
+//
+//     peer make       orders on standard input, a message that QuickFIX makes of each, in hex digits
+//     peer parse      messages in hex digits, what QuickFIX reads of each, its checks of length and checksum on
+//     peer session    orders, sent by its initiator to its acceptor over 127.0.0.1; all that came, in hex digits
+//
+// An order is a line `KIND HEADER ID ORIG SIDE VOLUME PRICE TIME`, numbers that its kind does not take 0.
+
+#include <quickfix/Message.h>
+#include <quickfix/Session.h>
+#include <quickfix/SocketAcceptor.h>
+#include <quickfix/SocketInitiator.h>
+#include <quickfix/fix44/NewOrderSingle.h>
+#include <quickfix/fix44/OrderCancelReplaceRequest.h>
+#include <quickfix/fix44/OrderCancelRequest.h>
+
+#include <arpa/inet.h>
+#include <atomic>
+#include <cstdint>
+#include <cstdio>
+#include <iostream>
+#include <mutex>
+#include <sstream>
+#include <string>
+#include <sys/socket.h>
+#include <sys/syscall.h>
+#include <unistd.h>
+#include <vector>
+
+static const int LONGEST = 60;        // seconds, after which the process ends itself
+static const int PATIENCE = 20 * 100; // hundredths of a second, for what is awaited
+
+struct Order
+{
+  char kind;
+  int header;
+  std::string id, orig;
+  char side;
+  std::uint32_t volume;
+  std::int32_t price;
+  std::string time;
+};
+
+static bool readOrder(std::istream& in, Order& order)
+{
+  return static_cast<bool>(in >> order.kind >> order.header >> order.id >> order.orig >> order.side
+                              >> order.volume >> order.price >> order.time);
+}
+
+// ---------------------------------------------------------------- making
+
+static FIX::TransactTime timeOf(const Order& order)
+{
+  return FIX::TransactTime(FIX::UtcTimeStampConvertor::convert(order.time), 3);
+}
+
+// What an order that quotes has beside its id, side and time.
+template <typename Message> static void quote(Message& message, const Order& order)
+{
+  message.set(FIX::OrderQty(order.volume));
+  message.set(FIX::Price(order.price));
+  if (!order.header)
+    return;
+  message.set(FIX::HandlInst('1'));
+  message.set(FIX::Symbol("BR-12.26"));
+  message.set(FIX::TimeInForce('0'));
+  message.set(FIX::Account("A-1001"));
+}
+
+static FIX::Message newOrder(const Order& order)
+{
+  FIX44::NewOrderSingle message(FIX::ClOrdID(order.id), FIX::Side(order.side), timeOf(order), FIX::OrdType('2'));
+  quote(message, order);
+  return message;
+}
+
+static FIX::Message cancelOrder(const Order& order)
+{
+  FIX44::OrderCancelRequest message(FIX::OrigClOrdID(order.orig), FIX::ClOrdID(order.id), FIX::Side('1'), timeOf(order));
+  if (order.header)
+    message.set(FIX::Symbol("BR-12.26"));
+  else
+    message.removeField(54); // nothing but what is used
+  return message;
+}
+
+static FIX::Message replaceOrder(const Order& order)
+{
+  FIX44::OrderCancelReplaceRequest message(FIX::OrigClOrdID(order.orig), FIX::ClOrdID(order.id), FIX::Side(order.side),
+                                           timeOf(order), FIX::OrdType('2'));
+  quote(message, order);
+  return message;
+}
+
+static FIX::Message messageOf(const Order& order)
+{
+  FIX::Message message = order.kind == 'D'   ? newOrder(order)
+                         : order.kind == 'F' ? cancelOrder(order)
+                                             : replaceOrder(order);
+  if (!order.header)
+    message.removeField(40);
+  return message;
+}
+
+static void addHeader(FIX::Message& message, int number)
+{
+  message.getHeader().setField(FIX::SenderCompID("MAKER01"));
+  message.getHeader().setField(FIX::TargetCompID("EXCHANGE"));
+  message.getHeader().setField(FIX::MsgSeqNum(number));
+  message.getHeader().setField(FIX::SendingTime(FIX::UtcTimeStamp(), 3));
+}
+
+static void printHex(const std::string& data)
+{
+  for (unsigned char byte : data)
+    std::printf("%02x", byte);
+  std::printf("\n");
+}
+
+static int make()
+{
+  Order order;
+  for (int number = 1; readOrder(std::cin, order); number++)
+  {
+    FIX::Message message = messageOf(order);
+    if (order.header)
+      addHeader(message, number);
+    printHex(message.toString());
+  }
+  return 0;
+}
+
+// ---------------------------------------------------------------- parsing
+
+static std::string fromHex(const std::string& line)
+{
+  std::string data;
+  for (std::size_t at = 0; at + 1 < line.size(); at += 2)
+    data.push_back(static_cast<char>(std::stoi(line.substr(at, 2), nullptr, 16)));
+  return data;
+}
+
+template <typename Field> static Field get(const FIX::Message& message)
+{
+  Field field;
+  message.getField(field);
+  return field;
+}
+
+// The fields, each by QuickFIX's own type of it, in the order of `probe`.
+static std::string shown(const FIX::Message& message)
+{
+  FIX::MsgType type;
+  message.getHeader().getField(type);
+  const std::string kind = type.getValue();
+  std::ostringstream out;
+  out << "message " << kind << " 11 " << get<FIX::ClOrdID>(message).getValue();
+  if (kind != "D")
+    out << " 41 " << get<FIX::OrigClOrdID>(message).getValue();
+  if (kind != "F")
+    out << " 54 " << get<FIX::Side>(message).getValue()
+        << " 38 " << static_cast<std::int64_t>(get<FIX::OrderQty>(message).getValue())
+        << " 44 " << static_cast<std::int64_t>(get<FIX::Price>(message).getValue());
+  const FIX::UtcTimeStamp time = get<FIX::TransactTime>(message).getValue();
+  out << " 60 " << FIX::UtcTimeStampConvertor::convert(time, 3);
+  return out.str();
+}
+
+static int parse()
+{
+  std::string line;
+  while (std::getline(std::cin, line))
+  {
+    try
+    {
+      FIX::Message message;
+      message.setString(fromHex(line), true);
+      std::cout << shown(message) << "\n";
+    }
+    catch (const FIX::Exception& error)
+    {
+      std::cout << "rejected " << error.what() << "\n";
+    }
+  }
+  return 0;
+}
+
+// ---------------------------------------------------------------- a session
+
+static std::atomic<int> listening{0}; // the acceptor's port
+
+// QuickFIX listens on every address of the machine. This takes the place of the system's call: its listener gets
+// 127.0.0.1 and a port that is free.
+extern "C" int bind(int fd, const sockaddr*, socklen_t) noexcept
+{
+  sockaddr_in local = {};
+  local.sin_family = AF_INET;
+  local.sin_addr.s_addr = htonl(INADDR_LOOPBACK);
+  const long answer = syscall(SYS_bind, fd, &local, sizeof local);
+  socklen_t size = sizeof local;
+  if (answer == 0 && getsockname(fd, reinterpret_cast<sockaddr*>(&local), &size) == 0)
+    listening = ntohs(local.sin_port);
+  return static_cast<int>(answer);
+}
+
+struct Party : FIX::Application
+{
+  std::atomic<bool> isOn{false};
+  std::atomic<std::size_t> taken{0}; // application messages
+
+  void onCreate(const FIX::SessionID&) override {}
+  void onLogon(const FIX::SessionID&) override { isOn = true; }
+  void onLogout(const FIX::SessionID&) override { isOn = false; }
+  void toAdmin(FIX::Message&, const FIX::SessionID&) override {}
+  void toApp(FIX::Message&, const FIX::SessionID&) throw(FIX::DoNotSend) override {}
+  void fromAdmin(const FIX::Message&, const FIX::SessionID&)
+    throw(FIX::FieldNotFound, FIX::IncorrectDataFormat, FIX::IncorrectTagValue, FIX::RejectLogon) override {}
+  void fromApp(const FIX::Message&, const FIX::SessionID&)
+    throw(FIX::FieldNotFound, FIX::IncorrectDataFormat, FIX::IncorrectTagValue, FIX::UnsupportedMessageType) override
+  {
+    taken++;
+  }
+};
+
+// Keeps what comes, byte for byte.
+struct Wire : FIX::Log, FIX::LogFactory
+{
+  std::mutex mutex;
+  std::vector<std::string> came;
+
+  FIX::Log* create() override { return this; }
+  FIX::Log* create(const FIX::SessionID&) override { return this; }
+  void destroy(FIX::Log*) override {}
+  void clear() override {}
+  void backup() override {}
+  void onOutgoing(const std::string&) override {}
+  void onEvent(const std::string&) override {}
+  void onIncoming(const std::string& data) override
+  {
+    std::lock_guard<std::mutex> lock(mutex);
+    came.push_back(data);
+  }
+};
+
+static FIX::SessionSettings settings(const std::string& type, const std::string& own, const std::string& other,
+                                     const std::string& more)
+{
+  std::istringstream text("[DEFAULT]\nConnectionType=" + type +
+                          "\nStartTime=00:00:00\nEndTime=00:00:00\nUseDataDictionary=N\nHeartBtInt=30\nReconnectInterval=1\n"
+                          "[SESSION]\nBeginString=FIX.4.4\nSenderCompID=" + own + "\nTargetCompID=" + other + "\n" + more);
+  return FIX::SessionSettings(text);
+}
+
+template <typename Test> static bool await(Test test)
+{
+  for (int turn = 0; turn < PATIENCE && !test(); turn++)
+    usleep(10 * 1000);
+  return test();
+}
+
+static bool sendAll(const std::vector<Order>& orders, const Party& maker, const Party& exchange)
+{
+  const FIX::SessionID session("FIX.4.4", "MAKER01", "EXCHANGE");
+  if (!await([&] { return maker.isOn.load(); }))
+    return false;
+  for (const Order& order : orders)
+  {
+    FIX::Message message = messageOf(order);
+    FIX::Session::sendToTarget(message, session);
+  }
+  return await([&] { return exchange.taken == orders.size(); });
+}
+
+static int session()
+{
+  alarm(LONGEST);
+  std::vector<Order> orders;
+  for (Order order; readOrder(std::cin, order);)
+    orders.push_back(order);
+  Party maker, exchange;
+  Wire makersWire, exchangesWire;
+  FIX::MemoryStoreFactory makersStore, exchangesStore;
+  FIX::SocketAcceptor acceptor(exchange, exchangesStore,
+                               settings("acceptor", "EXCHANGE", "MAKER01", "SocketAcceptPort=1\n"), exchangesWire);
+  acceptor.start();
+  if (listening == 0)
+  {
+    std::cerr << "the acceptor does not listen on 127.0.0.1 alone\n";
+    return 1;
+  }
+  const std::string port = std::to_string(listening);
+  FIX::SocketInitiator initiator(maker, makersStore,
+                                 settings("initiator", "MAKER01", "EXCHANGE",
+                                          "SocketConnectHost=127.0.0.1\nSocketConnectPort=" + port + "\n"), makersWire);
+  initiator.start();
+  const bool came = sendAll(orders, maker, exchange);
+  initiator.stop();
+  acceptor.stop();
+  for (const std::string& data : exchangesWire.came)
+    printHex(data);
+  return came ? 0 : 1;
+}
+
+int main(int count, char** words)
+{
+  const std::string command = count == 2 ? words[1] : "";
+  try
+  {
+    if (command == "make")
+      return make();
+    if (command == "parse")
+      return parse();
+    if (command == "session")
+      return session();
+  }
+  catch (const std::exception& error)
+  {
+    std::cerr << error.what() << "\n";
+    return 1;
+  }
+  std::cerr << "peer make|parse|session\n";
+  return 2;
+}

@@ -1,0 +1,163 @@
+"""Messages between QuickFIX (target/peer/peer, of tests/peer/peer.cpp) and us.
+
+    tests/peer/run                 by the recount
+    tests/peer/run --programs      by target/bin/probe and target/bin/replay, too
+
+Messages that QuickFIX makes, bare and with the header and the tags that terminals send, are read by
+us; those that we write are read by it, and one with another length or checksum is not; a session
+between its initiator and its acceptor is read as it came, and a month takes its orders. Fields must
+be equal each time.
+"""
+
+import random
+import re
+import subprocess
+import sys
+from pathlib import Path
+from random import Random
+
+ROOT = Path(__file__).resolve().parent.parent.parent
+sys.path.insert(0, str(ROOT))
+
+from recount import fix, programs
+from recount.book import BUY, SELL, Close, Look, Message, Open, Report
+from recount.fix import END, Order
+from tests import messages
+from tests.differential import words
+from tools import calls as calls_text
+
+PEER = ROOT / "target" / "peer" / "peer"
+SECONDS = 90
+EACH = 300  # orders each way
+HEADER = (34, 49, 52, 56)  # before the body
+TERMINAL = {"D": (21, 40, 55, 59), "F": (54, 55), "G": (21, 40, 55, 59)}  # in it
+
+
+def peer(command: str, lines: list[str]) -> list[str]:
+    given = "".join(f"{line}\n" for line in lines)
+    done = subprocess.run([PEER, command], input=given, capture_output=True, text=True, timeout=SECONDS)
+    assert done.returncode == 0, f"peer {command}: {done.returncode} {done.stderr}"
+    return done.stdout.splitlines()
+
+
+def ours(name: str, data: bytes, by_programs: bool) -> str:
+    """What the recount's `probe` or `replay` prints, and the program's own as well if it is asked for."""
+    printed: str = getattr(programs, name)(data)
+    if by_programs:
+        done = subprocess.run([ROOT / "target" / "bin" / name], input=data, capture_output=True, timeout=SECONDS)
+        assert done.stdout.decode() == printed, (name, data.hex(), done.stdout, printed)
+    return printed
+
+
+def order_line(order: Order, header: bool) -> str:
+    numbers = [order.numbers.get(tag, 0) for tag in fix.NUMBERS]
+    return " ".join([order.kind, str(int(header)), *map(str, numbers), order.time.decode()])
+
+
+def order_words(order: Order) -> bytes:
+    """Case 10 of `probe`."""
+    kind = next(number for number, kind in fix.KINDS.items() if kind == order.kind)
+    return words(10, kind, *(order.numbers.get(tag, 0) % 2**32 for tag in fix.NUMBERS)) + order.time
+
+
+def tags(data: bytes) -> list[int]:
+    return [int(tag) for tag, _ in fix.fields(data)]
+
+
+# ---------------------------------------------------------------- each way
+
+
+def check_theirs(rng: Random, by_programs: bool) -> None:
+    """QuickFIX makes, we read."""
+    orders = [(messages.order(rng, rng.choice("DFG")), rng.random() < 0.7) for _ in range(EACH)]
+    made = peer("make", [order_line(*item) for item in orders])
+    assert len(made) == EACH
+    for (order, header), line in zip(orders, made):
+        data = bytes.fromhex(line)
+        if header:
+            found = tags(data)
+            assert found[3:7] == list(HEADER) and set(TERMINAL[order.kind]) <= set(found[7:]), data
+        else:
+            assert sorted(tags(data)) == sorted((8, 9, 35, *fix.USED[order.kind], 60, 10)), data
+        assert ours("probe", words(9) + data, by_programs) == fix.line(order) + "\n", data
+
+
+def check_ours(rng: Random, by_programs: bool) -> None:
+    """We write, QuickFIX reads; it does not where the length or the checksum is another."""
+    orders = [messages.order(rng, rng.choice("DFG")) for _ in range(EACH)]
+    written = [bytes.fromhex(ours("probe", order_words(order), by_programs)[6:]) for order in orders]
+    assert peer("parse", [data.hex() for data in written]) == [fix.line(order) for order in orders]
+    wrong = [rng.choice([other_length, other_sum])(data).hex() for data in written]
+    for data, said in zip(wrong, peer("parse", wrong)):
+        assert said.startswith("rejected"), (data, said)
+
+
+def other_length(data: bytes) -> bytes:
+    body = fix.before_last(data).split(END, 2)[2]
+    return messages.around(body, length=b"%d" % (len(body) + 1))
+
+
+def other_sum(data: bytes) -> bytes:
+    return data[:-4] + b"%03d" % ((int(data[-4:-1]) + 1) % 256) + END
+
+
+# ---------------------------------------------------------------- a session
+
+START = b"20261116-10:00:00.000"
+
+
+def morning(rng: Random, count: int) -> list[Order]:
+    """Orders that a month takes: each side is quoted, replaced, and at times taken back."""
+    live: dict[int, int] = {}  # id to side
+    out: list[Order] = []
+    for id in range(1, count + 1):
+        time = messages.shifted(START, 1_000 * id) or START
+        new = {11: id, 54: rng.choice([BUY, SELL]), 38: rng.randrange(1, 2_000), 44: rng.randrange(8_400, 8_500)}
+        old = rng.choice(list(live)) if live and rng.random() < 0.7 else None
+        if old is None:
+            out.append(Order("D", new, time))
+        elif rng.random() < 0.3:
+            out.append(Order("F", {11: id, 41: old}, time))
+        else:
+            out.append(Order("G", {**new, 41: old, 54: live[old]}, time))
+        live.pop(old or 0, None)
+        if out[-1].kind != "F":
+            live[id] = out[-1].numbers[54]
+    return out
+
+
+def check_session(rng: Random, by_programs: bool) -> None:
+    """What came over the line: orders in their turn, and what the session itself sends, which is 20."""
+    orders = morning(rng, 60)
+    came = [bytes.fromhex(line) for line in peer("session", [order_line(order, True) for order in orders])]
+    admin = [data for data in came if not re.search(rb"\x0135=[DFG]\x01", data)]
+    assert {data.split(END)[2] for data in admin} >= {b"35=A", b"35=5"}, "no logon or logout came"
+    for data in admin:
+        assert ours("probe", words(9) + data, by_programs) == "refused 20\n", data
+    application = [data for data in came if data not in admin]
+    assert len(application) == len(orders)
+    for order, data in zip(orders, application):
+        assert tags(data)[3:7] == list(HEADER), data
+        assert ours("probe", words(9) + data, by_programs) == fix.line(order) + "\n", data
+    opened = Open([1, 1, 31_500_000, 1_000, 150, 3, 600], 16, 8_452)
+    sent = [Message(START, data) for data in came]
+    calls = [opened, *sent, Report(), Close(1, 1), Look(16, 1, 1)]
+    lines = ours("replay", calls_text.calls_bytes(calls), by_programs).splitlines()
+    due = ["refused 20" if data in admin else "accepted" for data in came]
+    assert lines[1 : 1 + len(came)] == due and lines[-3].startswith("report open yes time 60000 "), lines
+
+
+def main(given: list[str]) -> int:
+    if given not in ([], ["--programs"]):
+        sys.stderr.write(__doc__ or "")
+        return 2
+    by_programs = bool(given)
+    check_theirs(random.Random(1), by_programs)
+    check_ours(random.Random(2), by_programs)
+    check_session(random.Random(3), by_programs)
+    print(f"peer: QuickFIX and we read {EACH} of each other's messages, and a session of it over loopback")
+    return 0
+
+
+if __name__ == "__main__":
+    sys.exit(main(sys.argv[1:]))
