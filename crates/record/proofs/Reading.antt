@@ -16,11 +16,11 @@ use Rattle.rules.specs.Units.{millis, steps, contracts}
 use Rattle.rules.specs.Widths.{Word}
 use Rattle.rules.specs.Orders.{timeOf}
 use Rattle.rules.specs.Answers.{Outcome, accepted, refused}
-use Rattle.rules.specs.Records.{wordAt, signedOf, unsignedOf, Fields as Numbers, fields, fieldsOf, eventOf, unusedZero, paddingZero, goodRecord, readRecord}
+use Rattle.rules.specs.Records.{wordAt, signedOf, unsignedOf, fieldsOf, eventOf, unusedZero, paddingZero, goodRecord, readRecord}
 use Rattle.rules.proofs.Lists.{both}
 use Rattle.rules.proofs.Records.{unsigned-signed}
 use Rattle.record.specs.declared.Fields.{Fields}
-use Rattle.record.specs.Fields.{fieldsIn, fieldsFor, numbers, goodFields, eventBy, readFields}
+use Rattle.record.specs.Fields.{fieldsIn, fieldsFor, goodFields, eventBy, readFields}
 
 -- the words at their places
 pub fields-are : (bytes : List ℕ) {kind t id : ℕ} {price : Steps} {volume : ℕ} → kind ≡ wordAt bytes 0 → t ≡ wordAt bytes 4 → id ≡ wordAt bytes 8

@@ -14,7 +14,7 @@ ghost use Rattle.rules.specs.declared.Event.the-variants.{Add};
 ghost use Rattle.rules.specs.Lists.{within};
 ghost use Rattle.rules.specs.Answers.{shownRecord};
 ghost use Rattle.rules.specs.Records.{unsignedOf, addKind, fieldBytes, recordOf, readRecord};
-ghost use Rattle.record.specs.Fields.{fieldsIn, fieldsFor, numbers, goodFields, eventBy, readFields};
+ghost use Rattle.record.specs.Fields.{fieldsIn, fieldsFor, goodFields, eventBy, readFields};
 ghost use Rattle.record.specs.Internal.{lowKind};
 
 // The fields of a record. The kind is its whole first word, so it is 1 to 6 only where the three bytes behind the kind's own are zero.

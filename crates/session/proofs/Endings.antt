@@ -42,7 +42,7 @@ unfolding counted
 counted-finished (whole k′ w′ ss) k w n e = (ss, cc, cc)
 counted-finished (halted m at) k w n e = let z : _≡_ {A = ℕ} 0 1 = cc in absurd (omega arith)
 
-abbrev pub Ended : Session → List ℕ → List ℕ → SessionAnswer → Type 0
+abbrev Ended : Session → List ℕ → List ℕ → SessionAnswer → Type 0
 Ended s entry exit r = (shownSession r ≡ ran (length entry) s) × (exit ≡ bufferAfter entry s)
 
 -- how a session that ends so ends with a buffer

@@ -1,5 +1,5 @@
 -- The loop over the records: how it starts, one turn, and each way out. Assumes nothing.
-use Prim.Native.Nat.{ℕ, zero, suc, _+_, _*_, _-_, _≤_, _<_}
+use Prim.Native.Nat.{ℕ, zero, suc, _+_, _*_, _-_, _/_, _≤_, _<_, min}
 use native.Mathlib.Omega.{arith}
 use mathlib.Core.Path.{_≡_, refl, sym, ap, _∙_, subst}
 use mathlib.Core.List.{List, [], _∷_, _++_}
@@ -59,10 +59,49 @@ passed-whole s k w ss entry exit r e a h =
           subst (λ (l : List Stretch). 2 * length l ≤ length entry → exit ≡ pairWords l ++ drop (2 * length l) entry) (whole-pairs s k w k′ w′ ss ss′ e f) (h .words);
     }
 
+-- ---- the bytes that the loop goes to: the full records, as far as the limit lets it
+
+pub record LoopBytes (at full len most : ℕ) : Type 0 where
+  pub whole : 20 * (at / 20) ≡ at
+  pub to : full ≡ 20 * min (len / 20) most
+  pub below : at ≤ full
+
+module _ {at full len most : ℕ} (h : LoopBytes at full len most) where
+  pub turn-ahead : at < full → at + 20 ≤ len
+  turn-ahead l = omega (arith, h .whole, h .to)
+
+  pub turn-place : at < full → at / 20 + 1 ≤ most
+  turn-place l = omega (arith, h .whole, h .to)
+
+  pub turn-small : at ≤ 20 * most
+  turn-small = omega (arith, h .to, h .below)
+
+  -- what is left behind them is the record past the limit, or fewer than 20 bytes
+  pub turn-rest : full ≤ at → at / 20 + 1 ≤ most → len < at + 20
+  turn-rest l p = omega (arith, h .whole, h .to, h .below)
+
+  pub turn-next : at < full → LoopBytes (at + 20) full len most
+  turn-next l = record { whole = omega (arith, h .whole); to = h .to; below = omega (arith, h .whole, h .to) }
+
+-- the place of the next record
+pub next-place : {most : ℕ} {row : Row} {sp : Steps} {bytes base : List ℕ} {w : Progress} (at : ℕ) {table buffer : List ℕ}
+    → LoopState most row sp bytes base w (at + 20) (at / 20 + 1 + 1) table buffer → LoopState most row sp bytes base w (at + 20) ((at + 20) / 20 + 1) table buffer
+next-place {most} {row} {sp} {bytes} {base} {w} at {table} {buffer} g =
+    let next : at / 20 + 1 + 1 ≡ (at + 20) / 20 + 1 = omega arith in
+    subst (λ (n : ℕ). LoopState most row sp bytes base w (at + 20) n table buffer) next g
+
+-- a place as the code works it out
+pub placed : {run : ℕ → Session} {base exit : List ℕ} {f : Refusal} {place at : ℕ} → place ≡ at → ((cell : ℕ) → cell < 186 → Passed (run cell) base exit (S.Refused f place))
+    → (cell : ℕ) → cell < 186 → Passed (run cell) base exit (S.Refused f at)
+placed {run} {base} {exit} {f} e h = subst (λ (n : ℕ). (cell : ℕ) → cell < 186 → Passed (run cell) base exit (S.Refused f n)) e h
+
 -- ---- the bytes of a record
 
 pub part-is : (bytes : List ℕ) (at : ℕ) → take (at + 20 - at) (drop at bytes) ≡ take 20 (drop at bytes)
 part-is bytes at = let n : at + 20 - at ≡ 20 = omega arith in ap (λ (n : ℕ). take n (drop at bytes)) n
+
+pub part-long : (bytes : List ℕ) (at : ℕ) → at + 20 ≤ length bytes → 20 ≤ length (take (at + 20 - at) (drop at bytes))
+part-long bytes at h = omega (arith, length-take (at + 20 - at) (drop at bytes), length-drop at bytes)
 
 -- a table of no orders
 pub none-live : (row : Row) (table : List ℕ) → table ≡ tableOf (row .minimum .0) [] → table ≡ tableAfter row []
@@ -82,10 +121,6 @@ fifteen-only bytes n = go (goodRecord bytes)
     go : (b : Bool) → (if b then accepted (eventOf (fieldsOf bytes)) else refused 15) ≡ refused n → n ≡ 15
     go true e = let z : _≡_ {A = ℕ} 0 1 = cc in absurd (omega arith)
     go false e = cc
-
--- so it is refused by 15, whatever the refusal is called
-pub unread : (bytes : List ℕ) (n : ℕ) → refused n ≡ readRecord bytes → _≡_ {A = Outcome Event} (refused 15) (readRecord bytes)
-unread bytes n e = ap (λ (k : ℕ). refused k) (sym (fifteen-only bytes n (sym e))) ∙ e
 
 record-numbered : (row : Row) (es : List Event) (o : Outcome Event) → ((n : ℕ) → o ≡ refused n → n ≡ 15) → 0 < refusalBy row es o
     → (8 ≤ refusalBy row es o) × (refusalBy row es o ≤ 15)
@@ -149,7 +184,7 @@ module _ (most : ℕ) (row : Row) (sp : Steps) (bytes base : List ℕ) where
           g .runs cell
           ∙ ap (runRecords paper most cell place (bookWith cell row sp (g .events))) (records-some (drop at bytes) (omega (arith, length-drop at bytes)))
 
-      pub loop-past : (exit : List ℕ) → most < place → (cell : ℕ) → cell < 186 → Passed (Run cell) base exit (S.Refused BadRecord place)
+      loop-past : (exit : List ℕ) → most < place → (cell : ℕ) → cell < 186 → Passed (Run cell) base exit (S.Refused BadRecord place)
       loop-past exit p cell c =
           passed-halted (Run cell) BadRecord place base exit
           (next-record cell ∙ runs-past most cell row sp place (g .events) (take 20 (drop at bytes)) (recordsOf (drop 20 (drop at bytes))) p)
@@ -163,17 +198,18 @@ module _ (most : ℕ) (row : Row) (sp : Steps) (bytes base : List ℕ) where
           ∙ runs-refused most cell row sp place (g .events) (take 20 (drop at bytes)) (recordsOf (drop 20 (drop at bytes))) n p k
           ∙ ap (λ (m : ℕ). halted m place) (sym z))
 
-      -- fewer than 20 bytes are left
-      pub loop-short : (exit : List ℕ) → length bytes < at + 20 → (cell : ℕ) → cell < 186 → Passed (Run cell) base exit (S.Refused BadRecord place)
+      -- the record past the limit, or fewer than 20 bytes
+      pub loop-short : (exit : List ℕ) → (place ≤ most → length bytes < at + 20) → (cell : ℕ) → cell < 186 → Passed (Run cell) base exit (S.Refused BadRecord place)
       loop-short exit h cell c = go (ltb most place) refl
         where
-          few : length (take 20 (drop at bytes)) < 20
-          few = omega (arith, length-take 20 (drop at bytes), length-drop at bytes)
+          few : place ≤ most → length (take 20 (drop at bytes)) < 20
+          few p = let l = h p in omega (arith, length-take 20 (drop at bytes), length-drop at bytes)
 
           go : (b : Bool) → ltb most place ≡ b → Passed (Run cell) base exit (S.Refused BadRecord place)
           go true e = loop-past exit (ltb-true most place e) cell c
           go false e =
-              stops exit BadRecord 14 refl (ltb-false most place e) (ap (refusalBy row (g .events)) (short-record (take 20 (drop at bytes)) few)) cell
+              let p = ltb-false most place e in
+              stops exit BadRecord 14 refl p (ap (refusalBy row (g .events)) (short-record (take 20 (drop at bytes)) (few p))) cell
 
       module _ (p : place ≤ most) (duty : Duty) (d : duty ≡ dutyOf row (Settled sp)) (r : Stepped) (next exit : List ℕ) (part : List ℕ) (cut : part ≡ take 20 (drop at bytes))
           (adv : Advanced w duty (readRecord part) r table next buffer exit) where

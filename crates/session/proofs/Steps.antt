@@ -1,5 +1,5 @@
 -- One event further, and the end: the run so far as the one value for the accepted events. Assumes nothing.
-use Prim.Native.Nat.{ℕ, suc, _≤_, _<_}
+use Prim.Native.Nat.{ℕ, _≤_, _<_}
 use native.Mathlib.Omega.{arith}
 use mathlib.Core.Path.{_≡_, refl, sym, ap, _∙_, subst}
 use mathlib.Core.List.{List, [], _∷_, _++_}
@@ -25,10 +25,13 @@ use Rattle.rules.proofs.Kept.{keptAt-now, keptAt-snoc}
 use Rattle.rules.proofs.Stretches.{stretches-ext}
 use Rattle.rules.proofs.Refusals.{event-passes}
 use Rattle.rules.proofs.Bounds.{row-bounds}
+use Rattle.record.specs.declared.Fields.{Fields}
+use Rattle.record.specs.Fields.{readFields}
+use Rattle.record.proofs.Reading.{only-fifteen}
 use Rattle.quantum.specs.declared.Duty.{Duty}
 use Rattle.quantum.specs.declared.Clock.{Clock}
 use Rattle.quantum.specs.declared.Stepped.{Stepped as SteppedOn}
-use Rattle.quantum.specs.Represents.{clockOf, tableAfter, taken, ReachedParts, Represents, Stepping, Onward}
+use Rattle.quantum.specs.Represents.{clockOf, tableAfter, taken, ReachedParts, Represents, Stepping, SteppingRead, Onward}
 use Rattle.rules.specs.Runs.{before}
 use Rattle.quantum.proofs.Represents.{time-is, keeps-is, last-is, onward}
 use Rattle.session.specs.declared.Marks.{Marks}
@@ -154,9 +157,9 @@ module _ (w : Progress) (duty : Duty) (e : Event) (table next : List ℕ) (stepp
   number-is : (row : Row) (sp : SpreadRule) (es : List Event) → RepresentsRun row sp es w duty table → stepped .refusal ≡ eventRefusal row es e
   number-is row sp es h = steps .number row sp es (represents row sp es w duty table h)
 
-  pub advanced-refused : (entry exit : List ℕ) → 0 < stepped .refusal
+  refused-event : (entry exit : List ℕ) → 0 < stepped .refusal
       → Advanced w duty (accepted e) (record { progress = w; refusal = stepped .refusal }) table next entry exit
-  advanced-refused entry exit l =
+  refused-event entry exit l =
       record {
         number = number-is;
         orders = λ row sp es h z. absurd (omega (arith, l, number-is row sp es h, z));
@@ -171,16 +174,16 @@ module _ (w : Progress) (duty : Duty) (e : Event) (table next : List ℕ) (stepp
     next-is row sp es h =
         steps .clock-after row sp es (represents row sp es w duty table h) ∙ ap (λ (n : ℕ). clockOf row sp (taken n es e)) (passes row sp es h)
 
-    pub bounds-taken : (hints : List ℕ) → ReachedRun w duty table hints → MarksBounds (w .marks) (w .clock .time) (stepped .clock .time) (eqb (w .clock .last) 1)
-    bounds-taken hints h =
+    event-bounds : (hints : List ℕ) → ReachedRun w duty table hints → MarksBounds (w .marks) (w .clock .time) (stepped .clock .time) (eqb (w .clock .last) 1)
+    event-bounds hints h =
         let k = run-records w duty table hints h in
         bounds-event (h .row) (h .sp) (h .events) w (h .is) (h .bounds) e (passes (h .row) (h .sp) (h .events) k) (stepped .clock)
         (next-is (h .row) (h .sp) (h .events) k) (h .good)
 
-    pub advanced-taken : (keeps : Bool) (r : Marks) (entry exit : List ℕ) → keeps ≡ eqb (w .clock .keeps) 1
+    taken-event : (keeps : Bool) (r : Marks) (entry exit : List ℕ) → keeps ≡ eqb (w .clock .keeps) 1
         → MarksAfter (w .marks) (w .clock .time) (stepped .clock .time) keeps (eqb (w .clock .last) 1) r entry exit
         → Advanced w duty (accepted e) (record { progress = record { clock = stepped .clock; marks = r }; refusal = 0 }) table next entry exit
-    advanced-taken keeps r entry exit k grows =
+    taken-event keeps r entry exit k grows =
         record {
           number = λ row sp es h. sym (passes row sp es h);
           orders = λ row sp es h z.
@@ -189,16 +192,52 @@ module _ (w : Progress) (duty : Duty) (e : Event) (table next : List ℕ) (stepp
               took row sp es w (h .is) (h .bounds) e (passes row sp es h) (stepped .clock) (next-is row sp es h) keeps r entry exit base k grows b;
         }
 
--- a record that is no event
-pub advanced-unread : (w : Progress) (duty : Duty) (o : Outcome Event) (table next entry exit : List ℕ) (n : ℕ) → refused (suc n) ≡ o
-    → Advanced w duty o (record { progress = w; refusal = suc n }) table next entry exit
-advanced-unread w duty o table next entry exit n e =
-    subst (λ (o : Outcome Event). Advanced w duty o (record { progress = w; refusal = suc n }) table next entry exit) e
-    (record {
-      number = λ row sp es h. refl;
-      orders = λ row sp es h z. absurd (omega (arith, z));
-      progress = λ row sp es base h b z. absurd (omega (arith, z));
-    })
+-- the same by what a record says; 15 is all that refuses one that is no event
+module _ (w : Progress) (duty : Duty) (table next : List ℕ) (stepped : SteppedOn) where
+  abbrev Read : Outcome Event → Type 0
+  Read o = SteppingRead duty (w .clock) o table next stepped
+
+  refused-read : (o : Outcome Event) → Read o → (entry exit : List ℕ) → 0 < stepped .refusal
+      → Advanced w duty o (record { progress = w; refusal = stepped .refusal }) table next entry exit
+  refused-read (accepted e) steps entry exit l = refused-event w duty e table next stepped steps entry exit l
+  refused-read (refused n) steps entry exit l =
+      record {
+        number = λ row sp es h. steps .1;
+        orders = λ row sp es h z. absurd (omega (arith, l, steps .1, z));
+        progress = λ row sp es base h b z. absurd (omega (arith, l, steps .1, z));
+      }
+
+  module _ (l : stepped .refusal ≤ 0) where
+    read-bounds : (o : Outcome Event) → ((n : ℕ) → o ≡ refused n → n ≡ 15) → Read o → (hints : List ℕ) → ReachedRun w duty table hints
+        → MarksBounds (w .marks) (w .clock .time) (stepped .clock .time) (eqb (w .clock .last) 1)
+    read-bounds (accepted e) fifteen steps hints h = event-bounds w duty e table next stepped steps l hints h
+    read-bounds (refused n) fifteen steps hints h = absurd (omega (arith, l, steps .1, fifteen n refl))
+
+    taken-read : (o : Outcome Event) → ((n : ℕ) → o ≡ refused n → n ≡ 15) → Read o → (keeps : Bool) (r : Marks) (entry exit : List ℕ)
+        → keeps ≡ eqb (w .clock .keeps) 1
+        → MarksAfter (w .marks) (w .clock .time) (stepped .clock .time) keeps (eqb (w .clock .last) 1) r entry exit
+        → Advanced w duty o (record { progress = record { clock = stepped .clock; marks = r }; refusal = 0 }) table next entry exit
+    taken-read (accepted e) fifteen steps keeps r entry exit k grows = taken-event w duty e table next stepped steps l keeps r entry exit k grows
+    taken-read (refused n) fifteen steps keeps r entry exit k grows = absurd (omega (arith, l, steps .1, fifteen n refl))
+
+-- and by its fields
+module _ (w : Progress) (duty : Duty) (table next : List ℕ) (stepped : SteppedOn) (f : Fields) (steps : SteppingRead duty (w .clock) (readFields f) table next stepped) where
+  pub bounds-taken : stepped .refusal ≤ 0 → (hints : List ℕ) → ReachedRun w duty table hints
+      → MarksBounds (w .marks) (w .clock .time) (stepped .clock .time) (eqb (w .clock .last) 1)
+  bounds-taken l = read-bounds w duty table next stepped l (readFields f) (only-fifteen f) steps
+
+  module _ (o : Outcome Event) (read : readFields f ≡ o) (entry exit : List ℕ) where
+    pub advanced-refused : 0 < stepped .refusal → Advanced w duty o (record { progress = w; refusal = stepped .refusal }) table next entry exit
+    advanced-refused l =
+        subst (λ (o : Outcome Event). Advanced w duty o (record { progress = w; refusal = stepped .refusal }) table next entry exit) read
+        (refused-read w duty table next stepped (readFields f) steps entry exit l)
+
+    pub advanced-taken : stepped .refusal ≤ 0 → (keeps : Bool) (r : Marks) → keeps ≡ eqb (w .clock .keeps) 1
+        → MarksAfter (w .marks) (w .clock .time) (stepped .clock .time) keeps (eqb (w .clock .last) 1) r entry exit
+        → Advanced w duty o (record { progress = record { clock = stepped .clock; marks = r }; refusal = 0 }) table next entry exit
+    advanced-taken l keeps r k after =
+        subst (λ (o : Outcome Event). Advanced w duty o (record { progress = record { clock = stepped .clock; marks = r }; refusal = 0 }) table next entry exit) read
+        (taken-read w duty table next stepped l (readFields f) (only-fifteen f) steps keeps r entry exit k after)
 
 module _ (row : Row) (sp : SpreadRule) (es : List Event) (w : Progress) (is : w ≡ progressAt row sp es) (g : EventBounds row es) where
   pub may-end : Onward (w .clock) (row .length)

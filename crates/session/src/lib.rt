@@ -1,6 +1,6 @@
 // The session run: records from a lent byte slice through one open quantum, twice where pairs are written.
 ghost use mathlib.Core.Path.{_≡_};
-ghost use Prim.Native.Nat.{ℕ, _+_, _*_, _-_, _≤_, _<_};
+ghost use Prim.Native.Nat.{ℕ, _+_, _/_, _≤_, _<_};
 ghost use mathlib.Core.Bool.{true};
 ghost use mathlib.Core.List.{[]};
 ghost use lib.ListN.{length};
@@ -8,15 +8,13 @@ ghost use Rattle.rules.specs.declared.Row.{Row};
 ghost use Rattle.rules.specs.declared.SpreadRule.{SpreadRule};
 ghost use Rattle.rules.specs.Terms.{paper};
 ghost use Rattle.rules.specs.Rows.{goodRow};
-ghost use Rattle.rules.specs.Answers.{accepted, shownSession};
+ghost use Rattle.rules.specs.Answers.{shownSession};
 ghost use Rattle.rules.specs.Records.{readRecord};
 ghost use Rattle.rules.specs.Session.{mostRecords, recordsOf, runRecords, session, sessionBytes, ran, front as frontOf, bufferAfter, oneNumber};
 ghost use Rattle.session.specs.Internal.{putPair, begunAt, MarksBounds, MarksAfter, ReachedRun, Advanced, ReachedEnd, FinalAnswer, progressAt, bookWith, Passed, filledBy, numberBy};
 use quantum::Clock;
 use quantum::Duty;
-use rules::Event;
 use rules::Millis;
-use rules::RecordRead;
 use rules::Refusal;
 use rules::Row;
 use rules::RowRead;
@@ -93,21 +91,22 @@ fn grow(
     marks
 }
 
-// An event taken, with the pairs that the time up to it adds; or refused.
-fn taken(
+// The event of a record, with the pairs that the time up to it adds; or its refusal.
+fn step(
     progress: Progress,
-    e: Event,
+    bytes: &[u8],
     duty: Duty,
     table: &mut [u32],
     hints: &mut [u8],
     buffer: &mut [u32],
 ) -> Stepped
-    requires { ⌜ ReachedRun progress duty (now table) (now hints) ⌝ }
-    ensures { λ r. ⌜ Advanced progress duty (accepted e) r (now (table .entry)) (now (table .exit)) (now (buffer .entry)) (now (buffer .exit)) ⌝ }
+    requires { ⌜ ReachedRun progress duty (now table) (now hints) × (20 ≤ length (now bytes)) ⌝ }
+    ensures { λ r. ⌜ Advanced progress duty (readRecord (now (bytes .entry))) r (now (table .entry)) (now (table .exit)) (now (buffer .entry)) (now (buffer .exit)) ⌝ }
 {
     let clock = progress.clock;
     let marks = progress.marks;
-    let stepped = quantum::step(duty, clock, table, hints, e);
+    let fields = record::fields_of(bytes);
+    let stepped = quantum::step_fields(duty, clock, table, hints, fields);
     let next = stepped.clock;
     let refusal = stepped.refusal;
     if 0 < refusal {
@@ -122,28 +121,6 @@ fn taken(
             marks: grown,
         },
         refusal: 0,
-    }
-}
-
-// A record read, and its event taken; or refused.
-fn step(
-    progress: Progress,
-    bytes: &[u8],
-    duty: Duty,
-    table: &mut [u32],
-    hints: &mut [u8],
-    buffer: &mut [u32],
-) -> Stepped
-    requires { ⌜ ReachedRun progress duty (now table) (now hints) ⌝ }
-    ensures { λ r. ⌜ Advanced progress duty (readRecord (now (bytes .entry))) r (now (table .entry)) (now (table .exit)) (now (buffer .entry)) (now (buffer .exit)) ⌝ }
-{
-    let read = record::read(bytes);
-    match read {
-        RecordRead::Read(e) => taken(progress, e, duty, table, hints, buffer),
-        RecordRead::Refused(_) => Stepped {
-            progress,
-            refusal: 15,
-        },
     }
 }
 
@@ -184,7 +161,16 @@ fn begin() -> Progress
     }
 }
 
-// One pass over the records: the first refusal, or K, w and the number of pairs, whose words are written as far as they fit.
+// The place of the record that starts at a byte, counted from 1.
+fn place_of(at: usize) -> u32
+    requires { ⌜ at ≤ 80000000 ⌝ }
+    ensures { λ r. ⌜ r ≡ at / 20 + 1 ⌝ }
+{
+    (at / 20 + 1) as u32
+}
+
+// One pass over the records: the first refusal, or K, w and the number of pairs, whose words are written as far as they fit. Bytes
+// behind the full records and the limit are one more record, which is refused.
 fn run_records(most: u32, row: Row, sp: Steps, records: &[u8], buffer: &mut [u32]) -> SessionAnswer
     requires { ⌜ (most ≤ 4000000) × (goodRow paper row ≡ true) ⌝ }
     ensures { λ r. ⌜ ((cell : ℕ) → cell < 186 → Passed (runRecords paper most cell 1 (bookWith cell row sp []) (recordsOf (now (records .entry)))) (now (buffer .entry)) (now (buffer .exit)) r) ⌝ }
@@ -194,15 +180,8 @@ fn run_records(most: u32, row: Row, sp: Steps, records: &[u8], buffer: &mut [u32
     let mut hints = [0u8; 1024];
     let mut progress = begin();
     let mut at: usize = 0;
-    let mut place: u32 = 1;
-    let full = records.len() / 20 * 20;
+    let full = 20 * numbers::min_length(records.len() / 20, numbers::length(most));
     while at < full {
-        if most < place {
-            return SessionAnswer::Refused {
-                refusal: Refusal::BadRecord,
-                place,
-            };
-        }
         let stepped = step(
             progress,
             &records[at..at + 20],
@@ -215,17 +194,16 @@ fn run_records(most: u32, row: Row, sp: Steps, records: &[u8], buffer: &mut [u32
         if 0 < n {
             return SessionAnswer::Refused {
                 refusal: rules::refusal_of(n),
-                place,
+                place: place_of(at),
             };
         }
         progress = stepped.progress;
         at += 20;
-        place += 1;
     }
-    if full < records.len() {
+    if at < records.len() {
         return SessionAnswer::Refused {
             refusal: Refusal::BadRecord,
-            place,
+            place: place_of(at),
         };
     }
     finish(progress, row, buffer)

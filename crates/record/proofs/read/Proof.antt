@@ -1,6 +1,6 @@
 -- A record cut short, a good one, and another. Assumes nothing.
 use borrow.Author.Needs.{needs}
-use mathlib.Core.Path.{ap, sym, _∙_}
+use mathlib.Core.Path.{sym, _∙_}
 use denote.Ref.{now}
 use Rattle.record.proofs.Reading.{cut-short, says, says-not}
 use Rattle.record.proofs.read.Statement.{statement}

@@ -1,25 +1,18 @@
--- The record's event, or its refusal. Assumes nothing.
-use mathlib.Core.Path.{ap, sym, _∙_, subst}
-use Rattle.rules.specs.declared.Event.{Event}
-use Rattle.rules.specs.Answers.{Outcome, shownRecord}
-use Rattle.session.specs.Internal.{Advanced}
-use Rattle.session.proofs.Steps.{advanced-unread}
-use Rattle.session.proofs.Loop.{unread}
+-- The record's event passes, and time runs on to it; or it is refused. Assumes nothing.
+use mathlib.Core.Path.{refl}
+use Rattle.session.proofs.Steps.{reached-parts, bounds-taken, advanced-taken, advanced-refused}
 use borrow.Author.Needs.{needs}
+use Rattle.rules.specs.Records.{readRecord}
 use Rattle.session.proofs.step.Statement.{statement}
 use Rattle.session.proofs.step.Tie as tie
 
-read-requires : tie.Need-read-requires
-read-requires c κs = search needs
+fields-of-requires : tie.Need-fields-of-requires
+fields-of-requires c κs = search needs
 
-enum-known-read : tie.Need-enum-known-read
-enum-known-read c = search needs
-
-taken-requires : tie.Need-taken-requires
-taken-requires c κs = search needs
-
-enum-told : tie.Need-enum-told
-enum-told c = search needs
+step-fields-requires : tie.Need-step-fields-requires
+step-fields-requires c κs =
+    let s = c .before .before .before .before .before .before .before .before .before in
+    reached-parts (s .args .progress) (s .args .duty) (s .args .table .now) (s .args .hints .now) (s .pre .0)
 
 same-length : tie.Need-same-length
 same-length c = search needs
@@ -27,37 +20,51 @@ same-length c = search needs
 same-length-2 : tie.Need-same-length-2
 same-length-2 c = search needs
 
+returns : tie.Need-returns
+returns c =
+    let g = c .before .before .before .before .before .before in
+    let f = g .before .before .before .fields-of in
+    let s = c .before .before .before .before .before .before .before .before .before .before .before .before .before .before .before .before in
+    advanced-refused (s .args .progress) (s .args .duty) (s .args .table .now) (g .step-fields .last .1 .1 .0) (g .step-fields .result) (f .result) (g .step-fields .ensures)
+    (readRecord (s .args .bytes .now)) (f .ensures .1) (s .args .buffer .now) _ (c .if1 .taken)
+
+grow-requires : tie.Need-grow-requires
+grow-requires c κs =
+    let g = c .before .before .before .before .before .before .before .before .before .before .before in
+    let f = g .before .before .before .fields-of in
+    let s = c .before .before .before .before .before .before .before .before .before .before .before .before .before .before .before .before .before .before .before .before .before in
+    bounds-taken (s .args .progress) (s .args .duty) (s .args .table .now) (g .step-fields .last .1 .1 .0) (g .step-fields .result) (f .result) (g .step-fields .ensures)
+    (c .before .before .before .before .before .if1 .left) (s .args .hints .now) (s .pre .0)
+
 same-length-3 : tie.Need-same-length-3
 same-length-3 c = search needs
 
-returns : tie.Need-returns
-returns c =
-    let t = c .before .before .before .before .before .before in
-    let k = t .before .before .before .before in
-    let r = k .before .before .before in
-    let s = r .before .before .before .before .before in
-    subst
-    (λ (o : Outcome Event).
-    Advanced (s .args .progress) (s .args .duty) o (t .taken .result) (s .args .table .now) (t .taken .last .1 .1 .1 .0) (s .args .buffer .now) (t .taken .last .1 .1 .1 .1 .1 .0))
-    (ap shownRecord (sym (k .before .read2 .given .1)) ∙ r .read .ensures) (t .taken .ensures)
+same-length-4 : tie.Need-same-length-4
+same-length-4 c = search needs
+
+same-length-5 : tie.Need-same-length-5
+same-length-5 c = search needs
 
 returns-2 : tie.Need-returns-2
 returns-2 c =
-    let r = c .before .before in
-    let s = r .before .before .before .before .before in
-    advanced-unread (s .args .progress) (s .args .duty) _ (s .args .table .now) _ (s .args .buffer .now) _ 14
-    (unread (s .args .bytes .now) _ (ap shownRecord (sym (c .enum-told .given .1)) ∙ r .read .ensures))
+    let w = c .before .before in
+    let g = c .before .before .before .before .before .before .before .before .before .before .before .before .before .before in
+    let f = g .before .before .before .fields-of in
+    let s = c .before .before .before .before .before .before .before .before .before .before .before .before .before .before .before .before .before .before .before .before .before .before .before .before in
+    advanced-taken (s .args .progress) (s .args .duty) (s .args .table .now) (g .step-fields .last .1 .1 .0) (g .step-fields .result) (f .result) (g .step-fields .ensures)
+    (readRecord (s .args .bytes .now)) (f .ensures .1) (s .args .buffer .now) _ (c .before .before .before .before .before .before .before .before .if1 .left) _ (w .grow .result) refl (w .grow .ensures)
 
 pub step-spec : {M : Type 1} → statement M
 step-spec =
     tie.close
     (tie.spec
-    read-requires
-    enum-known-read
-    taken-requires
-    enum-told
+    fields-of-requires
+    step-fields-requires
     same-length
     same-length-2
-    same-length-3
     returns
+    grow-requires
+    same-length-3
+    same-length-4
+    same-length-5
     returns-2)
