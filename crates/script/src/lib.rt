@@ -161,7 +161,8 @@ fn tell_report(reported: Reported, next: usize) -> Done
     Done { month, next, shown }
 }
 
-// The call on the month, `row` an open's. One arm a call and no choice behind it: each choice that a month passes through is a copy of it.
+// The call on the month, `row` an open's: one arm a call. An event is sent by `block`, past this choice: the compiler copies the month at
+// each choice that it passes through, and events are most of a list.
 fn call(month: Month, said: Decoded, row: &[u32], next: usize) -> Done
     requires { ⌜ Reached month ⌝ }
     ensures { λ r. ⌜ (r .next ≡ next) × Performed month (callWith (now (row .entry)) said) (r .month) (r .shown) ⌝ }
@@ -220,7 +221,12 @@ pub fn block(month: Month, words: &[u32], at: usize) -> Done
     if size == 0 {
         return no_call(month, at);
     }
-    call(month, blocks::decode(rest), blocks::row(rest), at + size)
+    let said = blocks::decode(rest);
+    let next = at + size;
+    match said {
+        Decoded::Send(e) => tell(month.send(e), next),
+        _ => call(month, said, blocks::row(rest), next),
+    }
 }
 
 // A list of calls, each on the month that the one before handed back, from a fresh one; each call's outcome goes to the lent buffer.

@@ -1,11 +1,13 @@
 -- `script::block` meets its contract: the part that it hands on is the words from that place. Assumes nothing.
+use Prim.Native.Nat.{_-_}
 use native.Mathlib.Omega.{arith}
 use mathlib.Core.Path.{refl, ap, _∙_}
-use Rattle.blocks.specs.Kinds.{blockSize}
+use lib.ListN.{length, take, drop}
+use Rattle.blocks.specs.Kinds.{blockSize, rowAt}
 use Rattle.blocks.proofs.Sizes.{part-from}
 use Rattle.blocks.proofs.Reading.{none-past}
 use Rattle.blocks.proofs.Loops.{next-fits}
-use Rattle.script.proofs.Performing.{stepped-none, stepped-some, said}
+use Rattle.script.proofs.Performing.{told, stepped-none, stepped-some, said}
 use borrow.Author.Needs.{needs}
 use Rattle.script.proofs.block.Statement.{statement}
 use Rattle.script.proofs.block.Tie as tie
@@ -47,26 +49,46 @@ returns-2 c =
 decode-requires : tie.Need-decode-requires
 decode-requires c κs = search needs
 
-row-requires : tie.Need-row-requires
-row-requires c κs = search needs
-
-add-call : tie.Need-add-call
-add-call c =
-    let f = c .before .before .before in
+add-next : tie.Need-add-next
+add-next c =
+    let f = c .before .before in
     let a = f .before .before .before .before .args in
     omega
     (arith, next-fits (a .words .now) (a .at) (f .size .result) (f .before .before .if1 .left) (f .size .ensures ∙ ap blockSize (part-from (a .words .now) (a .at) _ refl)))
+
+enum-known-said : tie.Need-enum-known-said
+enum-known-said c = search needs
+
+send-requires : tie.Need-send-requires
+send-requires c κs = search needs
+
+tell-requires : tie.Need-tell-requires
+tell-requires c κs = search needs
+
+row-requires : tie.Need-row-requires
+row-requires c κs = search needs
 
 call-requires : tie.Need-call-requires
 call-requires c κs = search needs
 
 returns-3 : tie.Need-returns-3
 returns-3 c =
-    let f = c .before .before .before .before in
+    let d = c .before .before .before .before .before in
+    let f = d .before .before in
+    let a = f .before .before .before .before .args in
+    let part = take (length (a .words .now) - a .at) (drop (a .at) (a .words .now)) in
+    let s = told (rowAt part) (c .before .before .before .said .given .1) (c .before .send .ensures) (c .tell .ensures) in
+    stepped-some (a .month) (a .words .now) (a .at) (f .size .result) _ (part-from (a .words .now) (a .at) _ refl) (f .size .ensures) (c .tell .result)
+    (d .before .if2 .left) (s .0) (said part _ (d .decode .result) refl (d .decode .ensures) (s .1))
+
+returns-4 : tie.Need-returns-4
+returns-4 c =
+    let d = c .before .before .before in
+    let f = d .before .before in
     let a = f .before .before .before .before .args in
     stepped-some (a .month) (a .words .now) (a .at) (f .size .result) _ (part-from (a .words .now) (a .at) _ refl) (f .size .ensures) (c .call .result)
-    (c .before .before .before .if2 .left) (c .call .ensures .0)
-    (said _ _ (c .before .before .decode .result) (c .before .row .ensures) (c .before .before .decode .ensures) (c .call .ensures .1))
+    (d .before .if2 .left) (c .call .ensures .0)
+    (said _ _ (d .decode .result) (c .before .row .ensures) (d .decode .ensures) (c .call .ensures .1))
 
 pub block-spec : {M : Type 1} → statement M
 block-spec =
@@ -82,7 +104,11 @@ block-spec =
     no-call-requires-2
     returns-2
     decode-requires
+    add-next
+    enum-known-said
+    send-requires
+    tell-requires
     row-requires
-    add-call
     call-requires
-    returns-3)
+    returns-3
+    returns-4)
