@@ -1,6 +1,6 @@
 // A board of strikes: the case `4 first second n`, then n words, a K and an L a strike.
-use super::text;
 use board::BoardAnswer;
+use console::text;
 ghost use mathlib.Core.Path.{_≡_};
 ghost use Prim.Native.Nat.{_+_, _*_, _≤_};
 ghost use lib.ListN.{length};

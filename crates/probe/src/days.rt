@@ -1,40 +1,12 @@
 // Volatile days, and the row eased on them: cases 5, 6 and 12.
-use super::field;
-use super::number;
-use super::read_words;
-use super::text;
-use super::words_line;
+use console::field;
+use console::number;
+use console::text;
+use console::words_line;
 use sigma::SigmaAnswer;
 use volatile::DayAnswer;
-ghost use mathlib.Core.Path.{_≡_};
 ghost use Prim.Native.Nat.{_+_, _*_, _≤_};
 ghost use lib.ListN.{length};
-
-fn no_prices() -> [i32; 4096]
-    ensures { λ r. ⌜ 4096 ≡ length r ⌝ }
-{
-    [0; 4096]
-}
-
-fn price_at(bytes: &[u8], at: usize) -> i32
-    requires { ⌜ at + 4 ≤ length (now bytes) ⌝ }
-{
-    let price = words::to_steps(words::word_at(bytes, at));
-    price.0
-}
-
-// The prices that start at a byte; zeros behind them.
-fn read_prices(bytes: &[u8], from: usize, count: usize) -> [i32; 4096]
-    requires { ⌜ (count ≤ 4096) × (from + 4 * count ≤ length (now bytes)) ⌝ }
-    ensures { λ r. ⌜ 4096 ≡ length r ⌝ }
-{
-    let mut prices = no_prices();
-    for i in 0..count {
-        let p = price_at(bytes, from + 4 * i);
-        prices[i] = p;
-    }
-    prices
-}
 
 fn answer_text(answer: DayAnswer) {
     match answer {
@@ -76,6 +48,18 @@ fn day_lines(prices: &[i32], threshold: u32) {
     inside_line(prices, threshold);
 }
 
+// The prices behind three words: the answer for the day after the last, or a line a day.
+fn lines(input: &[u8], threshold: u32, listed: bool, prices: &mut [i32])
+    requires { ⌜ 12 + 4 * length (now prices) ≤ length (now input) ⌝ }
+{
+    console::read_prices(input, 12, prices);
+    if listed {
+        day_lines(prices, threshold);
+    } else {
+        inside_line(prices, threshold);
+    }
+}
+
 // `5 threshold n`, then n prices and nothing else; listed, `12` for the 5. False: no such case.
 fn prices_case(input: &[u8], listed: bool) -> bool {
     if input.len() < 12 {
@@ -89,16 +73,16 @@ fn prices_case(input: &[u8], listed: bool) -> bool {
     if input.len() != 12 + 4 * n {
         return false;
     }
-    let prices = read_prices(input, 12, n);
-    if listed {
-        day_lines(&prices[..n], threshold);
-        return true;
-    }
-    inside_line(&prices[..n], threshold);
+    let mut prices = [0i32; 4096];
+    lines(input, threshold, listed, &mut prices[..n]);
     true
 }
 
-fn eased_line(row: &mut [u32]) {
+// The row behind two words, eased.
+fn eased_line(input: &[u8], row: &mut [u32])
+    requires { ⌜ 8 + 4 * length (now row) ≤ length (now input) ⌝ }
+{
+    console::read_words(input, 8, row);
     ease::ease(row);
     words_line(b"row", row);
 }
@@ -115,8 +99,8 @@ fn row_case(input: &[u8]) -> bool {
     if input.len() != 8 + 4 * m {
         return false;
     }
-    let mut row = read_words(input, 8, m);
-    eased_line(&mut row[..m]);
+    let mut row = [0u32; 16];
+    eased_line(input, &mut row[..m]);
     true
 }
 

@@ -8,8 +8,11 @@ mod days;
 mod maker_calls;
 mod safe;
 
-use libc::STDIN_FILENO;
-use libc::STDOUT_FILENO;
+use console::field;
+use console::field_line;
+use console::number;
+use console::text;
+use console::words_line;
 use rules::Contracts;
 use rules::Event;
 use rules::Millis;
@@ -18,51 +21,18 @@ use rules::SessionAnswer;
 use rules::Side;
 use rules::Steps;
 
-fn text(bytes: &[u8]) {
-    io::write_all(STDOUT_FILENO, bytes);
-}
-
-fn number(n: u64) {
-    io::print_decimal(STDOUT_FILENO, n);
-}
-
-fn field(name: &[u8], n: u32) {
-    text(name);
-    number(n as u64);
-}
-
-// A line of a name and words.
-fn words_line(name: &[u8], words: &[u32]) {
-    text(name);
-    for i in 0..words.len() {
-        field(b" ", words[i]);
-    }
-    text(b"\n");
-}
-
+// A lent buffer of the case.
 fn filled(fill: u32) -> [u32; 4096]
     ensures { λ r. ⌜ 4096 ≡ length r ⌝ }
 {
     [fill; 4096]
 }
 
-// The words that start at a byte; zeros behind them.
-fn read_words(bytes: &[u8], from: usize, count: usize) -> [u32; 4096]
-    requires { ⌜ (count ≤ 4096) × (from + 4 * count ≤ length (now bytes)) ⌝ }
-    ensures { λ r. ⌜ 4096 ≡ length r ⌝ }
-{
-    let mut words = filled(0);
-    for i in 0..count {
-        words[i] = words::word_at(bytes, from + 4 * i);
-    }
-    words
-}
-
 fn answer_line(answer: SessionAnswer) {
     match answer {
         SessionAnswer::Refused { refusal, place } => {
             field(b"refused ", rules::number(refusal));
-            field(b" at ", place);
+            field_line(b" at ", place);
         }
         SessionAnswer::Finished {
             kept,
@@ -71,10 +41,9 @@ fn answer_line(answer: SessionAnswer) {
         } => {
             field(b"kept ", kept.0);
             field(b" weight ", weight);
-            field(b" pairs ", pairs);
+            field_line(b" pairs ", pairs);
         }
     }
-    text(b"\n");
 }
 
 fn first_call(row: &[u32], sp: Steps, records: &[u8], buffer: &mut [u32]) {
@@ -89,17 +58,17 @@ fn second_call<'a, 'b, 'c>(row: &'a [u32], sp: Steps, records: &'b [u8], buffer:
 }
 
 // Each call has a buffer of its own, so that the second does not meet what the first wrote.
-fn both_calls(input: &[u8], n: usize, fill: u32, m: usize)
-    requires { ⌜ (n ≤ 4096) × (m ≤ 16) × (20 + 4 * m ≤ length (now input)) ⌝ }
+fn both_calls(input: &[u8], n: usize, fill: u32, row: &mut [u32])
+    requires { ⌜ (n ≤ 4096) × (20 + 4 * length (now row) ≤ length (now input)) ⌝ }
 {
-    let row = read_words(input, 16, m);
-    let at = 16 + 4 * m;
+    console::read_words(input, 16, row);
+    let at = 16 + 4 * row.len();
     let sp = words::to_steps(words::word_at(input, at));
     let behind = at + 4;
     let mut first = filled(fill);
-    first_call(&row[..m], sp, &input[behind..], &mut first[..n]);
+    first_call(row, sp, &input[behind..], &mut first[..n]);
     let mut second = filled(fill);
-    second_call(&row[..m], sp, &input[behind..], &mut second[..n]);
+    second_call(row, sp, &input[behind..], &mut second[..n]);
 }
 
 // `1 n fill m`, m row words, SP, then records. False: no such case.
@@ -119,7 +88,8 @@ fn session_case(input: &[u8]) -> bool {
     if input.len() < 20 + 4 * m {
         return false;
     }
-    both_calls(input, n, fill, m);
+    let mut row: [u32; 16] = [0; 16];
+    both_calls(input, n, fill, &mut row[..m]);
     true
 }
 
@@ -135,14 +105,14 @@ fn choose_line<'r>(
 }
 
 // The two tables stand behind six words.
-fn choice(input: &[u8], is_holiday: bool, u: usize, h: usize)
-    requires { ⌜ (u + h ≤ 4096) × (24 + 4 * (u + h) ≤ length (now input)) ⌝ }
+fn choice(input: &[u8], is_holiday: bool, usual: &mut [u32], holiday: &mut [u32])
+    requires { ⌜ 24 + 4 * (length (now usual) + length (now holiday)) ≤ length (now input) ⌝ }
 {
     let expiry = words::word_at(input, 8);
     let quantum = words::word_at(input, 12);
-    let usual = read_words(input, 24, u);
-    let holiday = read_words(input, 24 + 4 * u, h);
-    choose_line(&usual[..u], &holiday[..h], is_holiday, expiry, quantum);
+    console::read_words(input, 24, usual);
+    console::read_words(input, 24 + 4 * usual.len(), holiday);
+    choose_line(usual, holiday, is_holiday, expiry, quantum);
 }
 
 // `2 holiday expiry quantum u h`, then the two tables and nothing else. False: no such case.
@@ -162,27 +132,19 @@ fn row_case(input: &[u8]) -> bool {
     if input.len() != 24 + 4 * (u + h) {
         return false;
     }
-    choice(input, holiday == 1, u, h);
+    let mut first = filled(0);
+    let mut second = filled(0);
+    choice(input, holiday == 1, &mut first[..u], &mut second[..h]);
     true
-}
-
-fn price(p: Steps) {
-    let w = words::from_steps(p);
-    if w < 2147483648 {
-        field(b" ", w);
-        return;
-    }
-    text(b" -");
-    number((4294967295 - w) as u64 + 1);
 }
 
 fn fields(kind: u32, t: Millis, id: u32, p: Steps, volume: Contracts) {
     field(b"event ", kind);
     field(b" ", t.0);
     field(b" ", id);
-    price(p);
-    field(b" ", volume.0);
-    text(b"\n");
+    text(b" ");
+    console::price(p);
+    field_line(b" ", volume.0);
 }
 
 fn add_kind(side: Side) -> u32 {
@@ -214,15 +176,11 @@ fn event_line(event: Event) {
     }
 }
 
-fn wide(b: u8) -> u64 {
-    b as u64
-}
-
 fn bytes_line(bytes: &[u8; 20]) {
     text(b"bytes");
     for i in 0..20 {
         text(b" ");
-        io::print_hex(STDOUT_FILENO, wide(bytes[i]), 2);
+        console::hex(bytes[i]);
     }
     text(b"\n");
 }
@@ -238,10 +196,7 @@ fn record_case(bytes: &[u8]) {
     let read = record::read(bytes);
     match read {
         RecordRead::Read(event) => event_lines(event),
-        RecordRead::Refused(refusal) => {
-            field(b"refused ", rules::number(refusal));
-            text(b"\n");
-        }
+        RecordRead::Refused(refusal) => field_line(b"refused ", rules::number(refusal)),
     }
 }
 
@@ -285,7 +240,7 @@ fn room() -> [u8; 1048577]
 
 fn main() {
     let mut bytes = room();
-    let n = io::read_full(STDIN_FILENO, &mut bytes);
+    let n = console::read(&mut bytes);
     if 1048576 < n {
         text(b"bad case\n");
         return;

@@ -1,14 +1,12 @@
 // Maker against taker: the case `8 m h k`.
-use super::field;
-use super::text;
+use console::field_line;
 use game::SafeAnswer;
 
 fn safe_line(answer: SafeAnswer) {
     match answer {
-        SafeAnswer::Safe(minutes) => field(b"safe ", minutes),
-        SafeAnswer::AboveSixty => field(b"refused ", 26),
+        SafeAnswer::Safe(minutes) => field_line(b"safe ", minutes),
+        SafeAnswer::AboveSixty => field_line(b"refused ", 26),
     }
-    text(b"\n");
 }
 
 // False: no such case.

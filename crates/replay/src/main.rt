@@ -1,69 +1,49 @@
 // Reads a list of calls from standard input, four bytes a word, low byte first, and writes a line for each call's answer.
 ghost use mathlib.Core.Path.{_≡_};
-ghost use Prim.Native.Nat.{_≤_};
+ghost use Prim.Native.Nat.{_*_, _≤_};
 ghost use lib.ListN.{length};
 ghost use Rattle.blocks.specs.Reading.{wordsRead};
-use libc::STDIN_FILENO;
-use libc::STDOUT_FILENO;
+ghost use Rattle.console.specs.Reading.{wordsFrom};
+use console::field;
+use console::field_line;
+use console::number;
+use console::price;
+use console::text;
 use month::Month;
 use rules::CellView;
 use rules::Kopecks;
 use rules::Preview;
 use rules::Quote;
 use rules::Report;
-use rules::Steps;
 use rules::Ticket;
 use script::Outcome;
 use script::Shown;
 
-fn put(text: &[u8]) {
-    io::write_all(STDOUT_FILENO, text);
-}
-
-fn put_number(n: u64) {
-    io::print_decimal(STDOUT_FILENO, n);
-}
-
-fn field(name: &[u8], n: u32) {
-    put(name);
-    put_number(n as u64);
-}
-
 fn amount(name: &[u8], k: Kopecks) {
-    put(name);
-    put_number(k.0);
-}
-
-fn price(p: Steps) {
-    let w = words::from_steps(p);
-    if w < 2147483648 {
-        put_number(w as u64);
-        return;
-    }
-    put(b"-");
-    put_number((4294967295 - w) as u64 + 1);
+    text(name);
+    number(k.0);
 }
 
 fn quote(q: Quote) {
     match q {
-        Quote::Absent => put(b"absent"),
+        Quote::Absent => text(b"absent"),
         Quote::At(p) => price(p),
     }
 }
 
 fn choice(is_first: bool, first: &[u8], second: &[u8]) {
     if is_first {
-        put(first);
+        text(first);
     } else {
-        put(second);
+        text(second);
     }
 }
 
 fn allowed(n: u32) {
     if n == 65535 {
-        put(b" allowed none");
+        text(b" limit none");
     } else {
-        field(b" allowed ", n);
+        field(b" limit ", n);
     }
 }
 
@@ -79,8 +59,7 @@ fn cell_line(view: CellView) {
     amount(b" active ", cell.active);
     amount(b" passive ", cell.passive);
     choice(view.met, b" verdict met", b" verdict failed");
-    field(b" weight ", view.weight);
-    put(b"\n");
+    field_line(b" weight ", view.weight);
 }
 
 fn failed(counts: [u32; 6]) {
@@ -101,15 +80,15 @@ fn report_line(report: Report) {
     choice(report.running, b"report open yes", b"report open no");
     field(b" time ", time.0);
     field(b" orders ", report.orders);
-    put(b" bid ");
+    text(b" bid ");
     quote(bid);
-    put(b" ask ");
+    text(b" ask ");
     quote(ask);
     field(b" kept ", kept.0);
     field(b" lapses ", report.lapses);
     failed(failures);
     amount(b" fee ", report.fee);
-    put(b"\n");
+    text(b"\n");
 }
 
 fn ticket_fields(ticket: Ticket) {
@@ -118,35 +97,30 @@ fn ticket_fields(ticket: Ticket) {
     let volume = a.volume;
     field(b" ticket ", t.0);
     field(b" ", a.id);
-    put(b" ");
+    text(b" ");
     price(a.price);
     field(b" ", volume.0);
-    put(b" count ");
-    put_number(ticket.count);
+    text(b" count ");
+    number(ticket.count);
 }
 
 fn asked_line(preview: Preview) {
     let bid = preview.bid;
     let ask = preview.ask;
-    put(b"asked bid ");
+    text(b"asked bid ");
     quote(bid);
-    put(b" ask ");
+    text(b" ask ");
     quote(ask);
     ticket_fields(preview.ticket);
-    put(b"\n");
-}
-
-fn refused_line(n: u32) {
-    field(b"refused ", n);
-    put(b"\n");
+    text(b"\n");
 }
 
 fn line(shown: Shown) {
     let outcome = shown.outcome;
     let report = shown.report;
     match outcome {
-        Outcome::Accepted => put(b"accepted\n"),
-        Outcome::Refused(n) => refused_line(n),
+        Outcome::Accepted => text(b"accepted\n"),
+        Outcome::Refused(n) => field_line(b"refused ", n),
         Outcome::Found(view) => cell_line(view),
         Outcome::Asked(preview) => asked_line(preview),
         Outcome::Reported => report_line(report),
@@ -172,6 +146,15 @@ fn play(words: &[u32]) -> usize
     }
 }
 
+// The same on bytes, whose words are put into the lent ones first.
+fn play_bytes(bytes: &[u8], words: &mut [u32]) -> usize
+    requires { ⌜ 4 * length (now words) ≤ length (now bytes) ⌝ }
+    ensures { λ r. ⌜ (r ≡ wordsRead (wordsFrom (now (bytes .entry)) 0 (length (now (words .entry))))) × (r ≤ length (now (words .entry))) ⌝ }
+{
+    console::read_words(bytes, 0, words);
+    play(words)
+}
+
 // Room for all the bytes of the longest list, and one more.
 fn room() -> [u8; 262145]
     ensures { λ r. ⌜ 262145 ≡ length r ⌝ }
@@ -185,34 +168,17 @@ fn word_room() -> [u32; 65536]
     [0; 65536]
 }
 
-// The first words of the bytes.
-fn read_words(bytes: &[u8; 262145], count: usize) -> [u32; 65536]
-    requires { ⌜ count ≤ 65536 ⌝ }
-    ensures { λ r. ⌜ 65536 ≡ length r ⌝ }
-{
-    let mut words = word_room();
-    for i in 0..count {
-        words[i] = words::word_at(bytes, 4 * i);
-    }
-    words
-}
-
-fn stopped_line(at: u32) {
-    field(b"stopped at word ", at);
-    put(b"\n");
-}
-
 fn main() {
     let mut bytes = room();
-    let n = io::read_full(STDIN_FILENO, &mut bytes);
+    let n = console::read(&mut bytes);
     if 262144 < n {
-        put(b"too long\n");
+        text(b"too long\n");
         return;
     }
     let count = n / 4;
-    let words = read_words(&bytes, count);
-    let read = play(&words[..count]);
+    let mut words = word_room();
+    let read = play_bytes(&bytes, &mut words[..count]);
     if 4 * read < n {
-        stopped_line(read as u32 + 1);
+        field_line(b"stopped at word ", read as u32 + 1);
     }
 }

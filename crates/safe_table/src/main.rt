@@ -1,20 +1,12 @@
 // The safe minutes of m minutes for all stocks: reads m, a word, and writes a line for each h from 0 to 60, in it G for each k from 0 to 60.
+use console::number;
+use console::text;
 use game::SafeAnswer;
-use libc::STDIN_FILENO;
-use libc::STDOUT_FILENO;
-
-fn text(bytes: &[u8]) {
-    io::write_all(STDOUT_FILENO, bytes);
-}
-
-fn number(n: u32) {
-    io::print_decimal(STDOUT_FILENO, n as u64);
-}
 
 // One number, or that the call is refused.
 fn cell(answer: SafeAnswer) {
     match answer {
-        SafeAnswer::Safe(minutes) => number(minutes),
+        SafeAnswer::Safe(minutes) => number(minutes as u64),
         SafeAnswer::AboveSixty => text(b"refused 26"),
     }
 }
@@ -36,7 +28,7 @@ fn table(m: u32) {
 
 fn main() {
     let mut bytes: [u8; 5] = [0; 5];
-    let n = io::read_full(STDIN_FILENO, &mut bytes);
+    let n = console::read(&mut bytes);
     if n != 4 {
         text(b"bad case\n");
         return;

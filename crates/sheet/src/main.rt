@@ -1,33 +1,20 @@
 // Prints the sheet of one session: 32 leading bytes and the records from standard input, 1,600 records at most.
-use libc::STDIN_FILENO;
-use libc::STDOUT_FILENO;
+use console::field;
+use console::field_line;
+use console::text;
 use rules::Cell;
 use rules::Kopecks;
 use rules::Millis;
 use rules::SessionAnswer;
 
-fn text(bytes: &[u8]) {
-    io::write_all(STDOUT_FILENO, bytes);
-}
-
-fn number(n: u32) {
-    io::print_decimal(STDOUT_FILENO, n as u64);
-}
-
 fn refused(cause: u32, place: u32) {
-    text(b"refused ");
-    number(cause);
-    text(b" at ");
-    number(place);
-    text(b"\n");
+    field(b"refused ", cause);
+    field_line(b" at ", place);
 }
 
 fn pair(offset: u32, length: u32) {
-    text(b"pair ");
-    number(offset);
-    text(b" ");
-    number(length);
-    text(b"\n");
+    field(b"pair ", offset);
+    field_line(b" ", length);
 }
 
 // The pairs of some words, each on a line.
@@ -43,11 +30,8 @@ fn pairs(words: &[u32]) {
 }
 
 fn kept_line(kept: Millis, length: Millis) {
-    text(b"kept ");
-    number(kept.0);
-    text(b" of ");
-    number(length.0);
-    text(b"\n");
+    field(b"kept ", kept.0);
+    field_line(b" of ", length.0);
 }
 
 // A session has no lapse limit, so no count of lapses is too many.
@@ -100,9 +84,7 @@ fn sheet(input: &[u8]) {
             let n = session::filled(answer);
             pairs(&buffer[..n]);
             verdict(kept, length, share);
-            text(b"weight ");
-            number(weight);
-            text(b"\n");
+            field_line(b"weight ", weight);
         }
     }
 }
@@ -110,6 +92,6 @@ fn sheet(input: &[u8]) {
 // One byte more than the records that a sheet takes shows that there are more.
 fn main() {
     let mut input = [0u8; 32033];
-    let n = io::read_full(STDIN_FILENO, &mut input);
+    let n = console::read(&mut input);
     sheet(&input[..n]);
 }

@@ -9,6 +9,9 @@ use Rattle.card.proofs.line.Tie as tie
 number-requires : tie.Need-number-requires
 number-requires c κs = search needs
 
+slice-aggregate-field : tie.Need-slice-aggregate-field
+slice-aggregate-field c = search needs
+
 look-up-requires : tie.Need-look-up-requires
 unfolding onCard any
 look-up-requires c κs = refl
@@ -16,12 +19,18 @@ look-up-requires c κs = refl
 field-requires : tie.Need-field-requires
 field-requires c κs = search needs
 
+slice-aggregate-field-2 : tie.Need-slice-aggregate-field-2
+slice-aggregate-field-2 c = search needs
+
 look-up-requires-2 : tie.Need-look-up-requires-2
 unfolding onCard any
 look-up-requires-2 c κs = refl
 
 field-requires-2 : tie.Need-field-requires-2
 field-requires-2 c κs = search needs
+
+slice-aggregate-field-3 : tie.Need-slice-aggregate-field-3
+slice-aggregate-field-3 c = search needs
 
 look-up-requires-3 : tie.Need-look-up-requires-3
 unfolding onCard any
@@ -44,10 +53,13 @@ line-spec =
     tie.close
     (tie.spec
     number-requires
+    slice-aggregate-field
     look-up-requires
     field-requires
+    slice-aggregate-field-2
     look-up-requires-2
     field-requires-2
+    slice-aggregate-field-3
     look-up-requires-3
     field-requires-3
     slice-aggregate-text

@@ -26,12 +26,6 @@ add-behind c = search needs
 filled-requires : tie.Need-filled-requires
 filled-requires c κs = search needs
 
-array-share-prefix-row : tie.Need-array-share-prefix-row
-array-share-prefix-row c = search needs
-
-slice-aggregate-first-call : tie.Need-slice-aggregate-first-call
-slice-aggregate-first-call c = simp length-take (omega arith)
-
 sub-first-call : tie.Need-sub-first-call
 sub-first-call c = search needs
 
@@ -44,20 +38,14 @@ part-first-call-end c = search needs
 array-borrow-prefix-first : tie.Need-array-borrow-prefix-first
 array-borrow-prefix-first c = search needs
 
-slice-aggregate-first-call-2 : tie.Need-slice-aggregate-first-call-2
-slice-aggregate-first-call-2 c = simp length-take (omega arith)
+slice-aggregate-first-call : tie.Need-slice-aggregate-first-call
+slice-aggregate-first-call c = simp length-take (omega arith)
 
 first-call-requires : tie.Need-first-call-requires
 first-call-requires c κs = search needs
 
 filled-requires-2 : tie.Need-filled-requires-2
 filled-requires-2 c κs = search needs
-
-array-share-prefix-row-2 : tie.Need-array-share-prefix-row-2
-array-share-prefix-row-2 c = search needs
-
-slice-aggregate-second-call : tie.Need-slice-aggregate-second-call
-slice-aggregate-second-call c = simp length-take (omega arith)
 
 sub-second-call : tie.Need-sub-second-call
 sub-second-call c = search needs
@@ -71,11 +59,14 @@ part-second-call-end c = search needs
 array-borrow-prefix-second : tie.Need-array-borrow-prefix-second
 array-borrow-prefix-second c = search needs
 
-slice-aggregate-second-call-2 : tie.Need-slice-aggregate-second-call-2
-slice-aggregate-second-call-2 c = simp length-take (omega arith)
+slice-aggregate-second-call : tie.Need-slice-aggregate-second-call
+slice-aggregate-second-call c = simp length-take (omega arith)
 
 second-call-requires : tie.Need-second-call-requires
 second-call-requires c κs = search needs
+
+same-length : tie.Need-same-length
+same-length c = search needs
 
 returns : tie.Need-returns
 returns c = search needs
@@ -91,21 +82,18 @@ both-calls-spec =
     to-steps-requires
     add-behind
     filled-requires
-    array-share-prefix-row
-    slice-aggregate-first-call
     sub-first-call
     part-first-call-start
     part-first-call-end
     array-borrow-prefix-first
-    slice-aggregate-first-call-2
+    slice-aggregate-first-call
     first-call-requires
     filled-requires-2
-    array-share-prefix-row-2
-    slice-aggregate-second-call
     sub-second-call
     part-second-call-start
     part-second-call-end
     array-borrow-prefix-second
-    slice-aggregate-second-call-2
+    slice-aggregate-second-call
     second-call-requires
+    same-length
     returns)

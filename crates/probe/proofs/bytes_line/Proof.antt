@@ -25,14 +25,11 @@ slice-aggregate-text-2 c = search needs
 text-requires-2 : tie.Need-text-requires-2 Inv-loop μ-loop
 text-requires-2 c κs = search needs
 
-element-copy-out-wide : tie.Need-element-copy-out-wide Inv-loop μ-loop
-element-copy-out-wide c = search needs
+element-copy-out-hex : tie.Need-element-copy-out-hex Inv-loop μ-loop
+element-copy-out-hex c = search needs
 
-wide-requires : tie.Need-wide-requires Inv-loop μ-loop
-wide-requires c κs = search needs
-
-print-hex-requires : tie.Need-print-hex-requires Inv-loop μ-loop
-print-hex-requires c κs = search needs
+hex-requires : tie.Need-hex-requires Inv-loop μ-loop
+hex-requires c κs = search needs
 
 add-i : tie.Need-add-i Inv-loop μ-loop
 add-i c = search needs
@@ -63,9 +60,8 @@ bytes-line-spec =
     loop-holds
     slice-aggregate-text-2
     text-requires-2
-    element-copy-out-wide
-    wide-requires
-    print-hex-requires
+    element-copy-out-hex
+    hex-requires
     add-i
     loop-less
     loop-again

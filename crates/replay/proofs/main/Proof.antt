@@ -8,44 +8,50 @@ use Rattle.replay.proofs.main.Tie as tie
 room-requires : tie.Need-room-requires
 room-requires c κs = search needs
 
-slice-aggregate-read-full : tie.Need-slice-aggregate-read-full
-slice-aggregate-read-full c = search needs
+slice-aggregate-read : tie.Need-slice-aggregate-read
+slice-aggregate-read c = search needs
 
-read-full-requires : tie.Need-read-full-requires
-read-full-requires c κs = search needs
+read-requires : tie.Need-read-requires
+read-requires c κs = search needs
 
-slice-aggregate-put : tie.Need-slice-aggregate-put
-slice-aggregate-put c = search needs
+slice-aggregate-text : tie.Need-slice-aggregate-text
+slice-aggregate-text c = search needs
 
-put-requires : tie.Need-put-requires
-put-requires c κs = search needs
+text-requires : tie.Need-text-requires
+text-requires c κs = search needs
 
 returns : tie.Need-returns
 returns c = search needs
 
-read-words-requires : tie.Need-read-words-requires
-read-words-requires c κs = search needs
+word-room-requires : tie.Need-word-room-requires
+word-room-requires c κs = search needs
 
-array-share-prefix-words : tie.Need-array-share-prefix-words
-array-share-prefix-words c = search needs
+slice-aggregate-play-bytes : tie.Need-slice-aggregate-play-bytes
+slice-aggregate-play-bytes c = search needs
 
-slice-aggregate-play : tie.Need-slice-aggregate-play
-slice-aggregate-play c = simp length-take (omega arith)
+array-borrow-prefix-words : tie.Need-array-borrow-prefix-words
+array-borrow-prefix-words c = search needs
 
-play-requires : tie.Need-play-requires
-play-requires c κs = search needs
+slice-aggregate-play-bytes-2 : tie.Need-slice-aggregate-play-bytes-2
+slice-aggregate-play-bytes-2 c = simp length-take (omega arith)
+
+play-bytes-requires : tie.Need-play-bytes-requires
+play-bytes-requires c κs = simp length-take (omega arith)
 
 mul-if2 : tie.Need-mul-if2
-mul-if2 c = omega (arith, simp length-take at (c .play .ensures .1))
+mul-if2 c = omega (arith, simp length-take at (c .before .play-bytes .ensures .1))
 
-cast-stopped-line : tie.Need-cast-stopped-line
-cast-stopped-line c = search needs
+slice-aggregate-field-line : tie.Need-slice-aggregate-field-line
+slice-aggregate-field-line c = search needs
 
-add-stopped-line : tie.Need-add-stopped-line
-add-stopped-line c = search needs
+cast-field-line : tie.Need-cast-field-line
+cast-field-line c = search needs
 
-stopped-line-requires : tie.Need-stopped-line-requires
-stopped-line-requires c κs = search needs
+add-field-line : tie.Need-add-field-line
+add-field-line c = search needs
+
+field-line-requires : tie.Need-field-line-requires
+field-line-requires c κs = search needs
 
 returns-2 : tie.Need-returns-2
 returns-2 c = search needs
@@ -58,18 +64,20 @@ main-spec =
     tie.close
     (tie.spec
     room-requires
-    slice-aggregate-read-full
-    read-full-requires
-    slice-aggregate-put
-    put-requires
+    slice-aggregate-read
+    read-requires
+    slice-aggregate-text
+    text-requires
     returns
-    read-words-requires
-    array-share-prefix-words
-    slice-aggregate-play
-    play-requires
+    word-room-requires
+    slice-aggregate-play-bytes
+    array-borrow-prefix-words
+    slice-aggregate-play-bytes-2
+    play-bytes-requires
     mul-if2
-    cast-stopped-line
-    add-stopped-line
-    stopped-line-requires
+    slice-aggregate-field-line
+    cast-field-line
+    add-field-line
+    field-line-requires
     returns-2
     returns-3)

@@ -98,20 +98,11 @@ pairs-requires c κs = search needs
 verdict-requires : tie.Need-verdict-requires
 verdict-requires c κs = search needs
 
-slice-aggregate-text : tie.Need-slice-aggregate-text
-slice-aggregate-text c = search needs
+slice-aggregate-field-line : tie.Need-slice-aggregate-field-line
+slice-aggregate-field-line c = search needs
 
-text-requires : tie.Need-text-requires
-text-requires c κs = search needs
-
-number-requires-2 : tie.Need-number-requires-2
-number-requires-2 c κs = search needs
-
-slice-aggregate-text-2 : tie.Need-slice-aggregate-text-2
-slice-aggregate-text-2 c = search needs
-
-text-requires-2 : tie.Need-text-requires-2
-text-requires-2 c κs = search needs
+field-line-requires : tie.Need-field-line-requires
+field-line-requires c κs = search needs
 
 returns-2 : tie.Need-returns-2
 returns-2 c = search needs
@@ -152,10 +143,7 @@ sheet-spec =
     slice-aggregate-pairs
     pairs-requires
     verdict-requires
-    slice-aggregate-text
-    text-requires
-    number-requires-2
-    slice-aggregate-text-2
-    text-requires-2
+    slice-aggregate-field-line
+    field-line-requires
     returns-2
     returns-3)

@@ -29,32 +29,17 @@ add-if3 c = search needs
 returns-3 : tie.Need-returns-3
 returns-3 c = search needs
 
-read-prices-requires : tie.Need-read-prices-requires
-read-prices-requires c κs = search needs
+array-borrow-prefix-prices : tie.Need-array-borrow-prefix-prices
+array-borrow-prefix-prices c = search needs
 
-array-share-prefix-prices : tie.Need-array-share-prefix-prices
-array-share-prefix-prices c = search needs
+slice-aggregate-lines : tie.Need-slice-aggregate-lines
+slice-aggregate-lines c = simp length-take (omega arith)
 
-slice-aggregate-day-lines : tie.Need-slice-aggregate-day-lines
-slice-aggregate-day-lines c = simp length-take (omega arith)
-
-day-lines-requires : tie.Need-day-lines-requires
-day-lines-requires c κs = search needs
+lines-requires : tie.Need-lines-requires
+lines-requires c κs = simp length-take (omega arith)
 
 returns-4 : tie.Need-returns-4
 returns-4 c = search needs
-
-array-share-prefix-prices-2 : tie.Need-array-share-prefix-prices-2
-array-share-prefix-prices-2 c = search needs
-
-slice-aggregate-inside-line : tie.Need-slice-aggregate-inside-line
-slice-aggregate-inside-line c = simp length-take (omega arith)
-
-inside-line-requires : tie.Need-inside-line-requires
-inside-line-requires c κs = search needs
-
-returns-5 : tie.Need-returns-5
-returns-5 c = search needs
 
 pub prices-case-spec : {M : Type 1} → statement M
 prices-case-spec =
@@ -68,12 +53,7 @@ prices-case-spec =
     mul-if3
     add-if3
     returns-3
-    read-prices-requires
-    array-share-prefix-prices
-    slice-aggregate-day-lines
-    day-lines-requires
-    returns-4
-    array-share-prefix-prices-2
-    slice-aggregate-inside-line
-    inside-line-requires
-    returns-5)
+    array-borrow-prefix-prices
+    slice-aggregate-lines
+    lines-requires
+    returns-4)

@@ -26,9 +26,6 @@ add-if3 c = search needs
 returns-3 : tie.Need-returns-3
 returns-3 c = search needs
 
-read-words-requires : tie.Need-read-words-requires
-read-words-requires c κs = search needs
-
 array-borrow-prefix-row : tie.Need-array-borrow-prefix-row
 array-borrow-prefix-row c = search needs
 
@@ -36,7 +33,7 @@ slice-aggregate-eased-line : tie.Need-slice-aggregate-eased-line
 slice-aggregate-eased-line c = simp length-take (omega arith)
 
 eased-line-requires : tie.Need-eased-line-requires
-eased-line-requires c κs = search needs
+eased-line-requires c κs = simp length-take (omega arith)
 
 returns-4 : tie.Need-returns-4
 returns-4 c = search needs
@@ -52,7 +49,6 @@ row-case-spec =
     mul-if3
     add-if3
     returns-3
-    read-words-requires
     array-borrow-prefix-row
     slice-aggregate-eased-line
     eased-line-requires

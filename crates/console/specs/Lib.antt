@@ -1,0 +1,2 @@
+-- What is read of a program's input.
+pub mod Reading
