@@ -7,8 +7,5 @@ pub mod Said
 pub mod Performing
 pub mod Running
 pub mod Demand
-pub mod OldCharges
-pub mod OldMonths
-pub mod DayOrder
 pub mod Playing
 pub mod Format
