@@ -42,11 +42,11 @@ pub volume-bounds : (v : ℕ) → goodVolume v ≡ true → (1 ≤ v) × (v ≤ 
 unfolding goodVolume
 volume-bounds v e = within-parts 1 1000000 v e
 
-pub bounds-volume : (v : ℕ) → 1 ≤ v → v ≤ 1000000 → goodVolume v ≡ true
+bounds-volume : (v : ℕ) → 1 ≤ v → v ≤ 1000000 → goodVolume v ≡ true
 unfolding goodVolume
 bounds-volume v l h = and (le-leb 1 v l) (le-leb v 1000000 h)
 
-pub charge-bound : (terms : Terms) (c : ℕ) → goodCharge terms c ≡ true → c ≤ terms .most-charge
+charge-bound : (terms : Terms) (c : ℕ) → goodCharge terms c ≡ true → c ≤ terms .most-charge
 unfolding goodCharge
 charge-bound terms c e = leb-true c (terms .most-charge) e
 
@@ -200,7 +200,7 @@ event-bounds-none row =
       ends = omega arith;
     }
 
-pub event-bounds-passed : (row : Row) (es : List Event) (e : Event) → EventBounds row es → EventPasses row es e → EventBounds row (es ++ (e ∷ []))
+event-bounds-passed : (row : Row) (es : List Event) (e : Event) → EventBounds row es → EventPasses row es e → EventBounds row (es ++ (e ∷ []))
 event-bounds-passed row es e g p =
     record {
       few = rw live-snoc (few-more (live es) e (p .trader) (g .few));
@@ -214,7 +214,36 @@ event-bounds-passed row es e g p =
 pub event-bounds-more : (row : Row) (es : List Event) (e : Event) → EventBounds row es → eventRefusal row es e ≡ 0 → EventBounds row (es ++ (e ∷ []))
 event-bounds-more row es e g h = event-bounds-passed row es e g (event-passes row es e h)
 
--- ---- the book, call by call
+-- ---- the open quantum
+
+module _ (terms : Terms) where
+  opened : (words : List ℕ) (day : ℕ) (opening : Opening) → goodRowFor terms (opening .spread) (rowOf words) ≡ true → within 1 31 day ≡ true
+      → goodSettlement (opening .spread) ≡ true → goodSpreadRule (opening .spread) ≡ true
+      → OpenBounds terms (placeOf day (rowOf words .expiry) (rowOf words .quantum)) (rowOf words) opening []
+  opened words day opening good d p s =
+      let r = read-bounds terms (opening .spread) (rowOf words) good in
+      record {
+        inside = place-small day (rowOf words .expiry) (rowOf words .quantum) (within-parts 1 31 day d .1) (r .expiry-most) (r .quantum-most);
+        row-good = good;
+        price-good = p;
+        spread-good = s;
+        events-good = event-bounds-none (rowOf words);
+        kept = kept-le (rowOf words) (opening .spread) [] (present []);
+      }
+
+  noted-bounds : (r : Running) (e : Event) → RunningBounds terms r → SendPasses r e → RunningBounds terms (noted r e)
+  noted-bounds Idle e g p = tt
+  noted-bounds (Quoting place row opening events) e g p =
+      record {
+        inside = g .inside;
+        row-good = g .row-good;
+        price-good = g .price-good;
+        spread-good = g .spread-good;
+        events-good = event-bounds-passed row events e (g .events-good) p;
+        kept = kept-le row (opening .spread) (events ++ (e ∷ [])) (present (events ++ (e ∷ [])));
+      }
+
+-- ---- a filled cell
 
 module _ (terms : Terms) where
   abbrev Filled : Cell → Type 0
@@ -254,32 +283,6 @@ module _ (terms : Terms) where
         passive-most = charge-bound terms (passive .0) p;
       }
 
-  opened : (words : List ℕ) (day : ℕ) (opening : Opening) → goodRowFor terms (opening .spread) (rowOf words) ≡ true → within 1 31 day ≡ true
-      → goodSettlement (opening .spread) ≡ true → goodSpreadRule (opening .spread) ≡ true
-      → OpenBounds terms (placeOf day (rowOf words .expiry) (rowOf words .quantum)) (rowOf words) opening []
-  opened words day opening good d p s =
-      let r = read-bounds terms (opening .spread) (rowOf words) good in
-      record {
-        inside = place-small day (rowOf words .expiry) (rowOf words .quantum) (within-parts 1 31 day d .1) (r .expiry-most) (r .quantum-most);
-        row-good = good;
-        price-good = p;
-        spread-good = s;
-        events-good = event-bounds-none (rowOf words);
-        kept = kept-le (rowOf words) (opening .spread) [] (present []);
-      }
-
-  noted-bounds : (r : Running) (e : Event) → RunningBounds terms r → SendPasses r e → RunningBounds terms (noted r e)
-  noted-bounds Idle e g p = tt
-  noted-bounds (Quoting place row opening events) e g p =
-      record {
-        inside = g .inside;
-        row-good = g .row-good;
-        price-good = g .price-good;
-        spread-good = g .spread-good;
-        events-good = event-bounds-passed row events e (g .events-good) p;
-        kept = kept-le row (opening .spread) (events ++ (e ∷ [])) (present (events ++ (e ∷ [])));
-      }
-
   closed-length : (r : Running) (active passive : Kopecks) (cells : List Cell) → length (closed r active passive cells) ≡ length cells
   closed-length Idle active passive cells = refl
   closed-length (Quoting place row opening events) active passive cells = length-set cells place (closedCell row opening events active passive)
@@ -291,6 +294,8 @@ module _ (terms : Terms) where
   closed-filled Idle active passive cells g a p old = old
   closed-filled (Quoting place row opening events) active passive cells g a p old =
       filled-set cells place (closedCell row opening events active passive) old (filled-closed row opening events active passive (g .row-good) a p)
+
+  -- ---- the book, call by call
 
   -- the named cell is one of the book's
   cell-in : (b : Book) (day expiry quantum : ℕ) → BookBounds terms b → goodCell day expiry quantum ≡ true
@@ -304,13 +309,13 @@ module _ (terms : Terms) where
       record {
         all-cells = g .all-cells;
         filled = g .filled;
-        running = opened words day opening (p .row-good) (p .day-good) (p .price-good) (p .spread-good);
+        running = opened terms words day opening (p .row-good) (p .day-good) (p .price-good) (p .spread-good);
       }
   bounds-changed b (Send e) g p =
-      record { all-cells = g .all-cells; filled = g .filled; running = noted-bounds (b .running) e (g .running) p }
+      record { all-cells = g .all-cells; filled = g .filled; running = noted-bounds terms (b .running) e (g .running) p }
   bounds-changed b (Ask a) g p = g
   bounds-changed b (Commit a ticket) g p =
-      record { all-cells = g .all-cells; filled = g .filled; running = noted-bounds (b .running) (amendOf a) (g .running) (p .sent) }
+      record { all-cells = g .all-cells; filled = g .filled; running = noted-bounds terms (b .running) (amendOf a) (g .running) (p .sent) }
   bounds-changed b (Close active passive) g p =
       record {
         all-cells = closed-length (b .running) active passive (b .cells) ∙ g .all-cells;
@@ -337,7 +342,7 @@ module _ (terms : Terms) where
   bounds-changed b (Look day expiry quantum) g p = g
   bounds-changed b Report g p = g
 
-  pub bounds-step : (b : Book) (c : Call) → BookBounds terms b → BookBounds terms (step terms b c)
+  bounds-step : (b : Book) (c : Call) → BookBounds terms b → BookBounds terms (step terms b c)
   unfolding step
   bounds-step b c g = go (refusalOf terms b c) refl
     where
@@ -345,12 +350,12 @@ module _ (terms : Terms) where
       go zero h = bounds-changed b c g (call-passes terms b c h)
       go (suc n) h = g
 
-  pub bounds-run : (b : Book) (calls : List Call) → BookBounds terms b → BookBounds terms (run terms b calls)
+  bounds-run : (b : Book) (calls : List Call) → BookBounds terms b → BookBounds terms (run terms b calls)
   unfolding run
   bounds-run b [] g = g
   bounds-run b (c ∷ cs) g = bounds-run (step terms b c) cs (bounds-step b c g)
 
-  pub bounds-fresh : BookBounds terms freshBook
+  bounds-fresh : BookBounds terms freshBook
   unfolding freshBook
   bounds-fresh =
       record {

@@ -6,10 +6,9 @@ use native.Mathlib.Omega.{arith}
 use lib.ListN.{length, length-append}
 use mathlib.Core.Path.{_≡_, refl, sym, ap, _∙_}
 use mathlib.Core.Logic.{_≢_, _⊎_, inl, inr}
-use mathlib.Core.List.{List, [], _∷_, _++_}
+use mathlib.Core.List.{List, [], _∷_}
 use mathlib.Core.Bool.{Bool, true, false, true≢false, false≢true, not, _&&_, _||_, or-assoc, or-true}
 use lib.Dec.{leb, ltb, eqb}
-use lib.IntN.{ℤ}
 use borrow.Author.Tests.{lt-ltb, leb-true, leb-false, ltb-true, ltb-false, eq-eqb, eqb-false, not-true}
 use Rattle.rules.specs.declared.Row.{Row}
 use Rattle.rules.specs.declared.SpreadRule.{SpreadRule}
@@ -26,7 +25,7 @@ use Rattle.rules.proofs.Stretches.{holds-in, stretches-run, stretches-f
 -- ---- as many stretches as starts
 
 -- a number that passes while the one right before it does not
-abbrev pub starts : (ℕ → Bool) → ℕ → Bool
+abbrev starts : (ℕ → Bool) → ℕ → Bool
 starts p m = p m && not (before p m)
 
 module _ (p : ℕ → Bool) (n : ℕ) where
@@ -116,7 +115,7 @@ before-covered p n ss c zero l = refl
 before-covered p n ss c (suc m) l = c m ∙ ap (λ (b : Bool). b && p m) (lt-ltb m n (omega arith))
 
 -- so no list has fewer pairs than there are stretches, sorted or not
-pub no-fewer : (p : ℕ → Bool) (n : ℕ) (ss : List Stretch) → ((m : ℕ) → covers ss m ≡ ltb m n && p m) → length (stretches p n) ≤ length ss
+no-fewer : (p : ℕ → Bool) (n : ℕ) (ss : List Stretch) → ((m : ℕ) → covers ss m ≡ ltb m n && p m) → length (stretches p n) ≤ length ss
 no-fewer p n ss c = omega (arith, stretches-starts p n, count-more (starts p) (startsAt ss) n begins, few-starts ss n)
   where
     begins : (m : ℕ) → m < n → starts p m ≡ true → startsAt ss m ≡ true
@@ -202,7 +201,7 @@ apart-or-shorter a (s ∷ t ∷ ss) h k =
 -- ---- the theorem
 
 -- a list of pairs that covers the numbers that pass and no others is ours, or has more pairs
-pub ours-or-more : (p : ℕ → Bool) (n : ℕ) (ss : List Stretch) → Covering p n ss → (ss ≡ stretches p n) ⊎ (length (stretches p n) < length ss)
+ours-or-more : (p : ℕ → Bool) (n : ℕ) (ss : List Stretch) → Covering p n ss → (ss ≡ stretches p n) ⊎ (length (stretches p n) < length ss)
 ours-or-more p n ss h = go (apart-or-shorter 0 ss (h .sorted) (h .lengths))
   where
     go : Apart 0 ss ⊎ Shorter ss → (ss ≡ stretches p n) ⊎ (length (stretches p n) < length ss)

@@ -28,7 +28,7 @@ abbrev pub Before : ℕ → List Event → Type 0
 Before m [] = Unit
 Before m (e ∷ es) = (timeOf e ≤ m) × Before m es
 
-pub before-later : (m n : ℕ) (es : List Event) → m ≤ n → Before m es → Before n es
+before-later : (m n : ℕ) (es : List Event) → m ≤ n → Before m es → Before n es
 before-later m n [] h b = tt
 before-later m n (e ∷ es) h b = (omega (arith, b .0), before-later m n es h (b .1))
 
@@ -43,7 +43,7 @@ from-before t [] o = tt
 from-before t (e ∷ es) o = (from-le (timeOf e) es (o .1), from-before (timeOf e) es (o .1))
 
 -- every event's time is at most the present
-pub ordered-before : (es : List Event) → Ordered 0 es → Before (present es) es
+ordered-before : (es : List Event) → Ordered 0 es → Before (present es) es
 unfolding present
 ordered-before es o = from-before 0 es o
 
@@ -59,13 +59,13 @@ ordered-snoc es e o h = from-snoc 0 es e o h
 -- ---- the events seen at m
 
 -- all of them, where none is later
-pub upTo-all : (m : ℕ) (es : List Event) → Before m es → upTo m es ≡ es
+upTo-all : (m : ℕ) (es : List Event) → Before m es → upTo m es ≡ es
 unfolding upTo filter
 upTo-all m [] b = refl
 upTo-all m (e ∷ es) b = rw (le-leb (timeOf e) m (b .0)) (ap (λ (l : List Event). e ∷ l) (upTo-all m es (b .1)))
 
 -- not a later one
-pub upTo-snoc : (m : ℕ) (es : List Event) (e : Event) → m < timeOf e → upTo m (es ++ (e ∷ [])) ≡ upTo m es
+upTo-snoc : (m : ℕ) (es : List Event) (e : Event) → m < timeOf e → upTo m (es ++ (e ∷ [])) ≡ upTo m es
 unfolding upTo filter
 upTo-snoc m [] e h = rw (lt-leb (timeOf e) m h) refl
 upTo-snoc m (d ∷ es) e h = ap (λ (l : List Event). if leb (timeOf d) m then d ∷ l else l) (upTo-snoc m es e h)

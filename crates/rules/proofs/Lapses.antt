@@ -1,12 +1,10 @@
 -- Lapses: what they are, how a person counts them, and how their number grows as time runs on. Assumes nothing.
 use Prim.Native.Nat.{ℕ, zero, suc, _+_, _-_, _≤_, _<_}
 use native.Mathlib.Omega.{arith}
-use mathlib.Core.Path.{_≡_, refl, sym, ap, _∙_}
+use mathlib.Core.Path.{_≡_, refl, ap, _∙_}
 use mathlib.Core.List.{List, [], _∷_, _++_}
-use mathlib.Core.Bool.{Bool, true, false, not, _&&_, _||_}
-use lib.Dec.{eqb}
+use mathlib.Core.Bool.{Bool, true, false, not, _&&_}
 use borrow.Author.Tests.{ne-eqb}
-use lib.IntN.{ℤ}
 use lib.ListN.{length, length-append}
 use Rattle.rules.specs.declared.Row.{Row}
 use Rattle.rules.specs.declared.SpreadRule.{SpreadRule}
@@ -47,17 +45,17 @@ module _ (p : ℕ → Bool) where
       stretches-starts (missing p) n
       ∙ count-ext (λ m. missing p m && not (before (missing p) m)) (lapseStarts p) n (λ m l. ap (λ (b : Bool). missing p m && b) (begins-is m))
 
-  pub lapses-le : (n : ℕ) → length (lapses p n) ≤ n
+  lapses-le : (n : ℕ) → length (lapses p n) ≤ n
   unfolding lapses
   lapses-le n = omega (arith, stretches-few (missing p) n)
 
   -- a piece on which all pass adds none
-  pub lapses-kept : (a d : ℕ) → ((m : ℕ) → a ≤ m → m < a + d → p m ≡ true) → length (lapses p (a + d)) ≡ length (lapses p a)
+  lapses-kept : (a d : ℕ) → ((m : ℕ) → a ≤ m → m < a + d → p m ≡ true) → length (lapses p (a + d)) ≡ length (lapses p a)
   unfolding lapses
   lapses-kept a d h = ap length (stretches-false (missing p) a d (λ m l u. ap not (h m l u)))
 
   -- one on which none does adds one where it begins, and lengthens the last one else
-  pub lapses-missing : (a d : ℕ) → 1 ≤ d → ((m : ℕ) → a ≤ m → m < a + d → p m ≡ false)
+  lapses-missing : (a d : ℕ) → 1 ≤ d → ((m : ℕ) → a ≤ m → m < a + d → p m ≡ false)
       → length (lapses p (a + d)) ≡ length (lapses p a) + (if begins p a then 1 else 0)
   unfolding lapses
   lapses-missing a d l h =

@@ -14,9 +14,6 @@ pub mod Lapses
 pub mod Weights
 pub mod Refusals
 pub mod Bounds
-pub mod OldMonths
-pub mod OldCharges
-pub mod DayOrder
 pub mod Choosing
 pub mod Records
 pub mod Written

@@ -48,14 +48,14 @@ present-snoc es e = timeFrom-snoc 0 es e
 -- ---- one order, amended or lessened
 
 module _ (id : ℕ) (price : Steps) (volume : Contracts) (o : Order) where
-  pub amended-id : amendedOrder id price volume o .id ≡ o .id
+  amended-id : amendedOrder id price volume o .id ≡ o .id
   amended-id = go (hasId id o)
     where
       go : (b : Bool) → (if b then record { id = o .id; side = o .side; price = price; volume = volume } else o) .id ≡ o .id
       go true = refl
       go false = refl
 
-  pub amended-that : hasId id o ≡ true
+  amended-that : hasId id o ≡ true
       → amendedOrder id price volume o ≡ record { id = o .id; side = o .side; price = price; volume = volume }
   amended-that h = rw h refl
 
@@ -78,7 +78,7 @@ module _ (id : ℕ) (price : Steps) (volume : Contracts) (o : Order) where
       go false = old
 
 module _ (id volume : ℕ) (o : Order) where
-  pub lessened-id : lessenedOrder id volume o .id ≡ o .id
+  lessened-id : lessenedOrder id volume o .id ≡ o .id
   lessened-id = go (hasId id o)
     where
       go : (b : Bool)
@@ -94,7 +94,7 @@ module _ (id volume : ℕ) (o : Order) where
       go true = refl
       go false = refl
 
-  pub lessened-that : hasId id o ≡ true
+  lessened-that : hasId id o ≡ true
       → lessenedOrder id volume o ≡ record { id = o .id; side = o .side; price = o .price; volume = contracts (o .volume .0 - volume) }
   lessened-that h = rw h refl
 
@@ -111,15 +111,15 @@ module _ (id volume : ℕ) (o : Order) where
 
 -- ---- ids
 
-pub hasId-comm : (o : Order) (id : ℕ) → hasId id o ≡ false → eqb id (o .id) ≡ false
+hasId-comm : (o : Order) (id : ℕ) → hasId id o ≡ false → eqb id (o .id) ≡ false
 hasId-comm o id h = ne-eqb id (o .id) (λ e. eqb-false (o .id) id h (sym e))
 
-pub isLive-map : (f : Order → Order) → ((o : Order) → f o .id ≡ o .id) → (id : ℕ) (os : List Order) → isLive id (map f os) ≡ isLive id os
+isLive-map : (f : Order → Order) → ((o : Order) → f o .id ≡ o .id) → (id : ℕ) (os : List Order) → isLive id (map f os) ≡ isLive id os
 unfolding isLive any
 isLive-map f h id [] = refl
 isLive-map f h id (o ∷ os) = rw (h o, isLive-map f h id os) refl
 
-pub distinct-map : (f : Order → Order) → ((o : Order) → f o .id ≡ o .id) → (os : List Order) → Distinct os → Distinct (map f os)
+distinct-map : (f : Order → Order) → ((o : Order) → f o .id ≡ o .id) → (os : List Order) → Distinct os → Distinct (map f os)
 distinct-map f h [] d = tt
 distinct-map f h (o ∷ os) d = (ap (λ (n : ℕ). isLive n (map f os)) (h o) ∙ isLive-map f h (o .id) os ∙ d .0, distinct-map f h os (d .1))
 
@@ -132,7 +132,7 @@ distinct-filter p (o ∷ os) d = go (p o) (distinct-filter p os (d .1))
     go true r = (any-filter (hasId (o .id)) p os (d .0), r)
     go false r = r
 
-pub distinct-snoc : (os : List Order) (o : Order) → Distinct os → isLive (o .id) os ≡ false → Distinct (os ++ (o ∷ []))
+distinct-snoc : (os : List Order) (o : Order) → Distinct os → isLive (o .id) os ≡ false → Distinct (os ++ (o ∷ []))
 unfolding isLive any
 distinct-snoc [] o d h = (refl, tt)
 distinct-snoc (x ∷ os) o d h =
@@ -204,7 +204,7 @@ module _ (os : List Order) (t : Millis) (id : ℕ) where
         distinct-filter somethingLeft (map (lessenedOrder id (volume .0)) os) (distinct-map (lessenedOrder id (volume .0)) (lessened-id id (volume .0)) os d)
 
     -- what is left was there, perhaps with more volume, and has some
-    pub in-deal : (o : Order) → List·Memᴰ o (apply os (Deal t id volume))
+    in-deal : (o : Order) → List·Memᴰ o (apply os (Deal t id volume))
         → (w : Order) × List·Memᴰ w os × (lessenedOrder id (volume .0) w ≡ o) × (1 ≤ o .volume .0)
     unfolding apply
     in-deal o m =
@@ -228,7 +228,7 @@ unfolding isLive
 live-at id os k z h e = some-any (hasId id) (getD-in os k z h) e
 
 -- no order before it and none after it has its id
-pub alone : (id : ℕ) (os : List Order) (k : ℕ) (z : Order) → Distinct os → k < length os → hasId id (getD os k z) ≡ true
+alone : (id : ℕ) (os : List Order) (k : ℕ) (z : Order) → Distinct os → k < length os → hasId id (getD os k z) ≡ true
     → (isLive id (take k os) ≡ false) × (isLive id (drop (suc k) os) ≡ false)
 unfolding isLive any
 alone id [] k z d h e = absurd (not-suc-le-zero h)
@@ -262,7 +262,7 @@ left-here id o os e = rw e refl
 
 module _ (id : ℕ) (os : List Order) (k : ℕ) (z : Order) (d : Distinct os) (h : k < length os) (e : hasId id (getD os k z) ≡ true) where
   -- a function that changes no order of another id
-  pub map-at : (f : Order → Order) → ((o : Order) → hasId id o ≡ false → f o ≡ o) → map f os ≡ set os k (f (getD os k z))
+  map-at : (f : Order → Order) → ((o : Order) → hasId id o ≡ false → f o ≡ o) → map f os ≡ set os k (f (getD os k z))
   map-at f same =
       let (before, behind) = alone id os k z d h e in
       ap (map f) (split-at os k z h)

@@ -18,7 +18,7 @@ use Rattle.rules.specs.declared.Event.{Event}
 use Rattle.rules.specs.declared.Event.the-variants.{Add, Amend, Cancel, Deal, Tick}
 use Rattle.rules.specs.declared.Amendment.{Amendment}
 use Rattle.rules.specs.declared.Ticket.{Ticket}
-use Rattle.rules.specs.Lists.{if_then_else_, within}
+use Rattle.rules.specs.Lists.{if_then_else_, within, All}
 use Rattle.rules.specs.Terms.{Terms}
 use Rattle.rules.specs.Units.{goodPrice, goodVolume, goodCharge}
 use Rattle.rules.specs.Rows.{rowOf, goodRowFor}
@@ -67,8 +67,7 @@ first-stops (c ∷ cs) ds j e = go (c .applies) e (first-stops cs ds j)
 
 -- no cause has the number 0
 abbrev pub Numbered : List Cause → Type 0
-Numbered [] = Unit
-Numbered (c ∷ cs) = (c .number ≡ 0 → ⊥) × Numbered cs
+Numbered cs = All (λ (c : Cause). c .number ≡ 0 → ⊥) cs
 
 pub first-passes : (cs ds : List Cause) → lowest cs ≡ 0 → Numbered cs → lowest (cs ++ ds) ≡ lowest ds
 unfolding lowest
@@ -80,7 +79,7 @@ first-passes (c ∷ cs) ds e n = go (c .applies) e (λ h. first-passes cs ds h (
     go true e r = absurd (n .0 e)
     go false e r = r e
 
-pub both-pass : (cs ds : List Cause) → Numbered cs → lowest (cs ++ ds) ≡ 0 → (lowest cs ≡ 0) × (lowest ds ≡ 0)
+both-pass : (cs ds : List Cause) → Numbered cs → lowest (cs ++ ds) ≡ 0 → (lowest cs ≡ 0) × (lowest ds ≡ 0)
 both-pass cs ds n e = go (lowest cs) refl
   where
     go : (k : ℕ) → lowest cs ≡ k → (lowest cs ≡ 0) × (lowest ds ≡ 0)
@@ -153,7 +152,7 @@ trader-passes orders (Deal t id volume) h =
     }
 trader-passes orders (Tick t) h = tt
 
-pub passes-trader : (orders : List Order) (e : Event) → TraderPasses orders e → lowest (traderCauses orders e) ≡ 0
+passes-trader : (orders : List Order) (e : Event) → TraderPasses orders e → lowest (traderCauses orders e) ≡ 0
 passes-trader orders (Add t id side price volume) p =
     skip _ _ (p .fresh) (skip _ _ (both-not (p .price-good) (p .volume-good)) (skip _ _ (lt-leb 64 (length orders) (p .room)) clear))
 passes-trader orders (Amend t id price volume) p =
@@ -162,6 +161,13 @@ passes-trader orders (Cancel t id) p = skip _ _ (ap not (p .known)) clear
 passes-trader orders (Deal t id volume) p =
     skip _ _ (ap not (p .known)) (skip _ _ (ap not (p .volume-good)) (skip _ _ (le-ltb (left id orders) (volume .0) (p .enough)) clear))
 passes-trader orders (Tick t) p = clear
+
+trader-numbered : (orders : List Order) (e : Event) → Numbered (traderCauses orders e)
+trader-numbered orders (Add t id side price volume) = (λ e. omega (arith, e), (λ e. omega (arith, e), (λ e. omega (arith, e), tt)))
+trader-numbered orders (Amend t id price volume) = (λ e. omega (arith, e), (λ e. omega (arith, e), tt))
+trader-numbered orders (Cancel t id) = (λ e. omega (arith, e), tt)
+trader-numbered orders (Deal t id volume) = (λ e. omega (arith, e), (λ e. omega (arith, e), (λ e. omega (arith, e), tt)))
+trader-numbered orders (Tick t) = tt
 
 pub record EventPasses (row : Row) (events : List Event) (e : Event) : Type 0 where
   pub onward : present events ≤ timeOf e
@@ -179,11 +185,32 @@ event-passes row events e h =
       trader = trader-passes (live events) e (b .1);
     }
 
-pub passes-event : (row : Row) (events : List Event) (e : Event) → EventPasses row events e → eventRefusal row events e ≡ 0
+passes-event : (row : Row) (events : List Event) (e : Event) → EventPasses row events e → eventRefusal row events e ≡ 0
 unfolding eventRefusal eventCauses
 passes-event row events e p =
     skip _ _ (le-ltb (timeOf e) (present events) (p .onward))
     (skip _ _ (le-ltb (row .length .0) (timeOf e) (p .inside)) (passes-trader (live events) e (p .trader)))
+
+-- ---- with a quantum open or none
+
+abbrev pub SendPasses : Running → Event → Type 0
+SendPasses Idle e = ⊥
+SendPasses (Quoting place row opening events) e = EventPasses row events e
+
+send-passes : (r : Running) (e : Event) → lowest (sendCauses r e) ≡ 0 → SendPasses r e
+unfolding eventRefusal
+send-passes Idle e h = absurd (true≢false (passed 6 true [] h .0))
+send-passes (Quoting place row opening events) e h = event-passes row events e h
+
+passes-send : (r : Running) (e : Event) → SendPasses r e → lowest (sendCauses r e) ≡ 0
+unfolding eventRefusal
+passes-send Idle e p = absurd p
+passes-send (Quoting place row opening events) e p = passes-event row events e p
+
+pub send-numbered : (r : Running) (e : Event) → Numbered (sendCauses r e)
+unfolding eventCauses
+send-numbered Idle e = (λ z. omega (arith, z), tt)
+send-numbered (Quoting place row opening events) e = (λ z. omega (arith, z), (λ z. omega (arith, z), trader-numbered (live events) e))
 
 -- ---- what an accepted call has passed
 
@@ -197,10 +224,6 @@ pub record OpenPasses (terms : Terms) (b : Book) (words : List ℕ) (day : ℕ) 
   pub allowed-good : goodLapseLimit (opening .allowed) ≡ true
   pub spread-good : goodSpreadRule (opening .spread) ≡ true
 
-abbrev pub SendPasses : Running → Event → Type 0
-SendPasses Idle e = ⊥
-SendPasses (Quoting place row opening events) e = EventPasses row events e
-
 pub record CommitPasses (b : Book) (a : Amendment) (ticket : Ticket) : Type 0 where
   pub sent : SendPasses (b .running) (amendOf a)
   pub ticket-good : goodTicket ticket a (b .count) ≡ true
@@ -213,38 +236,32 @@ pub record ClosePasses (terms : Terms) (b : Book) (active passive : Kopecks) : T
 pub record DropPasses (b : Book) : Type 0 where
   pub quoting : isOpen (b .running) ≡ true
 
--- withdraw and look
-pub record CellPasses (b : Book) (day expiry quantum : ℕ) : Type 0 where
-  pub cell-good : goodCell day expiry quantum ≡ true
-  pub filled : cellAt (b .cells) (placeOf day expiry quantum) .filled ≡ true
-
 pub record ChargePasses (terms : Terms) (b : Book) (day expiry quantum : ℕ) (active passive : Kopecks) : Type 0 where
   pub cell-good : goodCell day expiry quantum ≡ true
   pub active-good : goodCharge terms (active .0) ≡ true
   pub passive-good : goodCharge terms (passive .0) ≡ true
   pub filled : cellAt (b .cells) (placeOf day expiry quantum) .filled ≡ true
 
-send-passes : (r : Running) (e : Event) → lowest (sendCauses r e) ≡ 0 → SendPasses r e
-unfolding eventRefusal
-send-passes Idle e h = absurd (true≢false (passed 6 true [] h .0))
-send-passes (Quoting place row opening events) e h = event-passes row events e h
+-- withdraw and look
+pub record CellPasses (b : Book) (day expiry quantum : ℕ) : Type 0 where
+  pub cell-good : goodCell day expiry quantum ≡ true
+  pub filled : cellAt (b .cells) (placeOf day expiry quantum) .filled ≡ true
 
-passes-send : (r : Running) (e : Event) → SendPasses r e → lowest (sendCauses r e) ≡ 0
-unfolding eventRefusal
-passes-send Idle e p = absurd p
-passes-send (Quoting place row opening events) e p = passes-event row events e p
+abbrev cellCauses : Book → ℕ → ℕ → ℕ → List Cause
+cellCauses b day expiry quantum =
+    cause 3 (not (goodCell day expiry quantum)) ∷ cause 5 (not (cellAt (b .cells) (placeOf day expiry quantum) .filled)) ∷ []
 
-trader-numbered : (orders : List Order) (e : Event) → Numbered (traderCauses orders e)
-trader-numbered orders (Add t id side price volume) = (λ e. omega (arith, e), (λ e. omega (arith, e), (λ e. omega (arith, e), tt)))
-trader-numbered orders (Amend t id price volume) = (λ e. omega (arith, e), (λ e. omega (arith, e), tt))
-trader-numbered orders (Cancel t id) = (λ e. omega (arith, e), tt)
-trader-numbered orders (Deal t id volume) = (λ e. omega (arith, e), (λ e. omega (arith, e), (λ e. omega (arith, e), tt)))
-trader-numbered orders (Tick t) = tt
+cell-passes : (b : Book) (day expiry quantum : ℕ) → lowest (cellCauses b day expiry quantum) ≡ 0 → CellPasses b day expiry quantum
+cell-passes b day expiry quantum h =
+    let a3 = passed 2 _ _ h in
+    let a5 = passed 4 _ _ (a3 .1) in
+    record {
+      cell-good = not-false (goodCell day expiry quantum) (a3 .0);
+      filled = not-false (cellAt (b .cells) (placeOf day expiry quantum) .filled) (a5 .0);
+    }
 
-pub send-numbered : (r : Running) (e : Event) → Numbered (sendCauses r e)
-unfolding eventCauses
-send-numbered Idle e = (λ z. omega (arith, z), tt)
-send-numbered (Quoting place row opening events) e = (λ z. omega (arith, z), (λ z. omega (arith, z), trader-numbered (live events) e))
+passes-cell : (b : Book) (day expiry quantum : ℕ) → CellPasses b day expiry quantum → lowest (cellCauses b day expiry quantum) ≡ 0
+passes-cell b day expiry quantum p = skip _ _ (ap not (p .cell-good)) (skip _ _ (ap not (p .filled)) clear)
 
 module _ (terms : Terms) where
   abbrev pub CallPasses : Book → Call → Type 0
@@ -302,20 +319,8 @@ module _ (terms : Terms) where
         passive-good = p;
         filled = not-false (cellAt (b .cells) (placeOf day expiry quantum) .filled) (a5 .0);
       }
-  call-passes b (Withdraw day expiry quantum) h =
-      let a3 = passed 2 _ _ h in
-      let a5 = passed 4 _ _ (a3 .1) in
-      record {
-        cell-good = not-false (goodCell day expiry quantum) (a3 .0);
-        filled = not-false (cellAt (b .cells) (placeOf day expiry quantum) .filled) (a5 .0);
-      }
-  call-passes b (Look day expiry quantum) h =
-      let a3 = passed 2 _ _ h in
-      let a5 = passed 4 _ _ (a3 .1) in
-      record {
-        cell-good = not-false (goodCell day expiry quantum) (a3 .0);
-        filled = not-false (cellAt (b .cells) (placeOf day expiry quantum) .filled) (a5 .0);
-      }
+  call-passes b (Withdraw day expiry quantum) h = cell-passes b day expiry quantum h
+  call-passes b (Look day expiry quantum) h = cell-passes b day expiry quantum h
   call-passes b Report h = tt
 
   pub passes-call : (b : Book) (c : Call) → CallPasses b c → refusalOf terms b c ≡ 0
@@ -333,8 +338,8 @@ module _ (terms : Terms) where
   passes-call b Drop p = skip _ _ (ap not (p .quoting)) clear
   passes-call b (Charge day expiry quantum active passive) p =
       skip _ _ (both-not (p .cell-good) (and (p .active-good) (p .passive-good))) (skip _ _ (ap not (p .filled)) clear)
-  passes-call b (Withdraw day expiry quantum) p = skip _ _ (ap not (p .cell-good)) (skip _ _ (ap not (p .filled)) clear)
-  passes-call b (Look day expiry quantum) p = skip _ _ (ap not (p .cell-good)) (skip _ _ (ap not (p .filled)) clear)
+  passes-call b (Withdraw day expiry quantum) p = passes-cell b day expiry quantum p
+  passes-call b (Look day expiry quantum) p = passes-cell b day expiry quantum p
   passes-call b Report p = clear
 
   -- ---- the book's step and answer, by the refusal

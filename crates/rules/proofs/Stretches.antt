@@ -6,7 +6,6 @@ use mathlib.Core.Path.{_≡_, refl, sym, ap, _∙_}
 use mathlib.Core.List.{List, [], _∷_, _++_, map}
 use mathlib.Core.Bool.{Bool, true, false, true≢false, false≢true, _&&_, _||_, and-false, or-assoc}
 use lib.Dec.{leb, ltb, eqb}
-use lib.IntN.{ℤ}
 use borrow.Author.Tests.{le-leb, lt-leb, leb-true, leb-false, lt-ltb, le-ltb, ltb-true, ltb-false, eq-eqb, ne-eqb, eqb-true, eqb-false}
 use Rattle.rules.specs.declared.Row.{Row}
 use Rattle.rules.specs.declared.SpreadRule.{SpreadRule}
@@ -224,7 +223,7 @@ module _ (a : ℕ) (s t : Stretch) (ss ts : List Stretch) (h : Apart a (s ∷ ss
 stretch-path : (s t : Stretch) → s .offset ≡ t .offset → s .length ≡ t .length → s ≡ t
 stretch-path s t e f = λ i. record { offset = e i; length = f i }
 
-pub apart-same : (a : ℕ) (ss ts : List Stretch) → Apart a ss → Apart a ts → ((m : ℕ) → covers ss m ≡ covers ts m) → ss ≡ ts
+apart-same : (a : ℕ) (ss ts : List Stretch) → Apart a ss → Apart a ts → ((m : ℕ) → covers ss m ≡ covers ts m) → ss ≡ ts
 unfolding covers any
 apart-same a [] [] h k c = refl
 apart-same a [] (t ∷ ts) h k c =
@@ -310,7 +309,7 @@ grown-is n (s ∷ []) = refl
 grown-is n (s ∷ t ∷ ss) = ap {B = List Stretch} (λ l. s ∷ l) (grown-is n (t ∷ ss))
 
 -- a piece on which all pass
-pub stretches-true : (p : ℕ → Bool) (a d : ℕ) → 1 ≤ d → ((m : ℕ) → a ≤ m → m < a + d → p m ≡ true)
+stretches-true : (p : ℕ → Bool) (a d : ℕ) → 1 ≤ d → ((m : ℕ) → a ≤ m → m < a + d → p m ≡ true)
     → stretches p (a + d) ≡ extended a d (stretches p a)
 stretches-true p a zero l h = absurd (omega arith)
 stretches-true p a (suc zero) l h =
@@ -331,7 +330,7 @@ unfolding endsAt
 ends-behind a s [] l = absurd (omega arith)
 ends-behind a s (t ∷ ss) l = refl
 
-pub extended-ends : (a d : ℕ) (ss : List Stretch) → endsAt (a + d) (extended a d ss) ≡ true
+extended-ends : (a d : ℕ) (ss : List Stretch) → endsAt (a + d) (extended a d ss) ≡ true
 unfolding extended endsAt
 extended-ends a d [] = eq-eqb (a + d) (a + d) refl
 extended-ends a d (s ∷ []) = go (eqb (end s) a) refl
@@ -361,23 +360,23 @@ stretches-ends p (suc n) = go (p n)
     go false = inside-ends n (stretches p n) (stretches-run p n .inside)
 
 -- the last one is lengthened, or one is put behind it
-pub extended-last : (a d : ℕ) (ss : List Stretch) (s : Stretch) → extended a d (ss ++ (s ∷ [])) ≡ ss ++ lengthened a d s
+extended-last : (a d : ℕ) (ss : List Stretch) (s : Stretch) → extended a d (ss ++ (s ∷ [])) ≡ ss ++ lengthened a d s
 unfolding extended
 extended-last a d [] s = refl
 extended-last a d (x ∷ []) s = refl
 extended-last a d (x ∷ y ∷ ss) s = ap {B = List Stretch} (λ l. x ∷ l) (extended-last a d (y ∷ ss) s)
 
-pub extended-longer : (a d : ℕ) (ss : List Stretch) (s : Stretch) → end s ≡ a
+extended-longer : (a d : ℕ) (ss : List Stretch) (s : Stretch) → end s ≡ a
     → extended a d (ss ++ (s ∷ [])) ≡ ss ++ (stretch (s .offset) (s .length + d) ∷ [])
 extended-longer a d ss s e = rw (extended-last a d ss s, eq-eqb (end s) a e) refl
 
-pub extended-new : (a d : ℕ) (ss : List Stretch) → endsAt a ss ≡ false → extended a d ss ≡ ss ++ (stretch a d ∷ [])
+extended-new : (a d : ℕ) (ss : List Stretch) → endsAt a ss ≡ false → extended a d ss ≡ ss ++ (stretch a d ∷ [])
 unfolding extended endsAt
 extended-new a d [] e = refl
 extended-new a d (s ∷ []) e = rw e refl
 extended-new a d (s ∷ t ∷ ss) e = ap {B = List Stretch} (λ l. s ∷ l) (extended-new a d (t ∷ ss) e)
 
-pub ends-split : (a : ℕ) (ss : List Stretch) → endsAt a ss ≡ true → (ts : List Stretch) × (s : Stretch) × (ss ≡ ts ++ (s ∷ [])) × (end s ≡ a)
+ends-split : (a : ℕ) (ss : List Stretch) → endsAt a ss ≡ true → (ts : List Stretch) × (s : Stretch) × (ss ≡ ts ++ (s ∷ [])) × (end s ≡ a)
 unfolding endsAt
 ends-split a [] e = absurd (false≢true e)
 ends-split a (s ∷ []) e = ([], s, refl, eqb-true (end s) a e)

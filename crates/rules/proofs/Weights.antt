@@ -4,11 +4,10 @@ use native.Mathlib.Nat.{one-mul, le-div-iff-mul-le}
 use native.Mathlib.Omega.{arith}
 use mathlib.Core.Path.{_≡_, refl, sym, ap, _∙_}
 use mathlib.Core.Bool.{Bool, true, false}
-use borrow.Author.Tests.{leb-true, leb-false, le-leb, lt-leb}
+use borrow.Author.Tests.{leb-true, leb-false, le-leb}
 use lib.Dec.{leb}
-use Rattle.rules.specs.Lists.{if_then_else_}
 use Rattle.rules.specs.Terms.{paper}
-use Rattle.rules.specs.Pay.{thousandths, met, weightMet, weight, weightAt}
+use Rattle.rules.specs.Pay.{thousandths, met, weight, weightAt}
 
 module _ (kept length share : ℕ) (l : 1 ≤ length) where
   -- 1000 × K ≥ p × L exactly if f, which is 1000 × K / L rounded down, is p or more

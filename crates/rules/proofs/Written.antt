@@ -6,7 +6,6 @@ use mathlib.Core.Path.{_≡_, refl, sym, ap, _∙_}
 use mathlib.Core.List.{List, [], _∷_, _++_, append-assoc, append-nil, map}
 use mathlib.Core.Bool.{Bool, true, false}
 use lib.Dec.{ltb}
-use lib.IntN.{ℤ}
 use lib.ListN.{length, take, drop}
 use lib.Seq.{take-length, take-append-seam}
 use Rattle.rules.specs.declared.Steps.{Steps}
@@ -19,7 +18,7 @@ use Rattle.rules.specs.Terms.{Terms}
 use Rattle.rules.specs.Rows.{rowOf}
 use Rattle.rules.specs.Cells.{placeOf}
 use Rattle.rules.specs.Stretches.{Stretch, keptStretches, pairWords}
-use Rattle.rules.specs.Answers.{Outcome, accepted, refused, Ran, finished, stopped}
+use Rattle.rules.specs.Answers.{Outcome, accepted, refused, finished, stopped}
 use Rattle.rules.specs.Calls.{Open, Send, Running, Quoting, Book, freshBook}
 use Rattle.rules.specs.Causes.{refusalOf}
 use Rattle.rules.specs.Changes.{noted, changed}
@@ -34,7 +33,7 @@ use Rattle.rules.proofs.Fewest.{fewest-kept}
 -- ---- the pairs of a run
 
 -- a record that is no event is refused by 15
-pub unread : (bytes : List ℕ) (n : ℕ) → readRecord bytes ≡ refused n → n ≡ 15
+unread : (bytes : List ℕ) (n : ℕ) → readRecord bytes ≡ refused n → n ≡ 15
 unfolding readRecord
 unread bytes n e = go (goodRecord bytes) e
   where
@@ -43,7 +42,7 @@ unread bytes n e = go (goodRecord bytes) e
     go false e = cc
 
 -- a run that goes on to its end is not stopped here
-pub unless-whole : (n place : ℕ) (next : Session) (k w : ℕ) (ss : List Stretch) → unless n place next ≡ whole k w ss → (n ≡ 0) × (next ≡ whole k w ss)
+unless-whole : (n place : ℕ) (next : Session) (k w : ℕ) (ss : List Stretch) → unless n place next ≡ whole k w ss → (n ≡ 0) × (next ≡ whole k w ss)
 unless-whole zero place next k w ss e = (refl, e)
 unless-whole (suc n) place next k w ss e = let z : _≡_ {A = ℕ} 0 1 = cc in absurd (omega arith)
 
@@ -109,7 +108,7 @@ module _ (terms : Terms) (most : ℕ) (words : List ℕ) (sp : Steps) (bytes : L
 
 -- ---- the pairs as words
 
-pub pairs-back : (ss : List Stretch) → pairsIn (pairWords ss) ≡ ss
+pairs-back : (ss : List Stretch) → pairsIn (pairWords ss) ≡ ss
 unfolding pairsIn pairWords
 pairs-back [] = refl
 pairs-back (s ∷ ss) = ap {B = List Stretch} (λ l. s ∷ l) (pairs-back ss)

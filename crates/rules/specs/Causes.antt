@@ -1,5 +1,5 @@
 -- Document 01, "Refused calls": the causes of a refusal, each with its number, and the lowest that applies.
-use Prim.Native.Nat.{ℕ, _+_}
+use Prim.Native.Nat.{ℕ}
 use mathlib.Core.List.{List, [], _∷_, _++_}
 use mathlib.Core.Bool.{Bool, true, not, _&&_}
 use lib.IntN.{ℤ}

@@ -3,7 +3,7 @@
 -- After them, two checks on document 02, W1, two on W4, and one on W6: "C6 to C10 and the sheet's example read p 600" would not see a half
 -- percent.
 use Prim.Native.Nat.{ℕ, _+_}
-use mathlib.Core.List.{List, [], _∷_, _++_, map}
+use mathlib.Core.List.{List, [], _∷_, map}
 use mathlib.Core.Bool.{Bool, true, false}
 use lib.IntN.{ℤ, pos, negℤ}
 use lib.ListN.{set}
@@ -24,8 +24,6 @@ use Rattle.rules.specs.Orders.{live}
 use Rattle.rules.specs.Kept.{quotesKeep, bestBid, keptBelow}
 use Rattle.rules.specs.Lapses.{noLapseLimit, lapsesBelow}
 use Rattle.rules.specs.Pay.{weight, cellMet, cellWeight, fee}
-use Rattle.rules.specs.Records.{recordOf}
-use Rattle.rules.specs.Session.{Session, session, mostSheetRecords}
 
 pub data Name : Type 0 where
   C1 C2 C3 C4 C5 C6 C7 C8 C9 C10 C11 C12 fifteenFailed sixteenFailed eventAtEnd negativePrice lockedQuote crossedQuote manyLapses lapsesAtEnds halfStep wholeSteps halfPercent : Name
@@ -192,26 +190,6 @@ checks =
     (keeps true ∷ keeps false ∷ keeps true ∷ keeps false ∷ keeps false ∷ [])
     ∷ check halfPercent (weighedHalf 7249 ∷ weighedHalf 7250 ∷ weighedHalf 7625 ∷ []) (number 0 ∷ number 10000 ∷ number 10292 ∷ [])
     ∷ []
-
--- the session that "Event records and the session run" prints: its row, its SP and its events
-abbrev pub sheetWords : List ℕ
-sheetWords = 1 ∷ 1 ∷ 10000 ∷ 500 ∷ 100 ∷ 1 ∷ 600 ∷ []
-
-abbrev pub sheetEvents : List Event
-sheetEvents =
-    add 1 Buy 99 500
-    ∷ add 2 Sell 101 500
-    ∷ Cancel (millis 4000) 2
-    ∷ Add (millis 4000) 3 Sell (steps (pos 101)) (contracts 500)
-    ∷ Cancel (millis 6000) 1
-    ∷ []
-
-abbrev pub recordsOfAll : List Event → List ℕ
-recordsOfAll [] = []
-recordsOfAll (e ∷ es) = recordOf e ++ recordsOfAll es
-
-abbrev pub sheetSession : Session
-sheetSession = session paper mostSheetRecords sheetWords (steps (pos 2000)) (recordsOfAll sheetEvents)
 
 abbrev pub allFound : List Check → List (List Value)
 allFound cs = map (λ (c : Check). c .found) cs

@@ -36,12 +36,6 @@ pub mod Choosing
 pub mod Records
 pub mod Widths
 pub mod Session
--- document 02, W6: half percents, old months
-pub mod OldMonths
--- document 02, W8: larger charges
-pub mod OldCharges
--- document 02, W9: days filled in another order
-pub mod DayOrder
 -- document 02, W10: fewest pairs
 pub mod Fewest
 -- "Checks on paper"

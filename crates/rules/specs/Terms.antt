@@ -13,11 +13,3 @@ pub record Terms : Type 0 where
 -- document 02, W6: "The row's p is in tenths of a percent, 1 to 799."; W8: "A and P may go to 100,000,000,000 kopecks"
 abbrev pub paper : Terms
 paper = record { whole = 1000; most-share = 799; most-charge = 100000000000 }
-
--- before W8, document 01: "0 to 1,000,000,000 kopecks each"
-abbrev pub tenths : Terms
-tenths = record { whole = 1000; most-share = 799; most-charge = 1000000000 }
-
--- before W6, document 01: "p the required share in percent (1 to 79)"
-abbrev pub percents : Terms
-percents = record { whole = 100; most-share = 79; most-charge = 1000000000 }

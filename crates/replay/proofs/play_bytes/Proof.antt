@@ -1,6 +1,6 @@
 -- The words that are read are played. Assumes nothing.
 use mathlib.Core.Path.{ap, _∙_}
-use Rattle.script.specs.Words.{wordsRead}
+use Rattle.blocks.specs.Reading.{wordsRead}
 use borrow.Author.Needs.{needs}
 use Rattle.replay.proofs.play_bytes.Statement.{statement}
 use Rattle.replay.proofs.play_bytes.Tie as tie

@@ -4,21 +4,19 @@ use mathlib.Core.Path.{_≡_}
 use mathlib.Core.List.{List}
 use lib.ListN.{length, take, replicate}
 use Rattle.rules.specs.Answers.{shownLooked, shownReport}
-use Rattle.rules.specs.Calls.{Call}
 use Rattle.rules.specs.Calls as B
-use Rattle.rules.specs.DayOrder.{AllWhole, joined}
+use Rattle.requests.specs.DayOrder.{Whole, joined}
 use Rattle.month.specs.declared.LookedAt.{LookedAt}
 use Rattle.month.specs.declared.Reported.{Reported}
 use Rattle.month.specs.Represents.{Answered}
 use Rattle.script.specs.declared.Ran.{Ran}
 use Rattle.blocks.specs.Reading.{callsOf}
 use Rattle.script.specs.Demand.{ListAnswers}
 
 -- a list of words whose calls are these "whole quanta", run from a fresh month, "none refused": every outcome written is 0
-pub record Fills (quanta : List (List Call)) (ws before behind : List ℕ) (ran : Ran) : Type 0 where
+pub record Fills (quanta : List Whole) (ws before behind : List ℕ) (ran : Ran) : Type 0 where
   pub runs : ListAnswers ws before behind ran
   pub room : length (callsOf ws) ≤ length before
-  pub whole : AllWhole quanta
   pub calls : callsOf ws ≡ joined quanta
   pub accepted : take (length (callsOf ws)) behind ≡ replicate (length (callsOf ws)) 0
 

@@ -1,35 +1,24 @@
 -- Document 02, W8: "Any list of calls with no A or P past the old limit gives the same fee and cells as just before this ticket."
--- proofs/Charges shows that it does.
+-- proofs/OldCharges shows that it does.
 use Prim.Native.Nat.{ℕ, _≤_}
 use mathlib.Core.Path.{_≡_}
-use mathlib.Core.List.{List, [], _∷_}
+use mathlib.Core.List.{List}
+use Rattle.rules.specs.declared.Kopecks.{Kopecks}
+use Rattle.rules.specs.Lists.{All}
 use Rattle.rules.specs.Terms.{Terms}
 use Rattle.rules.specs.Pay.{allFailures, fee}
-use Rattle.rules.specs.Calls.{Call, Open, Send, Ask, Commit, Close, Drop, Charge, Withdraw, Look, Report, freshBook}
+use Rattle.rules.specs.Calls.{Call, chargesIn, freshBook}
 use Rattle.rules.specs.Replies.{reportOf}
 use Rattle.rules.specs.Book.{answerOf, after}
 use Rattle.rules.specs.Histories.{refusalsFrom, answersFrom}
 
 -- the same terms with another greatest charge
 abbrev pub chargesTo : ℕ → Terms → Terms
 chargesTo most terms = record { whole = terms .whole; most-share = terms .most-share; most-charge = most }
 
--- "no A or P past the old limit": in close and charge
+-- "no A or P past the old limit"
 abbrev pub NotPast : ℕ → Call → Type 0
-NotPast most (Open words day opening) = Unit {0}
-NotPast most (Send e) = Unit {0}
-NotPast most (Ask a) = Unit {0}
-NotPast most (Commit a ticket) = Unit {0}
-NotPast most (Close active passive) = (active .0 ≤ most) × (passive .0 ≤ most)
-NotPast most Drop = Unit {0}
-NotPast most (Charge day expiry quantum active passive) = (active .0 ≤ most) × (passive .0 ≤ most)
-NotPast most (Withdraw day expiry quantum) = Unit {0}
-NotPast most (Look day expiry quantum) = Unit {0}
-NotPast most Report = Unit {0}
-
-abbrev pub NonePast : ℕ → List Call → Type 0
-NonePast most [] = Unit {0}
-NonePast most (c ∷ cs) = NotPast most c × NonePast most cs
+NotPast most c = All (λ (charge : Kopecks). charge .0 ≤ most) (chargesIn c)
 
 -- the same refusals at the same places, the same answers, and the same book: cells, open quantum and W5's count; so the same failure
 -- counts and fee
@@ -45,5 +34,5 @@ pub record SameAnswers (old new : Terms) (calls : List Call) : Type 0 where
 
 -- the theorem, for all terms and a limit that is not below the old one
 abbrev pub LargerCharges : Type 0
-LargerCharges = (old : Terms) (most : ℕ) → old .most-charge ≤ most → (calls : List Call) → NonePast (old .most-charge) calls
+LargerCharges = (old : Terms) (most : ℕ) → old .most-charge ≤ most → (calls : List Call) → All (NotPast (old .most-charge)) calls
     → SameAnswers old (chargesTo most old) calls

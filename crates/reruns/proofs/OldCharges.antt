@@ -5,40 +5,42 @@ use native.Mathlib.Omega.{arith}
 use mathlib.Core.Path.{_≡_, refl, ap, _∙_}
 use mathlib.Core.List.{List, _++_}
 use lib.ListN.{length, drop}
-use Rattle.rules.specs.Terms.{paper, tenths}
+use Rattle.rules.specs.Lists.{All}
+use Rattle.rules.specs.Terms.{paper}
 use Rattle.rules.specs.Answers.{Outcome, Reply, shownLooked, shownReport}
 use Rattle.rules.specs.Calls.{Call, Book}
 use Rattle.rules.specs.Causes.{lowest, causes, refusalOf}
 use Rattle.rules.specs.Replies.{reportOf}
 use Rattle.rules.specs.Book.{answerOf, after}
 use Rattle.rules.specs.Calls as B
-use Rattle.rules.specs.OldCharges.{NotPast, NonePast, SameAnswers}
+use Rattle.requests.specs.Before.{chargeBefore, tenths}
+use Rattle.requests.specs.OldCharges.{NotPast, SameAnswers}
 use Rattle.rules.proofs.Answers.{report-shown}
-use Rattle.rules.proofs.OldCharges.{larger-charges}
+use Rattle.requests.proofs.OldCharges.{larger-charges}
 use Rattle.month.specs.declared.Month.{Month}
 use Rattle.month.specs.Represents.{Answered}
 use Rattle.script.specs.declared.Ran.{Ran}
 use Rattle.blocks.specs.Reading.{callsOf}
 use Rattle.script.specs.Demand.{ListAnswers}
-use Rattle.script.specs.OldCharges.{AsWithOldLimit}
+use Rattle.reruns.specs.OldCharges.{AsWithOldLimit}
 use Rattle.script.proofs.Outcomes.{outcomes-refusals}
 use Rattle.script.proofs.Demand.{month-is, outcomes-are}
 
 -- the terms of now are those of before with the larger limit
-pub limit-raised : (calls : List Call) → NonePast (tenths .most-charge) calls → SameAnswers tenths paper calls
-limit-raised calls h = larger-charges tenths (paper .most-charge) (omega arith) calls h
+pub limit-raised : (calls : List Call) → All (NotPast chargeBefore) calls → SameAnswers (tenths chargeBefore) paper calls
+limit-raised calls h = larger-charges (tenths chargeBefore) (paper .most-charge) (omega arith) calls h
 
-report-answer : (b : Book) → answerOf tenths b B.Report ≡ shownReport (reportOf tenths b)
+report-answer : (b : Book) → answerOf (tenths chargeBefore) b B.Report ≡ shownReport (reportOf (tenths chargeBefore) b)
 unfolding answerOf refusalOf causes lowest
 report-answer b = refl
 
 module _ (ws before behind : List ℕ) (ran : Ran) (promise : ListAnswers ws before behind ran) (room : length (callsOf ws) ≤ length before)
-    (past : NonePast (tenths .most-charge) (callsOf ws)) where
-  same : SameAnswers tenths paper (callsOf ws)
+    (past : All (NotPast chargeBefore) (callsOf ws)) where
+  same : SameAnswers (tenths chargeBefore) paper (callsOf ws)
   same = limit-raised (callsOf ws) past
 
-  answers : (c : Call) → NotPast (tenths .most-charge) c → (next : Month) (shown : Outcome Reply) → Answered (ran .month) c next shown
-      → shown ≡ answerOf tenths (after tenths (callsOf ws)) c
+  answers : (c : Call) → NotPast chargeBefore c → (next : Month) (shown : Outcome Reply) → Answered (ran .month) c next shown
+      → shown ≡ answerOf (tenths chargeBefore) (after (tenths chargeBefore) (callsOf ws)) c
   answers c h next shown a = a .answer (callsOf ws) (month-is ws before behind ran promise room) ∙ same .next c h
 
   pub as-with-old-limit : AsWithOldLimit (callsOf ws) before behind ran
@@ -48,8 +50,8 @@ module _ (ws before behind : List ℕ) (ran : Ran) (promise : ListAnswers ws bef
             outcomes-are ws before behind ran promise room
             ∙ ap (λ (ns : List ℕ). ns ++ drop (length (callsOf ws)) before) (outcomes-refusals (callsOf ws) ∙ same .refusals);
         report = λ r a.
-            report-shown (r .answer) (reportOf tenths (after tenths (callsOf ws)))
-            (answers B.Report tt (r .month) (shownReport (r .answer)) a ∙ report-answer (after tenths (callsOf ws)));
+            report-shown (r .answer) (reportOf (tenths chargeBefore) (after (tenths chargeBefore) (callsOf ws)))
+            (answers B.Report tt (r .month) (shownReport (r .answer)) a ∙ report-answer (after (tenths chargeBefore) (callsOf ws)));
         look = λ day expiry quantum r a. answers (B.Look day expiry quantum) tt (r .month) (shownLooked (r .answer)) a;
         answer = answers;
       }

@@ -9,33 +9,34 @@ use lib.Dec.{leb, ltb, eqb}
 use lib.ListN.{length, getD, set, replicate, length-set, List·getD-map}
 use lib.Seq.{getD-set-same, getD-set-other}
 use borrow.Author.Tests.{leb-true, le-leb, eqb-true, eq-eqb}
 use Rattle.rules.specs.declared.Opening.{Opening}
 use Rattle.rules.specs.declared.Kopecks.{Kopecks}
 use Rattle.rules.specs.declared.Quote.{Quote}
 use Rattle.rules.specs.declared.Quote.the-variants.{Absent, At}
 use Rattle.rules.specs.declared.Row.{Row}
 use Rattle.rules.specs.declared.Cell.{Cell}
 use Rattle.rules.specs.declared.SpreadRule.{SpreadRule}
 use Rattle.rules.specs.declared.SpreadRule.the-variants.{Settled, OfStrike}
 use Rattle.rules.specs.declared.Event.{Event}
 use Rattle.rules.specs.declared.Amendment.{Amendment}
-use Rattle.rules.specs.Lists.{if_then_else_, within, sum, count, below, any, howMany}
+use Rattle.rules.specs.Lists.{if_then_else_, within, sum, count, below, any, howMany, All}
 use Rattle.rules.specs.Units.{millis, contracts, kopecks, goodCharge}
 use Rattle.rules.specs.Rows.{goodExpiry, goodQuantum, goodLength, rowOf, goodRow, asRead, goodRowFor}
 use Rattle.rules.specs.Cells.{blankCell, goodCell, placeOf, cellAt, series}
 use Rattle.rules.specs.Orders.{live, present}
 use Rattle.rules.specs.Kept.{quotesKeep, ordersKeep, bestBid, bestAsk, upTo, keptAt, keptBelow}
 use Rattle.rules.specs.Lapses.{lapses, lapsesBelow, goodLapseLimit, withinLapseLimit}
 use Rattle.rules.specs.Pay.{thousandths, met, weightMet, cellMet, cellWeight, viewOf, cellFailed, failures, allFailures, earned, fee}
 use Rattle.rules.specs.Answers.{outcomeBy, cell, asked, report}
 use Rattle.rules.specs.Calls.{Call, Open, Send, Ask, Commit, Close, Drop, Charge, Withdraw, Look, Report, Running, Idle, Quoting, Book, freshBook, isOpen, amendOf}
 use Rattle.rules.specs.Causes.{Cause, cause, lowest, eventCauses, sendCauses, goodTicket, goodSettlement, goodSpreadRule, goodCharges, causes, refusalOf}
 use Rattle.rules.specs.Changes.{noted, closedCell, closed, charged, following, changed}
 use Rattle.rules.specs.Replies.{timeIn, ordersIn, bidIn, askIn, keptIn, lapsesIn, previewOf, reportOf, replyOf}
 use Rattle.rules.specs.Book.{answerOf, stepBy, step, run, after}
 use Rattle.rules.specs.Histories.{refusalsFrom, answersFrom}
-use Rattle.rules.specs.OldMonths.{inPercents, inTenths, AtMost79, AllAtMost79, tenfoldWords, tenfold, tenfoldRow, tenfoldCell, tenfoldRunning, tenfoldBook, tenfoldView, tenfoldReply, tenfoldAnswer, SamePay, OldMonths}
+use Rattle.requests.specs.Before.{percents, tenths}
+use Rattle.requests.specs.OldMonths.{AtMost79, tenfoldWords, tenfold, tenfoldRow, tenfoldCell, tenfoldRunning, tenfoldBook, tenfoldView, tenfoldReply, tenfoldAnswer, SamePay, OldMonths}
 use Rattle.rules.proofs.Refusals.{stop, call-passes}
 
 -- ---- tests
 
@@ -76,7 +77,7 @@ unfolding rowOf
 row-share words h = h
 
 module _ (most : ℕ) where
-  row-same : (row : Row) → row .share ≤ 79 → goodRow (inTenths most) (tenfoldRow row) ≡ goodRow (inPercents most) row
+  row-same : (row : Row) → row .share ≤ 79 → goodRow (tenths most) (tenfoldRow row) ≡ goodRow (percents most) row
   unfolding goodRow
   row-same row h =
       ap
@@ -86,7 +87,7 @@ module _ (most : ℕ) where
       (share-same (row .share) h)
 
   row-for-same : (spread : SpreadRule) (row : Row) → row .share ≤ 79
-      → goodRowFor (inTenths most) spread (tenfoldRow row) ≡ goodRowFor (inPercents most) spread row
+      → goodRowFor (tenths most) spread (tenfoldRow row) ≡ goodRowFor (percents most) spread row
   unfolding goodRowFor
   row-for-same (Settled sp) row h = row-same row h
   row-for-same (OfStrike s) row h = row-same (asRead (OfStrike s) row) h
@@ -163,42 +164,42 @@ closed-same (Quoting place row opening events) active passive cells =
 -- ---- verdict, weight, failure counts, fee
 
 module _ (most : ℕ) where
-  met-same : (kept length share : ℕ) → met (inTenths most) kept length (10 * share) ≡ met (inPercents most) kept length share
+  met-same : (kept length share : ℕ) → met (tenths most) kept length (10 * share) ≡ met (percents most) kept length share
   unfolding met
   met-same kept length share =
       leb-same (10 * share * length) (1000 * kept) (share * length) (100 * kept) (λ k. omega (arith, k)) (λ k. omega (arith, k))
 
-  weight-same : (f share : ℕ) → weightMet (inTenths most) f (10 * share) ≡ weightMet (inPercents most) f share
+  weight-same : (f share : ℕ) → weightMet (tenths most) f (10 * share) ≡ weightMet (percents most) f share
   unfolding weightMet
   weight-same f share =
       let same : 1 * (10 * share) ≡ 10 * share = omega arith in
       ap (λ (p : ℕ). if leb 800 f then 20000 else 10000 + (10000 * (f - p) ^ 5) / (800 - p) ^ 5) same
 
-  cell-met-same : (c : Cell) → cellMet (inTenths most) (tenfoldCell c) ≡ cellMet (inPercents most) c
+  cell-met-same : (c : Cell) → cellMet (tenths most) (tenfoldCell c) ≡ cellMet (percents most) c
   cell-met-same c = ap (λ (b : Bool). b && withinLapseLimit (c .allowed) (c .lapses)) (met-same (c .kept .0) (c .length .0) (c .share))
 
-  cell-weight-same : (c : Cell) → cellWeight (inTenths most) (tenfoldCell c) ≡ cellWeight (inPercents most) c
+  cell-weight-same : (c : Cell) → cellWeight (tenths most) (tenfoldCell c) ≡ cellWeight (percents most) c
   cell-weight-same c =
       let verdict = cell-met-same c in
       let weight = weight-same (thousandths (c .kept .0) (c .length .0)) (c .share) in
       λ i. if verdict i then weight i else 0
 
-  view-same : (c : Cell) → viewOf (inTenths most) (tenfoldCell c) ≡ tenfoldView (viewOf (inPercents most) c)
+  view-same : (c : Cell) → viewOf (tenths most) (tenfoldCell c) ≡ tenfoldView (viewOf (percents most) c)
   unfolding viewOf
   view-same c =
       let verdict = cell-met-same c in
       let weight = cell-weight-same c in
       λ i. record { cell = tenfoldCell c; met = verdict i; weight = weight i }
 
-  failed-same : (c : Cell) → cellFailed (inTenths most) (tenfoldCell c) ≡ cellFailed (inPercents most) c
+  failed-same : (c : Cell) → cellFailed (tenths most) (tenfoldCell c) ≡ cellFailed (percents most) c
   unfolding cellFailed
   failed-same c = ap (λ (b : Bool). c .filled && not b) (cell-met-same c)
 
-  earned-same : (c : Cell) → earned (inTenths most) (tenfoldCell c) ≡ earned (inPercents most) c
+  earned-same : (c : Cell) → earned (tenths most) (tenfoldCell c) ≡ earned (percents most) c
   unfolding earned
   earned-same c = ap (λ (w : ℕ). if c .filled then (2 * c .active .0 + 3 * c .passive .0) * w else 0) (cell-weight-same c)
 
-  many-failed-same : (cs : List Cell) → howMany (cellFailed (inTenths most)) (map tenfoldCell cs) ≡ howMany (cellFailed (inPercents most)) cs
+  many-failed-same : (cs : List Cell) → howMany (cellFailed (tenths most)) (map tenfoldCell cs) ≡ howMany (cellFailed (percents most)) cs
   unfolding howMany
   many-failed-same [] = refl
   many-failed-same (c ∷ cs) =
@@ -206,7 +207,7 @@ module _ (most : ℕ) where
       let rest = many-failed-same cs in
       λ i. (if first i then 1 else 0) + rest i
 
-  all-earned-same : (cs : List Cell) → sum (map (earned (inTenths most)) (map tenfoldCell cs)) ≡ sum (map (earned (inPercents most)) cs)
+  all-earned-same : (cs : List Cell) → sum (map (earned (tenths most)) (map tenfoldCell cs)) ≡ sum (map (earned (percents most)) cs)
   unfolding sum
   all-earned-same [] = refl
   all-earned-same (c ∷ cs) =
@@ -226,18 +227,18 @@ series-same expiry quantum cells =
 
 module _ (most : ℕ) where
   failures-same : (cells : List Cell) (expiry quantum : ℕ)
-      → failures (inTenths most) (map tenfoldCell cells) expiry quantum ≡ failures (inPercents most) cells expiry quantum
+      → failures (tenths most) (map tenfoldCell cells) expiry quantum ≡ failures (percents most) cells expiry quantum
   unfolding failures
   failures-same cells expiry quantum =
-      ap (howMany (cellFailed (inTenths most))) (series-same expiry quantum cells) ∙ many-failed-same most (series expiry quantum cells)
+      ap (howMany (cellFailed (tenths most))) (series-same expiry quantum cells) ∙ many-failed-same most (series expiry quantum cells)
 
-  all-failures-same : (cells : List Cell) → allFailures (inTenths most) (map tenfoldCell cells) ≡ allFailures (inPercents most) cells
+  all-failures-same : (cells : List Cell) → allFailures (tenths most) (map tenfoldCell cells) ≡ allFailures (percents most) cells
   unfolding allFailures
   all-failures-same cells =
       let f = failures-same cells in
       λ i. f 1 0 i ∷ f 1 1 i ∷ f 1 2 i ∷ f 2 0 i ∷ f 2 1 i ∷ f 2 2 i ∷ []
 
-  fee-same : (cells : List Cell) → fee (inTenths most) (map tenfoldCell cells) ≡ fee (inPercents most) cells
+  fee-same : (cells : List Cell) → fee (tenths most) (map tenfoldCell cells) ≡ fee (percents most) cells
   unfolding fee
   fee-same cells =
       let failed = all-failures-same cells in
@@ -268,7 +269,7 @@ module _ (most : ℕ) where
   lapses-in-same Idle = refl
   lapses-in-same (Quoting place row opening events) = lapses-same row (opening .spread) events (present events)
 
-  report-same : (b : Book) → reportOf (inTenths most) (tenfoldBook b) ≡ reportOf (inPercents most) b
+  report-same : (b : Book) → reportOf (tenths most) (tenfoldBook b) ≡ reportOf (percents most) b
   unfolding reportOf
   report-same b =
       let r = b .running in
@@ -304,27 +305,27 @@ openNumber one two three four six seventeen eighteen =
 
 module _ (most : ℕ) where
   open-refused-same : (b : Book) (words : List ℕ) (day : ℕ) (opening : Opening) → AtMost79 (Open words day opening)
-      → refusalOf (inTenths most) (tenfoldBook b) (Open (tenfoldWords words) day opening) ≡ refusalOf (inPercents most) b (Open words day opening)
+      → refusalOf (tenths most) (tenfoldBook b) (Open (tenfoldWords words) day opening) ≡ refusalOf (percents most) b (Open words day opening)
   unfolding refusalOf causes
   open-refused-same b words day opening h = go (eqb (length words) 7) refl
     where
       -- with that row, of seven words
       judged : List ℕ → Row → ℕ
       judged ws row =
-          openNumber (not (eqb (length ws) 7)) (not (goodRowFor (inTenths most) (opening .spread) row))
+          openNumber (not (eqb (length ws) 7)) (not (goodRowFor (tenths most) (opening .spread) row))
           (not (within 1 31 day && goodSettlement (opening .spread)))
           (cellAt (map tenfoldCell (b .cells)) (placeOf day (row .expiry) (row .quantum)) .filled) (isOpen (tenfoldRunning (b .running)))
           (not (goodLapseLimit (opening .allowed))) (not (goodSpreadRule (opening .spread)))
 
       go : (t : Bool) → eqb (length words) 7 ≡ t
-          → refusalOf (inTenths most) (tenfoldBook b) (Open (if t then set words 6 (10 * getD words 6 0) else words) day opening)
-          ≡ refusalOf (inPercents most) b (Open words day opening)
+          → refusalOf (tenths most) (tenfoldBook b) (Open (if t then set words 6 (10 * getD words 6 0) else words) day opening)
+          ≡ refusalOf (percents most) b (Open words day opening)
       go true e =
           let l = eqb-true (length words) 7 e in
           let ws = set words 6 (10 * getD words 6 0) in
           let row = rowOf words in
           let long = ap (λ (n : ℕ). eqb n 7) (length-set words 6 (10 * getD words 6 0)) in
-          let good = row-for-same most (opening .spread) row (row-share words (h l)) in
+          let good = row-for-same most (opening .spread) row (row-share words (h .0 l)) in
           let place = placeOf day (row .expiry) (row .quantum) in
           let there = cell-at (b .cells) place in
           let opened = open-same (b .running) in
@@ -332,28 +333,13 @@ module _ (most : ℕ) where
           ∙ (λ i. openNumber (not (long i)) (not (good i)) (not (within 1 31 day && goodSettlement (opening .spread))) (there i .filled) (opened i) (not (goodLapseLimit (opening .allowed))) (not (goodSpreadRule (opening .spread))))
       go false e = stop 1 _ (ap not e) ∙ sym (stop 1 _ (ap not e))
 
-  refused-same : (b : Book) (c : Call) → AtMost79 c → refusalOf (inTenths most) (tenfoldBook b) (tenfold c) ≡ refusalOf (inPercents most) b c
-  unfolding refusalOf causes goodCharge
-  refused-same b (Open words day opening) h = open-refused-same b words day opening h
-  refused-same b (Send e) h = ap lowest (sent-same (b .running) e)
-  refused-same b (Ask a) h = ap lowest (sent-same (b .running) (amendOf a))
-  refused-same b (Commit a ticket) h =
-      ap (λ (cs : List Cause). lowest (cs ++ (cause 19 (not (goodTicket ticket a (b .count))) ∷ []))) (sent-same (b .running) (amendOf a))
-  refused-same b (Close active passive) h =
-      ap (λ (t : Bool). lowest (cause 3 (not (goodCharges (inPercents most) active passive)) ∷ cause 7 (not t) ∷ [])) (open-same (b .running))
-  refused-same b Drop h = ap (λ (t : Bool). lowest (cause 7 (not t) ∷ [])) (open-same (b .running))
-  refused-same b (Charge day expiry quantum active passive) h =
-      ap
-      (λ (c : Cell).
-      lowest (cause 3 (not (goodCell day expiry quantum && goodCharges (inPercents most) active passive)) ∷ cause 5 (not (c .filled)) ∷ []))
-      (cell-at (b .cells) (placeOf day expiry quantum))
-  refused-same b (Withdraw day expiry quantum) h =
+  -- the refusal of a withdraw or a look
+  cell-refused-same : (b : Book) (day expiry quantum : ℕ)
+      → lowest (cause 3 (not (goodCell day expiry quantum)) ∷ cause 5 (not (cellAt (map tenfoldCell (b .cells)) (placeOf day expiry quantum) .filled)) ∷ [])
+      ≡ lowest (cause 3 (not (goodCell day expiry quantum)) ∷ cause 5 (not (cellAt (b .cells) (placeOf day expiry quantum) .filled)) ∷ [])
+  cell-refused-same b day expiry quantum =
       ap (λ (c : Cell). lowest (cause 3 (not (goodCell day expiry quantum)) ∷ cause 5 (not (c .filled)) ∷ []))
       (cell-at (b .cells) (placeOf day expiry quantum))
-  refused-same b (Look day expiry quantum) h =
-      ap (λ (c : Cell). lowest (cause 3 (not (goodCell day expiry quantum)) ∷ cause 5 (not (c .filled)) ∷ []))
-      (cell-at (b .cells) (placeOf day expiry quantum))
-  refused-same b Report h = refl
 
   opened-same : (b : Book) (words : List ℕ) (day : ℕ) (opening : Opening) → length words ≡ 7
       → changed (tenfoldBook b) (Open (tenfoldWords words) day opening) ≡ tenfoldBook (changed b (Open words day opening))
@@ -367,106 +353,135 @@ module _ (most : ℕ) where
         count = following (b .count);
       }
 
-  changed-same : (b : Book) (c : Call) → refusalOf (inPercents most) b c ≡ 0 → changed (tenfoldBook b) (tenfold c) ≡ tenfoldBook (changed b c)
-  unfolding changed
-  changed-same b (Open words day opening) h = opened-same b words day opening (call-passes (inPercents most) b (Open words day opening) h .seven)
-  changed-same b (Send e) h =
+  -- of one call: the same number, the relation after it, the same reply but for p
+  record CallSame (b : Book) (c : Call) : Type 0 where
+    number : refusalOf (tenths most) (tenfoldBook b) (tenfold c) ≡ refusalOf (percents most) b c
+    book : refusalOf (percents most) b c ≡ 0 → changed (tenfoldBook b) (tenfold c) ≡ tenfoldBook (changed b c)
+    reply : replyOf (tenths most) (tenfoldBook b) (tenfold c) ≡ tenfoldReply (replyOf (percents most) b c)
+
+  call-same : (b : Book) (c : Call) → AtMost79 c → CallSame b c
+  unfolding refusalOf causes goodCharge changed
+  call-same b (Open words day opening) h =
+      record {
+        number = open-refused-same b words day opening h;
+        book = λ n. opened-same b words day opening (call-passes (percents most) b (Open words day opening) n .seven);
+        reply = refl;
+      }
+  call-same b (Send e) h =
       let r = noted-same (b .running) e in
-      λ i. record { running = r i; cells = map tenfoldCell (b .cells); count = following (b .count) }
-  changed-same b (Ask a) h = refl
-  changed-same b (Commit a ticket) h =
+      record {
+        number = ap lowest (sent-same (b .running) e);
+        book = λ n i. record { running = r i; cells = map tenfoldCell (b .cells); count = following (b .count) };
+        reply = refl;
+      }
+  call-same b (Ask a) h =
+      record { number = ap lowest (sent-same (b .running) (amendOf a)); book = λ n. refl; reply = ap asked (preview-same most b a) }
+  call-same b (Commit a ticket) h =
       let r = noted-same (b .running) (amendOf a) in
-      λ i. record { running = r i; cells = map tenfoldCell (b .cells); count = following (b .count) }
-  changed-same b (Close active passive) h =
+      record {
+        number = ap (λ (cs : List Cause). lowest (cs ++ (cause 19 (not (goodTicket ticket a (b .count))) ∷ []))) (sent-same (b .running) (amendOf a));
+        book = λ n i. record { running = r i; cells = map tenfoldCell (b .cells); count = following (b .count) };
+        reply = refl;
+      }
+  call-same b (Close active passive) h =
       let cells = closed-same (b .running) active passive (b .cells) in
-      λ i. record { running = Idle; cells = cells i; count = following (b .count) }
-  changed-same b Drop h = refl
-  changed-same b (Charge day expiry quantum active passive) h =
+      record {
+        number = ap (λ (t : Bool). lowest (cause 3 (not (goodCharges (percents most) active passive)) ∷ cause 7 (not t) ∷ [])) (open-same (b .running));
+        book = λ n i. record { running = Idle; cells = cells i; count = following (b .count) };
+        reply = refl;
+      }
+  call-same b Drop h =
+      record { number = ap (λ (t : Bool). lowest (cause 7 (not t) ∷ [])) (open-same (b .running)); book = λ n. refl; reply = refl }
+  call-same b (Charge day expiry quantum active passive) h =
       let place = placeOf day expiry quantum in
       let old = cellAt (b .cells) place in
       let cells = ap (λ (c : Cell). set (map tenfoldCell (b .cells)) place (charged active passive c)) (cell-at (b .cells) place)
       ∙ map-set tenfoldCell (b .cells) place (charged active passive old) in
-      λ i. record { running = tenfoldRunning (b .running); cells = cells i; count = following (b .count) }
-  changed-same b (Withdraw day expiry quantum) h =
+      record {
+        number =
+            ap
+            (λ (c : Cell).
+            lowest (cause 3 (not (goodCell day expiry quantum && goodCharges (percents most) active passive)) ∷ cause 5 (not (c .filled)) ∷ []))
+            (cell-at (b .cells) place);
+        book = λ n i. record { running = tenfoldRunning (b .running); cells = cells i; count = following (b .count) };
+        reply = refl;
+      }
+  call-same b (Withdraw day expiry quantum) h =
       let cells = map-set tenfoldCell (b .cells) (placeOf day expiry quantum) blankCell in
-      λ i. record { running = tenfoldRunning (b .running); cells = cells i; count = following (b .count) }
-  changed-same b (Look day expiry quantum) h = refl
-  changed-same b Report h = refl
+      record {
+        number = cell-refused-same b day expiry quantum;
+        book = λ n i. record { running = tenfoldRunning (b .running); cells = cells i; count = following (b .count) };
+        reply = refl;
+      }
+  call-same b (Look day expiry quantum) h =
+      let place = placeOf day expiry quantum in
+      record {
+        number = cell-refused-same b day expiry quantum;
+        book = λ n. refl;
+        reply = ap cell (ap (viewOf (tenths most)) (cell-at (b .cells) place) ∙ view-same most (cellAt (b .cells) place));
+      }
+  call-same b Report h = record { number = refl; book = λ n. refl; reply = ap report (report-same most b) }
 
   -- the relation holds after the call
-  step-same : (b : Book) (c : Call) → AtMost79 c → step (inTenths most) (tenfoldBook b) (tenfold c) ≡ tenfoldBook (step (inPercents most) b c)
+  step-same : (b : Book) (c : Call) → AtMost79 c → step (tenths most) (tenfoldBook b) (tenfold c) ≡ tenfoldBook (step (percents most) b c)
   unfolding step
   step-same b c h =
-      ap (λ (n : ℕ). stepBy (inTenths most) n (tenfoldBook b) (tenfold c)) (refused-same b c h) ∙ go (refusalOf (inPercents most) b c) refl
+      ap (λ (n : ℕ). stepBy (tenths most) n (tenfoldBook b) (tenfold c)) (call-same b c h .number) ∙ go (refusalOf (percents most) b c) refl
     where
-      go : (n : ℕ) → refusalOf (inPercents most) b c ≡ n
-          → stepBy (inTenths most) n (tenfoldBook b) (tenfold c) ≡ tenfoldBook (stepBy (inPercents most) n b c)
-      go zero e = changed-same b c e
+      go : (n : ℕ) → refusalOf (percents most) b c ≡ n
+          → stepBy (tenths most) n (tenfoldBook b) (tenfold c) ≡ tenfoldBook (stepBy (percents most) n b c)
+      go zero e = call-same b c h .book e
       go (suc n) e = refl
 
   -- and so does the answer
-  reply-same : (b : Book) (c : Call) → replyOf (inTenths most) (tenfoldBook b) (tenfold c) ≡ tenfoldReply (replyOf (inPercents most) b c)
-  reply-same b (Open words day opening) = refl
-  reply-same b (Send e) = refl
-  reply-same b (Ask a) = ap asked (preview-same most b a)
-  reply-same b (Commit a ticket) = refl
-  reply-same b (Close active passive) = refl
-  reply-same b Drop = refl
-  reply-same b (Charge day expiry quantum active passive) = refl
-  reply-same b (Withdraw day expiry quantum) = refl
-  reply-same b (Look day expiry quantum) =
-      let place = placeOf day expiry quantum in
-      ap cell (ap (viewOf (inTenths most)) (cell-at (b .cells) place) ∙ view-same most (cellAt (b .cells) place))
-  reply-same b Report = ap report (report-same most b)
-
-  answer-same : (b : Book) (c : Call) → AtMost79 c → answerOf (inTenths most) (tenfoldBook b) (tenfold c) ≡ tenfoldAnswer (answerOf (inPercents most) b c)
+  answer-same : (b : Book) (c : Call) → AtMost79 c → answerOf (tenths most) (tenfoldBook b) (tenfold c) ≡ tenfoldAnswer (answerOf (percents most) b c)
   unfolding answerOf
   answer-same b c h =
-      let number = refused-same b c h in
-      let reply = reply-same b c in
-      (λ i. outcomeBy (number i) (reply i)) ∙ go (refusalOf (inPercents most) b c)
+      let number = call-same b c h .number in
+      let reply = call-same b c h .reply in
+      (λ i. outcomeBy (number i) (reply i)) ∙ go (refusalOf (percents most) b c)
     where
-      go : (n : ℕ) → outcomeBy n (tenfoldReply (replyOf (inPercents most) b c)) ≡ tenfoldAnswer (outcomeBy n (replyOf (inPercents most) b c))
+      go : (n : ℕ) → outcomeBy n (tenfoldReply (replyOf (percents most) b c)) ≡ tenfoldAnswer (outcomeBy n (replyOf (percents most) b c))
       go zero = refl
       go (suc n) = refl
 
   -- ---- the list
 
-  run-same : (b : Book) (calls : List Call) → AllAtMost79 calls → run (inTenths most) (tenfoldBook b) (map tenfold calls) ≡ tenfoldBook (run (inPercents most) b calls)
+  run-same : (b : Book) (calls : List Call) → All AtMost79 calls → run (tenths most) (tenfoldBook b) (map tenfold calls) ≡ tenfoldBook (run (percents most) b calls)
   unfolding run
   run-same b [] h = refl
   run-same b (c ∷ cs) h =
-      ap (λ (x : Book). run (inTenths most) x (map tenfold cs)) (step-same b c (h .0)) ∙ run-same (step (inPercents most) b c) cs (h .1)
+      ap (λ (x : Book). run (tenths most) x (map tenfold cs)) (step-same b c (h .0)) ∙ run-same (step (percents most) b c) cs (h .1)
 
-  refusals-same : (b : Book) (calls : List Call) → AllAtMost79 calls
-      → refusalsFrom (inTenths most) (tenfoldBook b) (map tenfold calls) ≡ refusalsFrom (inPercents most) b calls
+  refusals-same : (b : Book) (calls : List Call) → All AtMost79 calls
+      → refusalsFrom (tenths most) (tenfoldBook b) (map tenfold calls) ≡ refusalsFrom (percents most) b calls
   unfolding refusalsFrom
   refusals-same b [] h = refl
   refusals-same b (c ∷ cs) h =
-      let first = refused-same b c (h .0) in
-      let rest = ap (λ (x : Book). refusalsFrom (inTenths most) x (map tenfold cs)) (step-same b c (h .0)) ∙ refusals-same (step (inPercents most) b c) cs (h .1) in
+      let first = call-same b c (h .0) .number in
+      let rest = ap (λ (x : Book). refusalsFrom (tenths most) x (map tenfold cs)) (step-same b c (h .0)) ∙ refusals-same (step (percents most) b c) cs (h .1) in
       λ i. first i ∷ rest i
 
-  answers-same : (b : Book) (calls : List Call) → AllAtMost79 calls
-      → answersFrom (inTenths most) (tenfoldBook b) (map tenfold calls) ≡ map tenfoldAnswer (answersFrom (inPercents most) b calls)
+  answers-same : (b : Book) (calls : List Call) → All AtMost79 calls
+      → answersFrom (tenths most) (tenfoldBook b) (map tenfold calls) ≡ map tenfoldAnswer (answersFrom (percents most) b calls)
   unfolding answersFrom
   answers-same b [] h = refl
   answers-same b (c ∷ cs) h =
       let first = answer-same b c (h .0) in
-      let rest = ap (λ (x : Book). answersFrom (inTenths most) x (map tenfold cs)) (step-same b c (h .0)) ∙ answers-same (step (inPercents most) b c) cs (h .1) in
+      let rest = ap (λ (x : Book). answersFrom (tenths most) x (map tenfold cs)) (step-same b c (h .0)) ∙ answers-same (step (percents most) b c) cs (h .1) in
       λ i. first i ∷ rest i
 
-  pub pay-same : (new old : Book) → new ≡ tenfoldBook old → SamePay most new old
+  pay-same : (new old : Book) → new ≡ tenfoldBook old → SamePay most new old
   pay-same new old e =
       record {
         book = e;
         views = λ place.
-            ap (λ (b : Book). viewOf (inTenths most) (cellAt (b .cells) place)) e
-            ∙ ap (viewOf (inTenths most)) (cell-at (old .cells) place)
+            ap (λ (b : Book). viewOf (tenths most) (cellAt (b .cells) place)) e
+            ∙ ap (viewOf (tenths most)) (cell-at (old .cells) place)
             ∙ view-same most (cellAt (old .cells) place);
-        failures = ap (λ (b : Book). allFailures (inTenths most) (b .cells)) e ∙ all-failures-same most (old .cells);
-        fee = ap (λ (b : Book). fee (inTenths most) (b .cells)) e ∙ fee-same most (old .cells);
-        report = ap (reportOf (inTenths most)) e ∙ report-same most old;
+        failures = ap (λ (b : Book). allFailures (tenths most) (b .cells)) e ∙ all-failures-same most (old .cells);
+        fee = ap (λ (b : Book). fee (tenths most) (b .cells)) e ∙ fee-same most (old .cells);
+        report = ap (reportOf (tenths most)) e ∙ report-same most old;
       }
 
 -- a fresh book has no share at all
@@ -481,10 +496,10 @@ fresh-same = λ i. record { running = Idle; cells = blank 186 i; count = 0 }
 pub old-months : OldMonths
 unfolding after
 old-months most calls h =
-    let book = ap (λ (b : Book). run (inTenths most) b (map tenfold calls)) (sym fresh-same) ∙ run-same most freshBook calls h in
+    let book = ap (λ (b : Book). run (tenths most) b (map tenfold calls)) (sym fresh-same) ∙ run-same most freshBook calls h in
     record {
-      refusals = ap (λ (b : Book). refusalsFrom (inTenths most) b (map tenfold calls)) (sym fresh-same) ∙ refusals-same most freshBook calls h;
-      answers = ap (λ (b : Book). answersFrom (inTenths most) b (map tenfold calls)) (sym fresh-same) ∙ answers-same most freshBook calls h;
-      next = λ c k. ap (λ (b : Book). answerOf (inTenths most) b (tenfold c)) book ∙ answer-same most (after (inPercents most) calls) c k;
-      pay = pay-same most (after (inTenths most) (map tenfold calls)) (after (inPercents most) calls) book;
+      refusals = ap (λ (b : Book). refusalsFrom (tenths most) b (map tenfold calls)) (sym fresh-same) ∙ refusals-same most freshBook calls h;
+      answers = ap (λ (b : Book). answersFrom (tenths most) b (map tenfold calls)) (sym fresh-same) ∙ answers-same most freshBook calls h;
+      next = λ c k. ap (λ (b : Book). answerOf (tenths most) b (tenfold c)) book ∙ answer-same most (after (percents most) calls) c k;
+      pay = pay-same most (after (tenths most) (map tenfold calls)) (after (percents most) calls) book;
     }

@@ -1,0 +1,8 @@
+-- The claims of the requests about the plain book, and the terms of before them.
+pub mod Before
+-- document 02, W6: half percents, old months
+pub mod OldMonths
+-- document 02, W8: larger charges
+pub mod OldCharges
+-- document 02, W9: days filled in another order
+pub mod DayOrder

@@ -1,0 +1,2 @@
+// What the requests of document 02 claim of the plain book: old months in tenths of a percent (W6), larger charges (W8), days filled in
+// another order (W9). The claims are in specs/, their proofs in proofs/; there is nothing here to run.
