@@ -3,24 +3,24 @@
 --     claim        the theorem, as `Claimed`
 --     same-list    two lists in order with the same records are one
 --     stands-step  one call, on the standing and on the roll
-use Prim.Native.Nat.{ℕ, zero, suc, _+_, _-_, _≤_, _<_, zero-le}
+use Prim.Native.Nat.{ℕ, zero, suc, _+_, _-_, zero-le}
 use native.Mathlib.Omega.{arith}
 use mathlib.Core.Path.{_≡_, refl, sym, ap, subst, _∙_}
-use mathlib.Core.Logic.{_⊎_, inl, inr, ⊎-elim}
-use mathlib.Core.List.{List, [], _∷_, _++_, List·Memᴰ, List·Memᴰ·head, List·Memᴰ·tail, List·Memᴰ·not-nil, List·Memᴰ·cases-cons}
+use mathlib.Core.Logic.{_⊎_, inl, inr}
+use mathlib.Core.List.{List, [], _∷_, _++_, List·Memᴰ, List·Memᴰ·head, List·Memᴰ·tail, List·Memᴰ·not-nil}
 use mathlib.Core.Bool.{Bool, true, false, true≢false, not}
 use lib.Dec.{eqb, leb}
 use lib.ListN.{length, take, drop, length-append, length-drop}
 use lib.Seq.{take-at, length-take-le}
 use borrow.Author.Tests.{eqb-true, eqb-false, eq-eqb, ne-eqb}
-use Rattle.rules.specs.Lists.{if_then_else_, any}
-use Rattle.rules.specs.Causes.{Cause, cause, lowest}
+use Rattle.rules.specs.Lists.{if_then_else_}
+use Rattle.rules.specs.Causes.{cause}
 use Rattle.rules.proofs.Members.{any-none, some-any}
 use Rattle.rules.proofs.Refusals.{skip}
 use Rattle.makers.specs.declared.Maker.{Maker}
-use Rattle.makers.specs.Order.{maker, above, every, sorted, isOf, present, once}
-use Rattle.makers.specs.Calls.{Standing, standing, used, Call, Join, Change, Leave, wrong, refusalOf, placed, without, left, changed, step, after, outcomesFrom}
-use Rattle.makers.specs.Roll.{Rated, absent, rated, isPresent, Roll, emptyRoll, noted, rollCauses, rollRefusal, rollChanged, rollStep, rollFrom, rollOutcomesFrom, rollAfter, Stands, Claimed}
+use Rattle.makers.specs.Order.{maker, above, sorted, isOf, present, once}
+use Rattle.makers.specs.Calls.{Standing, standing, used, Call, Join, Change, Leave, refusalOf, placed, without, left, changed, step, after, outcomesFrom}
+use Rattle.makers.specs.Roll.{Rated, absent, rated, isPresent, Roll, emptyRoll, noted, rollRefusal, rollChanged, rollStep, rollFrom, rollOutcomesFrom, Stands, Claimed}
 use Rattle.makers.proofs.Order.{above-asym, Sorted, sorted-parts}
 use Rattle.makers.proofs.Placing.{length-placed, in-placed, placed-in, sorted-placed, once-placed, in-without, without-in, absent-without, sorted-without, once-without, length-without}
 use Rattle.makers.proofs.Working.{step-accepted, step-refused, Right, right-not-wrong, JoinPasses, OtherPasses, join-passes, change-passes, leave-passes}
@@ -195,7 +195,7 @@ module _ (s : Standing) (roll : Roll) (h : Stands s roll) where
   changed-stands (Change m) e = change-stands m (change-passes s m e)
   changed-stands (Leave n) e = leave-stands n (leave-passes s n e)
 
-  pub stands-step : (call : Call)
+  stands-step : (call : Call)
       → Stands (step s call) (rollStep (length (s .records)) roll call) × (length (step s call .records) ≡ length (s .records))
   unfolding rollStep
   stands-step call = by (refusalOf s call) refl (same-refusal call)

@@ -3,14 +3,14 @@
 use Prim.Native.Nat.{ℕ, _<_}
 use native.Mathlib.Omega.{arith}
 use mathlib.Core.Path.{_≡_, refl, sym, ap, _∙_}
-use mathlib.Core.Logic.{_⊎_, inl, inr, ⊎-elim}
-use mathlib.Core.List.{List, [], _∷_, _++_, List·Memᴰ, List·Memᴰ·head, List·Memᴰ·tail, List·Memᴰ·not-nil}
-use mathlib.Core.Bool.{Bool, true, false, true≢false, not, _&&_, _||_}
+use mathlib.Core.Logic.{_⊎_, inl, inr}
+use mathlib.Core.List.{List, [], _∷_, _++_, List·Memᴰ, List·Memᴰ·head, List·Memᴰ·tail}
+use mathlib.Core.Bool.{Bool, true, false, not, _&&_, _||_}
 use lib.Dec.{eqb, ltb}
 use borrow.Author.Tests.{ltb-true, ltb-false, lt-ltb, eqb-true, eqb-false, eq-eqb, ne-eqb, not-true}
 use Rattle.rules.specs.Lists.{if_then_else_, any, filter}
 use Rattle.rules.proofs.Lists.{both, and, kept-in}
-use Rattle.rules.proofs.Members.{any-append, any-none, none-any, any-filter, or-false}
+use Rattle.rules.proofs.Members.{any-append, any-filter}
 use Rattle.makers.specs.declared.Maker.{Maker}
 use Rattle.makers.specs.Order.{above, every, sorted, isOf, present, once}
 
@@ -19,7 +19,7 @@ use Rattle.makers.specs.Order.{above, every, sorted, isOf, present, once
 abbrev Higher : Maker → Maker → Type 0
 Higher a b = (b .rating < a .rating) ⊎ ((a .rating ≡ b .rating) × (a .number < b .number))
 
-pub above-says : (a b : Maker) → above a b ≡ true → Higher a b
+above-says : (a b : Maker) → above a b ≡ true → Higher a b
 unfolding above
 above-says a b e = go (eqb (a .rating) (b .rating)) refl e
   where
@@ -27,7 +27,7 @@ above-says a b e = go (eqb (a .rating) (b .rating)) refl e
     go true q e = inr (eqb-true (a .rating) (b .rating) q, ltb-true (a .number) (b .number) e)
     go false q e = inl (ltb-true (b .rating) (a .rating) e)
 
-pub above-by : (a b : Maker) → Higher a b → above a b ≡ true
+above-by : (a b : Maker) → Higher a b → above a b ≡ true
 unfolding above
 above-by a b (inl h) = simp (ne-eqb (a .rating) (b .rating) (λ e. omega arith), lt-ltb (b .rating) (a .rating) h)
 above-by a b (inr h) = simp (eq-eqb (a .rating) (b .rating) (h .0), lt-ltb (a .number) (b .number) (h .1))
@@ -72,12 +72,12 @@ and-assoc true b c = refl
 and-assoc false b c = refl
 
 module _ {A : Type 0} where
-  pub every-in : (p : A → Bool) {x : A} {xs : List A} → List·Memᴰ x xs → every p xs ≡ true → p x ≡ true
+  every-in : (p : A → Bool) {x : A} {xs : List A} → List·Memᴰ x xs → every p xs ≡ true → p x ≡ true
   unfolding every
   every-in p {x} (List·Memᴰ·head {x = y} {xs = ys} q) e = ap p q ∙ both (p y) (every p ys) e .0
   every-in p {x} (List·Memᴰ·tail {x = y} {xs = ys} k) e = every-in p k (both (p y) (every p ys) e .1)
 
-  pub in-every : (p : A → Bool) (xs : List A) → ((x : A) → List·Memᴰ x xs → p x ≡ true) → every p xs ≡ true
+  in-every : (p : A → Bool) (xs : List A) → ((x : A) → List·Memᴰ x xs → p x ≡ true) → every p xs ≡ true
   unfolding every
   in-every p [] h = refl
   in-every p (x ∷ xs) h = and (h x (List·Memᴰ·head refl)) (in-every p xs (λ y k. h y (List·Memᴰ·tail k)))

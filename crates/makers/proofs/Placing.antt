@@ -1,28 +1,27 @@
 -- A record at its place: by how many stand above it, and what `placed` and `without` leave of members, order and length. Assumes nothing.
-use Prim.Native.Nat.{ℕ, zero, suc, _+_, _-_, _≤_, _<_, zero-le}
+use Prim.Native.Nat.{ℕ, suc, _+_, _-_, _≤_, zero-le}
 use native.Mathlib.Omega.{arith}
-use native.Mathlib.Numerals.{add-one, one-add}
+use native.Mathlib.Numerals.{one-add}
 use mathlib.Core.Path.{_≡_, refl, sym, ap, subst, _∙_}
-use mathlib.Core.Logic.{_⊎_, inl, inr, ⊎-elim}
+use mathlib.Core.Logic.{_⊎_, inl, inr}
 use mathlib.Core.List.{List, [], _∷_, _++_, append-assoc, List·Memᴰ, List·Memᴰ·head, List·Memᴰ·tail, List·Memᴰ·not-nil}
 use mathlib.Core.Bool.{Bool, true, false, true≢false, not, _&&_, _||_}
-use lib.Dec.{eqb}
-use lib.ListN.{length, take, drop, length-append}
+use lib.ListN.{length, take, drop}
 use lib.Seq.{take-append-le, drop-append-le, take-at, drop-at}
-use borrow.Author.Tests.{eqb-true, eqb-false, eq-eqb, ne-eqb, not-true}
+use borrow.Author.Tests.{eqb-true, eqb-false, ne-eqb, not-true}
 use Rattle.rules.specs.Lists.{if_then_else_, any, filter, howMany}
 use Rattle.rules.proofs.Lists.{kept-in, in-kept}
-use Rattle.rules.proofs.Members.{any-none, none-any, or-false, some-any, filter-all}
+use Rattle.rules.proofs.Members.{any-none, none-any, or-false, filter-all}
 use Rattle.makers.specs.declared.Maker.{Maker}
 use Rattle.makers.specs.Order.{above, every, sorted, isOf, present, once}
 use Rattle.makers.specs.Calls.{placed, without}
-use Rattle.makers.specs.Internal.{inserted, removed}
+use Rattle.makers.specs.Internal.{inserted}
 use Rattle.makers.proofs.Order.{above-trans, above-total, Sorted, sorted-parts, sorted-cons, Once, once-parts, once-cons, sorted-filter, once-filter}
 
 -- ---- how many pass
 
 module _ {A : Type 0} where
-  pub many-none : (p : A → Bool) (xs : List A) → ((x : A) → List·Memᴰ x xs → p x ≡ false) → howMany p xs ≡ 0
+  many-none : (p : A → Bool) (xs : List A) → ((x : A) → List·Memᴰ x xs → p x ≡ false) → howMany p xs ≡ 0
   unfolding howMany
   many-none p [] h = refl
   many-none p (x ∷ xs) h = rw (h x (List·Memᴰ·head refl), many-none p xs (λ y k. h y (List·Memᴰ·tail k))) refl
@@ -110,10 +109,6 @@ placed-in m (y ∷ ys) {x} h = go (above y m) h (λ k. placed-in m ys k)
     go true (inr (List·Memᴰ·tail k)) r = List·Memᴰ·tail (r (inr k))
     go false (inl q) r = List·Memᴰ·head q
     go false (inr k) r = List·Memᴰ·tail k
-
--- another maker
-other-number : (m x : Maker) (xs : List Maker) → present (m .number) xs ≡ false → List·Memᴰ x xs → x .number ≡ m .number → ⊥
-other-number m x xs e k = eqb-false (x .number) (m .number) (none-any (isOf (m .number)) k e)
 
 pub sorted-placed : (m : Maker) (xs : List Maker) → sorted xs ≡ true → present (m .number) xs ≡ false → sorted (placed m xs) ≡ true
 unfolding placed sorted every any

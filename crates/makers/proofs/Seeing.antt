@@ -1,13 +1,11 @@
 -- What a look through the first records finds, in the words of the standing. Assumes nothing.
 use Prim.Native.Nat.{ℕ, zero, suc, _+_, _-_, _≤_, _<_, zero-le}
 use native.Mathlib.Omega.{arith}
-use native.Mathlib.Numerals.{add-one}
 use mathlib.Core.Path.{_≡_, refl, sym, ap, subst, _∙_}
 use mathlib.Core.List.{List, [], _∷_, _++_, append-assoc}
 use mathlib.Core.Bool.{Bool, true, false, true≢false, not, _&&_, _||_}
-use lib.Dec.{eqb}
 use lib.ListN.{length, take, drop, getD, length-append, drop-of-length-le}
-use lib.Seq.{take-suc, take-at, drop-at, take-append-le, drop-append-le, length-take-le}
+use lib.Seq.{take-suc, take-at, take-append-le, drop-append-le, length-take-le}
 use borrow.Author.Tests.{eqb-true, not-true}
 use Rattle.rules.specs.Lists.{if_then_else_, any, filter, howMany}
 use Rattle.rules.proofs.Lists.{both, filter-append, filter-one}
@@ -21,7 +19,7 @@ use Rattle.makers.proofs.Order.{every-append, sorted-more, once-more}
 use Rattle.makers.proofs.Placing.{without-absent}
 
 -- how many of the other makers' records stand above m
-abbrev pub othersAbove : Maker → List Maker → ℕ
+abbrev othersAbove : Maker → List Maker → ℕ
 othersAbove m xs = howMany (λ r. not (isOf (m .number) r) && above r m) xs
 
 many-append : {A : Type 0} (p : A → Bool) (xs ys : List A) → howMany p (xs ++ ys) ≡ howMany p xs + howMany p ys
@@ -110,16 +108,6 @@ above-le l m (suc n) = subst (λ (k : ℕ). k ≤ suc n) (sym (look-above (seenI
     go true a k h = omega arith
     go false true k h = omega arith
     go false false k h = omega arith
-
--- the place is one of those looked at, or 0
-pub at-le : (l : List Maker) (m : Maker) (n : ℕ) → seenIn l m n .at ≤ n
-unfolding seenIn
-at-le l m zero = zero-le
-at-le l m (suc n) = subst (λ (k : ℕ). k ≤ suc n) (sym (look-at (seenIn l m n) n (getD l n none) m)) (go (isOf (m .number) (getD l n none)) (seenIn l m n .at) (at-le l m n))
-  where
-    go : (t : Bool) (k : ℕ) → k ≤ n → (if t then n else k) ≤ suc n
-    go true k h = omega arith
-    go false k h = omega arith
 
 -- a maker who is seen was looked at
 pub some-seen : (l : List Maker) (m : Maker) (n : ℕ) → seenIn l m n .present ≡ true → 0 < n

@@ -7,8 +7,8 @@ use mathlib.Core.Path.{_≡_, refl, sym, ap, subst, _∙_}
 use mathlib.Core.List.{List, [], _∷_, _++_, append-assoc}
 use mathlib.Core.Bool.{Bool, true, false}
 use lib.Dec.{ltb}
-use lib.ListN.{length, take, drop, set, getD, length-append, length-take, length-drop, length-set, List·getD-append}
-use lib.Seq.{take-suc, drop-cons, append-snoc, split-at, set-at, getD-at, length-take-le, getD-append-add, getD-take, set-append-left, take-at, drop-at}
+use lib.ListN.{length, take, drop, set, getD, length-append, length-take, length-drop}
+use lib.Seq.{take-suc, drop-cons, split-at, set-at, getD-at, length-take-le, getD-append-add}
 use borrow.Author.Tests.{ltb-true, ltb-false}
 use Rattle.rules.specs.Lists.{if_then_else_}
 use Rattle.makers.specs.Internal.{inserted, removed, shifted, nearer}
@@ -29,7 +29,7 @@ module _ {A : Type 0} (d : A) where
       ∙ sym (inserted-between (take i l) (drop (i + 1) l) i (getD l i d) (length-take-le i l (omega arith)))
 
   -- something else in the hole
-  pub refill : (l : List A) (i : ℕ) (v m : A) → i ≤ length l → set (inserted l i v) i m ≡ inserted l i m
+  refill : (l : List A) (i : ℕ) (v m : A) → i ≤ length l → set (inserted l i v) i m ≡ inserted l i m
   refill l i v m h = set-at (take i l) v (drop i l) m i (length-take-le i l h)
 
   -- the list around the hole, one more record before it

@@ -1,16 +1,17 @@
 -- What was found and decided does what the call is to do: the refusal, the count and the records of `step`. Assumes nothing.
-use Prim.Native.Nat.{ℕ, zero, suc, _+_, _-_, _≤_, _<_}
+use Prim.Native.Nat.{ℕ, zero, suc, _+_, _-_, _≤_, _<_, min}
 use native.Mathlib.Omega.{arith}
+use native.Mathlib.Nat.{min-eq-left}
 use mathlib.Core.Path.{_≡_, refl, sym, ap, subst, _∙_}
 use mathlib.Core.List.{List, [], _∷_, _++_, append-assoc}
-use mathlib.Core.Bool.{Bool, true, false, true≢false, not, _&&_, _||_}
-use lib.Dec.{eqb, leb, ltb}
-use lib.ListN.{length, take, drop, take-append-drop, length-append}
+use mathlib.Core.Bool.{Bool, true, false, not, _&&_, _||_}
+use lib.Dec.{leb, ltb}
+use lib.ListN.{length, take, drop, take-append-drop}
 use lib.Seq.{take-append-le, drop-append-le, length-take-le}
-use borrow.Author.Tests.{ltb-true, ltb-false, le-ltb, lt-ltb, leb-false, eqb-true, eqb-false, eq-eqb, ne-eqb, not-false}
-use Rattle.rules.specs.Lists.{if_then_else_, filter, howMany}
+use borrow.Author.Tests.{ltb-false, le-ltb, leb-false, eq-eqb, ne-eqb, not-false}
+use Rattle.rules.specs.Lists.{if_then_else_, howMany}
 use Rattle.rules.specs.Answers.{outcomeBy}
-use Rattle.rules.specs.Causes.{Cause, cause, lowest}
+use Rattle.rules.specs.Causes.{cause, lowest}
 use Rattle.rules.proofs.Lists.{both}
 use Rattle.rules.proofs.Members.{or-false}
 use Rattle.rules.proofs.Refusals.{passed}
@@ -19,10 +20,11 @@ use Rattle.makers.specs.declared.Seen.{Seen}
 use Rattle.makers.specs.declared.Plan.{Plan}
 use Rattle.makers.specs.declared.Answer.{Answer}
 use Rattle.makers.specs.Order.{above, sorted, isOf, present, once}
-use Rattle.makers.specs.Calls.{Standing, standing, used, Call, Join, Change, Leave, wrong, causes, refusalOf, placed, without, left, changed, step, answerOf, shown}
-use Rattle.makers.specs.Internal.{seenIn, soundIn, removed, inserted, shifted, callOf, judged, planned}
+use Rattle.makers.specs.Calls.{Standing, standing, used, Call, Join, Change, Leave, wrong, refusalOf, placed, without, left, changed, step, answerOf, shown}
+use Rattle.makers.specs.Internal.{seenIn, soundIn, removed, inserted, shifted, recordOf, judged, accepted, planned}
 use Rattle.makers.proofs.Placing.{many-filter, many-le, inserted-append, inserted-between, placed-at, without-absent, sorted-without, length-without}
-use Rattle.makers.proofs.Seeing.{Found, found, othersAbove, Place, place, sound-is, above-le}
+use Rattle.makers.proofs.Deciding.{wrong-judged}
+use Rattle.makers.proofs.Seeing.{found, Place, place, sound-is, above-le}
 
 -- ---- refused or not
 
@@ -152,85 +154,91 @@ module _ (l : List Maker) (c : ℕ) (m : Maker) where
             ∙ ap (λ (z : List Maker). z ++ drop c l) (ap (λ (j : ℕ). inserted (without (m .number) us) j m) k ∙ placed-at m (without (m .number) us) (sorted-without (m .number) us (p .right .in-order)));
       }
 
-  leave-moves : m ≡ left (m .number) → OtherPasses s (m .number) → Moved l (seen .at) (c - 1) m (without (m .number) us ++ (left (m .number) ∷ drop c l))
+  leave-moves : OtherPasses s (m .number) → Moved l (seen .at) (c - 1) m (without (m .number) us ++ (m ∷ drop c l))
   unfolding shifted
-  leave-moves e p =
+  leave-moves p =
       let t = taken p in
       let n = less p in
       let h = p .right .within in
       record {
         from-there = let i = t .0 in omega arith;
         to-there = omega (arith, n);
-        moves = ap (λ (z : List Maker). inserted z (c - 1) m) (t .1)
-            ∙ inserted-between (without (m .number) us) (drop c l) (c - 1) m (omega (arith, n))
-            ∙ ap (λ (x : Maker). without (m .number) us ++ (x ∷ drop c l)) e;
+        moves = ap (λ (z : List Maker). inserted z (c - 1) m) (t .1) ∙ inserted-between (without (m .number) us) (drop c l) (c - 1) m (omega (arith, n));
       }
 
 -- ---- the plan
 
 -- the refusal by the tests is the lowest of the causes
-join-judged : (bad there full : Bool) → judged 1 bad there full ≡ lowest (cause 23 bad ∷ cause 24 there ∷ cause 25 full ∷ [])
+join-judged : (m : Maker) (bad there full : Bool) → judged (Join m) bad there full ≡ lowest (cause 23 bad ∷ cause 24 there ∷ cause 25 full ∷ [])
 unfolding judged lowest
-join-judged true there full = refl
-join-judged false true full = refl
-join-judged false false true = refl
-join-judged false false false = refl
+join-judged m true there full = refl
+join-judged m false true full = refl
+join-judged m false false true = refl
+join-judged m false false false = refl
 
-other-judged : (kind : ℕ) → (kind ≡ 1 → ⊥) → (bad there full : Bool) → judged kind bad there full ≡ lowest (cause 23 bad ∷ cause 24 (not there) ∷ [])
-unfolding judged lowest
-other-judged kind n bad there full = rw (ne-eqb kind 1 n) (go bad there)
-  where
-    go : (bad there : Bool) → _≡_ {A = ℕ} (if bad then 23 else if there then 0 else 24) (if bad then 23 else if not there then 24 else 0)
-    go true there = refl
-    go false true = refl
-    go false false = refl
+other-judged : (bad there : Bool) → (if bad then 23 else if there then 0 else 24) ≡ lowest (cause 23 bad ∷ cause 24 (not there) ∷ [])
+unfolding lowest
+other-judged true there = refl
+other-judged false true = refl
+other-judged false false = refl
 
-call-join : (kind : ℕ) (m : Maker) → kind ≡ 1 → callOf kind m ≡ Join m
-unfolding callOf
-call-join kind m e = rw (eq-eqb kind 1 e) refl
-
-call-change : (kind : ℕ) (m : Maker) → kind ≡ 2 → callOf kind m ≡ Change m
-unfolding callOf
-call-change kind m e = rw (ne-eqb kind 1 (λ k. omega arith), eq-eqb kind 2 e) refl
-
-call-leave : (kind : ℕ) (m : Maker) → (kind ≡ 1 → ⊥) → (kind ≡ 2 → ⊥) → callOf kind m ≡ Leave (m .number)
-unfolding callOf
-call-leave kind m e f = rw (ne-eqb kind 1 e, ne-eqb kind 2 f) refl
+call-judged : (s : Standing) (call : Call) → judged call (wrong s) (present (recordOf call .number) (used s)) (leb (length (s .records)) (s .count)) ≡ refusalOf s call
+unfolding judged refusalOf recordOf
+call-judged s (Join m) = join-judged m (wrong s) (present (m .number) (used s)) (leb (length (s .records)) (s .count))
+call-judged s (Change m) = other-judged (wrong s) (present (m .number) (used s))
+call-judged s (Leave n) = other-judged (wrong s) (present n (used s))
 
 -- a plan that does what the call is to do
-pub record Works (l : List Maker) (c : ℕ) (call : Call) (m : Maker) (p : Plan) : Type 0 where
+pub record Works (l : List Maker) (c : ℕ) (call : Call) (p : Plan) : Type 0 where
   pub refusal : p .refusal ≡ refusalOf (standing l c) call
   pub count : p .count ≡ step (standing l c) call .count
   pub kept : (p .refusal ≡ 0 → ⊥) → l ≡ step (standing l c) call .records
-  pub moved : p .refusal ≡ 0 → Moved l (p .from) (p .to) m (step (standing l c) call .records)
+  pub moved : p .refusal ≡ 0 → Moved l (p .from) (p .to) (recordOf call) (step (standing l c) call .records)
 
 -- its count and refusal are the call's answer
-pub answered : (l : List Maker) (c : ℕ) (call : Call) (m : Maker) (p : Plan) → Works l c call m p
+pub answered : (l : List Maker) (c : ℕ) (call : Call) (p : Plan) → Works l c call p
     → _≡_ {A = Answer} (record { count = p .count; refusal = p .refusal }) (answerOf (standing l c) call)
 unfolding answerOf
-answered l c call m p w = λ i. record { count = w .count i; refusal = w .refusal i }
+answered l c call p w = λ i. record { count = w .count i; refusal = w .refusal i }
 
 -- the answer shows the new count, or the refusal's number
 pub shown-answer : (s : Standing) (call : Call) → shown (answerOf s call) ≡ outcomeBy (refusalOf s call) (step s call .count)
 unfolding answerOf
 shown-answer s call = refl
 
--- the refusals of records that are wrong
-wrong-refused : (s : Standing) (call : Call) → wrong s ≡ true → refusalOf s call ≡ 23
-unfolding refusalOf lowest
-wrong-refused s (Join m) e = rw e refl
-wrong-refused s (Change m) e = rw e refl
-wrong-refused s (Leave n) e = rw e refl
+-- what an accepted call's plan does
+pub record Does (l : List Maker) (c : ℕ) (call : Call) (p : Plan) : Type 0 where
+  pub refusal : p .refusal ≡ 0
+  pub count : p .count ≡ changed (standing l c) call .count
+  pub moves : Moved l (p .from) (p .to) (recordOf call) (changed (standing l c) call .records)
 
-module _ (kind : ℕ) (l : List Maker) (c n : ℕ) (m : Maker) (n-le : n ≤ length l) (n-is : c ≤ length l → n ≡ c) where
+does : (l : List Maker) (c : ℕ) (call : Call) → refusalOf (standing l c) call ≡ 0 → Does l c call (accepted call c (seenIn l (recordOf call) c))
+unfolding accepted changed recordOf
+does l c (Join m) e = record { refusal = refl; count = refl; moves = join-moves l c m (join-passes (standing l c) m e) }
+does l c (Change m) e = record { refusal = refl; count = refl; moves = change-moves l c m (change-passes (standing l c) m e) }
+does l c (Leave n) e = record { refusal = refl; count = refl; moves = leave-moves l c (left n) (leave-passes (standing l c) n e) }
+
+accepted-right : (s : Standing) (call : Call) → refusalOf s call ≡ 0 → Right s
+accepted-right s (Join m) e = join-passes s m e .right
+accepted-right s (Change m) e = change-passes s m e .right
+accepted-right s (Leave n) e = leave-passes s n e .right
+
+module _ (l : List Maker) (c : ℕ) (call : Call) where
   abbrev st : Standing
   st = standing l c
+
+  -- the records that are looked at
+  abbrev n : ℕ
+  n = min c (length l)
+
+  abbrev found-of : Seen
+  found-of = seenIn l (recordOf call) n
 
   abbrev bad : Bool
   bad = ltb (length l) c || not (soundIn l n)
 
   abbrev number : ℕ
-  number = judged kind bad (seenIn l m n .present) (leb (length l) c)
+  number = judged call bad (found-of .present) (leb (length l) c)
 
   bad-is : bad ≡ wrong st
   unfolding wrong
@@ -238,109 +246,47 @@ module _ (kind : ℕ) (l : List Maker) (c n : ℕ) (m : Maker) (n-le : n ≤ len
     where
       go : (t : Bool) → ltb (length l) c ≡ t → (t || not (soundIn l n)) ≡ (t || not (sorted (take c l) && once (take c l)))
       go true e = refl
-      go false e = let le = ltb-false (length l) c e in ap not (ap (soundIn l) (n-is le) ∙ sound-is l c le)
-
-  judged-wrong : (there full : Bool) → wrong st ≡ true → judged kind bad there full ≡ 23
-  unfolding judged
-  judged-wrong there full e = rw (bad-is ∙ e) refl
-
-  there-is : wrong st ≡ false → seenIn l m n .present ≡ present (m .number) (take c l)
-  there-is e = let le = right st e .within in ap (λ (k : ℕ). seenIn l m k .present) (n-is le) ∙ found l m c le .present
+      go false e = let le = ltb-false (length l) c e in ap not (ap (soundIn l) (min-eq-left le) ∙ sound-is l c le)
 
   -- the number is the paper's
-  join-number : kind ≡ 1 → wrong st ≡ false → number ≡ refusalOf st (Join m)
-  unfolding refusalOf
-  join-number e w =
-      ap (λ (k : ℕ). judged k bad (seenIn l m n .present) (leb (length l) c)) e
-      ∙ join-judged bad (seenIn l m n .present) (leb (length l) c)
-      ∙ ap (λ (b : Bool). lowest (cause 23 b ∷ cause 24 (seenIn l m n .present) ∷ cause 25 (leb (length l) c) ∷ [])) bad-is
-      ∙ ap (λ (b : Bool). lowest (cause 23 (wrong st) ∷ cause 24 b ∷ cause 25 (leb (length l) c) ∷ [])) (there-is w)
+  number-is : number ≡ refusalOf st call
+  number-is = ap (λ (b : Bool). judged call b (found-of .present) (leb (length l) c)) bad-is ∙ go (wrong st) refl ∙ call-judged st call
+    where
+      go : (b : Bool) → wrong st ≡ b → judged call (wrong st) (found-of .present) (leb (length l) c) ≡ judged call (wrong st) (present (recordOf call .number) (take c l)) (leb (length l) c)
+      go true e = rw e (wrong-judged call (found-of .present) (leb (length l) c) ∙ sym (wrong-judged call (present (recordOf call .number) (take c l)) (leb (length l) c)))
+      go false e =
+          let le = right st e .within in
+          ap (λ (b : Bool). judged call (wrong st) b (leb (length l) c)) (ap (λ (k : ℕ). seenIn l (recordOf call) k .present) (min-eq-left le) ∙ found l (recordOf call) c le .present)
 
-  other-number : (kind ≡ 1 → ⊥) → wrong st ≡ false → number ≡ lowest (cause 23 (wrong st) ∷ cause 24 (not (present (m .number) (take c l))) ∷ [])
-  other-number e w =
-      other-judged kind e bad (seenIn l m n .present) (leb (length l) c)
-      ∙ ap (λ (b : Bool). lowest (cause 23 b ∷ cause 24 (not (seenIn l m n .present)) ∷ [])) bad-is
-      ∙ ap (λ (b : Bool). lowest (cause 23 (wrong st) ∷ cause 24 (not b) ∷ [])) (there-is w)
+  abbrev plan : Plan
+  plan = planned call number c found-of
 
-  change-number : kind ≡ 2 → wrong st ≡ false → number ≡ refusalOf st (Change m)
-  unfolding refusalOf
-  change-number e w = other-number (λ k. omega arith) w
-
-  leave-number : (kind ≡ 1 → ⊥) → wrong st ≡ false → number ≡ refusalOf st (Leave (m .number))
-  unfolding refusalOf
-  leave-number e w = other-number e w
-
-  abbrev plan : ℕ → Plan
-  plan r = planned kind r c (seenIn l m n)
-
-  refused-works : (call : Call) (r : ℕ) → (r ≡ 0 → ⊥) → r ≡ refusalOf st call → Works l c call m (plan r)
+  refused-works : (refusalOf st call ≡ 0 → ⊥) → Works l c call plan
   unfolding planned
-  refused-works call r h e =
-      let q : step st call ≡ st = step-refused st call (λ k. h (e ∙ k)) in
-      rw (ne-eqb r 0 h) (record {
-        refusal = e;
+  refused-works h =
+      let q : step st call ≡ st = step-refused st call h in
+      rw (ne-eqb number 0 (λ k. h (sym number-is ∙ k))) (record {
+        refusal = number-is;
         count = sym (ap (λ (x : Standing). x .count) q);
         kept = λ _. sym (ap (λ (x : Standing). x .records) q);
-        moved = λ k. absurd (h k);
+        moved = λ k. absurd (h (sym number-is ∙ k));
       })
 
-  accepted-works : (call : Call) → refusalOf st call ≡ 0 → (p : Plan) → p .refusal ≡ 0 → p .count ≡ step st call .count
-      → (z : List Maker) → step st call .records ≡ z → Moved l (p .from) (p .to) m z → Works l c call m p
-  accepted-works call e p r k z q mv =
-      record {
-        refusal = r ∙ sym e;
-        count = k;
-        kept = λ h. absurd (h r);
-        moved = λ _. subst (λ (y : List Maker). Moved l (p .from) (p .to) m y) (sym q) mv;
-      }
+  accepted-works : refusalOf st call ≡ 0 → Works l c call plan
+  unfolding planned
+  accepted-works e =
+      let d : Does l c call (accepted call c found-of) = subst (λ (k : ℕ). Does l c call (accepted call c (seenIn l (recordOf call) k))) (sym (min-eq-left (accepted-right st call e .within))) (does l c call e) in
+      let q : step st call ≡ changed st call = step-accepted st call e in
+      rw (eq-eqb number 0 (number-is ∙ e)) (record {
+        refusal = d .refusal ∙ sym e;
+        count = d .count ∙ sym (ap (λ (x : Standing). x .count) q);
+        kept = λ h. absurd (h (d .refusal));
+        moved = λ _. subst (λ (y : List Maker). Moved l (accepted call c found-of .from) (accepted call c found-of .to) (recordOf call) y) (sym (ap (λ (x : Standing). x .records) q)) (d .moves);
+      })
 
-  join-works : kind ≡ 1 → JoinPasses st m → refusalOf st (Join m) ≡ 0 → Works l c (Join m) m (plan 0)
-  unfolding planned changed
-  join-works e p z =
-      let q : step st (Join m) ≡ changed st (Join m) = step-accepted st (Join m) z in
-      let mv = subst (λ (k : ℕ). Moved l c (seenIn l m k .above) m (placed m (take c l) ++ drop (c + 1) l)) (sym (n-is (p .right .within))) (join-moves l c m p) in
-      rw (eq-eqb kind 1 e) (accepted-works (Join m) z (record { from = c; to = seenIn l m n .above; count = c + 1; refusal = 0 }) refl (sym (ap (λ (x : Standing). x .count) q)) (changed st (Join m) .records) (ap (λ (x : Standing). x .records) q) mv)
-
-  change-works : kind ≡ 2 → OtherPasses st (m .number) → refusalOf st (Change m) ≡ 0 → Works l c (Change m) m (plan 0)
-  unfolding planned changed
-  change-works e p z =
-      let q : step st (Change m) ≡ changed st (Change m) = step-accepted st (Change m) z in
-      let mv = subst (λ (k : ℕ). Moved l (seenIn l m k .at) (seenIn l m k .above) m (placed m (without (m .number) (take c l)) ++ drop c l)) (sym (n-is (p .right .within))) (change-moves l c m p) in
-      rw (ne-eqb kind 1 (λ k. omega arith), eq-eqb kind 2 e) (accepted-works (Change m) z (record { from = seenIn l m n .at; to = seenIn l m n .above; count = c; refusal = 0 }) refl (sym (ap (λ (x : Standing). x .count) q)) (changed st (Change m) .records) (ap (λ (x : Standing). x .records) q) mv)
-
-  leave-works : (kind ≡ 1 → ⊥) → (kind ≡ 2 → ⊥) → m ≡ left (m .number) → OtherPasses st (m .number) → refusalOf st (Leave (m .number)) ≡ 0 → Works l c (Leave (m .number)) m (plan 0)
-  unfolding planned changed
-  leave-works e f g p z =
-      let q : step st (Leave (m .number)) ≡ changed st (Leave (m .number)) = step-accepted st (Leave (m .number)) z in
-      let mv = subst (λ (k : ℕ). Moved l (seenIn l m k .at) (c - 1) m (without (m .number) (take c l) ++ (left (m .number) ∷ drop c l))) (sym (n-is (p .right .within))) (leave-moves l c m g p) in
-      rw (ne-eqb kind 1 e, ne-eqb kind 2 f) (accepted-works (Leave (m .number)) z (record { from = seenIn l m n .at; to = c - 1; count = c - 1; refusal = 0 }) refl (sym (ap (λ (x : Standing). x .count) q)) (changed st (Leave (m .number)) .records) (ap (λ (x : Standing). x .records) q) mv)
-
-  -- by whether it is refused
-  by-number : (call : Call) (r : ℕ) → number ≡ r → number ≡ refusalOf st call → (refusalOf st call ≡ 0 → Works l c call m (plan 0)) → Works l c call m (plan number)
-  by-number call zero e f h = subst (λ (k : ℕ). Works l c call m (plan k)) (sym e) (h (sym f ∙ e))
-  by-number call (suc r) e f h = refused-works call number (λ k. omega (arith, e, k)) f
-
-  by-kind : wrong st ≡ false → ((kind ≡ 1 → ⊥) → (kind ≡ 2 → ⊥) → m ≡ left (m .number)) → (a b : Bool) → eqb kind 1 ≡ a → eqb kind 2 ≡ b → Works l c (callOf kind m) m (plan number)
-  by-kind w g true b e f =
-      let k = eqb-true kind 1 e in
-      subst (λ (call : Call). Works l c call m (plan number)) (sym (call-join kind m k)) (by-number (Join m) number refl (join-number k w) (λ z. join-works k (join-passes st m z) z))
-  by-kind w g false true e f =
-      let k = eqb-true kind 2 f in
-      subst (λ (call : Call). Works l c call m (plan number)) (sym (call-change kind m k)) (by-number (Change m) number refl (change-number k w) (λ z. change-works k (change-passes st m z) z))
-  by-kind w g false false e f =
-      let j = eqb-false kind 1 e in
-      let k = eqb-false kind 2 f in
-      subst (λ (call : Call). Works l c call m (plan number)) (sym (call-leave kind m j k)) (by-number (Leave (m .number)) number refl (leave-number j w) (λ z. leave-works j k (g j k) (leave-passes st (m .number) z) z))
-
-  by-wrong : ((kind ≡ 1 → ⊥) → (kind ≡ 2 → ⊥) → m ≡ left (m .number)) → (b : Bool) → wrong st ≡ b → Works l c (callOf kind m) m (plan number)
-  by-wrong g true w =
-      let e = judged-wrong (seenIn l m n .present) (leb (length l) c) w in
-      refused-works (callOf kind m) number (λ k. omega (arith, e, k)) (e ∙ sym (wrong-refused st (callOf kind m) w))
-  by-wrong g false w = by-kind w g (eqb kind 1) (eqb kind 2) refl refl
-
-  -- a leave names no rating
-  pub works : ((kind ≡ 1 → ⊥) → (kind ≡ 2 → ⊥) → m .rating ≡ 0) → Works l c (callOf kind m) m (plan number)
-  works g = by-wrong (λ j k. zero-rated (g j k)) (wrong st) refl
+  pub works : Works l c call plan
+  works = go (refusalOf st call) refl
     where
-      zero-rated : m .rating ≡ 0 → m ≡ left (m .number)
-      zero-rated e = λ i. record { number = m .number; rating = e i }
+      go : (r : ℕ) → refusalOf st call ≡ r → Works l c call plan
+      go zero e = accepted-works e
+      go (suc r) e = refused-works (λ k. omega (arith, e, k))

@@ -9,6 +9,7 @@ use Rattle.rules.specs.Lists.{if_then_else_, filter}
 use Rattle.rules.specs.Answers.{Outcome, outcomeBy}
 use Rattle.rules.specs.Causes.{Cause, cause, lowest}
 use Rattle.makers.specs.declared.Maker.{Maker}
+use Rattle.makers.specs.declared.Asked.{Asked}
 use Rattle.makers.specs.declared.Answer.{Answer}
 use Rattle.makers.specs.Order.{maker, above, sorted, isOf, present, once}
 
@@ -28,6 +29,16 @@ pub data Call : Type 0 where
   Join : Maker → Call
   Change : Maker → Call
   Leave : ℕ → Call
+
+abbrev pub asked : ℕ → ℕ → ℕ → Asked
+asked kind number rating = record { kind = kind; number = number; rating = rating }
+
+-- the call that three words say: 1 a join, 2 a change, any other number a leave, of which the rating says nothing
+unfoldable pub callOf : Asked → Call
+callOf a =
+    if eqb (a .kind) 1 then Join (maker (a .number) (a .rating))
+    else if eqb (a .kind) 2 then Change (maker (a .number) (a .rating))
+    else Leave (a .number)
 
 -- ---- refused
 

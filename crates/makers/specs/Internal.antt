@@ -1,16 +1,16 @@
 -- How the calls are worked: what a look through the used records finds, what is to be done, and how a record moves. A reader of the
 -- promises needs none of it.
 use Prim.Native.Nat.{ℕ, zero, suc, _+_, _-_}
-use mathlib.Core.List.{List, [], _∷_, _++_}
-use mathlib.Core.Bool.{Bool, true, false, not, _&&_, _||_}
-use lib.Dec.{eqb, leb, ltb}
-use lib.ListN.{length, take, drop, getD}
+use mathlib.Core.List.{List, _∷_, _++_}
+use mathlib.Core.Bool.{Bool, true, false, _&&_}
+use lib.Dec.{eqb, ltb}
+use lib.ListN.{take, drop, getD}
 use Rattle.rules.specs.Lists.{if_then_else_}
 use Rattle.makers.specs.declared.Maker.{Maker}
 use Rattle.makers.specs.declared.Seen.{Seen}
 use Rattle.makers.specs.declared.Plan.{Plan}
 use Rattle.makers.specs.Order.{maker, above, isOf}
-use Rattle.makers.specs.Calls.{Call, Join, Change, Leave}
+use Rattle.makers.specs.Calls.{Call, Join, Change, Leave, left}
 
 -- ---- looking
 
@@ -59,21 +59,25 @@ nearer i to = if ltb i to then i + 1 else i - 1
 
 -- ---- deciding
 
--- the call that a kind and a record say: 1 join, 2 change, any other leave
-unfoldable pub callOf : ℕ → Maker → Call
-callOf kind m = if eqb kind 1 then Join m else if eqb kind 2 then Change m else Leave (m .number)
+-- the record that an accepted call puts in its place; a leave's stands past the count
+unfoldable pub recordOf : Call → Maker
+recordOf (Join m) = m
+recordOf (Change m) = m
+recordOf (Leave n) = left n
 
 -- the number that refuses, 0 where none does, by what was found
-unfoldable pub judged : ℕ → Bool → Bool → Bool → ℕ
-judged kind bad there full =
-    if bad then 23
-    else if eqb kind 1 then (if there then 24 else if full then 25 else 0)
-    else if there then 0 else 24
+unfoldable pub judged : Call → Bool → Bool → Bool → ℕ
+judged (Join m) bad there full = if bad then 23 else if there then 24 else if full then 25 else 0
+judged (Change m) bad there full = if bad then 23 else if there then 0 else 24
+judged (Leave n) bad there full = if bad then 23 else if there then 0 else 24
 
 -- where the record is taken from and where it goes, and the new count
-unfoldable pub planned : ℕ → ℕ → ℕ → Seen → Plan
-planned kind refusal count s =
-    if not (eqb refusal 0) then record { from = 0; to = 0; count = count; refusal = refusal }
-    else if eqb kind 1 then record { from = count; to = s .above; count = count + 1; refusal = 0 }
-    else if eqb kind 2 then record { from = s .at; to = s .above; count = count; refusal = 0 }
-    else record { from = s .at; to = count - 1; count = count - 1; refusal = 0 }
+unfoldable pub accepted : Call → ℕ → Seen → Plan
+accepted (Join m) count s = record { from = count; to = s .above; count = count + 1; refusal = 0 }
+accepted (Change m) count s = record { from = s .at; to = s .above; count = count; refusal = 0 }
+accepted (Leave n) count s = record { from = s .at; to = count - 1; count = count - 1; refusal = 0 }
+
+-- refused, nothing moves
+unfoldable pub planned : Call → ℕ → ℕ → Seen → Plan
+planned call refusal count s =
+    if eqb refusal 0 then accepted call count s else record { from = 0; to = 0; count = count; refusal = refusal }

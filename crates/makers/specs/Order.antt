@@ -1,7 +1,7 @@
 -- Request W13: the order of the standing, "sorted by rating downwards, equal ratings by lower maker number, each once".
 use Prim.Native.Nat.{ℕ}
 use mathlib.Core.List.{List, [], _∷_}
-use mathlib.Core.Bool.{Bool, true, false, not, _&&_}
+use mathlib.Core.Bool.{Bool, true, not, _&&_}
 use lib.Dec.{eqb, ltb}
 use Rattle.rules.specs.Lists.{if_then_else_, any}
 use Rattle.makers.specs.declared.Maker.{Maker}

@@ -11,7 +11,7 @@ use Rattle.rules.specs.Lists.{if_then_else_}
 use Rattle.rules.specs.Causes.{Cause, cause, lowest}
 use Rattle.makers.specs.declared.Maker.{Maker}
 use Rattle.makers.specs.Order.{sorted, once}
-use Rattle.makers.specs.Calls.{Standing, standing, used, Call, Join, Change, Leave, refusalOf, after, outcomesFrom}
+use Rattle.makers.specs.Calls.{Standing, standing, used, Call, Join, Change, Leave, after, outcomesFrom}
 
 pub data Rated : Type 0 where
   absent : Rated

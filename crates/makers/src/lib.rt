@@ -1,14 +1,22 @@
 // A maker's record in the standing, and the work of join, change and leave on records by value: the order of two records, one step of a
 // look through the used ones, what a call is answered and where its record moves. The calls themselves are in `standing`.
 ghost use mathlib.Core.Path.{_≡_};
-ghost use mathlib.Core.Bool.{Bool, true, false, not, _&&_, _||_};
-ghost use Prim.Native.Nat.{ℕ, _+_, _-_, _≤_, _<_, _^_};
-ghost use lib.Dec.{eqb, leb, ltb};
+ghost use mathlib.Core.Bool.{true, false, not, _&&_, _||_};
+ghost use Prim.Native.Nat.{_+_, _≤_, _<_, _^_, min};
+ghost use lib.Dec.{leb, ltb};
 ghost use Rattle.rules.specs.Lists.{if_then_else_};
 ghost use Rattle.makers.specs.Order.{above};
-ghost use Rattle.makers.specs.Internal.{lookOf, nearer, judged, planned};
+ghost use Rattle.makers.specs.Calls.{callOf};
+ghost use Rattle.makers.specs.Internal.{lookOf, nearer, recordOf, judged, accepted, planned};
 
 pub struct Maker {
+    pub number: u32,
+    pub rating: u32,
+}
+
+// A call as three words: the kind, 1 join, 2 change, any other leave; the maker's number; the rating, which a leave does not use.
+pub struct Asked {
+    pub kind: u32,
     pub number: u32,
     pub rating: u32,
 }
@@ -37,7 +45,7 @@ pub struct Plan {
 }
 
 // The greater rating stands above, with equal ratings the lower number.
-pub fn is_above(a: Maker, b: Maker) -> bool
+fn is_above(a: Maker, b: Maker) -> bool
     ensures { λ r. ⌜ r ≡ above a b ⌝ }
 {
     if a.rating == b.rating {
@@ -84,6 +92,28 @@ pub fn both(a: bool, b: bool) -> bool
     false
 }
 
+// The record that a call puts in its place: a leave's, past the count, has no rating.
+pub fn record_of(asked: Asked) -> Maker
+    ensures { λ r. ⌜ r ≡ recordOf (callOf asked) ⌝ }
+{
+    if asked.kind == 1 {
+        return Maker {
+            number: asked.number,
+            rating: asked.rating,
+        };
+    }
+    if asked.kind == 2 {
+        return Maker {
+            number: asked.number,
+            rating: asked.rating,
+        };
+    }
+    Maker {
+        number: asked.number,
+        rating: 0,
+    }
+}
+
 // The next place on the way.
 pub fn toward(i: usize, to: usize) -> usize
     requires { ⌜ (i ≡ to → ⊥) ⌝ }
@@ -97,7 +127,7 @@ pub fn toward(i: usize, to: usize) -> usize
 
 // The records that are looked at: the used ones, where there are so many.
 pub fn lesser(a: usize, b: usize) -> usize
-    ensures { λ r. ⌜ (r ≤ a) × (r ≤ b) × ((a ≤ b) → (r ≡ a)) ⌝ }
+    ensures { λ r. ⌜ r ≡ min a b ⌝ }
 {
     if a < b {
         return a;
@@ -124,13 +154,13 @@ fn is_full(size: usize, count: usize) -> bool
 }
 
 // The lowest number that refuses, 0 where none does: `bad` is 23's cause, `there` that the maker is present, `full` 25's.
-fn judge(kind: u32, bad: bool, there: bool, full: bool) -> u32
-    ensures { λ r. ⌜ r ≡ judged kind bad there full ⌝ }
+fn judge(asked: Asked, bad: bool, there: bool, full: bool) -> u32
+    ensures { λ r. ⌜ r ≡ judged (callOf asked) bad there full ⌝ }
 {
     if bad {
         return 23;
     }
-    if kind != 1 {
+    if asked.kind != 1 {
         return judge_present(there);
     }
     if there {
@@ -152,11 +182,11 @@ fn judge_present(there: bool) -> u32
 }
 
 // Where the record moves, and the new count.
-fn moves(kind: u32, count: usize, s: Seen) -> Plan
-    requires { ⌜ ((kind ≡ 1) → (count + 1 < 2 ^ 64)) × ((kind ≡ 1 → ⊥) → (0 < count)) ⌝ }
-    ensures { λ r. ⌜ r ≡ planned kind 0 count s ⌝ }
+fn moves(asked: Asked, count: usize, s: Seen) -> Plan
+    requires { ⌜ ((asked .kind ≡ 1) → (count + 1 < 2 ^ 64)) × ((asked .kind ≡ 1 → ⊥) → (0 < count)) ⌝ }
+    ensures { λ r. ⌜ r ≡ accepted (callOf asked) count s ⌝ }
 {
-    if kind == 1 {
+    if asked.kind == 1 {
         return Plan {
             from: count,
             to: s.above,
@@ -164,7 +194,7 @@ fn moves(kind: u32, count: usize, s: Seen) -> Plan
             refusal: 0,
         };
     }
-    if kind == 2 {
+    if asked.kind == 2 {
         return Plan {
             from: s.at,
             to: s.above, // among the other makers
@@ -180,13 +210,13 @@ fn moves(kind: u32, count: usize, s: Seen) -> Plan
     }
 }
 
-// What a call of the kind does, 1 join, 2 change, any other leave, with `size` records lent.
-pub fn decide(kind: u32, size: usize, count: usize, sound: bool, s: Seen) -> Plan
+// What a call does, with `size` records lent, by whether the used ones are in order and by what is found of its maker among them.
+pub fn decide(asked: Asked, size: usize, count: usize, sound: bool, s: Seen) -> Plan
     requires { ⌜ ((s .present ≡ true) → (0 < count)) ⌝ }
-    ensures { λ r. ⌜ r ≡ planned kind (judged kind (ltb size count || not sound) (s .present) (leb size count)) count s ⌝ }
+    ensures { λ r. ⌜ r ≡ planned (callOf asked) (judged (callOf asked) (ltb size count || not sound) (s .present) (leb size count)) count s ⌝ }
 {
     let refusal = judge(
-        kind,
+        asked,
         is_wrong(size, count, sound),
         s.present,
         is_full(size, count),
@@ -199,5 +229,5 @@ pub fn decide(kind: u32, size: usize, count: usize, sound: bool, s: Seen) -> Pla
             refusal,
         };
     }
-    moves(kind, count, s)
+    moves(asked, count, s)
 }

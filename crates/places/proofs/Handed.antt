@@ -1,7 +1,7 @@
 -- The relation of a `Left` to its machine value, from those of its array and its answer: a field that is an array of records is the array
 -- of the records' values, element by element. Assumes nothing.
-use mathlib.Core.Path.{_≡_, refl, sym, ap, subst, _∙_}
-use Prim.Native.Nat.{ℕ, suc}
+use mathlib.Core.Path.{_≡_, refl, ap, _∙_}
+use Prim.Native.Nat.{suc}
 use mathlib.Core.List.{[], _∷_, List, map}
 use lib.ListN.{length}
 use mir.Syntax.{w32, w64}
@@ -9,7 +9,7 @@ use mir.Val.{Val, vint, vstruct, vnil, vcons}
 use denote.RattleType.{RattleType}
 use denote.Shadow.{shadow}
 use denote.Laws.{Is}
-use denote.Array.{Array, each, arrayVal, array-vals}
+use denote.Array.{Array, each, array-vals}
 use denote.Steps.{only}
 use denote.Struct.Laws as LL
 use Rattle.makers.specs.declared.Maker.{Maker}
@@ -20,7 +20,6 @@ use Rattle.makers.proofs.Answer as D
 use Rattle.makers.proofs.Answer.Laws as D′
 use Rattle.places.specs.declared.Left.{Left}
 use Rattle.places.proofs.Left as F
-use Rattle.places.proofs.Left.Laws as F′
 
 abbrev R : RattleType
 R = T.the-row

@@ -5,15 +5,15 @@
 use Prim.Native.Nat.{ℕ}
 use mathlib.Core.Path.{_≡_, refl, sym, ap, subst, _∙_}
 use mathlib.Core.List.{List, [], _∷_, _++_}
-use mathlib.Core.Bool.{Bool, true, false, _&&_}
+use mathlib.Core.Bool.{true}
 use lib.ListN.{length, drop}
 use Rattle.rules.specs.Lists.{if_then_else_}
 use Rattle.makers.specs.declared.Maker.{Maker}
-use Rattle.makers.specs.Calls.{Standing, standing, used, Call, Join, Change, Leave, after, outcomesFrom}
-use Rattle.makers.specs.Roll.{rollAfter, rollOutcomes, Stands, Claimed}
+use Rattle.makers.specs.Calls.{Standing, standing, used, Call, Join, Change, Leave, callOf, after, outcomesFrom}
+use Rattle.makers.specs.Roll.{rollAfter, Stands}
 use Rattle.makers.proofs.Claim.{claim}
 use Rattle.standing.specs.declared.Ran.{Ran}
-use Rattle.standing.specs.Words.{isCall, said, readable, callsOf, wordsOf, scriptOf}
+use Rattle.standing.specs.Words.{isCall, readable, callsOf, wordsOf, scriptOf}
 use Rattle.standing.specs.Claim.{ListAnswers, Afresh}
 
 pub afresh : (ws : List ℕ) (lent : List Maker) (before : List ℕ) (l : List Maker) (behind : List ℕ) (r : Ran)
@@ -41,7 +41,7 @@ front-readable (Change m) ws = refl
 front-readable (Leave n) ws = refl
 
 front-call : (call : Call) (ws : List ℕ) → callsOf (wordsOf call ++ ws) ≡ call ∷ callsOf ws
-unfolding callsOf wordsOf isCall said
+unfolding callsOf wordsOf isCall callOf
 front-call (Join m) ws = refl
 front-call (Change m) ws = refl
 front-call (Leave n) ws = refl

@@ -1,20 +1,18 @@
 -- A list of words, three at a time: what is read from the front of it, and from a place on. Assumes nothing.
-use Prim.Native.Nat.{ℕ, zero, suc, _+_, _-_, _*_, _≤_, _<_}
+use Prim.Native.Nat.{ℕ, _+_, _-_, _*_, _≤_, _<_}
 use native.Mathlib.Omega.{arith}
-use native.Mathlib.Numerals.{add-one}
 use mathlib.Core.Path.{_≡_, refl, sym, ap, subst, _∙_}
-use mathlib.Core.List.{List, [], _∷_, _++_}
-use mathlib.Core.Bool.{Bool, true, false, true≢false, _&&_}
-use lib.Dec.{eqb, leb}
-use lib.ListN.{length, getD, take, drop, length-drop, length-append}
+use mathlib.Core.List.{List, [], _∷_}
+use mathlib.Core.Bool.{Bool, true, false, _&&_}
+use lib.Dec.{eqb}
+use lib.ListN.{length, getD, drop, length-drop}
 use lib.Seq.{getD-drop, drop-drop}
 use borrow.Author.Tests.{eq-eqb, ne-eqb, eqb-true, eqb-false, le-leb, lt-leb}
 use Rattle.rules.specs.Lists.{if_then_else_}
-use Rattle.rules.proofs.Lists.{both}
-use Rattle.makers.specs.Calls.{Call, Leave}
+use Rattle.makers.specs.Calls.{Call, asked, callOf}
 use Rattle.standing.specs.declared.Measured.{Measured}
-use Rattle.standing.specs.declared.Ready.{Ready}
-use Rattle.standing.specs.Words.{isCall, said, readable, callsOf, measured, canRun, readyOf}
+use Rattle.standing.specs.Words.{isCall, readable, callsOf}
+use Rattle.standing.specs.Internal.{measured, canRun, readyOf}
 
 -- ---- the front
 
@@ -26,7 +24,7 @@ front-readable (a ∷ b ∷ []) h = absurd (omega arith)
 front-readable (a ∷ b ∷ c ∷ rest) h = refl
 
 front-calls : (ws : List ℕ) → 3 ≤ length ws
-    → callsOf ws ≡ (if isCall (getD ws 0 0) (getD ws 2 0) then said (getD ws 0 0) (getD ws 1 0) (getD ws 2 0) ∷ callsOf (drop 3 ws) else [])
+    → callsOf ws ≡ (if isCall (getD ws 0 0) (getD ws 2 0) then callOf (asked (getD ws 0 0) (getD ws 1 0) (getD ws 2 0)) ∷ callsOf (drop 3 ws) else [])
 unfolding callsOf
 front-calls [] h = absurd (omega arith)
 front-calls (a ∷ []) h = absurd (omega arith)
@@ -95,7 +93,7 @@ module _ (ws : List ℕ) (calls at : ℕ) (u : Upto ws calls at) where
   calls-are : at + 3 ≤ length ws → length (callsOf (drop at ws)) ≡ (if test then 1 + length (callsOf (drop (at + 3) ws)) else 0)
   calls-are h =
       ap length (front-calls (drop at ws) (long-rest h))
-      ∙ calls-length (isCall (getD (drop at ws) 0 0) (getD (drop at ws) 2 0)) (said (getD (drop at ws) 0 0) (getD (drop at ws) 1 0) (getD (drop at ws) 2 0)) (callsOf (drop 3 (drop at ws)))
+      ∙ calls-length (isCall (getD (drop at ws) 0 0) (getD (drop at ws) 2 0)) (callOf (asked (getD (drop at ws) 0 0) (getD (drop at ws) 1 0) (getD (drop at ws) 2 0))) (callsOf (drop 3 (drop at ws)))
       ∙ rw (test-is, behind ws at) refl
 
   pub upto-next : at + 3 ≤ length ws → test ≡ true → Upto ws (calls + 1) (at + 3)

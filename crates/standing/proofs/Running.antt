@@ -4,36 +4,20 @@ use native.Mathlib.Omega.{arith}
 use native.Mathlib.Numerals.{add-one}
 use mathlib.Core.Path.{_≡_, refl, sym, ap, subst, _∙_}
 use mathlib.Core.List.{List, [], _∷_, _++_, append-assoc}
-use mathlib.Core.Bool.{Bool, true, false, true≢false, _&&_, _||_}
-use lib.Dec.{eqb, leb}
-use lib.ListN.{length, getD, take, drop, set, length-append, length-drop, length-take}
-use lib.Seq.{take-suc, drop-cons, set-at, take-length, take-all, length-take-le}
-use borrow.Author.Tests.{eq-eqb, ne-eqb, eqb-true, leb-true}
+use mathlib.Core.Bool.{Bool, true, false}
+use lib.Dec.{leb}
+use lib.ListN.{length, getD, take, drop, set, length-append, length-drop}
+use lib.Seq.{take-suc, drop-cons, set-at, take-length, length-take-le}
+use borrow.Author.Tests.{leb-true}
 use Rattle.rules.specs.Lists.{if_then_else_}
 use Rattle.rules.proofs.Lists.{both}
-use Rattle.makers.specs.declared.Maker.{Maker}
-use Rattle.makers.specs.declared.Answer.{Answer}
-use Rattle.makers.specs.Order.{maker}
-use Rattle.makers.specs.Calls.{Standing, standing, Call, Leave, refusalOf, step, answerOf, after, outcomesFrom}
-use Rattle.makers.specs.Internal.{callOf}
-use Rattle.standing.specs.declared.Asked.{Asked}
-use Rattle.standing.specs.declared.Ran.{Ran}
+use Rattle.makers.specs.Calls.{Standing, Call, Leave, asked, callOf, refusalOf, step, after, outcomesFrom}
 use Rattle.standing.specs.declared.Ready.{Ready}
-use Rattle.standing.specs.Words.{isCall, said, readable, callsOf, askedAt, canRun, readyOf}
+use Rattle.standing.specs.Words.{isCall, readable, callsOf}
+use Rattle.standing.specs.Internal.{askedAt, canRun, readyOf}
 use Rattle.standing.specs.Claim.{ListAnswers}
 
 -- ---- the call at a place
-
-said-is : (kind number rating : ℕ) → callOf kind (maker number rating) ≡ said kind number rating
-unfolding callOf said
-said-is kind number rating = refl
-
--- a leave names no rating
-leave-blank : (kind rating : ℕ) → isCall kind rating ≡ true → (kind ≡ 1 → ⊥) → (kind ≡ 2 → ⊥) → rating ≡ 0
-unfolding isCall
-leave-blank kind rating e f g =
-    let p : eqb kind 3 && eqb rating 0 ≡ true = simp (ne-eqb kind 1 f, ne-eqb kind 2 g) at e in
-    eqb-true rating 0 (both (eqb kind 3) (eqb rating 0) p .1)
 
 abbrev none : Call
 none = Leave 0
@@ -41,7 +25,7 @@ none = Leave 0
 -- the three words of the call at the place k
 pub record Here (ws : List ℕ) (k : ℕ) : Type 0 where
   pub there : 3 * k + 2 < length ws
-  pub call : said (getD ws (3 * k) 0) (getD ws (3 * k + 1) 0) (getD ws (3 * k + 2) 0) ≡ getD (callsOf ws) k none
+  pub call : callOf (askedAt ws k) ≡ getD (callsOf ws) k none
   pub good : isCall (getD ws (3 * k) 0) (getD ws (3 * k + 2) 0) ≡ true
 
 -- behind one call more
@@ -71,7 +55,7 @@ here (a ∷ b ∷ c ∷ rest) (suc k) e h =
     further a b c rest k (p .0) (here rest k (p .1) (less (p .0)))
   where
     less : isCall a c ≡ true → k < length (callsOf rest)
-    less p = let l : suc k < suc (length (callsOf rest)) = subst (λ (t : Bool). suc k < length (if t then said a b c ∷ callsOf rest else [])) p h in omega arith
+    less p = let l : suc k < suc (length (callsOf rest)) = subst (λ (t : Bool). suc k < length (if t then callOf (asked a b c) ∷ callsOf rest else [])) p h in omega arith
 
 -- ---- one call more
 
@@ -150,25 +134,14 @@ module _ (ws : List ℕ) (s : Standing) (before : List ℕ) where
     there : Here ws k
     there = let e = runs-on k h in here ws k (parts e .0) (subst (λ (l : List Call). k < length l) (running-is e) h)
 
-    abbrev asked : Asked
-    asked = askedAt ws k
-
-    abbrev record-of : Maker
-    record-of = maker (asked .number) (asked .rating)
-
     abbrev call : Call
-    call = callOf (asked .kind) record-of
+    call = callOf (askedAt ws k)
 
     pub inside : 3 * k + 2 < length ws
     inside = there .there
 
-    pub blank : (asked .kind ≡ 1 → ⊥) → (asked .kind ≡ 2 → ⊥) → record-of .rating ≡ 0
-    blank = leave-blank (asked .kind) (asked .rating) (there .good)
-
     call-is : call ≡ getD running k none
-    call-is =
-        said-is (asked .kind) (asked .number) (asked .rating) ∙ there .call
-        ∙ sym (ap (λ (l : List Call). getD l k none) (running-is (runs-on k h)))
+    call-is = there .call ∙ sym (ap (λ (l : List Call). getD l k none) (running-is (runs-on k h)))
 
     upto-next : upto (k + 1) ≡ upto k ++ (call ∷ [])
     upto-next = ap upto (add-one k) ∙ take-suc running k none h ∙ ap (λ (c : Call). upto k ++ (c ∷ [])) (sym call-is)

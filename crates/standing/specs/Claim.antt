@@ -2,13 +2,13 @@
 use Prim.Native.Nat.{ℕ}
 use mathlib.Core.Path.{_≡_}
 use mathlib.Core.List.{List, [], _++_, List·Memᴰ}
-use mathlib.Core.Bool.{Bool, true, _&&_}
+use mathlib.Core.Bool.{true, _&&_}
 use lib.Dec.{leb}
 use lib.ListN.{length, drop}
 use Rattle.rules.specs.Lists.{if_then_else_}
 use Rattle.makers.specs.declared.Maker.{Maker}
 use Rattle.makers.specs.Order.{sorted}
-use Rattle.makers.specs.Calls.{Standing, standing, used, Call, after, outcomesFrom}
+use Rattle.makers.specs.Calls.{Standing, standing, used, after, outcomesFrom}
 use Rattle.makers.specs.Roll.{rated, rollAfter, rollOutcomes, Stands}
 use Rattle.standing.specs.declared.Ran.{Ran}
 use Rattle.standing.specs.Words.{readable, callsOf}

@@ -1,15 +1,15 @@
 // The standing of makers in a lent list of records with a count of those used: join, change and leave. Every function here that takes
 // the records is proved by a walk of its code, by hand; the work on records by value is in `makers`.
 ghost use mathlib.Core.Path.{_≡_};
-ghost use mathlib.Core.Bool.{Bool, true, _&&_};
-ghost use Prim.Native.Nat.{ℕ, _+_, _*_, _≤_, _<_};
-ghost use lib.Dec.{leb};
+ghost use Prim.Native.Nat.{_+_, _*_, _≤_, _<_};
 ghost use lib.ListN.{length, set};
-ghost use Rattle.makers.specs.Calls.{Join, Change, Leave, standing, step, answerOf};
-ghost use Rattle.makers.specs.Internal.{seenIn, soundIn, shifted, callOf};
-ghost use Rattle.standing.specs.Words.{isCall, measured, askedAt, readyOf};
+ghost use Rattle.makers.specs.Calls.{Join, Change, Leave, callOf, standing, step, answerOf};
+ghost use Rattle.makers.specs.Internal.{seenIn, soundIn, shifted};
+ghost use Rattle.standing.specs.Words.{isCall};
 ghost use Rattle.standing.specs.Claim.{ListAnswers};
+ghost use Rattle.standing.specs.Internal.{measured, askedAt, readyOf};
 use makers::Answer;
+use makers::Asked;
 use makers::Maker;
 use makers::Seen;
 
@@ -29,13 +29,6 @@ pub struct Ran {
 struct Ready {
     calls: usize,
     fits: bool,
-}
-
-// The three words of a call.
-struct Asked {
-    kind: u32,
-    number: u32,
-    rating: u32,
 }
 
 // What is found of `m` among the first records. The list is lent as one that may change, and is left as it was: so a caller lends its
@@ -90,17 +83,17 @@ fn sound(list: &mut [Maker], count: usize) -> bool
     good
 }
 
-// One call of a kind, 1 join, 2 change, any other leave: the used records are looked through, the answer and the move are decided, and
-// where it is not refused the record moves.
-fn apply(list: &mut [Maker], count: usize, kind: u32, m: Maker) -> Answer
-    requires { ⌜ ((kind ≡ 1 → ⊥) → (kind ≡ 2 → ⊥) → m .rating ≡ 0) ⌝ }
-    ensures { λ r. ⌜ (r ≡ answerOf (standing (now (list .entry)) count) (callOf kind m)) × (now (list .exit) ≡ step (standing (now (list .entry)) count) (callOf kind m) .records) ⌝ }
+// Any call, as three words: the used records are looked through, the answer and the move are decided, and where it is not refused the
+// record moves. `works` of `makers` says that this is what the call is to do.
+pub fn apply(list: &mut [Maker], count: usize, asked: Asked) -> Answer
+    ensures { λ r. ⌜ (r ≡ answerOf (standing (now (list .entry)) count) (callOf asked)) × (now (list .exit) ≡ step (standing (now (list .entry)) count) (callOf asked) .records) ⌝ }
 {
     let size = list.len();
     let n = makers::lesser(count, size);
+    let m = makers::record_of(asked);
     let good = sound(&mut *list, n);
     let seen = scan(&mut *list, n, m);
-    let p = makers::decide(kind, size, count, good, seen);
+    let p = makers::decide(asked, size, count, good, seen);
     if p.refusal != 0 {
         return Answer {
             count: p.count,
@@ -116,26 +109,40 @@ fn apply(list: &mut [Maker], count: usize, kind: u32, m: Maker) -> Answer
     }
 }
 
-// A maker joins with a rating.
+// A maker joins with a rating. This, `change` and `leave` are `apply` at one kind: one walk proves all three (`proofs/Thin.antt`).
 pub fn join(list: &mut [Maker], count: usize, m: Maker) -> Answer
     ensures { λ r. ⌜ (r ≡ answerOf (standing (now (list .entry)) count) (Join m)) × (now (list .exit) ≡ step (standing (now (list .entry)) count) (Join m) .records) ⌝ }
 {
-    apply(&mut *list, count, 1, m)
+    let asked = Asked {
+        kind: 1,
+        number: m.number,
+        rating: m.rating,
+    };
+    apply(&mut *list, count, asked)
 }
 
 // A maker's rating becomes another.
 pub fn change(list: &mut [Maker], count: usize, m: Maker) -> Answer
     ensures { λ r. ⌜ (r ≡ answerOf (standing (now (list .entry)) count) (Change m)) × (now (list .exit) ≡ step (standing (now (list .entry)) count) (Change m) .records) ⌝ }
 {
-    apply(&mut *list, count, 2, m)
+    let asked = Asked {
+        kind: 2,
+        number: m.number,
+        rating: m.rating,
+    };
+    apply(&mut *list, count, asked)
 }
 
 // A maker leaves.
 pub fn leave(list: &mut [Maker], count: usize, number: u32) -> Answer
     ensures { λ r. ⌜ (r ≡ answerOf (standing (now (list .entry)) count) (Leave number)) × (now (list .exit) ≡ step (standing (now (list .entry)) count) (Leave number) .records) ⌝ }
 {
-    let m = Maker { number, rating: 0 };
-    apply(&mut *list, count, 3, m)
+    let asked = Asked {
+        kind: 3,
+        number,
+        rating: 0,
+    };
+    apply(&mut *list, count, asked)
 }
 
 // ---- a list of calls, as words
@@ -230,11 +237,7 @@ pub fn run(list: &mut [Maker], count: usize, words: &[u32], outcomes: &mut [u32]
     let mut k = 0;
     while k < calls {
         let asked = call_at(words, k);
-        let m = Maker {
-            number: asked.number,
-            rating: asked.rating,
-        };
-        let answer = apply(&mut *list, c, asked.kind, m);
+        let answer = apply(&mut *list, c, asked);
         note(&mut *outcomes, k, answer.refusal);
         c = answer.count;
         k += 1;

@@ -1,15 +1,16 @@
--- `makers::decide` meets its contract. Assumes nothing.
+-- `makers::decide` meets its contract: refused, nothing moves; accepted, the plan is `moves`', which asks for room as `room` gives it.
+-- Assumes nothing.
 use Prim.Native.Nat.{ℕ, _+_, _<_, _^_}
 use native.Mathlib.Omega.{arith}
-use mathlib.Core.Path.{_≡_, sym, subst, _∙_, ap}
-use mathlib.Core.Bool.{Bool, true, false, not, _||_}
+use mathlib.Core.Path.{_≡_, refl, sym, _∙_}
+use mathlib.Core.Bool.{Bool, true, not, _||_}
 use lib.Dec.{ltb, leb}
 use borrow.Author.Needs.{needs}
-use borrow.Author.Tests.{leb-false}
-use Rattle.makers.specs.declared.Seen.{Seen}
-use Rattle.makers.specs.declared.Plan.{Plan}
+use borrow.Author.Tests.{leb-false, eq-eqb, ne-eqb}
+use Rattle.makers.specs.declared.Asked.{Asked}
+use Rattle.makers.specs.Calls.{callOf}
 use Rattle.makers.specs.Internal.{judged, planned}
-use Rattle.makers.proofs.Deciding.{join-passes, other-passes, refused-plan}
+use Rattle.makers.proofs.Deciding.{join-room, other-there}
 use Rattle.makers.proofs.decide.Statement.{statement}
 use Rattle.makers.proofs.decide.Tie as tie
 
@@ -22,36 +23,38 @@ is-full-requires c κs = search needs
 judge-requires : tie.Need-judge-requires
 judge-requires c κs = search needs
 
-same-refusal : (kind r : ℕ) (w w′ there f f′ : Bool) → r ≡ judged kind w there f → w ≡ w′ → f ≡ f′ → r ≡ judged kind w′ there f′
-same-refusal kind r w w′ there f f′ e p q = cc
+same-refusal : (a : Asked) (r : ℕ) (w w′ there f f′ : Bool) → r ≡ judged (callOf a) w there f → w ≡ w′ → f ≡ f′ → r ≡ judged (callOf a) w′ there f′
+same-refusal a r w w′ there f f′ e p q = cc
 
 returns : tie.Need-returns
+unfolding planned
 returns c =
     let a = c .before .before .before .before .args in
-    let r = same-refusal (a .kind) (c .before .judge .result) _ (ltb (a .size) (a .count) || not (a .sound)) (a .s .present) _ (leb (a .size) (a .count)) (c .before .judge .ensures) (c .before .before .before .is-wrong .ensures) (c .before .before .is-full .ensures) in
-    refused-plan (a .kind) (c .before .judge .result) (a .count) (a .s) (c .if1 .taken) ∙ ap (λ (n : ℕ). planned (a .kind) n (a .count) (a .s)) r
+    let r = same-refusal (a .asked) (c .before .judge .result) _ (ltb (a .size) (a .count) || not (a .sound)) (a .s .present) _ (leb (a .size) (a .count)) (c .before .judge .ensures) (c .before .before .before .is-wrong .ensures) (c .before .before .is-full .ensures) in
+    rw (sym r, ne-eqb _ _ (c .if1 .taken)) refl
 
 -- what `moves` requires of a call that passes
-room : (kind size count : ℕ) (bad there : Bool) → size < 2 ^ 64 → ((there ≡ true) → (0 < count)) → judged kind bad there (leb size count) ≡ 0
-    → ((kind ≡ 1) → (count + 1 < 2 ^ 64)) × ((kind ≡ 1 → ⊥) → (0 < count))
-room kind size count bad there fits held e = (
+room : (a : Asked) (size count : ℕ) (bad there : Bool) → size < 2 ^ 64 → ((there ≡ true) → (0 < count)) → judged (callOf a) bad there (leb size count) ≡ 0
+    → ((a .kind ≡ 1) → (count + 1 < 2 ^ 64)) × ((a .kind ≡ 1 → ⊥) → (0 < count))
+room a size count bad there fits held e = (
   λ one. let f : size < 2 ^ 64 = fits in
-      let k = leb-false size count (join-passes bad there (leb size count) (subst (λ (k : ℕ). judged k bad there (leb size count) ≡ 0) one e) .2) in
+      let k = leb-false size count (join-room a one bad there (leb size count) e) in
       omega (arith, k, f),
-  λ other. held (other-passes kind other bad there (leb size count) e .1),
+  λ other. held (other-there a other bad there (leb size count) e),
 )
 
 moves-requires : tie.Need-moves-requires
 moves-requires c κs =
     let a = c .before .before .before .before .args in
-    let r = same-refusal (a .kind) (c .before .judge .result) _ (ltb (a .size) (a .count) || not (a .sound)) (a .s .present) _ (leb (a .size) (a .count)) (c .before .judge .ensures) (c .before .before .before .is-wrong .ensures) (c .before .before .is-full .ensures) in
-    room (a .kind) (a .size) (a .count) _ (a .s .present) (c .before .before .before .before .fits .size .fits) (c .before .before .before .before .pre) (sym r ∙ c .if1 .left)
+    let r = same-refusal (a .asked) (c .before .judge .result) _ (ltb (a .size) (a .count) || not (a .sound)) (a .s .present) _ (leb (a .size) (a .count)) (c .before .judge .ensures) (c .before .before .before .is-wrong .ensures) (c .before .before .is-full .ensures) in
+    room (a .asked) (a .size) (a .count) _ (a .s .present) (c .before .before .before .before .fits .size .fits) (c .before .before .before .before .pre) (sym r ∙ c .if1 .left)
 
 returns-2 : tie.Need-returns-2
+unfolding planned
 returns-2 c =
     let a = c .before .before .before .before .before .args in
-    let r = same-refusal (a .kind) (c .before .before .judge .result) _ (ltb (a .size) (a .count) || not (a .sound)) (a .s .present) _ (leb (a .size) (a .count)) (c .before .before .judge .ensures) (c .before .before .before .before .is-wrong .ensures) (c .before .before .before .is-full .ensures) in
-    c .moves .ensures ∙ ap (λ (n : ℕ). planned (a .kind) n (a .count) (a .s)) (sym (c .before .if1 .left) ∙ r)
+    let r = same-refusal (a .asked) (c .before .before .judge .result) _ (ltb (a .size) (a .count) || not (a .sound)) (a .s .present) _ (leb (a .size) (a .count)) (c .before .before .judge .ensures) (c .before .before .before .before .is-wrong .ensures) (c .before .before .before .is-full .ensures) in
+    c .moves .ensures ∙ rw (eq-eqb _ 0 (sym r ∙ c .before .if1 .left)) refl
 
 pub decide-spec : {M : Type 1} → statement M
 decide-spec =

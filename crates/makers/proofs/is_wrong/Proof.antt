@@ -1,6 +1,5 @@
--- `makers::is_wrong` meets its contract. Assumes nothing.
+-- `makers::is_wrong` meets its contract: by whether the count is above the records lent. Assumes nothing.
 use borrow.Author.Tests.{lt-ltb, le-ltb}
-use native.Mathlib.Omega.{arith}
 use Rattle.makers.proofs.is_wrong.Statement.{statement}
 use Rattle.makers.proofs.is_wrong.Tie as tie
 

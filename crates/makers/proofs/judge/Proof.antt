@@ -1,32 +1,35 @@
--- `makers::judge` meets its contract. Assumes nothing.
+-- `makers::judge` meets its contract: a join by the definition of its tests, a change and a leave by `other-passing`. Assumes nothing.
+use mathlib.Core.Path.{sym, _∙_}
 use borrow.Author.Needs.{needs}
-use borrow.Author.Tests.{eq-eqb, ne-eqb}
+use borrow.Author.Tests.{eq-eqb}
+use Rattle.makers.specs.Calls.{callOf}
 use Rattle.makers.specs.Internal.{judged}
+use Rattle.makers.proofs.Deciding.{wrong-judged, other-passing}
 use Rattle.makers.proofs.judge.Statement.{statement}
 use Rattle.makers.proofs.judge.Tie as tie
 
 returns : tie.Need-returns
-unfolding judged
-returns c = simp (c .if1 .taken)
+returns c = rw (c .if1 .taken) (sym (wrong-judged _ _ _))
 
 judge-present-requires : tie.Need-judge-present-requires
 judge-present-requires c κs = search needs
 
 returns-2 : tie.Need-returns-2
-unfolding judged
-returns-2 c = simp (c .before .before .if1 .left, ne-eqb _ _ (c .before .if2 .taken), c .judge-present .ensures)
+returns-2 c =
+    let a = c .before .before .before .before .args in
+    c .judge-present .ensures ∙ sym (other-passing (a .asked) (c .before .if2 .taken) (a .bad) (a .there) (a .full) (c .before .before .before .if1 .left))
 
 returns-3 : tie.Need-returns-3
-unfolding judged
-returns-3 c = simp (c .before .before .if1 .left, eq-eqb _ _ (c .before .if2 .left), c .if3 .taken)
+unfolding callOf judged
+returns-3 c = simp (c .before .before .before .if1 .left, eq-eqb _ _ (c .before .if2 .left), c .if3 .taken)
 
 returns-4 : tie.Need-returns-4
-unfolding judged
-returns-4 c = simp (c .before .before .before .if1 .left, eq-eqb _ _ (c .before .before .if2 .left), c .before .if3 .left, c .if4 .taken)
+unfolding callOf judged
+returns-4 c = simp (c .before .before .before .before .if1 .left, eq-eqb _ _ (c .before .before .if2 .left), c .before .if3 .left, c .if4 .taken)
 
 returns-5 : tie.Need-returns-5
-unfolding judged
-returns-5 c = simp (c .before .before .before .if1 .left, eq-eqb _ _ (c .before .before .if2 .left), c .before .if3 .left, c .if4 .left)
+unfolding callOf judged
+returns-5 c = simp (c .before .before .before .before .if1 .left, eq-eqb _ _ (c .before .before .if2 .left), c .before .if3 .left, c .if4 .left)
 
 pub judge-spec : {M : Type 1} → statement M
 judge-spec =

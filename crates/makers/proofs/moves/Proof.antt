@@ -1,30 +1,31 @@
--- `makers::moves` meets its contract. Assumes nothing.
+-- `makers::moves` meets its contract: by its kind the call is the one whose plan it hands back. Assumes nothing.
 use native.Mathlib.Omega.{arith}
 use borrow.Author.Tests.{eq-eqb, ne-eqb}
-use Rattle.makers.specs.Internal.{planned}
+use Rattle.makers.specs.Calls.{callOf}
+use Rattle.makers.specs.Internal.{accepted}
 use Rattle.makers.proofs.moves.Statement.{statement}
 use Rattle.makers.proofs.moves.Tie as tie
 
 add-t5 : tie.Need-add-t5
-add-t5 c = omega (arith, c .before .pre .0 (c .if1 .taken))
+add-t5 c = omega (arith, c .before .before .pre .0 (c .if1 .taken))
 
 returns : tie.Need-returns
-unfolding planned
+unfolding callOf accepted
 returns c = simp (eq-eqb _ _ (c .if1 .taken))
 
 returns-2 : tie.Need-returns-2
-unfolding planned
-returns-2 c = simp (ne-eqb _ _ (c .before .if1 .left), eq-eqb _ _ (c .if2 .taken))
+unfolding callOf accepted
+returns-2 c = simp (ne-eqb _ _ (c .before .before .if1 .left), eq-eqb _ _ (c .if2 .taken))
 
 sub-t6 : tie.Need-sub-t6
-sub-t6 c = omega (arith, c .before .before .pre .1 (c .before .if1 .left))
+sub-t6 c = omega (arith, c .before .before .before .before .pre .1 (c .before .before .if1 .left))
 
 sub-t7 : tie.Need-sub-t7
-sub-t7 c = omega (arith, c .before .before .pre .1 (c .before .if1 .left))
+sub-t7 c = omega (arith, c .before .before .before .before .pre .1 (c .before .before .if1 .left))
 
 returns-3 : tie.Need-returns-3
-unfolding planned
-returns-3 c = simp (ne-eqb _ _ (c .before .if1 .left), ne-eqb _ _ (c .if2 .left))
+unfolding callOf accepted
+returns-3 c = simp (ne-eqb _ _ (c .before .before .if1 .left), ne-eqb _ _ (c .if2 .left))
 
 pub moves-spec : {M : Type 1} → statement M
 moves-spec = tie.close (tie.spec add-t5 returns returns-2 sub-t6 sub-t7 returns-3)

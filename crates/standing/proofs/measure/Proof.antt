@@ -1,7 +1,6 @@
--- `standing::measure` meets its contract. The loop's invariant: so many calls came before the place, and what is left decides the rest.
--- Assumes nothing.
+-- `standing::measure` meets its contract. The loop's invariant is `Upto` (`Reading.antt`): so many calls came before the place, and what
+-- is left decides the rest. `upto-next` goes on by a call, `upto-bad` and `upto-end` are the two ends. Assumes nothing.
 use Prim.Native.Nat.{_-_}
-use native.Mathlib.Omega.{arith}
 use borrow.Author.Needs.{needs}
 use mathlib.Core.Path.{sym, _∙_}
 use lib.ListN.{length}
@@ -9,9 +8,6 @@ use borrow.Author.Tests.{not-true, not-false}
 use Rattle.standing.proofs.Reading.{Upto, upto-start, upto-next, upto-bad, upto-end}
 use Rattle.standing.proofs.measure.Statement.{statement}
 use Rattle.standing.proofs.measure.Tie as tie
-use Rattle.standing.proofs.measure.Reads as reads
-use Rattle.standing.proofs.measure.Lts as lts
-use Rattle.standing.proofs.is_call.Reads as is-call-reads
 
 abbrev Inv-loop : tie.InvT-loop
 Inv-loop words calls₀ at₀ calls at = Upto words calls at

@@ -1,7 +1,7 @@
 -- `standing::sound` meets its contract: a walk of its MIR, by hand, with a loop. A turn opens the borrow, reads one record, closes it, lends the slice again to `scan`, for a lifetime of the call, and takes it back (`Again.antt`).
 -- All that the proof knows of `scan` and of `makers::both` is that they meet their contracts.
 -- Assumes nothing.
-use mathlib.Core.Path.{_≡_, refl, sym, ap, subst, _∙_}
+use mathlib.Core.Path.{_≡_, refl, sym, ap, _∙_}
 use Prim.Native.Nat.{ℕ, _<_, _≤_, _^_, _*_, _-_, _+_, zero-le}
 use native.Mathlib.Omega.{arith}
 use native.Mathlib.Numerals.{add-one}
@@ -38,7 +38,7 @@ use denote.Plain.{uint-vals, uint-tells, uint-makes, bool-tells, bool-makes, boo
 use denote.Builtin.{bool, usize}
 use denote.Ref.{RefT}
 use denote.Slice.{sliceTy, sliceVal, MutSlice, Room, at-slice, slice-vals, mut-slice-tells}
-use denote.Index.{row, place, place-is, elem-out, elem-back, opens-slice, closes-slice}
+use denote.Index.{place, place-is, elem-out, elem-back, opens-slice, closes-slice}
 use denote.Steps.{only, peeks, heard, owned, nothing}
 use denote.Struct.Laws as LL
 use denote.Triple.Entry.{onEntry}
