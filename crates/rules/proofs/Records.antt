@@ -63,7 +63,7 @@ unfolding unsignedOf
 by-half w true h = refl
 by-half w false h = omega arith
 
-unsigned-signed : (w : ℕ) → Word w → unsignedOf (signedOf w) ≡ w
+pub unsigned-signed : (w : ℕ) → Word w → unsignedOf (signedOf w) ≡ w
 unfolding signedOf
 unsigned-signed w h = by-half w (ltb w 2147483648) h
 
