@@ -3,16 +3,16 @@ use Prim.Native.Nat.{ℕ, _*_, _%_, _≤_, _<_}
 use native.Mathlib.Omega.{arith}
 use native.Mathlib.Nat.{mul-le-mul}
 use mathlib.Core.Path.{_≡_, refl, sym, ap, _∙_}
-use mathlib.Core.List.{List, [], _∷_, map}
+use mathlib.Core.List.{List, [], _∷_}
 use mathlib.Core.Bool.{Bool, true, false, true≢false, not, _&&_, and-true, and-false}
 use borrow.Author.Tests.{le-leb, lt-leb, not-true, not-false}
 use lib.Dec.{leb, ltb, eqb}
 use lib.ListN.{length, getD}
-use Rattle.rules.specs.Lists.{within, sum}
+use Rattle.rules.specs.Lists.{within}
 use Rattle.rules.specs.Rows.{goodLength}
 use Rattle.rules.specs.Answers.{Outcome, accepted, refused}
 use Rattle.rules.specs.Causes.{lowest}
-use Rattle.rules.specs.Boards.{keptOf, lengthIn, boardLength, goodQuantumOf, goodBoard, reaches, boardMet, judged}
+use Rattle.rules.specs.Boards.{lengthIn, boardLength, goodQuantumOf, goodBoard, boardMet, judged}
 use Rattle.rules.proofs.Lists.{both}
 use Rattle.rules.proofs.Refusals.{within-parts}
 use Rattle.rules.proofs.Answers.{not-refused}

@@ -100,12 +100,6 @@ fn do_reach(strikes: &[[u32; 2]], first: u32, l: u32) -> bool
     met
 }
 
-fn wide(n: u32) -> u64
-    ensures { λ r. ⌜ (r ≡ n) × (r < 4294967296) ⌝ }
-{
-    n as u64
-}
-
 // The sum of K.
 fn kept_sum(strikes: &[[u32; 2]]) -> u64
     requires { ⌜ length (now strikes) ≤ 32 ⌝ }
@@ -113,7 +107,7 @@ fn kept_sum(strikes: &[[u32; 2]]) -> u64
 {
     let mut total: u64 = 0;
     for i in 0..strikes.len() {
-        total += wide(kept_at(strikes, i));
+        total += numbers::wide(kept_at(strikes, i));
     }
     total
 }

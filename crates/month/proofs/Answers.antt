@@ -2,7 +2,7 @@
 -- nothing.
 use Prim.Native.Nat.{ℕ, suc}
 use mathlib.Core.Path.{_≡_, ap, sym, _∙_, subst₂}
-use mathlib.Core.List.{List, [], _∷_, _++_}
+use mathlib.Core.List.{List}
 use Rattle.rules.specs.declared.Answer.{Answer}
 use Rattle.rules.specs.Terms.{paper}
 use Rattle.rules.specs.Answers.{Outcome, accepted, refused, outcomeBy, Reply, done, shownAnswer}
@@ -17,7 +17,7 @@ use Rattle.rules.proofs.Refusals.{step-accepted, step-refused, answer-accepted,
 use Rattle.rules.proofs.Bounds.{bounds, after-snoc}
 use Rattle.month.specs.declared.Month.{Month}
 use Rattle.month.specs.declared.AfterCall.{AfterCall}
-use Rattle.month.specs.Represents.{monthOf, Reached, Answered}
+use Rattle.month.specs.Represents.{monthOf, Answered}
 
 -- of each list of calls by itself
 pub answered-after : (m next : Month) (c : Call) (shown : Outcome Reply)
@@ -61,10 +61,6 @@ went m next c reply h =
     (λ b g is.
     let (n, e, r) = h b g is in
     (e ∙ ap monthOf (sym (step-accepted paper b c n)), ap accepted r ∙ sym (answer-accepted paper b c n)))
-
--- a month that a call handed back is reached again
-pub reached-again : (m next : Month) (c : Call) (shown : Outcome Reply) → Reached m → Answered m c next shown → Reached next
-reached-again m next c shown r a = record { calls = r .calls ++ (c ∷ []); is = a .month (r .calls) (r .is) }
 
 -- what the ends `refused` and `accepted` hand on
 pub handed : (m : Month) (c : Call) (r : AfterCall) (next : Month) (a : Answer) → (r .month ≡ next) × (r .answer ≡ a)

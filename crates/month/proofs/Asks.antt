@@ -1,5 +1,5 @@
 -- Asks and commits: they are judged as the amend that they name, then by the ticket. Assumes nothing.
-use Prim.Native.Nat.{ℕ, zero, suc}
+use Prim.Native.Nat.{ℕ, suc}
 use mathlib.Core.Path.{_≡_, ap, sym, _∙_, subst₂}
 use mathlib.Core.Bool.{Bool, true, false, not}
 use mathlib.Core.List.{List, [], _∷_, _++_}
@@ -12,7 +12,7 @@ use Rattle.rules.specs.declared.Answer.{Answer}
 use Rattle.rules.specs.declared.Answer.the-variants.{Accepted, Refused}
 use Rattle.rules.specs.Terms.{paper}
 use Rattle.rules.specs.Answers.{accepted, refused, outcomeBy, done, asked, numberOf, shownAnswer, shownAsked}
-use Rattle.rules.specs.Calls.{Call, Send, Ask, Commit, Running, Quoting, Book, amendOf}
+use Rattle.rules.specs.Calls.{Call, Send, Ask, Commit, Running, Book, amendOf}
 use Rattle.rules.specs.Causes.{sendCauses, goodTicket, causes, refusalOf, eventRefusal}
 use Rattle.rules.specs.Changes.{changed, noted}
 use Rattle.rules.specs.Replies.{bidIn, askIn, previewOf}

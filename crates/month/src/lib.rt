@@ -42,6 +42,8 @@ use rules::Steps;
 use rules::Strike;
 use rules::Ticket;
 
+// A month, which only these calls make: whether a quantum is open, and then its cell's place, p and lapse limit; the count of accepted
+// calls (W5); the open quantum, or an idle one in its place; the cells.
 pub struct Month {
     running: bool,
     place: usize,
@@ -113,6 +115,7 @@ fn asked(month: Month, answer: Asked) -> AskedAbout
     AskedAbout { month, answer }
 }
 
+// A cell as it is at first, and after withdraw.
 fn blank_cell() -> Cell
     ensures { λ r. ⌜ r ≡ blankCell ⌝ }
 {
@@ -152,6 +155,7 @@ fn place_of(day: u32, expiry: u32, quantum: u32) -> usize
     ((day - 1) * 6 + ((expiry - 1) * 3 + quantum)) as usize
 }
 
+// Whether A and P are in their range.
 fn both_charges(active: Kopecks, passive: Kopecks) -> bool
     ensures { λ r. ⌜ r ≡ goodCharges paper active passive ⌝ }
 {
@@ -308,7 +312,7 @@ impl Month {
         self.open(words, day, Opening { spread, allowed })
     }
 
-    // An event of the open quantum.
+    // An event of the open quantum. With none open it is refused; else the quantum judges it.
     pub fn send(self, e: Event) -> AfterCall
         requires { ⌜ Reached self ⌝ }
         ensures { λ r. ⌜ Answered self (B.Send e) (r .month) (shownAnswer (r .answer)) ⌝ }
@@ -330,6 +334,7 @@ impl Month {
         }
     }
 
+    // An order under a new id.
     pub fn add(self, t: Millis, id: u32, side: Side, price: Steps, volume: Contracts) -> AfterCall
         requires { ⌜ Reached self ⌝ }
         ensures { λ r. ⌜ Answered self (B.Send (Add t id side price volume)) (r .month) (shownAnswer (r .answer)) ⌝ }
@@ -414,6 +419,7 @@ impl Month {
         }
     }
 
+    // The order is removed; its place and id can be used again.
     pub fn cancel(self, t: Millis, id: u32) -> AfterCall
         requires { ⌜ Reached self ⌝ }
         ensures { λ r. ⌜ Answered self (B.Send (Cancel t id)) (r .month) (shownAnswer (r .answer)) ⌝ }
@@ -429,6 +435,7 @@ impl Month {
         self.send(Event::Deal { t, id, volume })
     }
 
+    // Nothing but the time moves.
     pub fn tick(self, t: Millis) -> AfterCall
         requires { ⌜ Reached self ⌝ }
         ensures { λ r. ⌜ Answered self (B.Send (Tick t)) (r .month) (shownAnswer (r .answer)) ⌝ }

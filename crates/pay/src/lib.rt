@@ -101,7 +101,7 @@ pub fn weight_of(kept: Millis, length: Millis, share: u32) -> u32
 }
 
 // The weight of a filled cell: 0 with too many lapses.
-pub fn weight(cell: Cell) -> u32
+fn weight(cell: Cell) -> u32
     requires { ⌜ CellBounds paper cell ⌝ }
     ensures { λ r. ⌜ r ≡ cellWeight paper cell ⌝ }
 {

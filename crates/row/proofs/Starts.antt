@@ -1,11 +1,11 @@
 -- The first row of a table by its number, and the start of the part that is chosen, case by case. Assumes nothing.
 use Prim.Native.Nat.{ℕ, _/_, _<_}
-use mathlib.Core.Path.{_≡_, refl, sym, _∙_}
+use mathlib.Core.Path.{_≡_, refl, sym}
 use mathlib.Core.List.{List, [], _∷_, map}
 use mathlib.Core.Bool.{Bool, true, false}
 use native.Mathlib.Omega.{arith}
 use lib.ListN.{length}
-use Rattle.rules.specs.Lists.{below, firstOr}
+use Rattle.rules.specs.Lists.{below}
 use Rattle.rules.specs.Choosing.{rowWords, isFor, firstRow}
 use Rattle.rules.proofs.Choosing.{first-none, first-at}
 use Rattle.row.specs.Starts.{Place, firstAt, startIn, startOr, chosenStart}

@@ -3,7 +3,7 @@ use Prim.Native.Nat.{ℕ}
 use native.Mathlib.Omega.{arith}
 use mathlib.Core.Path.{_≡_, refl, sym}
 use mathlib.Core.Bool.{true, false}
-use lib.IntN.{pos, negsuc}
+use lib.IntN.{pos}
 use Rattle.rules.specs.declared.Strike.{Strike}
 use Rattle.rules.specs.Strikes.{halfBelow, strikeWithin}
 use Rattle.strike.specs.Widest.{roundedOf}

@@ -1,6 +1,6 @@
 -- The D up to the limit are those within it, and the limit without b is the product rounded to the nearest step, half upwards. Assumes
 -- nothing.
-use Prim.Native.Nat.{ℕ, zero, suc, _+_, _-_, _*_, _^_, _≤_, _<_, max}
+use Prim.Native.Nat.{ℕ, suc, _+_, _-_, _*_, _^_, _≤_, _<_, max}
 use native.Mathlib.Omega.{arith}
 use mathlib.Core.Path.{_≡_, refl, sym, ap, _∙_}
 use mathlib.Core.Bool.{Bool, true, false, _||_}
@@ -10,8 +10,8 @@ use lib.IntN.{ℤ, pos, negsuc}
 use lib.Signed.{leZ}
 use Rattle.rules.specs.declared.Strike.{Strike}
 use Rattle.rules.specs.Strikes.{goodStrike, squareOf, halfBelow, strikeWithin, Rounded}
-use Rattle.strike.specs.Widest.{greatestUpTo, roundedOf, widestOfStrike}
-use Rattle.strike.proofs.Greatest.{greatest-law, greatest-passes}
+use Rattle.strike.specs.Widest.{roundedOf, widestOfStrike}
+use Rattle.strike.proofs.Greatest.{greatest-law}
 use Rattle.strike.proofs.Squares.{square-is, square-le, beyond, strike-bounds, square-most}
 
 -- at most the greater of two: at most one of them

@@ -1,7 +1,7 @@
 // The spread limit of a strike, by a search on squares: no root and no float.
 ghost use mathlib.Core.Path.{_≡_};
 ghost use mathlib.Core.Bool.{true};
-ghost use Prim.Native.Nat.{_+_, _-_, _*_, _^_, max, _≤_, _<_};
+ghost use Prim.Native.Nat.{_+_, _-_, _*_, _^_, _≤_, _<_};
 ghost use lib.Dec.{leb};
 ghost use Rattle.rules.specs.Causes.{goodSpreadRule};
 ghost use Rattle.rules.specs.Strikes.{goodStrike, squareOf};
@@ -10,7 +10,7 @@ use rules::SpreadRule;
 use rules::Strike;
 
 // Whether the four numbers are in their ranges.
-pub fn is_good(s: Strike) -> bool
+fn is_good(s: Strike) -> bool
     ensures { λ r. ⌜ r ≡ goodStrike s ⌝ }
 {
     let product = numbers::both(
@@ -75,16 +75,10 @@ fn nearest(square: u64) -> u32
     low
 }
 
-fn greater(a: u32, b: u32) -> u32
-    ensures { λ r. ⌜ r ≡ max a b ⌝ }
-{
-    if a < b { b } else { a }
-}
-
 // The greatest D that is within the strike's spread limit.
 pub fn widest(s: Strike) -> u32
     requires { ⌜ goodStrike s ≡ true ⌝ }
     ensures { λ r. ⌜ r ≡ widestOfStrike s ⌝ }
 {
-    greater(nearest(square(s)), s.b)
+    numbers::max(nearest(square(s)), s.b)
 }

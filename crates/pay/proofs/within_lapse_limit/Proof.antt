@@ -1,5 +1,4 @@
 -- No limit, or the count is at most the limit. Assumes nothing.
-use mathlib.Core.Bool.{true}
 use borrow.Author.Tests.{eq-eqb, ne-eqb}
 use Rattle.rules.specs.Lapses.{withinLapseLimit}
 use Rattle.pay.proofs.within_lapse_limit.Statement.{statement}

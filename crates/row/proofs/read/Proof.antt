@@ -9,7 +9,7 @@ use lib.ListN.{length}
 use Rattle.rules.specs.declared.Row.{Row}
 use Rattle.rules.specs.declared.SpreadRule.{SpreadRule}
 use Rattle.rules.specs.Terms.{paper}
-use Rattle.rules.specs.Rows.{rowOf, asRead, goodRow, goodRowFor}
+use Rattle.rules.specs.Rows.{rowOf, goodRow, goodRowFor}
 use Rattle.rules.specs.Answers.{accepted, refused}
 use Rattle.rules.specs.Causes.{lowest, readRow}
 use Rattle.row.proofs.read.Statement.{statement}

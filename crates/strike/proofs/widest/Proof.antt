@@ -10,15 +10,15 @@ square-requires c κs = search needs
 nearest-requires : tie.Need-nearest-requires
 nearest-requires c κs = search needs
 
-greater-requires : tie.Need-greater-requires
-greater-requires c κs = search needs
+max-requires : tie.Need-max-requires
+max-requires c κs = search needs
 
 returns : tie.Need-returns
 returns c =
     let near = c .before .nearest in
     let square = c .before .before .square in
-    widest-is (c .before .before .before .args .s) (square .result) (near .result) (c .greater .result) (square .ensures .0)
-    (near .ensures .0) (near .ensures .1) (c .greater .ensures)
+    widest-is (c .before .before .before .args .s) (square .result) (near .result) (c .max .result) (square .ensures .0)
+    (near .ensures .0) (near .ensures .1) (c .max .ensures)
 
 pub widest-spec : {M : Type 1} → statement M
-widest-spec = tie.close (tie.spec square-requires nearest-requires greater-requires returns)
+widest-spec = tie.close (tie.spec square-requires nearest-requires max-requires returns)
