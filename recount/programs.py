@@ -207,7 +207,7 @@ def probe(data):
         out = strikes.probe(words, data)
     elif words[:1] == [8]:
         out = game.probe(words, data)
-    elif words[:1] in ([5], [6], [12]):
+    elif words[:1] in ([5], [6], [12], [13], [14]):
         out = volatile.probe(words, data)
     elif words[:1] == [7]:
         out = standing.probe(words, data)

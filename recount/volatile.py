@@ -84,12 +84,18 @@ def answer(prices, threshold):
 # ---------------------------------------------------------------- the row
 
 
-def eased(words):
-    """The row's words inside a period; words that 1 or 2 refuses stay as they are."""
-    if len(words) != 7 or not row_fits(Row(*words)):
+def eased(words: list[int], is_strike: bool = False) -> list[int]:
+    """The row's words inside a period, for an open by SP or for a strike's, whose a and b are unread and
+    stay; words that 1 or 2 refuses at that open stay as they are."""
+    if len(words) != 7:
         return list(words)
-    expiry, quantum, length, least, a, b, share = words
-    return [expiry, quantum, length, -(-least // 2), min(2 * a, MOST_A), min(2 * b, MOST_B), share]
+    row = Row(*words)
+    if not row_fits(row._replace(a=0, b=0) if is_strike else row):
+        return list(words)
+    row = row._replace(least=-(-row.least // 2))
+    if not is_strike:
+        row = row._replace(a=min(2 * row.a, MOST_A), b=min(2 * row.b, MOST_B))
+    return list(row)
 
 
 # ---------------------------------------------------------------- probe
@@ -112,12 +118,38 @@ def days(prices, threshold):
         yield line
 
 
-def probe(words, data):
-    """`5 threshold n p1 .. pn`, `6 m w1 .. wm` or `12 threshold n p1 .. pn`; None where it is none of them."""
-    if words[0] == 6:
-        if len(words) < 2 or words[1] > PROBE_ROW or len(data) != 4 * (2 + words[1]):
-            return None
-        return [" ".join(["row", *map(str, eased(words[2:]))])]
+def row_line(words: list[int]) -> str:
+    return " ".join(["row", *map(str, words)])
+
+
+def probe_row(words: list[int], size: int) -> list[str] | None:
+    """`6 m w1 .. wm` or `13 strike m w1 .. wm`, of so many bytes."""
+    front = 3 if words[0] == 13 else 2
+    if len(words) < front:
+        return None
+    strike, m = words[1] if words[0] == 13 else 0, words[front - 1]
+    if strike > 1 or m > PROBE_ROW or size != 4 * (front + m):
+        return None
+    return [row_line(eased(words[front:], strike == 1))]
+
+
+def probe_inside(words: list[int], size: int) -> list[str] | None:
+    """`14 strike threshold n m p1 .. pn w1 .. wm`, of so many bytes."""
+    if len(words) < 5:
+        return None
+    _, strike, threshold, n, m, *rest = words
+    if strike > 1 or n > PROBE_PRICES or m > PROBE_ROW or size != 4 * (5 + n + m):
+        return None
+    said, row = answer([signed(word) for word in rest[:n]], threshold), rest[n:]
+    return [said, row_line(eased(row, strike == 1) if said == "inside yes" else row)]
+
+
+def probe(words: list[int], data: bytes) -> list[str] | None:
+    """`5 threshold n p1 .. pn`, the same by 12, or one of the two above; None where it is none of them."""
+    if words[0] in (6, 13):
+        return probe_row(words, len(data))
+    if words[0] == 14:
+        return probe_inside(words, len(data))
     if len(words) < 3 or words[2] > PROBE_PRICES or len(data) != 4 * (3 + words[2]):
         return None
     prices = [signed(word) for word in words[3:]]
@@ -131,6 +163,10 @@ def selftest():
     # A row eased: M rounded up, a and b at their limits; a row that is refused stays.
     assert eased([1, 1, 1_000, 501, 60_000, 7, 600]) == [1, 1, 1_000, 251, 100_000, 14, 600]
     assert eased([1, 1, 1_000, 0, 1, 1, 600]) == [1, 1, 1_000, 0, 1, 1, 600]
+    # A strike's: a and b are unread, so M alone is altered, whatever they are.
+    assert eased([1, 1, 1_000, 501, 200_000, 7, 600], True) == [1, 1, 1_000, 251, 200_000, 7, 600]
+    assert eased([1, 1, 1_000, 501, 200_000, 7, 600]) == [1, 1, 1_000, 501, 200_000, 7, 600]
+    assert eased([1, 1, 1_000, 0, 1, 1, 600], True) == [1, 1, 1_000, 0, 1, 1, 600]
     # R, rounded toward zero either way, and its limits.
     assert changes([3, 4, 3, -3, -4, -3][:3]) == [333_333, -250_000]
     assert change(2_000_000, -1) == -MILLION and answer([2_000_000, -2], 1) == "refused 22"

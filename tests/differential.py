@@ -31,6 +31,7 @@ from recount import book, programs, records
 from recount import session as run
 from recount.book import BUY, SELL, Add, Cancel, Tick
 from tests import ask_sights, crossed, generate, known, months, strike_sights
+from tests import volatile as volatile_cases
 from tools import calls as calls_text
 from tools import session as session_text
 
@@ -231,7 +232,13 @@ class Sheet(Program):
 class Probe(Program):
     name = "probe"
     cases = 2_500
-    refusals = [1, 2, 3, *range(8, 17)]
+    refusals = [1, 2, 3, *range(8, 17), 22]
+    must_show = {
+        "a day inside, with a row": r"^inside yes\nrow \d",
+        "a day outside, with a row": r"^inside no\nrow \d",
+        "prices that are refused, with a row": r"^refused 22\nrow \d",
+    }
+    must_sight = ["a row eased", "a row left", "a strike's row eased", "a strike's row left"]
 
     def special(self):
         yield from [b"", b"\1", words(0), words(4), words(1), words(1, 0, 0), words(1, 0, 0, 0)]
@@ -258,6 +265,8 @@ class Probe(Program):
         yield from [words(1, size, 9, 7) + head + data for size in (0, 3, 4, 5)]
         for size in (0, 1, 19, 20):
             yield words(3) + records.write(Tick(5))[:size]
+        yield from volatile_cases.wrong_rows()
+        yield from volatile_cases.wrong_strikes()
         longest = words(3) + records.write(Tick(5)) + bytes(programs.PROBE_BYTES - 24)
         yield from [longest, longest + b"\0"]
 
@@ -267,12 +276,23 @@ class Probe(Program):
             return "tables", words(*generate.any_tables(rng))
         if how < 0.2:
             return "record", words(3) + generate.any_record(rng)
+        if how < 0.3:
+            return "eased", rng.choice([data for data, _ in volatile_cases.any_eased(rng)])
         name, head, data = generate.any_session(rng)
         if len(head) < 32 or rng.random() < 0.03:
             name, row, sp = "bad_row", generate.wrong_row_words(rng), 2_000
         else:
             *row, sp = run.HEAD.unpack(head)
         return name, self.session_case(rng, row, sp, data)
+
+    def sights_in(self, data, answer):
+        """Whether the row of a case 13 was altered."""
+        if data[:4] != words(13) or answer == "bad case\n":
+            return
+        kind, _, *before = programs.to_words(data)[1:]
+        altered = answer.split() != ["row", *map(str, before)]
+        whose = "a strike's" if kind else "a"
+        yield f"{whose} row {'eased' if altered else 'left'}"
 
     def session_case(self, rng, row, sp, data):
         """A case with a buffer that is too short, just right, or longer."""

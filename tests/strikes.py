@@ -274,10 +274,9 @@ def check_command():
     examples = ROOT / "examples"
     month = programs.replay(calls_text.to_bytes((examples / "strike.calls").read_text()))
     lines = command.read((examples / "strikes.board").read_text(), "strikes") + command.read(month, "month")
-    for command.PROBE in (ROOT / "target" / "none", PROBE):  # by the recount, by the program
-        assert "\n".join(command.table(55, 60, lines)) + "\n" == KNOWN, command.table(55, 60, lines)
-        for first, second, source, said in SAID:
-            assert command.table(first, second, command.read(source, "x"))[-1] == said, source
+    assert "\n".join(command.table(55, 60, lines)) + "\n" == KNOWN, command.table(55, 60, lines)
+    for first, second, source, said in SAID:
+        assert command.table(first, second, command.read(source, "x"))[-1] == said, source
     for source, at, said in WRONG:
         try:
             command.read(source, "x")

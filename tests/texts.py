@@ -1,8 +1,10 @@
 """The tools: texts turn into bytes and back, errors name their line, pictures are drawn."""
 
+import io
 import random
 import re
 import sys
+from contextlib import redirect_stderr, redirect_stdout
 from pathlib import Path
 from xml.etree import ElementTree
 
@@ -11,7 +13,7 @@ sys.path.insert(0, str(ROOT))
 
 from recount import fix, programs
 from recount.book import Accepted, Book, Message, Open, Row, row_fits
-from tools import calls, picture, session, text
+from tools import board, calls, game, picture, session, standing, text
 
 
 def check_examples():
@@ -199,6 +201,25 @@ def check_errors():
             raise AssertionError(f"accepted: {source!r}")
 
 
+def check_not_built():
+    """Where the proved program is not built, a command says what to run, prints no answer and ends with status 1."""
+    examples = ROOT / "examples"
+    runs = [
+        (board, ["55", "60", str(examples / "strikes.board")], "rt check probe"),
+        (standing, [str(examples / "makers.standing")], "rt check probe"),
+        (game, ["5", "2", "3"], "rt check probe"),
+        (game, ["table", "5"], "rt check safe_table"),
+        (picture, [str(examples / "document01.session")], "rt check sheet"),
+    ]
+    text.ROOT = ROOT / "none"
+    for tool, given, said in runs:
+        out, err = io.StringIO(), io.StringIO()
+        with redirect_stdout(out), redirect_stderr(err):
+            status = tool.main(given)
+        assert (status, out.getvalue()) == (1, "") and said in err.getvalue(), (tool.__name__, status, err.getvalue())
+    text.ROOT = ROOT
+
+
 def main():
     check_examples()
     check_answers()
@@ -210,6 +231,7 @@ def main():
     check_rows()
     check_any_bytes(random.Random(1))
     check_errors()
+    check_not_built()
     print("texts: examples, pictures, rows, round trips and errors are right")
     return 0
 

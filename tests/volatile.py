@@ -69,6 +69,15 @@ MUST_SHOW = [
     "an odd M halved",
     "a row of another length left",
     "a row with a word out of range left",
+    "a strike's row eased",
+    "a strike's row with a past 100,000 eased",
+    "a strike's row with b past 1,000,000 eased",
+    "a strike's row with a word out of range left",
+    "the row of a day inside eased",
+    "a strike's row of a day inside eased",
+    "the row of a day outside left",
+    "the row of a refused list left",
+    "a strike above 1",
 ]
 
 
@@ -163,6 +172,33 @@ def row_sights(words):
             yield "an odd M halved"
 
 
+def strike_sights(words):
+    """What a strike's row shows, by the recount."""
+    after = volatile.eased(words, True)
+    if len(words) != 7:
+        return
+    if after == words and words[3] != 1:
+        yield "a strike's row with a word out of range left"
+    if after != words:
+        yield "a strike's row eased"
+        if words[4] > 100_000:
+            yield "a strike's row with a past 100,000 eased"
+        if words[5] > 1_000_000:
+            yield "a strike's row with b past 1,000,000 eased"
+
+
+def inside_sights(strike, said, words):
+    """What a list of prices with a row shows, by the recount."""
+    if volatile.eased(words, strike == 1) == words:
+        return
+    if said == "inside yes":
+        yield "a strike's row of a day inside eased" if strike else "the row of a day inside eased"
+    if said == "inside no":
+        yield "the row of a day outside left"
+    if said == "refused 22":
+        yield "the row of a refused list left"
+
+
 # ---------------------------------------------------------------- cases
 
 
@@ -251,6 +287,47 @@ def any_row(rng):
     return words
 
 
+def row_case(strike, words):
+    return packed(13, strike, len(words), *words)
+
+
+def inside_case(strike, prices, threshold, words):
+    return packed(14, strike, threshold, len(prices), len(words), *prices, *words)
+
+
+def any_strike_row(rng):
+    """A row whose a and b, which a strike leaves unread, are often out of range."""
+    words = any_row(rng)
+    if len(words) == 7 and rng.random() < 0.5:
+        words[4 + rng.randrange(2)] = rng.choice([100_001, 200_000, 1_000_001, 2**31, 2**32 - 1])
+    return words
+
+
+def any_eased(rng):
+    """(bytes, what they show) of a row by itself, and of one with the prices before its day."""
+    strike, words = rng.randrange(2), any_strike_row(rng)
+    yield row_case(strike, words), list(strike_sights(words) if strike else row_sights(words))
+    prices, threshold = rng.choice([walk, repeated, rough])(rng)
+    said = volatile.answer(prices, threshold)
+    yield inside_case(strike, prices, threshold, words), list(inside_sights(strike, said, words))
+
+
+def wrong_rows():
+    """Cases of rows that do not fit their counts, or name no open."""
+    row = [1, 1, 1_000, 501, 60_000, 7, 600]
+    for good in (row_case(1, row), inside_case(0, [5, 5, 5, 5], 1, row)):
+        yield from [good[: 4 * n] for n in range(1, len(good) // 4)]
+        yield from [good[:-1], good + b"\0", good + packed(1)]
+    yield from [row_case(1, [1] * 17), inside_case(1, [5], 1, [1] * 17), inside_case(0, [1] * 4_097, 1, row)]
+    yield from [packed(13, 1, 2**32 - 1), packed(14, 1, 1, 2**32 - 1, 7), packed(14, 1, 1, 4, 2**32 - 1)]
+
+
+def wrong_strikes():
+    row = [1, 1, 1_000, 501, 60_000, 7, 600]
+    for strike in (2, 3, 2**32 - 1):
+        yield from [row_case(strike, row), inside_case(strike, [5, 5, 5, 5], 1, row)]
+
+
 def wrong_cases():
     """Cases that do not fit their counts, and are bad."""
     good = prices_case([5, 5, 5, 5], 1)
@@ -278,12 +355,19 @@ def with_shorter(prices, threshold):
 
 def cases(rng, count):
     """(bytes, what they show)"""
+    others = random.Random(13)
     for data in wrong_cases():
         yield data, ["a list that does not fit its count"]
+    for data in wrong_rows():
+        yield data, []
+    for data in wrong_strikes():
+        yield data, ["a strike above 1"]
     for prices, threshold in known_prices():
         yield from with_shorter(prices, threshold)
     for words in ([], [1] * 16, [1, 1, 1_000, 1, 0, 0, 1], [2, 2, 86_400_000, 100_000, 100_000, 1_000_000, 799]):
         yield packed(6, len(words), *words), list(row_sights(words))
+        yield row_case(1, words), list(strike_sights(words))
+    yield inside_case(1, cycle([1_000, 1_004, 1_002], 4_096), 2**20, [1] * 16), []
     yield prices_case(cycle([1_000, 1_004, 1_002], 4_096), 2**20), []
     for at in range(count):
         make = rng.choice([walk, walk, walk, repeated, repeated, rough])
@@ -294,6 +378,7 @@ def cases(rng, count):
         if at % 3 == 0:
             words = any_row(rng)
             yield packed(6, len(words), *words), list(row_sights(words))
+            yield from any_eased(others)
 
 
 def check_cases(count):

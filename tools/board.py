@@ -11,12 +11,11 @@ all of them together must have. A line of a FILE is a strike, # for comments:
 
 K and L are milliseconds, or h:mm:ss or h:mm:ss.mmm. Numbers may have underscores. A FILE may also be
 all that `replay` answered to the calls of a strike's month, with one look: its other answers are
-passed over. The verdict is the proved program's (`probe`), the recount's where it is not built; it
+passed over. The verdict is the proved program's (build it by `rt check probe`); it
 takes 64 strikes at most, of which more than 32 are refused.
 """
 
 import struct
-import subprocess
 import sys
 from collections import namedtuple
 from pathlib import Path
@@ -24,11 +23,10 @@ from pathlib import Path
 ROOT = Path(__file__).resolve().parent.parent
 sys.path.insert(0, str(ROOT))
 
-from recount import programs, strikes
+from recount import strikes
 from tools import text
 from tools.text import TextError
 
-PROBE = ROOT / "target" / "bin" / "probe"
 OTHER_ANSWERS = ("accepted", "refused", "report", "asked")
 
 Line = namedtuple("Line", "name kept length")
@@ -79,9 +77,7 @@ def judge(first, second, lines):
     words = [4, first, second, 2 * len(lines)]
     words += [word for line in lines for word in (line.kept, line.length)]
     data = struct.pack(f"<{len(words)}I", *words)
-    if not PROBE.exists():
-        return programs.probe(data).strip()
-    said = subprocess.run([PROBE], input=data, capture_output=True, check=True).stdout.decode().strip()
+    said = text.ask("probe", data).strip()
     if said == "bad case":
         raise TextError("target/bin/probe knows no boards, it is an old one: rt check probe")
     return said

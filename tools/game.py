@@ -9,28 +9,19 @@
 The maker quotes double until his doubles are used, and then single: a way that gets him the safe
 minutes against every taker. A line shows what was quoted, what the taker did, his knocks left, the
 unvoided minutes so far, and how many are safe in all by then. A minute that the taker lacks
-the knocks to void stands. The safe minutes are the proved programs' (`probe`, `safe_table`), the
-recount's where they are not built.
+the knocks to void stands. The safe minutes are the proved programs' (build them by `rt check probe
+safe_table`).
 """
 
 import struct
-import subprocess
 import sys
 from pathlib import Path
 
 ROOT = Path(__file__).resolve().parent.parent
 sys.path.insert(0, str(ROOT))
 
-from recount import game, programs
+from recount import game
 from tools import text
-
-
-def ask(name, data):
-    """What the proved program prints."""
-    program = ROOT / "target" / "bin" / name
-    if program.exists():
-        return subprocess.run([program], input=data, capture_output=True, check=True).stdout.decode()
-    return {"probe": programs.probe, "safe_table": game.safe_table}[name](data)
 
 
 def refuse(printed):
@@ -41,7 +32,7 @@ def refuse(printed):
 
 
 def safe(m, h, k):
-    return int(refuse(ask("probe", struct.pack("<4I", 8, m, h, k))).split()[1])
+    return int(refuse(text.ask("probe", struct.pack("<4I", 8, m, h, k))).split()[1])
 
 
 def stock(word, what):
@@ -102,7 +93,7 @@ def show_play(m, h, k, taker):
 
 def show_table(m):
     """Over the stocks that make a difference: h up to m, k up to the knocks that void every minute."""
-    rows = refuse(ask("safe_table", struct.pack("<I", m))).splitlines()
+    rows = refuse(text.ask("safe_table", struct.pack("<I", m))).splitlines()
     most_h, most_k = min(m, game.LIMIT), min(2 * m, game.LIMIT)
     print("h\\k " + " ".join(f"{k:2}" for k in range(most_k + 1)))
     for h, row in enumerate(rows[: most_h + 1]):

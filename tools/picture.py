@@ -4,13 +4,12 @@
 
 Best bid and ask over time, the kept stretches shaded, and below them the share of the quantum that
 was kept beside the share that is required. Verdict and weight are in the title. The quotes are the
-recount's; the rest is what `sheet` prints, the recount's sheet where the program is not built.
+recount's; the rest is what `sheet` prints (build it by `rt check sheet`).
 
 A session run has no lapse limit. With a LIMIT, 0 to 1,000, the lapses are counted against it, each
 is marked below the plot, and verdict and weight are those of a month's quantum with that limit.
 """
 
-import subprocess
 import sys
 from collections import namedtuple
 from pathlib import Path
@@ -55,11 +54,7 @@ Sheet = namedtuple("Sheet", "kept met weight pairs")
 
 def sheet(data):
     """What `sheet` prints, read; a refused session raises a TextError."""
-    program = Path(__file__).resolve().parent.parent / "target" / "bin" / "sheet"
-    if program.exists():
-        printed = subprocess.run([program], input=data, capture_output=True, check=True).stdout.decode()
-    else:
-        printed = programs.sheet(data)
+    printed = text.ask("sheet", data)
     lines = [line.split() for line in printed.splitlines()]
     if lines[0][0] == "refused":
         raise text.TextError(f"{printed.strip()}: there is no quantum to draw")

@@ -11,19 +11,17 @@ The text, one call a line, # for comments:
 
 Maker numbers and ratings are 32 bits unsigned; 512 records and 512 calls at most. It prints each
 refused call with its number, and then the table of places: the greatest rating first, equal ratings
-by lower maker number. The answers are the proved program's (`probe`), the recount's
-where it is not built.
+by lower maker number. The answers are the proved program's (build it by `rt check probe`).
 """
 
 import struct
-import subprocess
 import sys
 from pathlib import Path
 
 ROOT = Path(__file__).resolve().parent.parent
 sys.path.insert(0, str(ROOT))
 
-from recount import programs, standing
+from recount import standing
 from tools import text
 
 KINDS = {"join": standing.JOIN, "change": standing.CHANGE, "leave": standing.LEAVE}
@@ -32,14 +30,6 @@ WHY = {24: {"join": "the maker is present"}, 25: {"join": "every record is used"
 
 def why(refused, name):
     return WHY.get(refused, {}).get(name, "the maker is absent")
-
-
-def ask(data):
-    """What the proved program prints."""
-    program = ROOT / "target" / "bin" / "probe"
-    if program.exists():
-        return subprocess.run([program], input=data, capture_output=True, check=True).stdout.decode()
-    return programs.probe(data)
 
 
 def read_call(name, words):
@@ -72,7 +62,7 @@ def table(source):
     size, calls = read(source)
     words = [7, size, 0, *[0] * (2 * size), len(calls)]
     words += [word for _, _, call in calls for word in call]
-    *answers, last = ask(struct.pack(f"<{len(words)}I", *words)).splitlines()
+    *answers, last = text.ask("probe", struct.pack(f"<{len(words)}I", *words)).splitlines()
     out = []
     for (name, given, _), answer in zip(calls, answers):
         if answer.startswith("refused"):
@@ -93,7 +83,7 @@ def main(arguments):
         source = sys.stdin.read() if name == "-" else Path(name).read_text(encoding="utf-8")
         print(table(source), end="")
     except text.TextError as error:
-        print(f"{name}:{error.line}: {error}", file=sys.stderr)
+        print(text.shown(name, error), file=sys.stderr)
         return 1
     except (OSError, UnicodeDecodeError) as error:
         print(f"{name}: {error}", file=sys.stderr)

@@ -1,4 +1,5 @@
-"""What the text tools share: lines with comments, numbers, times, events, errors by line.
+"""What the text tools share: lines with comments, numbers, times, events, errors by line, the proved
+programs.
 
 A line is words apart by blanks; what follows a # is a comment. A number may have underscores. A
 time is milliseconds from the quantum's start, or h:mm:ss with or without thousandths (.mmm). A
@@ -8,10 +9,13 @@ a # or what is not printed), and - alone is no bytes at all.
 """
 
 import re
+import subprocess
 import sys
 from pathlib import Path
 
 from recount.book import BUY, SELL, Add, Amend, Cancel, Deal, Tick
+
+ROOT = Path(__file__).resolve().parent.parent
 
 WORD = (0, 2**32 - 1)
 SIGNED = (-(2**31), 2**31 - 1)
@@ -34,6 +38,14 @@ class TextError(Exception):
     """Something wrong in a line; `line` is set by whoever reads the lines."""
 
     line = None
+
+
+def ask(name: str, data: bytes) -> str:
+    """What a proved program prints. Where it is not built nothing else answers in its place."""
+    program = ROOT / "target" / "bin" / name
+    if not program.exists():
+        raise TextError(f"target/bin/{name} is not built: rt check {name}")
+    return subprocess.run([program], input=data, capture_output=True, check=True).stdout.decode()
 
 
 def lines(text):

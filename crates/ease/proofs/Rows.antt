@@ -1,8 +1,8 @@
--- A row in range is so test by test, and an eased one is in range again, whatever the terms. Assumes nothing.
+-- A row in range is so test by test; an eased one is in range again, whatever the terms; and the limits are refusal 2's. Assumes nothing.
 use Prim.Native.Nat.{ℕ, _+_, _*_, _/_, min, _≤_}
 use native.Mathlib.Omega.{arith}
 use mathlib.Core.Path.{_≡_, refl}
-use mathlib.Core.Bool.{Bool, true, _&&_}
+use mathlib.Core.Bool.{Bool, true, false, _&&_}
 use borrow.Author.Tests.{le-leb, leb-true}
 use lib.Dec.{leb}
 use Rattle.rules.specs.declared.Row.{Row}
@@ -12,19 +12,19 @@ use Rattle.rules.specs.Lists.{within}
 use Rattle.rules.specs.Terms.{Terms}
 use Rattle.rules.specs.Rows.{goodExpiry, goodQuantum, goodLength, goodRow, asRead, goodRowFor}
 use Rattle.volatile.proofs.Periods.{and-true}
-use Rattle.ease.specs.Easing.{easedRow}
+use Rattle.ease.specs.Easing.{mostA, mostB, halved, easedRow}
 
-pub record Good (terms : Terms) (row : Row) : Type 0 where
+record Good (terms : Terms) (row : Row) : Type 0 where
   pub expiry : goodExpiry (row .expiry) ≡ true
   pub quantum : goodQuantum (row .quantum) ≡ true
   pub length : goodLength (row .length .0) ≡ true
   pub minimum : within 1 100000 (row .minimum .0) ≡ true
-  pub a : leb (row .a) 100000 ≡ true
-  pub b : leb (row .b) 1000000 ≡ true
+  pub a : leb (row .a) mostA ≡ true
+  pub b : leb (row .b) mostB ≡ true
   pub share : within 1 (terms .most-share) (row .share) ≡ true
 
 module _ (terms : Terms) (row : Row) where
-  pub apart : goodRow terms row ≡ true → Good terms row
+  apart : goodRow terms row ≡ true → Good terms row
   unfolding goodRow
   apart h =
       let share = and-true _ _ h in
@@ -43,32 +43,24 @@ module _ (terms : Terms) (row : Row) where
         share = share .1;
       }
 
-  pub together : Good terms row → goodRow terms row ≡ true
+  together : Good terms row → goodRow terms row ≡ true
   unfolding goodRow
   together g = simp (g .expiry, g .quantum, g .length, g .minimum, g .a, g .b, g .share)
 
--- what open reads of it is in range too
-pub good-for : (terms : Terms) (row : Row) (spread : SpreadRule) → goodRow terms row ≡ true → goodRowFor terms spread row ≡ true
-unfolding goodRowFor
-good-for terms row (Settled sp) h = h
-good-for terms row (OfStrike s) h =
-    let g = apart terms row h in
-    together terms (asRead (OfStrike s) row)
-    (record { expiry = g .expiry; quantum = g .quantum; length = g .length; minimum = g .minimum; a = refl; b = refl; share = g .share })
-
 -- half of 1 to 100,000, rounded up, is again 1 to 100,000
-half-within : (m : ℕ) → within 1 100000 m ≡ true → within 1 100000 ((m + 1) / 2) ≡ true
+half-within : (m : ℕ) → within 1 100000 m ≡ true → within 1 100000 (halved m) ≡ true
 half-within m h =
     let t = and-true (leb 1 m) (leb m 100000) h in
     let low : 1 ≤ m = leb-true 1 m (t .0) in
     let high : m ≤ 100000 = leb-true m 100000 (t .1) in
     rw (le-leb 1 ((m + 1) / 2) (omega arith)) (le-leb ((m + 1) / 2) 100000 (omega arith))
 
-pub eased-good : (terms : Terms) (row : Row) → goodRow terms row ≡ true → goodRow terms (easedRow row) ≡ true
-unfolding easedRow
-eased-good terms row h =
+-- what an open reads of an eased row is in range again
+pub eased-good : (terms : Terms) (spread : SpreadRule) (row : Row) → goodRowFor terms spread row ≡ true → goodRowFor terms spread (easedRow spread row) ≡ true
+unfolding easedRow goodRowFor
+eased-good terms (Settled sp) row h =
     let g = apart terms row h in
-    together terms (easedRow row)
+    together terms (easedRow (Settled sp) row)
     (record {
       expiry = g .expiry;
       quantum = g .quantum;
@@ -78,3 +70,42 @@ eased-good terms row h =
       b = le-leb (min (2 * row .b) 1000000) 1000000 (omega arith);
       share = g .share;
     })
+eased-good terms (OfStrike s) row h =
+    let g = apart terms (asRead (OfStrike s) row) h in
+    together terms (asRead (OfStrike s) (easedRow (OfStrike s) row))
+    (record {
+      expiry = g .expiry;
+      quantum = g .quantum;
+      length = g .length;
+      minimum = half-within (row .minimum .0) (g .minimum);
+      a = refl;
+      b = refl;
+      share = g .share;
+    })
+
+-- ---- the limits are refusal 2's: in a row that it passes, another a passes exactly up to `mostA`, another b up to `mostB`
+
+abbrev withAB : Row → ℕ → ℕ → Row
+withAB row a b =
+    record { expiry = row .expiry; quantum = row .quantum; length = row .length; minimum = row .minimum; a = a; b = b; share = row .share }
+
+module _ (terms : Terms) (row : Row) (good : goodRow terms row ≡ true) (n : ℕ) where
+  pub a-limit : goodRow terms (withAB row n (row .b)) ≡ leb n mostA
+  unfolding goodRow
+  a-limit =
+      let g = apart terms row good in
+      simp (g .expiry, g .quantum, g .length, g .minimum, g .b, g .share) (both-true (leb n mostA))
+    where
+      both-true : (t : Bool) → (t && true && true) ≡ t
+      both-true true = refl
+      both-true false = refl
+
+  pub b-limit : goodRow terms (withAB row (row .a) n) ≡ leb n mostB
+  unfolding goodRow
+  b-limit =
+      let g = apart terms row good in
+      simp (g .expiry, g .quantum, g .length, g .minimum, g .a, g .share) (one-true (leb n mostB))
+    where
+      one-true : (t : Bool) → (t && true) ≡ t
+      one-true true = refl
+      one-true false = refl

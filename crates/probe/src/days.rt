@@ -1,8 +1,7 @@
-// Volatile days, and the row eased on them: cases 5, 6 and 12.
+// Volatile days: cases 5 and 12.
 use console::field;
 use console::number;
 use console::text;
-use console::words_line;
 use sigma::SigmaAnswer;
 use volatile::DayAnswer;
 ghost use Prim.Native.Nat.{_+_, _*_, _≤_};
@@ -16,9 +15,13 @@ fn answer_text(answer: DayAnswer) {
     }
 }
 
-fn inside_line(prices: &[i32], threshold: u32) {
-    answer_text(volatile::inside(prices, threshold));
+pub fn answer_line(answer: DayAnswer) {
+    answer_text(answer);
     text(b"\n");
+}
+
+fn inside_line(prices: &[i32], threshold: u32) {
+    answer_line(volatile::inside(prices, threshold));
 }
 
 fn sigma_text(answer: SigmaAnswer) {
@@ -78,40 +81,11 @@ fn prices_case(input: &[u8], listed: bool) -> bool {
     true
 }
 
-// The row behind two words, eased.
-fn eased_line(input: &[u8], row: &mut [u32])
-    requires { ⌜ 8 + 4 * length (now row) ≤ length (now input) ⌝ }
-{
-    console::read_words(input, 8, row);
-    ease::ease(row);
-    words_line(b"row", row);
-}
-
-// `6 m`, then m words of a row and nothing else. False: no such case.
-fn row_case(input: &[u8]) -> bool {
-    if input.len() < 8 {
-        return false;
-    }
-    let m = words::word_at(input, 4) as usize;
-    if 16 < m {
-        return false;
-    }
-    if input.len() != 8 + 4 * m {
-        return false;
-    }
-    let mut row = [0u32; 16];
-    eased_line(input, &mut row[..m]);
-    true
-}
-
 pub fn is_kind(kind: u32) -> bool {
-    (kind == 5) | (kind == 6) | (kind == 12)
+    (kind == 5) | (kind == 12)
 }
 
 // Whether the input is a case of that kind; where it is, its lines are written.
 pub fn case(kind: u32, input: &[u8]) -> bool {
-    if kind == 6 {
-        return row_case(input);
-    }
     prices_case(input, kind == 12)
 }

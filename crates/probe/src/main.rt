@@ -5,6 +5,7 @@ ghost use lib.ListN.{length};
 
 mod boards;
 mod days;
+mod eased;
 mod maker_calls;
 mod safe;
 
@@ -224,6 +225,9 @@ fn run_case(input: &[u8]) -> bool {
     }
     if days::is_kind(kind) {
         return days::case(kind, input);
+    }
+    if eased::is_kind(kind) {
+        return eased::case(kind, input);
     }
     if kind == 7 {
         return maker_calls::standing_case(input);
