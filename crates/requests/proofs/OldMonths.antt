@@ -141,14 +141,25 @@ map-set {B = B} f (y ∷ ys) (suc i) x = ap (λ (zs : List B). f y ∷ zs) (map-
 
 -- ---- the running quantum
 
+-- what is told by a quantum without its p
+told-same : {A : Type 0} (f : Running → A)
+    → ((place : ℕ) (row : Row) (opening : Opening) (events : List Event) → f (Quoting place (tenfoldRow row) opening events) ≡ f (Quoting place row opening events))
+    → (r : Running) → f (tenfoldRunning r) ≡ f r
+told-same f same Idle = refl
+told-same f same (Quoting place row opening events) = same place row opening events
+
 open-same : (r : Running) → isOpen (tenfoldRunning r) ≡ isOpen r
-open-same Idle = refl
-open-same (Quoting place row opening events) = refl
+open-same r = told-same isOpen (λ place row opening events. refl) r
 
 sent-same : (r : Running) (e : Event) → sendCauses (tenfoldRunning r) e ≡ sendCauses r e
 unfolding eventCauses
-sent-same Idle e = refl
-sent-same (Quoting place row opening events) e = refl
+sent-same r e = told-same (λ (q : Running). sendCauses q e) (λ place row opening events. refl) r
+
+bid-same : (r : Running) → bidIn (tenfoldRunning r) ≡ bidIn r
+bid-same r = told-same bidIn (λ place row opening events. refl) r
+
+ask-same : (r : Running) → askIn (tenfoldRunning r) ≡ askIn r
+ask-same r = told-same askIn (λ place row opening events. refl) r
 
 noted-same : (r : Running) (e : Event) → noted (tenfoldRunning r) e ≡ tenfoldRunning (noted r e)
 noted-same Idle e = refl
@@ -245,42 +256,18 @@ module _ (most : ℕ) where
       let all = all-earned-same most cells in
       λ i. if any (λ (n : ℕ). ltb 15 n) (failed i) then 0 else min (all i / 80000) 120000000
 
-  time-same : (r : Running) → timeIn (tenfoldRunning r) ≡ timeIn r
-  time-same Idle = refl
-  time-same (Quoting place row opening events) = refl
-
-  orders-same : (r : Running) → ordersIn (tenfoldRunning r) ≡ ordersIn r
-  orders-same Idle = refl
-  orders-same (Quoting place row opening events) = refl
-
-  bid-same : (r : Running) → bidIn (tenfoldRunning r) ≡ bidIn r
-  bid-same Idle = refl
-  bid-same (Quoting place row opening events) = refl
-
-  ask-same : (r : Running) → askIn (tenfoldRunning r) ≡ askIn r
-  ask-same Idle = refl
-  ask-same (Quoting place row opening events) = refl
-
-  kept-in-same : (r : Running) → keptIn (tenfoldRunning r) ≡ keptIn r
-  kept-in-same Idle = refl
-  kept-in-same (Quoting place row opening events) = kept-same row (opening .spread) events (present events)
-
-  lapses-in-same : (r : Running) → lapsesIn (tenfoldRunning r) ≡ lapsesIn r
-  lapses-in-same Idle = refl
-  lapses-in-same (Quoting place row opening events) = lapses-same row (opening .spread) events (present events)
-
   report-same : (b : Book) → reportOf (tenths most) (tenfoldBook b) ≡ reportOf (percents most) b
   unfolding reportOf
   report-same b =
       let r = b .running in
       λ i. record {
         running = open-same r i;
-        time = millis (time-same r i);
-        orders = orders-same r i;
+        time = millis (told-same timeIn (λ place row opening events. refl) r i);
+        orders = told-same ordersIn (λ place row opening events. refl) r i;
         bid = bid-same r i;
         ask = ask-same r i;
-        kept = millis (kept-in-same r i);
-        lapses = lapses-in-same r i;
+        kept = millis (told-same keptIn (λ place row opening events. kept-same row (opening .spread) events (present events)) r i);
+        lapses = told-same lapsesIn (λ place row opening events. lapses-same row (opening .spread) events (present events)) r i;
         failures = all-failures-same (b .cells) i;
         fee = kopecks (fee-same (b .cells) i);
       }

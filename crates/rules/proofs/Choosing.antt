@@ -28,7 +28,7 @@ module _ {A : Type 0} where
       rw (map-append f (below n) (n ∷ []), first-append p other (map f (below n)) (f n ∷ []), first-one p other (f n) b e) refl
 
   -- no index below n passes
-  first-none : (p : A → Bool) (f : ℕ → A) (other : A) (n : ℕ) → ((j : ℕ) → j < n → p (f j) ≡ false)
+  pub first-none : (p : A → Bool) (f : ℕ → A) (other : A) (n : ℕ) → ((j : ℕ) → j < n → p (f j) ≡ false)
       → firstOr other p (map f (below n)) ≡ other
   unfolding below firstOr
   first-none p f other zero h = refl
@@ -36,7 +36,7 @@ module _ {A : Type 0} where
       first-last p f other n false (h n (omega arith)) ∙ first-none p f other n (λ j l. h j (omega arith))
 
   -- k is the first index that passes
-  first-at : (p : A → Bool) (f : ℕ → A) (other : A) (k n : ℕ) → k < n → ((j : ℕ) → j < k → p (f j) ≡ false)
+  pub first-at : (p : A → Bool) (f : ℕ → A) (other : A) (k n : ℕ) → k < n → ((j : ℕ) → j < k → p (f j) ≡ false)
       → p (f k) ≡ true → firstOr other p (map f (below n)) ≡ f k
   first-at p f other k zero l h e = absurd (omega arith)
   first-at p f other k (suc n) l h e =
