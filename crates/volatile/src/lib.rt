@@ -1,6 +1,6 @@
 // Whether a day is inside a disturbed period, from the prices before it. The code goes over the prices once.
+use numbers::both;
 use ranges::at_most;
-use ranges::both;
 use sigma::Change;
 ghost use mathlib.Core.Path.{_≡_};
 ghost use Prim.Native.Nat.{_≤_, _<_};
