@@ -1,6 +1,6 @@
 -- What an eased row is to the plain book: an open with it is refused exactly when the one with the row as it was is, by the same number; an
 -- accepted one notes the altered row, and the quantum's events are noted, its time kept and its cell closed by that row. Assumes nothing.
-use Prim.Native.Nat.{ℕ, zero, suc}
+use Prim.Native.Nat.{ℕ}
 use mathlib.Core.Path.{_≡_, refl, sym, ap, _∙_}
 use mathlib.Core.List.{List, [], _∷_, _++_, map, append-nil}
 use mathlib.Core.Bool.{true}
@@ -10,7 +10,6 @@ use lib.Seq.{append-snoc}
 use Rattle.rules.specs.declared.Opening.{Opening}
 use Rattle.rules.specs.declared.Kopecks.{Kopecks}
 use Rattle.rules.specs.declared.Row.{Row}
-use Rattle.rules.specs.declared.Cell.{Cell}
 use Rattle.rules.specs.declared.SpreadRule.{SpreadRule}
 use Rattle.rules.specs.declared.Event.{Event}
 use Rattle.rules.specs.Terms.{paper}
@@ -25,7 +24,7 @@ use Rattle.rules.specs.DayOrder.{NoneRefused}
 use Rattle.rules.proofs.Refusals.{call-passes}
 use Rattle.ease.specs.Easing.{easedRow, wordsOf, eased}
 use Rattle.ease.proofs.Rows.{eased-good}
-use Rattle.ease.proofs.Words.{Read, was-read, eased-is, not-eased}
+use Rattle.ease.proofs.Words.{was-read, eased-is, not-eased}
 
 back : (row : Row) → rowOf (wordsOf row) ≡ row
 unfolding rowOf wordsOf

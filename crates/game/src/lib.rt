@@ -1,7 +1,8 @@
 // Maker against taker: the minutes that a maker can force to stay unvoided. The game is in specs/, the theorem in proofs/Theorem.
+use numbers::min;
 ghost use mathlib.Core.Path.{_≡_};
 ghost use mathlib.Core.Bool.{_||_};
-ghost use Prim.Native.Nat.{min, _-_};
+ghost use Prim.Native.Nat.{_-_};
 ghost use Rattle.game.specs.Value.{value};
 ghost use Rattle.game.specs.Answers.{isAbove, safeMinutes, shownSafe};
 
@@ -30,12 +31,6 @@ fn any_above(m: u32, h: u32, k: u32) -> bool
     either(either(is_above(m), is_above(h)), is_above(k))
 }
 
-fn lesser(a: u32, b: u32) -> u32
-    ensures { λ r. ⌜ r ≡ min a b ⌝ }
-{
-    if a <= b { a } else { b }
-}
-
 // 0 where the difference would be negative.
 fn less(a: u32, b: u32) -> u32
     ensures { λ r. ⌜ r ≡ a - b ⌝ }
@@ -47,9 +42,9 @@ fn less(a: u32, b: u32) -> u32
 fn forced(m: u32, h: u32, k: u32) -> u32
     ensures { λ r. ⌜ r ≡ value m h k ⌝ }
 {
-    let d = lesser(h, m);
+    let d = min(h, m);
     let s = m - d;
-    let v = lesser(k, s);
+    let v = min(k, s);
     let q = (k - v) / 2;
     less(m - v, q)
 }

@@ -37,7 +37,7 @@ pub neg-pos : (n : ℕ) → negℤ (pos n) ≡ subℕ 0 n
 neg-pos zero = refl
 neg-pos (suc n) = let k : n ≡ suc n - 1 = omega arith in ap negsuc k ∙ sym (sub-lt 0 (suc n) (omega arith))
 
-pub sub-neg : (a b : ℕ) → negℤ (subℕ a b) ≡ subℕ b a
+sub-neg : (a b : ℕ) → negℤ (subℕ a b) ≡ subℕ b a
 sub-neg a b = go (lt-or-ge a b)
   where
     go : (a < b) ⊎ (b ≤ a) → negℤ (subℕ a b) ≡ subℕ b a

@@ -1,9 +1,8 @@
 -- The definitions on small examples, by computation. Assumes nothing.
-use Prim.Native.Nat.{ℕ}
 use mathlib.Core.Path.{_≡_, refl}
-use mathlib.Core.List.{List, [], _∷_}
+use mathlib.Core.List.{[], _∷_}
 use mathlib.Core.Bool.{true, false}
-use lib.IntN.{ℤ, pos, negsuc}
+use lib.IntN.{pos, negsuc}
 use Rattle.rules.specs.Lists.{any}
 use Rattle.sigma.specs.Changes.{changeOf, changes, previous, badPrices}
 use Rattle.sigma.specs.Sigmas.{largest, rootOf, squaresOf, sigmaOf, sigmas}

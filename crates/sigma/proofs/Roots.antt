@@ -3,12 +3,10 @@ use Prim.Native.Nat.{ℕ, zero, suc, _+_, _-_, _*_, _≤_, _<_}
 use native.Mathlib.Omega.{arith}
 use native.Mathlib.Nat.{mul-le-mul}
 use mathlib.Core.Path.{_≡_, refl, sym, ap, _∙_}
-use mathlib.Core.Logic.{_⊎_, inl, inr}
 use mathlib.Core.Bool.{Bool, true, false}
 use borrow.Author.Tests.{le-leb, lt-leb}
 use lib.Dec.{leb}
 use Rattle.sigma.specs.Sigmas.{largest, rootOf}
-use Rattle.sigma.proofs.Differences.{lt-or-ge}
 
 -- n passes, none above it does: n is the largest, whatever bound from n on
 largest-is : (p : ℕ → Bool) (n k : ℕ) → p n ≡ true → ((m : ℕ) → n < m → p m ≡ false) → largest p (n + k) ≡ n

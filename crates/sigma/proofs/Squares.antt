@@ -2,14 +2,14 @@
 use Prim.Native.Nat.{ℕ, _+_, _*_, _≤_}
 use native.Mathlib.Omega.{arith}
 use native.Mathlib.Nat.{mul-le-mul}
-use mathlib.Core.Path.{_≡_, refl, sym, ap, _∙_}
+use mathlib.Core.Path.{_≡_, refl, ap, _∙_}
 use lib.IntN.{ℤ, pos, natAbs, subℕ, _+ℤ_, _-ℤ_, _*ℤ_}
 use Rattle.sigma.specs.Sigmas.{square, squaresOf, rootOf, sigmaOf}
 use Rattle.sigma.specs.Internal.{lowered}
 use Rattle.sigma.proofs.Differences.{sub-same, sub-add, sub-minus, sub-thrice, abs-square}
 
 -- the square of a gap between unsigned numbers
-abbrev pub gapSquare : ℕ → ℕ → ℕ
+abbrev gapSquare : ℕ → ℕ → ℕ
 gapSquare a b = natAbs (subℕ a b) * natAbs (subℕ a b)
 
 lowered-is : (n : ℕ) → lowered n ≡ subℕ n 1000000
@@ -31,7 +31,7 @@ one r s =
     ap square e ∙ abs-square (subℕ (3 * r) s)
 
 module _ (a b c : ℕ) where
-  pub squares-are : gapSquare (3 * a) (a + b + c) + gapSquare (3 * b) (a + b + c) + gapSquare (3 * c) (a + b + c)
+  squares-are : gapSquare (3 * a) (a + b + c) + gapSquare (3 * b) (a + b + c) + gapSquare (3 * c) (a + b + c)
       ≡ squaresOf (lowered a) (lowered b) (lowered c)
   unfolding squaresOf
   squares-are =

@@ -5,9 +5,9 @@ use mathlib.Core.Path.{_≡_, refl, sym, ap, _∙_}
 use mathlib.Core.Logic.{_⊎_, inl, inr}
 use mathlib.Core.List.{List, [], _∷_, _++_, append-nil}
 use mathlib.Core.Bool.{Bool, true, false, true≢false, not, _&&_, _||_}
-use borrow.Author.Tests.{le-leb, lt-leb, lt-ltb, le-ltb, leb-true, leb-false, ltb-true, ltb-false}
+use borrow.Author.Tests.{le-leb, lt-leb, leb-true, leb-false}
 use lib.Dec.{leb, ltb}
-use lib.ListN.{length, getD}
+use lib.ListN.{length}
 use Rattle.rules.specs.Lists.{if_then_else_, any}
 use Rattle.rules.proofs.Members.{any-append, or-false}
 use Rattle.sigma.proofs.Differences.{lt-or-ge}
@@ -205,14 +205,6 @@ module _ (sigmas : List ℕ) (threshold : ℕ) where
   current-in {d} {first} c =
       ap (any (isIn d)) (c .all) ∙ any-snoc (isIn d) (c .earlier) (periodFrom sigmas first)
       ∙ rw (c .none) (in-period (periodFrom sigmas first) d (c .begun) (c .going))
-
-  pub current-early : {d first : ℕ} → Current d first → ltb first 30 ≡ true → any isEarly (periods sigmas threshold d) ≡ true
-  current-early {d} {first} c e =
-      ap (any isEarly) (c .all) ∙ any-snoc isEarly (c .earlier) (periodFrom sigmas first) ∙ rw e (or-true (any isEarly (c .earlier)))
-    where
-      or-true : (b : Bool) → (b || true) ≡ true
-      or-true true = refl
-      or-true false = refl
 
   -- ---- a day outside
 

@@ -1,13 +1,12 @@
 -- The state that the code carries stands for the prices passed: it is what the definitions say of them. Assumes nothing.
-use Prim.Native.Nat.{ℕ, zero, suc, _+_, _-_, _/_, _≤_, _<_}
+use Prim.Native.Nat.{ℕ, suc, _+_, _-_, _≤_, _<_}
 use native.Mathlib.Omega.{arith}
-use native.Mathlib.Numerals.{add-one}
 use mathlib.Core.Path.{_≡_, refl, sym, ap, _∙_, subst}
 use mathlib.Core.Logic.{_⊎_, inl, inr}
-use mathlib.Core.List.{List, [], _∷_, _++_}
-use mathlib.Core.Bool.{Bool, true, false, true≢false, _||_}
+use mathlib.Core.List.{List}
+use mathlib.Core.Bool.{Bool, true, false, _||_}
 use lib.IntN.{ℤ, pos}
-use lib.ListN.{length, getD, take, drop, replicate}
+use lib.ListN.{length, getD, take}
 use lib.Seq.{take-suc, take-all}
 use Rattle.rules.specs.Lists.{any}
 use Rattle.rules.proofs.Members.{or-second, some-any, getD-in}
@@ -18,8 +17,8 @@ use Rattle.sigma.proofs.Changes.{Told}
 use Rattle.sigma.proofs.Differences.{lt-or-ge}
 use Rattle.sigma.proofs.Lists.{length-changes, length-previous, length-sigmas, changes-at, previous-at, sigmas-at}
 use Rattle.volatile.specs.declared.State.{State}
-use Rattle.volatile.specs.Periods.{isIn, isEarly, average, periods}
-use Rattle.volatile.specs.Internal.{pushed, phase, phaseAfter, state, sigmaWith, judged, stateAfter, fresh, Roomy, Ready, early}
+use Rattle.volatile.specs.Periods.{isIn, isEarly, periods}
+use Rattle.volatile.specs.Internal.{pushed, phase, phaseAfter, state, sigmaWith, judged, stateAfter, fresh, Ready, early}
 use Rattle.volatile.proofs.Periods.{any-snoc, early-later}
 use Rattle.volatile.proofs.Windows.{Holds, roomy, pushed-holds, average-is, fresh-holds}
 use Rattle.volatile.proofs.Phases.{Phased, phased-none, phase-after}

@@ -5,7 +5,7 @@ use native.Mathlib.Numerals.{add-one}
 use mathlib.Core.Path.{_≡_, refl, sym, ap, _∙_}
 use mathlib.Core.Logic.{_⊎_, inl, inr}
 use mathlib.Core.List.{List, [], _∷_, _++_}
-use lib.ListN.{length, getD, take, drop, set, replicate, length-append, length-set, length-replicate, length-drop, getD-replicate, List·getD-append}
+use lib.ListN.{length, getD, take, drop, set, replicate, length-append, length-set, length-drop, getD-replicate, List·getD-append}
 use lib.Seq.{take-suc, drop-cons, getD-drop, getD-append-add, drop-append-add, getD-set-same, getD-set-other}
 use Rattle.rules.specs.Lists.{sum}
 use Rattle.sigma.proofs.Differences.{lt-or-ge}

@@ -5,7 +5,7 @@ use lib.ListN.{length-set}
 use Rattle.rules.specs.Terms.{paper}
 use Rattle.rules.specs.Answers.{accepted, shownRow}
 use Rattle.rules.specs.Causes.{readRow}
-use Rattle.ease.proofs.Words.{Read, was-read, eased-words, not-eased}
+use Rattle.ease.proofs.Words.{was-read, eased-words, not-eased}
 use borrow.Author.Needs.{needs}
 use Rattle.ease.proofs.ease.Statement.{statement}
 use Rattle.ease.proofs.ease.Tie as tie

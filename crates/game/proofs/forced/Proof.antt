@@ -11,14 +11,14 @@ by-steps : (m h k d v r : ℕ) → d ≡ min h m → v ≡ min k (m - d) → r �
 unfolding closed
 by-steps m h k d v r e f g = g ∙ simp (f, e) (sym (value-closed m h k))
 
-lesser-requires : tie.Need-lesser-requires
-lesser-requires c κs = search needs
+min-requires : tie.Need-min-requires
+min-requires c κs = search needs
 
 sub-s : tie.Need-sub-s
 sub-s c = search needs
 
-lesser-requires-2 : tie.Need-lesser-requires-2
-lesser-requires-2 c κs = search needs
+min-requires-2 : tie.Need-min-requires-2
+min-requires-2 c κs = search needs
 
 sub-q : tie.Need-sub-q
 sub-q c = search needs
@@ -32,12 +32,12 @@ less-requires c κs = search needs
 returns : tie.Need-returns
 returns c =
     let a = c .before .before .before .args in
-    by-steps (a .m) (a .h) (a .k) (c .before .before .lesser .result) (c .before .lesser2 .result) (c .less .result)
-    (c .before .before .lesser .ensures)
-    (c .before .lesser2 .ensures)
+    by-steps (a .m) (a .h) (a .k) (c .before .before .min .result) (c .before .min2 .result) (c .less .result)
+    (c .before .before .min .ensures)
+    (c .before .min2 .ensures)
     (c .less .ensures)
 
 pub forced-spec : {M : Type 1} → statement M
 forced-spec =
     tie.close
-    (tie.spec lesser-requires sub-s lesser-requires-2 sub-q sub-less less-requires returns)
+    (tie.spec min-requires sub-s min-requires-2 sub-q sub-less less-requires returns)

@@ -1,8 +1,8 @@
 -- The invariant: 18 times the square of the lower number is at most the total, and that of the upper number is above it. The measure
 -- is the gap. Assumes nothing.
-use Prim.Native.Nat.{suc, _+_, _-_, _*_, _≤_, _<_}
+use Prim.Native.Nat.{suc, _-_, _*_, _≤_, _<_}
 use native.Mathlib.Omega.{arith}
-use mathlib.Core.Path.{_≡_, sym, ap, _∙_}
+use mathlib.Core.Path.{_≡_, sym, _∙_}
 use borrow.Author.Tests.{leb-true, leb-false}
 use Rattle.sigma.proofs.Roots.{root-is}
 use Rattle.sigma.proofs.root.Statement.{statement}

@@ -1,13 +1,12 @@
 -- The invariant: the state stands for the R passed, and no period began early. Assumes nothing.
-use Prim.Native.Nat.{ℕ, suc, _+_, _-_, _≤_, _<_}
+use Prim.Native.Nat.{ℕ, suc, _-_, _≤_, _<_}
 use native.Mathlib.Omega.{arith}
 use native.Mathlib.Numerals.{add-one}
-use mathlib.Core.Path.{_≡_, refl, sym, ap, _∙_, subst}
+use mathlib.Core.Path.{_≡_, sym, ap, _∙_, subst}
 use mathlib.Core.Bool.{Bool, false}
 use borrow.Author.Needs.{needs}
 use lib.IntN.{ℤ, pos}
 use lib.ListN.{length, getD}
-use Rattle.sigma.specs.declared.Change.{Change}
 use Rattle.sigma.specs.Internal.{changeShown}
 use Rattle.sigma.proofs.Changes.{Told, by-told, unusable-told}
 use Rattle.volatile.specs.declared.State.{State}
