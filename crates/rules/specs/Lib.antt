@@ -46,3 +46,9 @@ pub mod DayOrder
 pub mod Fewest
 -- "Checks on paper"
 pub mod Checks
+-- document 02, W11: FIX messages
+pub mod Digits
+pub mod Dates
+pub mod Fields
+pub mod Frame
+pub mod Messages

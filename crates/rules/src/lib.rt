@@ -234,3 +234,14 @@ pub fn number(refusal: Refusal) -> u32
         Refusal::WrongTicket => 19,
     }
 }
+
+// A time to the millisecond, as FIX writes it.
+pub struct Timestamp {
+    pub year: u32,
+    pub month: u32,
+    pub day: u32,
+    pub hour: u32,
+    pub minute: u32,
+    pub second: u32,
+    pub millis: u32,
+}
