@@ -8,26 +8,19 @@ use lib.ListN.{take, drop}
 use Rattle.rules.specs.declared.Timestamp.{Timestamp}
 use Rattle.rules.specs.Lists.{if_then_else_, within}
 use Rattle.rules.specs.Answers.{Outcome, accepted, refused}
+use Rattle.rules.specs.Text.{ascii}
 use Rattle.rules.specs.Digits.{isDigit, numberFrom}
 
 -- ---- the form
--- what stands at a place of the form: a digit, or a mark's byte
-pub data Place : Type 0 where
-  digit : Place
-  mark : ℕ → Place
+abbrev pub form : List ℕ
+form = ascii "YYYYMMDD-HH:MM:SS.sss"
 
--- "YYYYMMDD-HH:MM:SS.sss": 45 is the hyphen, 58 the colon, 46 the point
-abbrev pub form : List Place
-form =
-    digit ∷ digit ∷ digit ∷ digit ∷ digit ∷ digit ∷ digit ∷ digit ∷ mark 45
-    ∷ digit ∷ digit ∷ mark 58 ∷ digit ∷ digit ∷ mark 58 ∷ digit ∷ digit ∷ mark 46 ∷ digit ∷ digit ∷ digit ∷ []
-
-abbrev pub fitsPlace : Place → ℕ → Bool
-fitsPlace digit b = isDigit b
-fitsPlace (mark m) b = eqb b m
+-- a letter of the form (from A, 65, on) stands for a digit, a mark for itself
+abbrev pub fitsPlace : ℕ → ℕ → Bool
+fitsPlace p b = if leb 65 p then isDigit b else eqb b p
 
 -- a byte for each place, and none besides
-unfoldable pub hasForm : List Place → List ℕ → Bool
+unfoldable pub hasForm : List ℕ → List ℕ → Bool
 hasForm [] [] = true
 hasForm [] (b ∷ bs) = false
 hasForm (p ∷ ps) [] = false

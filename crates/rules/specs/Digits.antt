@@ -7,7 +7,7 @@ use lib.Dec.{ltb, eqb}
 use lib.IntN.{ℤ, pos, negsuc}
 use Rattle.rules.specs.Lists.{if_then_else_, within}
 
--- the bytes of the digits 0 to 9
+-- the bytes of 0 to 9
 abbrev pub isDigit : ℕ → Bool
 isDigit b = within 48 57 b
 

@@ -6,43 +6,42 @@ use mathlib.Core.Option.{Option, none, some}
 use lib.Dec.{eqb}
 use lib.ListN.{length}
 use Rattle.rules.specs.Lists.{if_then_else_, sum, any}
+use Rattle.rules.specs.Text.{ascii}
 use Rattle.rules.specs.Digits.{inDigits, threeDigits}
 use Rattle.rules.specs.Fields.{Field, fieldsBytes, fieldsOf, sameBytes, hasTag}
 
--- the digits of the four tags of the frame: 8, 9, 35, 10
+-- the four tags of the frame
 abbrev pub versionTag : List ℕ
-versionTag = 56 ∷ []
+versionTag = ascii "8"
 
 abbrev pub lengthTag : List ℕ
-lengthTag = 57 ∷ []
+lengthTag = ascii "9"
 
 abbrev pub typeTag : List ℕ
-typeTag = 51 ∷ 53 ∷ []
+typeTag = ascii "35"
 
 abbrev pub checksumTag : List ℕ
-checksumTag = 49 ∷ 48 ∷ []
+checksumTag = ascii "10"
 
--- the bytes of FIX.4.4
 abbrev pub version : List ℕ
-version = 70 ∷ 73 ∷ 88 ∷ 46 ∷ 52 ∷ 46 ∷ 52 ∷ []
+version = ascii "FIX.4.4"
 
--- NewOrderSingle, OrderCancelRequest, OrderCancelReplaceRequest: the bytes of D, F and G
+-- "NewOrderSingle (35=D), OrderCancelRequest (F) and OrderCancelReplaceRequest (G)"
 pub data Kind : Type 0 where
   new : Kind
   cancel : Kind
   replace : Kind
 
-abbrev pub kindByte : Kind → ℕ
-kindByte new = 68
-kindByte cancel = 70
-kindByte replace = 71
+abbrev pub kindText : Kind → List ℕ
+kindText new = ascii "D"
+kindText cancel = ascii "F"
+kindText replace = ascii "G"
 
--- the type that a value of 35 says, one byte
 unfoldable pub kindIn : List ℕ → Option Kind
 kindIn value =
-    if sameBytes value (68 ∷ []) then some new
-    else if sameBytes value (70 ∷ []) then some cancel
-    else if sameBytes value (71 ∷ []) then some replace
+    if sameBytes value (kindText new) then some new
+    else if sameBytes value (kindText cancel) then some cancel
+    else if sameBytes value (kindText replace) then some replace
     else none
 
 abbrev pub isNumber : Option ℕ → ℕ → Bool

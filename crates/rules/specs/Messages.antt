@@ -12,29 +12,30 @@ use Rattle.rules.specs.declared.Timestamp.{Timestamp}
 use Rattle.rules.specs.Lists.{if_then_else_, sum}
 use Rattle.rules.specs.Units.{steps, contracts}
 use Rattle.rules.specs.Answers.{Outcome, accepted, refused}
+use Rattle.rules.specs.Text.{ascii}
 use Rattle.rules.specs.Digits.{wordIn, stepsIn, decimalOf, signedDecimal, threeDigits}
 use Rattle.rules.specs.Dates.{timeIn}
 use Rattle.rules.specs.Fields.{Field, fieldsBytes, sameBytes, valuesOf}
-use Rattle.rules.specs.Frame.{versionTag, lengthTag, typeTag, checksumTag, version, Kind, new, cancel, replace, kindByte, Body, bodyIn}
+use Rattle.rules.specs.Frame.{versionTag, lengthTag, typeTag, checksumTag, version, Kind, new, cancel, replace, kindText, Body, bodyIn}
 
--- the digits of the six tags that are used: 11, 41, 54, 38, 44, 60
+-- the six tags that are used: "11 and 41 as ids .., 54 .., 38 volume, 44 price .., and 60"
 abbrev pub idTag : List ℕ
-idTag = 49 ∷ 49 ∷ []
+idTag = ascii "11"
 
 abbrev pub origTag : List ℕ
-origTag = 52 ∷ 49 ∷ []
+origTag = ascii "41"
 
 abbrev pub sideTag : List ℕ
-sideTag = 53 ∷ 52 ∷ []
+sideTag = ascii "54"
 
 abbrev pub volumeTag : List ℕ
-volumeTag = 51 ∷ 56 ∷ []
+volumeTag = ascii "38"
 
 abbrev pub priceTag : List ℕ
-priceTag = 52 ∷ 52 ∷ []
+priceTag = ascii "44"
 
 abbrev pub timeTag : List ℕ
-timeTag = 54 ∷ 48 ∷ []
+timeTag = ascii "60"
 
 -- "D uses all but 41, F uses 11, 41 and 60, G uses all": the order's id (11), the id that it refers to (41), side, volume, price, time.
 -- The time is a Timestamp where a message was read, and the bytes of 60 where one is to be written.
@@ -50,9 +51,14 @@ once read [] = none
 once read (v ∷ []) = read v
 once read (v ∷ w ∷ vs) = none
 
--- "54 (1 buy, 2 sell)", and no leading zeros: 49 is the digit 1, 50 the digit 2
+-- "54 (1 buy, 2 sell)"; "leading zeros are allowed .., not in 54"
+abbrev pub sideText : Side → List ℕ
+sideText Buy = ascii "1"
+sideText Sell = ascii "2"
+
 unfoldable pub sideIn : List ℕ → Option Side
-sideIn value = if sameBytes value (49 ∷ []) then some Buy else if sameBytes value (50 ∷ []) then some Sell else none
+sideIn value =
+    if sameBytes value (sideText Buy) then some Buy else if sameBytes value (sideText Sell) then some Sell else none
 
 -- each of the values in turn, or nothing
 infixl 10 _>>=_
@@ -99,13 +105,9 @@ readMessage bytes = readBody (bodyIn bytes)
 abbrev pub fieldWith : List ℕ → List ℕ → Field
 fieldWith tag value = record { tag = tag; value = value }
 
-abbrev pub sideDigit : Side → List ℕ
-sideDigit Buy = 49 ∷ []
-sideDigit Sell = 50 ∷ []
-
 abbrev pub termsFields : Side → Contracts → Steps → List Field
 termsFields side volume price =
-    fieldWith sideTag (sideDigit side) ∷ fieldWith volumeTag (decimalOf (volume .0)) ∷ fieldWith priceTag (signedDecimal (price .0)) ∷ []
+    fieldWith sideTag (sideText side) ∷ fieldWith volumeTag (decimalOf (volume .0)) ∷ fieldWith priceTag (signedDecimal (price .0)) ∷ []
 
 -- "in the order .. 11, 41, 54, 38, 44, 60 .., numbers .. without leading zeros"
 unfoldable pub writtenFields : Message (List ℕ) → List Field
@@ -141,7 +143,7 @@ countedBy counted = fieldWith versionTag version ∷ fieldWith lengthTag (decima
 
 -- the bytes of a message
 unfoldable pub messageBytes : Message (List ℕ) → List ℕ
-messageBytes m = checkedBy (countedBy (fieldWith typeTag (kindByte (kindOf m) ∷ []) ∷ writtenFields m))
+messageBytes m = checkedBy (countedBy (fieldWith typeTag (kindText (kindOf m)) ∷ writtenFields m))
 
 abbrev pub writtenBy : Option Timestamp → List ℕ → Outcome (List ℕ)
 writtenBy none bytes = refused 21
