@@ -13,7 +13,8 @@ use lib.Seq.{drop-cons, take-length}
 use borrow.Author.Tests.{le-leb, lt-leb, le-ltb, lt-ltb, leb-true, leb-false, eq-eqb, ne-eqb}
 use Rattle.rules.specs.Lists.{if_then_else_}
 use Rattle.rules.specs.Digits.{isDigit, allDigits, numberFrom, inDigits, wordWithin, positive, negative, stepsIn}
-use Rattle.digits.specs.Internal.{capped, cappedBy, moreOf}
+use Rattle.digits.specs.Answers.{capped, cappedBy}
+use Rattle.digits.specs.Internal.{moreOf}
 
 -- ---- digits
 pub both : (a b : Bool) → a && b ≡ true → (a ≡ true) × (b ≡ true)

@@ -1,7 +1,9 @@
 -- What the answers of the readers of numbers show: the number, or nothing.
 use Prim.Native.Nat.{ℕ}
 use mathlib.Core.Option.{Option, none, some}
+use lib.Dec.{leb}
 use lib.IntN.{ℤ}
+use Rattle.rules.specs.Lists.{if_then_else_}
 use Rattle.digits.specs.declared.Number.{Number}
 use Rattle.digits.specs.declared.Number.the-variants as N
 use Rattle.digits.specs.declared.Unsigned.{Unsigned}
@@ -20,3 +22,11 @@ shownUnsigned U.Not = none
 abbrev pub shownSigned : Signed → Option ℤ
 shownSigned (S.Is z) = some z
 shownSigned S.Not = none
+
+-- ---- a number of any length in 64 bits: as far as 64 bits hold it with room for one digit more; beyond, the greatest word
+abbrev pub capped : ℕ → ℕ
+capped n = if leb n 18446744073709551609 then n else 18446744073709551615
+
+abbrev pub cappedBy : Option ℕ → Option ℕ
+cappedBy none = none
+cappedBy (some n) = some (capped n)

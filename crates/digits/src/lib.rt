@@ -5,8 +5,8 @@ ghost use mathlib.Core.Option.{some};
 ghost use Prim.Native.Nat.{_-_, _≤_, _%_};
 ghost use Rattle.rules.specs.Lists.{sum};
 ghost use Rattle.rules.specs.Digits.{isDigit, inDigits, wordIn, stepsIn, positive, negative};
-ghost use Rattle.digits.specs.Answers.{shownNumber, shownUnsigned, shownSigned};
-ghost use Rattle.digits.specs.Internal.{moreOf, cappedBy};
+ghost use Rattle.digits.specs.Answers.{shownNumber, shownUnsigned, shownSigned, cappedBy};
+ghost use Rattle.digits.specs.Internal.{moreOf};
 
 pub fn is_digit(b: u8) -> bool
     ensures { λ r. ⌜ r ≡ isDigit b ⌝ }

@@ -8,7 +8,7 @@ use borrow.Author.Tests.{not-true, not-false}
 use native.Mathlib.Omega.{arith}
 use lib.ListN.{length, drop}
 use Rattle.rules.specs.Digits.{allDigits, numberFrom}
-use Rattle.digits.specs.Internal.{capped}
+use Rattle.digits.specs.Answers.{capped}
 use Rattle.digits.proofs.Numbers.{cappedFrom, capped-from, digits-turn, digits-stop, number-again, digits-end, capped-end, nothing, no-number, a-number}
 use Rattle.digits.proofs.number_in.Statement.{statement}
 use Rattle.digits.proofs.number_in.Tie as tie
