@@ -20,7 +20,7 @@ shownUnsigned (U.Is n) = some n
 shownUnsigned U.Not = none
 
 abbrev pub shownSigned : Signed → Option ℤ
-shownSigned (S.Is z) = some z
+shownSigned (S.Is p) = some (p .0)
 shownSigned S.Not = none
 
 -- ---- a number of any length in 64 bits: as far as 64 bits hold it with room for one digit more; beyond, the greatest word

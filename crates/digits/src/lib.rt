@@ -1,4 +1,5 @@
 // Numbers in digits, and the sum of bytes that a message carries.
+use rules::Steps;
 ghost use mathlib.Core.Path.{_≡_};
 ghost use mathlib.Core.Bool.{true};
 ghost use mathlib.Core.Option.{some};
@@ -78,7 +79,7 @@ pub fn word_in(v: &[u8]) -> Unsigned
 }
 
 pub enum Signed {
-    Is(i32),
+    Is(Steps),
     Not,
 }
 
@@ -90,7 +91,7 @@ fn positive_in(v: &[u8]) -> Signed
         return Signed::Not;
     };
     if n <= 2147483647 {
-        return Signed::Is(n as i32);
+        return Signed::Is(Steps(n as i32));
     }
     Signed::Not
 }
@@ -102,7 +103,7 @@ fn minus(n: u64) -> Signed
 {
     match n {
         0 => Signed::Not,
-        _ => Signed::Is(-1 - ((n - 1) as i32)),
+        _ => Signed::Is(Steps(-1 - ((n - 1) as i32))),
     }
 }
 
