@@ -40,3 +40,10 @@ pub mod Session
 pub mod Fewest
 -- "Checks on paper"
 pub mod Checks
+-- document 02, W11: FIX messages
+pub mod Text
+pub mod Digits
+pub mod Dates
+pub mod Fields
+pub mod Frame
+pub mod Messages

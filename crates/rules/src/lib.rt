@@ -209,6 +209,17 @@ pub enum SessionAnswer {
     },
 }
 
+// A time to the millisecond, as FIX writes it.
+pub struct Timestamp {
+    pub year: u32,
+    pub month: u32,
+    pub day: u32,
+    pub hour: u32,
+    pub minute: u32,
+    pub second: u32,
+    pub millis: u32,
+}
+
 // The refusal's number in document 01.
 pub fn number(refusal: Refusal) -> u32
     ensures { λ r. ⌜ r ≡ numberOf refusal ⌝ }

@@ -1,0 +1,18 @@
+-- `digits::value` meets its contract. Assumes nothing.
+use borrow.Author.Needs.{needs}
+use native.Mathlib.Omega.{arith}
+use Rattle.digits.proofs.Numbers.{digit-from, digit-to}
+use Rattle.digits.proofs.value.Statement.{statement}
+use Rattle.digits.proofs.value.Tie as tie
+
+sub-result : tie.Need-sub-result
+sub-result c = omega (arith, digit-from (c .args .b) (c .pre))
+
+cast-result : tie.Need-cast-result
+cast-result c = search needs
+
+returns : tie.Need-returns
+returns c = omega (arith, digit-from (c .args .b) (c .pre), digit-to (c .args .b) (c .pre))
+
+pub value-spec : {M : Type 1} → statement M
+value-spec = tie.close (tie.spec sub-result cast-result returns)

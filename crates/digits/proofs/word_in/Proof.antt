@@ -1,0 +1,38 @@
+-- `digits::word_in` meets its contract. Assumes nothing.
+use mathlib.Core.Path.{ap, sym, _∙_}
+use native.Mathlib.Omega.{arith}
+use Rattle.rules.specs.Digits.{inDigits, wordIn}
+use Rattle.digits.specs.Answers.{shownNumber}
+use Rattle.digits.proofs.Numbers.{word-gone, word-held, word-above}
+use borrow.Author.Needs.{needs}
+use Rattle.digits.proofs.word_in.Statement.{statement}
+use Rattle.digits.proofs.word_in.Tie as tie
+
+number-in-requires : tie.Need-number-in-requires
+number-in-requires c κs = search needs
+
+enum-known-n : tie.Need-enum-known-n
+enum-known-n c = search needs
+
+enum-told : tie.Need-enum-told
+enum-told c = search needs
+
+returns : tie.Need-returns
+unfolding wordIn
+returns c = word-gone (inDigits (c .before .before .before .before .args .v .now)) (sym (ap shownNumber (c .enum-told .given .1)) ∙ c .before .before .number-in .ensures)
+
+cast-t5 : tie.Need-cast-t5
+cast-t5 c = search needs
+
+returns-2 : tie.Need-returns-2
+unfolding wordIn
+returns-2 c = word-held (inDigits (c .before .before .before .before .before .before .args .v .now)) (c .before .before .n .given .0 .0) (sym (ap shownNumber (c .before .before .n .given .1)) ∙ c .before .before .before .before .number-in .ensures) (c .if1 .taken)
+
+returns-3 : tie.Need-returns-3
+unfolding wordIn
+returns-3 c = word-above (inDigits (c .before .before .before .before .before .before .args .v .now)) (c .before .before .n .given .0 .0) (sym (ap shownNumber (c .before .before .n .given .1)) ∙ c .before .before .before .before .number-in .ensures) (c .if1 .left)
+
+pub word-in-spec : {M : Type 1} → statement M
+word-in-spec =
+    tie.close
+    (tie.spec number-in-requires enum-known-n enum-told returns cast-t5 returns-2 returns-3)

@@ -1,0 +1,45 @@
+-- `fix::price` meets its contract. Assumes nothing.
+use mathlib.Core.Path.{_∙_}
+use native.Mathlib.Omega.{arith}
+use Rattle.rules.specs.Digits.{stepsIn}
+use Rattle.fix.proofs.Values.{absent, present, bounds}
+use borrow.Author.Needs.{needs}
+use Rattle.fix.proofs.price.Statement.{statement}
+use Rattle.fix.proofs.price.Tie as tie
+
+element-copy-out-from : tie.Need-element-copy-out-from
+element-copy-out-from c = search needs
+
+element-copy-out-to : tie.Need-element-copy-out-to
+element-copy-out-to c = search needs
+
+returns : tie.Need-returns
+returns c = absent (c .before .before .before .before .args .b .now) (c .before .before .before .before .args .spans .now) 4 (omega arith) stepsIn (c .if1 .taken)
+
+sub-steps-in : tie.Need-sub-steps-in
+sub-steps-in c = bounds (c .before .before .before .before .args .b .now) (c .before .before .before .before .args .spans .now) 4 (omega arith) (c .before .before .before .before .pre) (c .if1 .left) .0
+
+part-steps-in-start : tie.Need-part-steps-in-start
+part-steps-in-start c = bounds (c .before .before .before .before .args .b .now) (c .before .before .before .before .args .spans .now) 4 (omega arith) (c .before .before .before .before .pre) (c .if1 .left) .0
+
+part-steps-in-end : tie.Need-part-steps-in-end
+part-steps-in-end c = bounds (c .before .before .before .before .args .b .now) (c .before .before .before .before .args .spans .now) 4 (omega arith) (c .before .before .before .before .pre) (c .if1 .left) .1
+
+steps-in-requires : tie.Need-steps-in-requires
+steps-in-requires c κs = search needs
+
+returns-2 : tie.Need-returns-2
+returns-2 c = λ fs h. c .steps-in .ensures ∙ present (c .before .before .before .before .before .before .args .b .now) (c .before .before .before .before .before .before .args .spans .now) 4 (omega arith) stepsIn (c .before .before .if1 .left) fs h
+
+pub price-spec : {M : Type 1} → statement M
+price-spec =
+    tie.close
+    (tie.spec
+    element-copy-out-from
+    element-copy-out-to
+    returns
+    sub-steps-in
+    part-steps-in-start
+    part-steps-in-end
+    steps-in-requires
+    returns-2)

@@ -1,0 +1,45 @@
+-- `fix::time` meets its contract. Assumes nothing.
+use mathlib.Core.Path.{_∙_}
+use native.Mathlib.Omega.{arith}
+use Rattle.rules.specs.Dates.{timeIn}
+use Rattle.fix.proofs.Values.{absent, present, bounds}
+use borrow.Author.Needs.{needs}
+use Rattle.fix.proofs.time.Statement.{statement}
+use Rattle.fix.proofs.time.Tie as tie
+
+element-copy-out-from : tie.Need-element-copy-out-from
+element-copy-out-from c = search needs
+
+element-copy-out-to : tie.Need-element-copy-out-to
+element-copy-out-to c = search needs
+
+returns : tie.Need-returns
+returns c = absent (c .before .before .before .before .args .b .now) (c .before .before .before .before .args .spans .now) 5 (omega arith) timeIn (c .if1 .taken)
+
+sub-time-in : tie.Need-sub-time-in
+sub-time-in c = bounds (c .before .before .before .before .args .b .now) (c .before .before .before .before .args .spans .now) 5 (omega arith) (c .before .before .before .before .pre) (c .if1 .left) .0
+
+part-time-in-start : tie.Need-part-time-in-start
+part-time-in-start c = bounds (c .before .before .before .before .args .b .now) (c .before .before .before .before .args .spans .now) 5 (omega arith) (c .before .before .before .before .pre) (c .if1 .left) .0
+
+part-time-in-end : tie.Need-part-time-in-end
+part-time-in-end c = bounds (c .before .before .before .before .args .b .now) (c .before .before .before .before .args .spans .now) 5 (omega arith) (c .before .before .before .before .pre) (c .if1 .left) .1
+
+time-in-requires : tie.Need-time-in-requires
+time-in-requires c κs = search needs
+
+returns-2 : tie.Need-returns-2
+returns-2 c = λ fs h. c .time-in .ensures ∙ present (c .before .before .before .before .before .before .args .b .now) (c .before .before .before .before .before .before .args .spans .now) 5 (omega arith) timeIn (c .before .before .if1 .left) fs h
+
+pub time-spec : {M : Type 1} → statement M
+time-spec =
+    tie.close
+    (tie.spec
+    element-copy-out-from
+    element-copy-out-to
+    returns
+    sub-time-in
+    part-time-in-start
+    part-time-in-end
+    time-in-requires
+    returns-2)
