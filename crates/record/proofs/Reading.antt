@@ -128,7 +128,7 @@ module _ (f : Fields) where
 
 -- the fields of an event say it
 pub fields-say : (e : Event) → readFields (fieldsFor e) ≡ accepted e
-unfolding readFields goodFields eventBy fieldsFor unusedZero unsignedOf
+unfolding readFields goodFields eventBy unusedZero unsignedOf
 fields-say (Add t id Buy price volume) = refl
 fields-say (Add t id Sell price volume) = refl
 fields-say (Amend t id price volume) = refl

@@ -26,7 +26,7 @@ fieldsIn bytes =
     }
 
 -- the fields of an event: "Fields that the call doesn't take are zero."
-unfoldable pub fieldsFor : Event → Fields
+abbrev pub fieldsFor : Event → Fields
 fieldsFor (Add t id side price volume) = record { kind = addKind side; t = t; id = id; price = price; volume = volume }
 fieldsFor (Amend t id price volume) = record { kind = 3; t = t; id = id; price = price; volume = volume }
 fieldsFor (Cancel t id) = record { kind = 4; t = t; id = id; price = steps (pos 0); volume = contracts 0 }

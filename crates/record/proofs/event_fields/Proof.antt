@@ -1,6 +1,8 @@
 -- The fields of each event are those of `fieldsFor`. Assumes nothing.
+use mathlib.Core.Path.{sym, ap, _∙_}
 use borrow.Author.Needs.{needs}
-use Rattle.record.proofs.Writing.{add-fields, amend-fields, cancel-fields, deal-fields, tick-fields}
+use Rattle.record.specs.Fields.{fieldsFor}
+use Rattle.record.proofs.Writing.{add-fields}
 use Rattle.record.proofs.event_fields.Statement.{statement}
 use Rattle.record.proofs.event_fields.Tie as tie
 
@@ -41,16 +43,16 @@ returns : tie.Need-returns
 returns c = add-fields (c .before .before .before .event .given .1) (c .before .add-kind .ensures) (c .made .ensures)
 
 returns-2 : tie.Need-returns-2
-returns-2 c = amend-fields (c .before .before .event2 .given .1) (c .made2 .ensures)
+returns-2 c = c .made2 .ensures ∙ sym (ap fieldsFor (c .before .before .event2 .given .1))
 
 returns-3 : tie.Need-returns-3
-returns-3 c = cancel-fields (c .before .before .event3 .given .1) (c .made3 .ensures)
+returns-3 c = c .made3 .ensures ∙ sym (ap fieldsFor (c .before .before .event3 .given .1))
 
 returns-4 : tie.Need-returns-4
-returns-4 c = deal-fields (c .before .before .event4 .given .1) (c .made4 .ensures)
+returns-4 c = c .made4 .ensures ∙ sym (ap fieldsFor (c .before .before .event4 .given .1))
 
 returns-5 : tie.Need-returns-5
-returns-5 c = tick-fields (c .before .before .event5 .given .1) (c .made5 .ensures)
+returns-5 c = c .made5 .ensures ∙ sym (ap fieldsFor (c .before .before .event5 .given .1))
 
 pub event-fields-spec : {M : Type 1} → statement M
 event-fields-spec =
