@@ -15,12 +15,14 @@ use Rattle.rules.specs.Kept.{ordersKeep}
 use Rattle.rules.specs.Causes.{eventRefusal}
 use Rattle.rules.proofs.Orders.{live-snoc}
 use Rattle.rules.proofs.Bounds.{event-bounds-more}
+use Rattle.book.specs.declared.Sent.{Sent}
+use Rattle.book.specs.Sending.{Sending}
 use Rattle.book.specs.Table.{tableOf, GoodOrders, Holding, Sends, sentTo}
 use Rattle.quantum.specs.declared.Duty.{Duty}
 use Rattle.quantum.specs.declared.Clock.{Clock}
 use Rattle.quantum.specs.declared.Stepped.{Stepped}
 use Rattle.quantum.specs.Represents.{tableAfter, taken, Running, Represents, Stepping, ranOn, InTime, isTick}
-use Rattle.quantum.proofs.Represents.{good-orders, one, represents, keeps-is, minimum-is, in-time, same-clock, same-table, next-clock, next-table, tick-live, tick-causes}
+use Rattle.quantum.proofs.Represents.{good-orders, one, represents, keeps-is, minimum-is, widest-is, in-time, same-clock, same-table, next-clock, next-table, tick-live, tick-causes}
 
 module _ {duty : Duty} {clock : Clock} where
   -- the table as the duty's least volume has it
@@ -108,6 +110,17 @@ module _ (duty : Duty) (clock : Clock) (e : Event) (t : Millis) (entry exit : Li
       let z : n ≡ 0 = omega arith in
       subst GoodOrders (live-snoc es e)
       (good-orders row (es ++ (e ∷ [])) (event-bounds-more row es e (s .bounds) (sym (number-is row sp es s) ∙ z)))
+
+  -- .. and keep the quote or not
+  pub taken-keeps : (sent : Sent) → Sending e (duty .minimum .0) (duty .widest) (clock .keeps) entry exit sent → sent .refusal ≡ n → n ≤ 0
+      → (row : Row) (sp : SpreadRule) (es : List Event) → Represents row sp es duty clock entry
+      → sent .keeps ≡ one (ordersKeep row sp (apply (live es) e))
+  taken-keeps sent h same l row sp es s =
+      let z : n ≡ 0 = omega arith in
+      let gone : sentTo (sent .refusal) (live es) e ≡ apply (live es) e = ap (λ (k : ℕ). sentTo k (live es) e) (same ∙ z) in
+      h .keeps row sp (live es) (good-orders row es (s .bounds)) (subst GoodOrders (sym gone) (taken-good l row sp es s)) (minimum-table s)
+      (ap (λ (m : Contracts). m .0) (minimum-is row sp es duty clock entry s)) (widest-is row sp es duty clock entry s) (keeps-is row sp es clock (s .clock-is))
+      ∙ ap (λ (o : List Order). one (ordersKeep row sp o)) gone
 
   pub taken-orders : (next : Clock) (keeps : ℕ) → n ≤ 0 → next ≡ ranOn clock t keeps
       → ((row : Row) (sp : SpreadRule) (es : List Event) → Represents row sp es duty clock entry → keeps ≡ one (ordersKeep row sp (apply (live es) e)))

@@ -221,12 +221,13 @@ fn taken(
     ensures { λ r. ⌜ Stepping duty clock e (now (table .entry)) (now (table .exit)) r ⌝ }
 {
     let minimum = duty.minimum;
-    let refusal = book::send(table, hints, e, minimum);
+    let sent = book::send(table, hints, e, minimum, duty.widest, clock.keeps);
+    let refusal = sent.refusal;
     if 0 < refusal {
         return refused(clock, refusal);
     }
     Stepped {
-        clock: onward(clock, t, book::keeps(table, duty.widest)),
+        clock: onward(clock, t, sent.keeps),
         refusal: 0,
     }
 }

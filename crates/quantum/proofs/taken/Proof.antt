@@ -1,8 +1,7 @@
 -- The trader's causes and the orders by the book, then the clock. Assumes nothing.
-use Rattle.rules.specs.Orders.{live, apply}
-use Rattle.book.proofs.Table.{held-length}
-use Rattle.quantum.proofs.Represents.{represents, widest-is, onward}
-use Rattle.quantum.proofs.Steps.{holding, refused-orders, taken-good, taken-table, taken-orders}
+use mathlib.Core.Path.{refl}
+use Rattle.quantum.proofs.Represents.{onward}
+use Rattle.quantum.proofs.Steps.{holding, refused-orders, taken-keeps, taken-orders}
 use borrow.Author.Needs.{needs}
 use Rattle.quantum.proofs.taken.Statement.{statement}
 use Rattle.quantum.proofs.taken.Tie as tie
@@ -23,25 +22,12 @@ returns : tie.Need-returns
 returns c =
     let g = c .before .before .before .before .before .before in
     let s = g .before .before .before .before .before .before in
-    refused-orders (s .args .duty) (s .args .clock) (s .args .e) (s .args .t) (s .args .table .now) (g .send .last .0) (g .send .result) (s .pre .1)
-    (g .send .ensures) (c .refused .result) (c .before .if1 .taken) (c .refused .ensures)
-
-keeps-requires : tie.Need-keeps-requires
-keeps-requires c κs =
-    let g = c .before .before .before .before .before .before in
-    let s = g .before .before .before .before .before .before in
-    let r = s .pre .0 in
-    held-length (g .send .last .0)
-    (record {
-      minimum = r .row .minimum .0;
-      live = apply (live (r .events)) (s .args .e);
-      good = taken-good (s .args .duty) (s .args .clock) (s .args .e) (s .args .t) (s .args .table .now) (g .send .last .0) (g .send .result) (s .pre .1) (g .send .ensures) (c .before .if1 .left) (r .row) (r .sp) (r .events) (represents r);
-      is = taken-table (s .args .duty) (s .args .clock) (s .args .e) (s .args .t) (s .args .table .now) (g .send .last .0) (g .send .result) (s .pre .1) (g .send .ensures) (c .before .if1 .left) (r .row) (r .sp) (r .events) (represents r);
-    })
+    refused-orders (s .args .duty) (s .args .clock) (s .args .e) (s .args .t) (s .args .table .now) (g .send .last .0) (g .send .result .refusal) (s .pre .1)
+    (g .send .ensures .sends) (c .refused .result) (c .before .if1 .taken) (c .refused .ensures)
 
 onward-requires : tie.Need-onward-requires
 onward-requires c κs =
-    let s = c .before .before .before .before .before .before .before .before .before .before .before .before .before in
+    let s = c .before .before .before .before .before .before .before .before .before .before .before in
     let r = s .pre .0 in
     onward (r .row) (r .sp) (r .events) (s .args .clock) (r .clock-is) (s .args .t) (s .pre .1 .onward)
 
@@ -53,17 +39,13 @@ same-length-4 c = search needs
 
 returns-2 : tie.Need-returns-2
 returns-2 c =
-    let k = c .before in
-    let f = k .before .before in
+    let f = c .before in
     let g = f .before .before .before .before .before in
     let s = g .before .before .before .before .before .before in
-    taken-orders (s .args .duty) (s .args .clock) (s .args .e) (s .args .t) (s .args .table .now) (g .send .last .0) (g .send .result) (s .pre .1)
-    (g .send .ensures) (c .onward .result) (k .keeps .result) (f .if1 .left) (c .onward .ensures)
-    (λ row sp es h.
-    k .keeps .ensures row sp (apply (live es) (s .args .e))
-    (taken-good (s .args .duty) (s .args .clock) (s .args .e) (s .args .t) (s .args .table .now) (g .send .last .0) (g .send .result) (s .pre .1) (g .send .ensures) (f .if1 .left) row sp es h)
-    (taken-table (s .args .duty) (s .args .clock) (s .args .e) (s .args .t) (s .args .table .now) (g .send .last .0) (g .send .result) (s .pre .1) (g .send .ensures) (f .if1 .left) row sp es h)
-    (widest-is row sp es (s .args .duty) (s .args .clock) (s .args .table .now) h))
+    taken-orders (s .args .duty) (s .args .clock) (s .args .e) (s .args .t) (s .args .table .now) (g .send .last .0) (g .send .result .refusal) (s .pre .1)
+    (g .send .ensures .sends) (c .onward .result) (g .send .result .keeps) (f .if1 .left) (c .onward .ensures)
+    (taken-keeps (s .args .duty) (s .args .clock) (s .args .e) (s .args .t) (s .args .table .now) (g .send .last .0) (g .send .result .refusal) (s .pre .1)
+    (g .send .ensures .sends) (g .send .result) (g .send .ensures) refl (f .if1 .left))
 
 pub taken-spec : {M : Type 1} → statement M
 taken-spec =
@@ -74,7 +56,6 @@ taken-spec =
     same-length
     same-length-2
     returns
-    keeps-requires
     onward-requires
     same-length-3
     same-length-4
