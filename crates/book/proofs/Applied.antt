@@ -24,10 +24,10 @@ use Rattle.rules.proofs.Refusals.{clear, trader-passes}
 use Rattle.quote.specs.Keys.{keyOf}
 use Rattle.quote.proofs.Keys.{key-least, key-most}
 use Rattle.side.specs.declared.Change.{Change}
-use Rattle.side.specs.Slots.{Slot, slot, blankSlot, sideOf, bestIn, GoodSlots}
-use Rattle.side.specs.Internal.{Changed, Sized, Added, Amended, Removed}
+use Rattle.side.specs.Slots.{Slot, slot, blankSlot, sideOf, keptIn, GoodSlots}
+use Rattle.side.specs.Internal.{Changed, Sized, Added, Amended, Removed, Grows}
 use Rattle.side.proofs.Words.{words-length, count-is}
-use Rattle.side.proofs.Changes.{changed-added, changed-amended, changed-removed, GoodSlot, one-good, good-added, good-amended, good-removed}
+use Rattle.side.proofs.Changes.{changed-added, changed-amended, changed-removed, GoodSlot, one-good, good-added, good-amended, good-removed, grows-none, grows-added, grows-amended, grows-removed}
 use Rattle.book.specs.declared.Answer.{Answer}
 use Rattle.book.specs.Table.{ofSide, slotOf, slotsIn, sideIn, tableOf, slotIn, sentTo, GoodOrders}
 use Rattle.book.specs.Internal.{sideAt, other, Numbers, joined, appliedTo, Represents, Placed, answer, noChange, Applied}
@@ -41,16 +41,17 @@ module _ (e : Event) (minimum : ℕ) (live : List Order) (table : List ℕ) (rep
   unfolding tableOf appliedTo
   refuses n r is h =
       subst (Applied e minimum live table) (sym is)
-      (record { number = omega arith; refusal = sym h; table = represents .is; others = refl; good = good-slots Buy live (represents .good); answers = λ t. refl })
+      (record { number = omega arith; refusal = sym h; table = represents .is; others = refl; good = good-slots Buy live (represents .good); grown = grows-none (slotsIn Buy live); answers = λ t. refl })
 
   -- the side's slots are these, the other's those of before, and the words of the side are put into the table
   pub accepts : (n : ℕ) → n < 2 → (after : List Slot) (c : Change) (half : List ℕ) (r : Answer) → r ≡ answer 0 n c
       → lowest (traderCauses live e) ≡ 0 → slotsIn (sideAt n) (apply live e) ≡ after
-      → slotsIn (other (sideAt n)) (apply live e) ≡ slotsIn (other (sideAt n)) live → GoodSlots after → Changed c (slotsIn (sideAt n) live) after
-      → half ≡ sideOf after (bestIn minimum (slotsIn (sideAt n) live))
+      → slotsIn (other (sideAt n)) (apply live e) ≡ slotsIn (other (sideAt n)) live → GoodSlots after → Grows c (slotsIn (sideAt n) live) after
+      → Changed c (slotsIn (sideAt n) live) after
+      → half ≡ sideOf after (keptIn minimum (slotsIn (sideAt n) live))
       → Applied e minimum live (take (256 * n) table ++ (half ++ drop (256 * n + 256 - 256 * n) (drop (256 * n) table))) r
   unfolding appliedTo
-  accepts n l after c half r is h own others good answers words =
+  accepts n l after c half r is h own others good grown answers words =
       subst (Applied e minimum live (take (256 * n) table ++ (half ++ drop (256 * n + 256 - 256 * n) (drop (256 * n) table)))) (sym is)
       (record {
         number = l;
@@ -59,11 +60,12 @@ module _ (e : Event) (minimum : ℕ) (live : List Order) (table : List ℕ) (rep
             put-is table minimum live represents n l half
             ∙ ap (λ (w : List ℕ). joined n w (sideIn minimum (other (sideAt n)) live)) words
             ∙ ap
-            (λ (o : List Slot). joined n (sideOf after (bestIn minimum (slotsIn (sideAt n) live))) (sideOf o (bestIn minimum o)))
+            (λ (o : List Slot). joined n (sideOf after (keptIn minimum (slotsIn (sideAt n) live))) (sideOf o (keptIn minimum o)))
             (sym others)
-            ∙ ap (λ (o : List Slot). joined n (sideOf o (bestIn minimum (slotsIn (sideAt n) live))) (sideIn minimum (other (sideAt n)) (apply live e))) (sym own);
+            ∙ ap (λ (o : List Slot). joined n (sideOf o (keptIn minimum (slotsIn (sideAt n) live))) (sideIn minimum (other (sideAt n)) (apply live e))) (sym own);
         others = others;
         good = subst GoodSlots (sym own) good;
+        grown = subst (Grows c (slotsIn (sideAt n) live)) (sym own) grown;
         answers = subst (Changed c (slotsIn (sideAt n) live)) (sym own) answers;
       })
 
@@ -72,7 +74,7 @@ pub idle : (t : Millis) (minimum : ℕ) (live : List Order) (table : List ℕ) �
 unfolding tableOf appliedTo apply
 idle t minimum live table represents r is =
     subst (Applied (Tick t) minimum live table) (sym is)
-    (record { number = omega arith; refusal = sym clear; table = represents .is; others = refl; good = good-slots Buy live (represents .good); answers = λ t. refl })
+    (record { number = omega arith; refusal = sym clear; table = represents .is; others = refl; good = good-slots Buy live (represents .good); grown = grows-none (slotsIn Buy live); answers = λ t. refl })
 
 -- two accepted events that leave the same orders
 pub same-turn : (d e : Event) (minimum : ℕ) (live : List Order) (exit : List ℕ) (r : Answer) → lowest (traderCauses live d) ≡ 0
@@ -84,6 +86,7 @@ same-turn d e minimum live exit r h k same t =
       table = t .table ∙ ap (appliedTo (r .s) minimum live) sent;
       others = ap (slotsIn (other (sideAt (r .s)))) (sym sent) ∙ t .others;
       good = subst (λ (l : List Order). GoodSlots (slotsIn (sideAt (r .s)) l)) sent (t .good);
+      grown = subst (λ (l : List Order). Grows (r .change) (slotsIn (sideAt (r .s)) live) (slotsIn (sideAt (r .s)) l)) sent (t .grown);
       answers = subst (λ (l : List Order). Changed (r .change) (slotsIn (sideAt (r .s)) live) (slotsIn (sideAt (r .s)) l)) sent (t .answers);
     }
   where
@@ -140,8 +143,9 @@ module _ (t : Millis) (minimum : ℕ) (live : List Order) (table : List ℕ) (re
       } in
       accepts e minimum live table represents n (number .small) (slots ++ (x ∷ [])) c half r is h own others
       (good-added slots x (good-before n) few fine)
+      (subst (λ (c : Change). Grows c slots (slots ++ (x ∷ []))) (sym (made .answers)) (grows-added slots id key (volume .0) (fine .key-least)))
       (subst (λ (c : Change). Changed c slots (slots ++ (x ∷ []))) (sym (made .answers)) (changed-added slots id key (volume .0)))
-      (made .words slots (bestIn minimum slots) few (part-is table minimum live represents n (number .small)))
+      (made .words slots (keptIn minimum slots) few (part-is table minimum live represents n (number .small)))
 
   -- the order that is at a slot
   module _ (id at : ℕ) (is-slot : at ≡ slotIn id live) (there : at < 128) where
@@ -165,6 +169,9 @@ module _ (t : Millis) (minimum : ℕ) (live : List Order) (table : List ℕ) (re
     within : at % 64 < length (slotsIn (sideAt (at / 64)) live)
     within = inside live (represents .good) (sideAt (at / 64)) (at % 64) id has-slot
 
+    old-good : GoodSlot (getD (slotsIn (sideAt (at / 64)) live) (at % 64) blankSlot)
+    old-good = one-good slots (getD slots k blankSlot) (good-before n) (getD-in slots k blankSlot within)
+
     -- what its words hold
     its-key : getD table (256 * (at / 64) + (64 + at % 64)) 0 ≡ getD (slotsIn (sideAt (at / 64)) live) (at % 64) blankSlot .key
     its-key = side-key table minimum live represents (at / 64) small (at % 64) (omega arith)
@@ -183,10 +190,13 @@ module _ (t : Millis) (minimum : ℕ) (live : List Order) (table : List ℕ) (re
         accepts e minimum live table represents n small (set slots k (slot (getD slots k blankSlot .id) key (v .0))) c half r is h own
         (others-stay live (represents .good) (sideAt n) k id has-slot e named)
         (good-amended slots k (slot (getD slots k blankSlot .id) key (v .0)) (good-before n) fine)
+        (subst (λ (c : Change). Grows c slots (set slots k (slot (getD slots k blankSlot .id) key (v .0))))
+        (sym (made .answers slots (keptIn minimum slots) (good-before n .few) within (part-is table minimum live represents n small)))
+        (grows-amended slots k (getD slots k blankSlot .id) key (v .0) (old-good .key-least)))
         (subst (λ (c : Change). Changed c slots (set slots k (slot (getD slots k blankSlot .id) key (v .0))))
-        (sym (made .answers slots (bestIn minimum slots) (good-before n .few) within (part-is table minimum live represents n small)))
+        (sym (made .answers slots (keptIn minimum slots) (good-before n .few) within (part-is table minimum live represents n small)))
         (changed-amended slots k (getD slots k blankSlot .id) key (v .0) within))
-        (made .words slots (bestIn minimum slots) (good-before n .few) within (part-is table minimum live represents n small))
+        (made .words slots (keptIn minimum slots) (good-before n .few) within (part-is table minimum live represents n small))
 
     pub applied-amend : (price : Steps) (volume : Contracts) (key : ℕ) (half : List ℕ) (c : Change) (r : Answer)
         → lowest (traderCauses live (Amend t id price volume)) ≡ 0 → key ≡ keyOf (sideAt n) (price .0)
@@ -210,7 +220,7 @@ module _ (t : Millis) (minimum : ℕ) (live : List Order) (table : List ℕ) (re
         → Amended k (getD table (256 * n + (64 + k)) 0) (contracts (getD table (256 * n + (128 + k)) 0 - volume .0)) (lent n table) half c
         → r ≡ answer 0 n c → Applied (Deal t id volume) minimum live (putBack n table half) r
     applied-deal volume half c r h some made is =
-        let old : GoodSlot (getD slots k blankSlot) = one-good slots (getD slots k blankSlot) (good-before n) (getD-in slots k blankSlot within) in
+        let old = old-good in
         let held : getD table (256 * n + (128 + k)) 0 ≡ getD slots k blankSlot .volume = side-volume table minimum live represents n small k (omega arith) in
         let rest : ℕ = getD table (256 * n + (128 + k)) 0 - volume .0 in
         set-turn (Deal t id volume) h refl (getD table (256 * n + (64 + k)) 0) (contracts rest) half c r
@@ -232,19 +242,22 @@ module _ (t : Millis) (minimum : ℕ) (live : List Order) (table : List ℕ) (re
         (cancelled live (represents .good) (sideAt n) k id has-slot t)
         (others-stay live (represents .good) (sideAt n) k id has-slot (Cancel t id) refl)
         (good-removed slots k (good-before n))
+        (subst (λ (c : Change). Grows c slots (take k slots ++ drop (suc k) slots))
+        (sym (made .answers slots (keptIn minimum slots) (good-before n .few) within (part-is table minimum live represents n small)))
+        (grows-removed slots k (old-good .key-least)))
         (subst (λ (c : Change). Changed c slots (take k slots ++ drop (suc k) slots))
-        (sym (made .answers slots (bestIn minimum slots) (good-before n .few) within (part-is table minimum live represents n small)))
+        (sym (made .answers slots (keptIn minimum slots) (good-before n .few) within (part-is table minimum live represents n small)))
         (changed-removed slots k within))
-        (made .words slots (bestIn minimum slots) (good-before n .few) within (part-is table minimum live represents n small))
+        (made .words slots (keptIn minimum slots) (good-before n .few) within (part-is table minimum live represents n small))
 
     -- the side's words after it went, for the hints
     pub placed : (half hints : List ℕ) (c : Change) → length hints ≡ 1024 → Removed k (lent n table) half c → Placed (putBack n table half) hints n
     placed half hints c long made =
         let left = take k slots ++ drop (suc k) slots in
         let few = good-removed slots k (good-before n) .few in
-        let words = made .words slots (bestIn minimum slots) (good-before n .few) within (part-is table minimum live represents n small) in
+        let words = made .words slots (keptIn minimum slots) (good-before n .few) within (part-is table minimum live represents n small) in
         let others = sideIn minimum (other (sideAt n)) live in
-        let size = words-length half left (bestIn minimum slots) few words in
+        let size = words-length half left (keptIn minimum slots) few words in
         let rest = half-length table minimum live represents (other (sideAt n)) in
         let put = put-is table minimum live represents n small half in
         record {
@@ -256,7 +269,7 @@ module _ (t : Millis) (minimum : ℕ) (live : List Order) (table : List ℕ) (re
                 arith,
                 ap (λ (t : List ℕ). getD t (256 * n + 192) 0) put,
                 joined-at half others size rest n 192 small (omega arith),
-                count-is half left (bestIn minimum slots) few words,
+                count-is half left (keptIn minimum slots) few words,
               );
         }
 

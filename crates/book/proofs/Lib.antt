@@ -6,4 +6,4 @@ pub mod Events
 pub mod Causes
 pub mod Applied
 pub mod Quotes
-pub mod Sent
+pub mod Sendings

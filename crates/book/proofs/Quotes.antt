@@ -1,8 +1,8 @@
 -- The best keys in the table's words: their quotes, and the spread test on them. Assumes nothing.
 use Prim.Native.Nat.{ℕ, _+_, _*_, _≤_, _<_}
 use native.Mathlib.Omega.{arith}
-use mathlib.Core.Path.{_≡_, sym, ap, _∙_, subst}
-use mathlib.Core.List.{List, map, map-map}
+use mathlib.Core.Path.{_≡_, refl, sym, ap, _∙_, subst}
+use mathlib.Core.List.{List, map, map-map, append-nil}
 use mathlib.Core.Bool.{Bool}
 use lib.ListN.{getD}
 use Rattle.rules.specs.declared.Side.{Side}
@@ -11,26 +11,28 @@ use Rattle.rules.specs.declared.Order.{Order}
 use Rattle.rules.specs.declared.Row.{Row}
 use Rattle.rules.specs.declared.SpreadRule.{SpreadRule}
 use Rattle.rules.specs.Lists.{if_then_else_}
-use Rattle.rules.specs.Quotes.{best}
+use Rattle.rules.specs.Quotes.{best, volumeOf}
 use Rattle.rules.specs.Kept.{quotesKeep, ordersKeep}
 use Rattle.rules.proofs.Lists.{kept-in}
 use Rattle.rules.proofs.Best.{sided}
 use Rattle.quote.specs.Keys.{keyIn, quoteKey, quoteAt}
-use Rattle.quote.specs.Levels.{levelAt, levelOf, bestKey}
+use Rattle.quote.specs.Levels.{bestKey}
+use Rattle.quote.specs.Searches.{ColumnsOf}
 use Rattle.quote.specs.Widest.{WidestFor, keysKeep}
 use Rattle.quote.proofs.Keys.{GoodQuote, good-quote}
 use Rattle.quote.proofs.Finding.{bestOf, side-most, best-key, key-best}
 use Rattle.quote.proofs.Spread.{keys-law}
-use Rattle.side.specs.Slots.{Slot, volumesOf, bestIn}
+use Rattle.side.specs.Slots.{Slot, keysOf, volumesOf, bestKeyIn, keptIn}
+use Rattle.side.proofs.Words.{kept-key}
 use Rattle.book.specs.Table.{ofSide, slotOf, slotsIn, tableOf, GoodOrders}
 use Rattle.book.specs.Internal.{sideAt, Represents}
 use Rattle.book.proofs.Table.{side-best}
 
 -- the columns of the slots are those of the orders
-best-of : (s : Side) (minimum : ℕ) (live : List Order) → bestIn minimum (slotsIn s live) .key ≡ bestOf s minimum (ofSide s live)
-unfolding levelOf levelAt
+best-of : (s : Side) (minimum : ℕ) (live : List Order) → keptIn minimum (slotsIn s live) .key ≡ bestOf s minimum (ofSide s live)
 best-of s minimum live =
-    ap (λ (ks : List ℕ). bestKey minimum ks (volumesOf (slotsIn s live))) (map-map (λ (x : Slot). x .key) (slotOf s) (ofSide s live))
+    kept-key minimum (slotsIn s live)
+    ∙ ap (λ (ks : List ℕ). bestKey minimum ks (volumesOf (slotsIn s live))) (map-map (λ (x : Slot). x .key) (slotOf s) (ofSide s live))
     ∙ ap (bestKey minimum (map (keyIn s) (ofSide s live))) (map-map (λ (x : Slot). x .volume) (slotOf s) (ofSide s live))
 
 module _ (table : List ℕ) (minimum : ℕ) (live : List Order) (represents : Represents table minimum live) where
@@ -69,3 +71,37 @@ pub keeps-is : (table : List ℕ) (row : Row) (sp : SpreadRule) (live : List Ord
 unfolding ordersKeep
 keeps-is table row sp live good is widest r l e =
     e ∙ ap (λ (b : Bool). if b then 1 else 0) (words-filter table (row .minimum .0) live (record { good = good; is = is }) row sp widest l)
+
+-- by the best keys of the two sides
+orders-by-keys : (minimum : ℕ) (row : Row) (sp : SpreadRule) (live : List Order) → GoodOrders live → minimum ≡ row .minimum .0 → (widest : ℕ) → WidestFor row sp widest
+    → ordersKeep row sp live ≡ keysKeep widest (bestKeyIn minimum (slotsIn Buy live)) (bestKeyIn minimum (slotsIn Sell live))
+unfolding ordersKeep
+orders-by-keys minimum row sp live good e widest law =
+    let table = tableOf minimum live in
+    let represents : Represents table minimum live = record { good = good; is = refl } in
+    let key : (n : ℕ) → n < 2 → getD table (256 * n + 193) 0 ≡ bestKeyIn minimum (slotsIn (sideAt n) live) =
+    λ n h. side-best table minimum live represents n h ∙ kept-key minimum (slotsIn (sideAt n) live) in
+    ap (λ (m : ℕ). quotesKeep row sp (best Buy m live) (best Sell m live)) (sym e)
+    ∙ sym (words-filter table minimum live represents row sp widest law)
+    ∙ (λ i. keysKeep widest (key 0 (omega arith) i) (key 1 (omega arith) i))
+
+-- two lists of orders with the same best keys keep the quote alike
+pub same-keeps : (minimum : ℕ) (row : Row) (sp : SpreadRule) (live after : List Order) → GoodOrders live → GoodOrders after → minimum ≡ row .minimum .0
+    → (widest : ℕ) → WidestFor row sp widest → ((s : Side) → bestKeyIn minimum (slotsIn s after) ≡ bestKeyIn minimum (slotsIn s live))
+    → ordersKeep row sp after ≡ ordersKeep row sp live
+same-keeps minimum row sp live after good good-after e widest law same =
+    orders-by-keys minimum row sp after good-after e widest law
+    ∙ (λ i. keysKeep widest (same Buy i) (same Sell i))
+    ∙ sym (orders-by-keys minimum row sp live good e widest law)
+
+-- the columns of the slots are those of the orders
+pub slots-orders : (side : Side) (live : List Order) → GoodOrders live
+    → ColumnsOf side (ofSide side live) (keysOf (slotsIn side live)) (volumesOf (slotsIn side live))
+slots-orders side live good =
+    record {
+      blanks = 0;
+      keys = map-map (λ (x : Slot). x .key) (slotOf side) (ofSide side live) ∙ sym (append-nil (map (keyIn side) (ofSide side live)));
+      volumes = map-map (λ (x : Slot). x .volume) (slotOf side) (ofSide side live) ∙ sym (append-nil (map volumeOf (ofSide side live)));
+      sided = λ o m. kept-in (sided side) live m .1;
+      prices = λ o m. good .prices o (kept-in (sided side) live m .0);
+    }

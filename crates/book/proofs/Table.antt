@@ -16,7 +16,7 @@ use Rattle.rules.specs.Quotes.{same}
 use Rattle.rules.proofs.Lists.{both}
 use Rattle.rules.proofs.Members.{length-filter}
 use Rattle.quote.specs.declared.Level.{Level}
-use Rattle.side.specs.Slots.{Slot, blankSlot, sideOf, bestIn, seen}
+use Rattle.side.specs.Slots.{Slot, blankSlot, sideOf, keptIn, seen}
 use Rattle.side.specs.Internal.{Sized}
 use Rattle.side.proofs.Lists.{behind-at}
 use Rattle.side.proofs.Words.{words-length, count-is, key-is, sized, id-at, key-at, volume-at}
@@ -83,7 +83,7 @@ module _ (table : List ℕ) (minimum : ℕ) (live : List Order) (represents : Re
   few-slots s = omega (arith, few-side s live (represents .good), length-map (ofSide s live) (slotOf s))
 
   pub half-length : (s : Side) → length (sideIn minimum s live) ≡ 256
-  half-length s = words-length (sideIn minimum s live) (slotsIn s live) (bestIn minimum (slotsIn s live)) (few-slots s) refl
+  half-length s = words-length (sideIn minimum s live) (slotsIn s live) (keptIn minimum (slotsIn s live)) (few-slots s) refl
 
   halves : (n : ℕ) → n < 2 → table ≡ joined n (sideIn minimum (sideAt n) live) (sideIn minimum (other (sideAt n)) live)
   unfolding tableOf
@@ -115,18 +115,18 @@ module _ (table : List ℕ) (minimum : ℕ) (live : List Order) (represents : Re
     -- the half that is lent is a side's words
     pub part-sized : Sized (take (256 * n + 256 - 256 * n) (drop (256 * n) table))
     part-sized =
-        sized (take (256 * n + 256 - 256 * n) (drop (256 * n) table)) (slotsIn (sideAt n) live) (bestIn minimum (slotsIn (sideAt n) live)) (few-slots (sideAt n)) part-is
+        sized (take (256 * n + 256 - 256 * n) (drop (256 * n) table)) (slotsIn (sideAt n) live) (keptIn minimum (slotsIn (sideAt n) live)) (few-slots (sideAt n)) part-is
 
     pub part-count : getD (take (256 * n + 256 - 256 * n) (drop (256 * n) table)) 192 0 ≡ length (ofSide (sideAt n) live)
     part-count =
-        count-is (take (256 * n + 256 - 256 * n) (drop (256 * n) table)) (slotsIn (sideAt n) live) (bestIn minimum (slotsIn (sideAt n) live)) (few-slots (sideAt n)) part-is
+        count-is (take (256 * n + 256 - 256 * n) (drop (256 * n) table)) (slotsIn (sideAt n) live) (keptIn minimum (slotsIn (sideAt n) live)) (few-slots (sideAt n)) part-is
         ∙ length-map (ofSide (sideAt n) live) (slotOf (sideAt n))
 
     -- what a side's words say
     side-count : getD table (256 * n + 192) 0 ≡ length (ofSide (sideAt n) live)
     side-count =
         at 192 (omega arith)
-        ∙ count-is (sideIn minimum (sideAt n) live) (slotsIn (sideAt n) live) (bestIn minimum (slotsIn (sideAt n) live)) (few-slots (sideAt n)) refl
+        ∙ count-is (sideIn minimum (sideAt n) live) (slotsIn (sideAt n) live) (keptIn minimum (slotsIn (sideAt n) live)) (few-slots (sideAt n)) refl
         ∙ length-map (ofSide (sideAt n) live) (slotOf (sideAt n))
 
     pub side-few : getD table (256 * n + 192) 0 ≤ 64
@@ -136,26 +136,26 @@ module _ (table : List ℕ) (minimum : ℕ) (live : List Order) (represents : Re
     pub part-room : length live < 64 → getD (take (256 * n + 256 - 256 * n) (drop (256 * n) table)) 192 0 < 64
     part-room room = omega (arith, part-count, length-filter (λ (o : Order). same (sideAt n) (o .side)) live)
 
-    pub side-best : getD table (256 * n + 193) 0 ≡ bestIn minimum (slotsIn (sideAt n) live) .key
+    pub side-best : getD table (256 * n + 193) 0 ≡ keptIn minimum (slotsIn (sideAt n) live) .key
     side-best =
         at 193 (omega arith)
-        ∙ key-is (sideIn minimum (sideAt n) live) (slotsIn (sideAt n) live) (bestIn minimum (slotsIn (sideAt n) live)) (few-slots (sideAt n)) refl
+        ∙ key-is (sideIn minimum (sideAt n) live) (slotsIn (sideAt n) live) (keptIn minimum (slotsIn (sideAt n) live)) (few-slots (sideAt n)) refl
 
     module _ (k : ℕ) (l : k < 64) where
       side-id : getD table (256 * n + k) 0 ≡ getD (slotsIn (sideAt n) live) k blankSlot .id
       side-id =
           at k (omega arith)
-          ∙ id-at (sideIn minimum (sideAt n) live) (slotsIn (sideAt n) live) (bestIn minimum (slotsIn (sideAt n) live)) (few-slots (sideAt n)) refl k l
+          ∙ id-at (sideIn minimum (sideAt n) live) (slotsIn (sideAt n) live) (keptIn minimum (slotsIn (sideAt n) live)) (few-slots (sideAt n)) refl k l
 
       pub side-key : getD table (256 * n + (64 + k)) 0 ≡ getD (slotsIn (sideAt n) live) k blankSlot .key
       side-key =
           at (64 + k) (omega arith)
-          ∙ key-at (sideIn minimum (sideAt n) live) (slotsIn (sideAt n) live) (bestIn minimum (slotsIn (sideAt n) live)) (few-slots (sideAt n)) refl k l
+          ∙ key-at (sideIn minimum (sideAt n) live) (slotsIn (sideAt n) live) (keptIn minimum (slotsIn (sideAt n) live)) (few-slots (sideAt n)) refl k l
 
       pub side-volume : getD table (256 * n + (128 + k)) 0 ≡ getD (slotsIn (sideAt n) live) k blankSlot .volume
       side-volume =
           at (128 + k) (omega arith)
-          ∙ volume-at (sideIn minimum (sideAt n) live) (slotsIn (sideAt n) live) (bestIn minimum (slotsIn (sideAt n) live)) (few-slots (sideAt n)) refl k l
+          ∙ volume-at (sideIn minimum (sideAt n) live) (slotsIn (sideAt n) live) (keptIn minimum (slotsIn (sideAt n) live)) (few-slots (sideAt n)) refl k l
 
   pub all-count : getD table 192 0 + getD table 448 0 ≡ length live
   all-count = omega (arith, side-count 0 (omega arith), side-count 1 (omega arith), length-sides live)
@@ -181,8 +181,8 @@ module _ (table : List ℕ) (minimum : ℕ) (live : List Order) (represents : Re
       → r ≡ slotBy buys sells → r ≡ slotIn id live
   asked-is id buys sells r b s is =
       is
-      ∙ ap (λ (n : ℕ). slotBy n sells) (b (slotsIn Buy live) (bestIn minimum (slotsIn Buy live)) (few-slots Buy) (part-is 0 (omega arith)))
-      ∙ ap (slotBy (seen id (slotsIn Buy live))) (s (slotsIn Sell live) (bestIn minimum (slotsIn Sell live)) (few-slots Sell) (part-is 1 (omega arith)))
+      ∙ ap (λ (n : ℕ). slotBy n sells) (b (slotsIn Buy live) (keptIn minimum (slotsIn Buy live)) (few-slots Buy) (part-is 0 (omega arith)))
+      ∙ ap (slotBy (seen id (slotsIn Buy live))) (s (slotsIn Sell live) (keptIn minimum (slotsIn Sell live)) (few-slots Sell) (part-is 1 (omega arith)))
 
 -- ---- a table that stands for some live orders
 

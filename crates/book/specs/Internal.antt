@@ -9,9 +9,11 @@ use Rattle.rules.specs.declared.Order.{Order}
 use Rattle.rules.specs.declared.Event.{Event}
 use Rattle.rules.specs.declared.Event.the-variants.{Add, Amend, Cancel, Deal, Tick}
 use Rattle.rules.specs.Causes.{lowest, traderCauses}
-use Rattle.side.specs.Slots.{sideOf, bestIn, GoodSlots}
+use Rattle.rules.specs.Lists.{if_then_else_}
+use Rattle.quote.specs.Widest.{keysKeep}
+use Rattle.side.specs.Slots.{sideOf, keptIn, GoodSlots}
 use Rattle.side.specs.declared.Change.{Change}
-use Rattle.side.specs.Internal.{change, Changed}
+use Rattle.side.specs.Internal.{change, Changed, Grows}
 use Rattle.book.specs.declared.Answer.{Answer}
 use Rattle.book.specs.Table.{slotsIn, sideIn, tableOf, slotIn, sentTo, GoodOrders}
 
@@ -44,7 +46,7 @@ joined (suc n) own others = others ++ own
 -- the table after an event, but for the best level of its side, which is that of before
 unfoldable pub appliedTo : ℕ → ℕ → List Order → List Order → List ℕ
 appliedTo s minimum before after =
-    joined s (sideOf (slotsIn (sideAt s) after) (bestIn minimum (slotsIn (sideAt s) before))) (sideIn minimum (other (sideAt s)) after)
+    joined s (sideOf (slotsIn (sideAt s) after) (keptIn minimum (slotsIn (sideAt s) before))) (sideIn minimum (other (sideAt s)) after)
 
 -- a table that stands for live orders
 pub record Represents (table : List ℕ) (minimum : ℕ) (live : List Order) : Type 0 where
@@ -67,6 +69,10 @@ pub record Placed (table hints : List ℕ) (s : ℕ) : Type 0 where
   pub number : s < 2
   pub few : getD table (256 * s + 192) 0 ≤ 64
 
+-- 1 where the best keys in the table's words keep the quote, else 0
+abbrev pub keepsBy : ℕ → List ℕ → ℕ
+keepsBy widest table = if keysKeep widest (getD table 193 0) (getD table 449 0) then 1 else 0
+
 abbrev pub answer : ℕ → ℕ → Change → Answer
 answer refusal s change = record { refusal = refusal; s = s; change = change }
 
@@ -80,4 +86,5 @@ pub record Applied (e : Event) (minimum : ℕ) (live : List Order) (exit : List 
   pub table : exit ≡ appliedTo (r .s) minimum live (sentTo (r .refusal) live e)
   pub others : slotsIn (other (sideAt (r .s))) (sentTo (r .refusal) live e) ≡ slotsIn (other (sideAt (r .s))) live
   pub good : GoodSlots (slotsIn (sideAt (r .s)) (sentTo (r .refusal) live e))
+  pub grown : Grows (r .change) (slotsIn (sideAt (r .s)) live) (slotsIn (sideAt (r .s)) (sentTo (r .refusal) live e))
   pub answers : Changed (r .change) (slotsIn (sideAt (r .s)) live) (slotsIn (sideAt (r .s)) (sentTo (r .refusal) live e))

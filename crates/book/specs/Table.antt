@@ -16,7 +16,7 @@ use Rattle.rules.specs.Quotes.{same}
 use Rattle.rules.specs.Bounds.{Distinct}
 use Rattle.rules.specs.Causes.{lowest, traderCauses}
 use Rattle.quote.specs.Keys.{keyIn}
-use Rattle.side.specs.Slots.{Slot, slot, sideOf, bestIn, seen}
+use Rattle.side.specs.Slots.{Slot, slot, sideOf, keptIn, seen}
 
 -- the orders of a side, in their order
 abbrev pub ofSide : Side → List Order → List Order
@@ -28,9 +28,9 @@ slotOf side o = slot (o .id) (keyIn side o) (o .volume .0)
 abbrev pub slotsIn : Side → List Order → List Slot
 slotsIn side live = map (slotOf side) (ofSide side live)
 
--- a side's words: its orders, and its best level for the least volume of a quote
+-- a side's words: its orders, and what it keeps of its best level for the least volume of a quote
 abbrev pub sideIn : ℕ → Side → List Order → List ℕ
-sideIn minimum side live = sideOf (slotsIn side live) (bestIn minimum (slotsIn side live))
+sideIn minimum side live = sideOf (slotsIn side live) (keptIn minimum (slotsIn side live))
 
 unfoldable pub tableOf : ℕ → List Order → List ℕ
 tableOf minimum live = sideIn minimum Buy live ++ sideIn minimum Sell live

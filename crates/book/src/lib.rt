@@ -16,8 +16,9 @@ ghost use Rattle.rules.specs.Units.{goodPrice, goodVolume};
 ghost use Rattle.rules.specs.Quotes.{best as bestQuote};
 ghost use Rattle.rules.specs.Kept.{ordersKeep};
 ghost use Rattle.quote.specs.Widest.{WidestFor};
-ghost use Rattle.book.specs.Table.{tableOf, slotBy, slotIn, GoodOrders, Held, Holding, Sends};
-ghost use Rattle.book.specs.Internal.{Numbers, sideAt, idOf, Represents, Located, Placed, answer, noChange, Applied};
+ghost use Rattle.book.specs.Table.{tableOf, slotBy, slotIn, GoodOrders, Held, Holding};
+ghost use Rattle.book.specs.Sending.{Sending};
+ghost use Rattle.book.specs.Internal.{Numbers, sideAt, idOf, Represents, Located, Placed, answer, noChange, Applied, keepsBy};
 use numbers::both;
 use rules::Contracts;
 use rules::Event;
@@ -324,24 +325,62 @@ fn changed(table: &mut [u32], hints: &mut [u8], e: Event) -> Answer
     }
 }
 
-// An event: the number of the trader's refusal, or 0, and then the orders and the best level of its side are those after it.
-pub fn send(table: &mut [u32], hints: &mut [u8], e: Event, minimum: Contracts) -> u32
+// What an event comes to: the number of the trader's refusal, or 0; whether the live orders then keep the quote, 1 or 0; for how many
+// prices volumes were added up before a search, and for how many orders in it.
+pub struct Sent {
+    pub refusal: u32,
+    pub keeps: u32,
+    pub guesses: u32,
+    pub sums: u32,
+}
+
+// Whether the quote is kept after a requote: as before where no best key moved.
+fn keeps_after(table: &[u32], widest: u32, keeping: u32, moves: bool) -> u32
+    requires { ⌜ length (now table) ≡ 512 ⌝ }
+    ensures { λ r. ⌜ r ≡ (if moves then keepsBy widest (now (table .entry)) else keeping) ⌝ }
+{
+    if moves {
+        return quote::keys_keep(widest, table[BEST], table[WORDS + BEST]);
+    }
+    keeping
+}
+
+// An event: refused, or the orders and the best level of its side are those after it. `keeping` is whether the orders before it keep the
+// quote. Whatever the hints contain, the answer and the table are the same.
+pub fn send(
+    table: &mut [u32],
+    hints: &mut [u8],
+    e: Event,
+    minimum: Contracts,
+    widest: u32,
+    keeping: u32,
+) -> Sent
     requires { ⌜ Holding (now table) (now hints) (minimum .0) ⌝ }
-    ensures { λ r. ⌜ Sends e (minimum .0) (now (table .entry)) (now (table .exit)) r ⌝ }
+    ensures { λ r. ⌜ Sending e (minimum .0) widest keeping (now (table .entry)) (now (table .exit)) r ⌝ }
 {
     let answer = changed(table, hints, e);
     let refusal = answer.refusal;
     if 0 < refusal {
-        return refusal;
+        return Sent {
+            refusal,
+            keeps: keeping,
+            guesses: 0,
+            sums: 0,
+        };
     }
     let s = answer.s;
-    level::requote(
+    let requoted = level::requote(
         &mut table[WORDS * s..WORDS * s + WORDS],
         side_at(s),
         answer.change,
         minimum,
     );
-    0
+    Sent {
+        refusal: 0,
+        keeps: keeps_after(table, widest, keeping, requoted.moves),
+        guesses: requoted.guesses,
+        sums: requoted.sums,
+    }
 }
 
 // ---- the quotes

@@ -3,18 +3,26 @@
 use Prim.Native.Nat.{ℕ, zero, suc, _+_, _-_, _≤_}
 use native.Mathlib.Omega.{arith}
 use mathlib.Core.Path.{_≡_, refl, ap, _∙_}
-use mathlib.Core.List.{List, [], _∷_, _++_, List·Memᴰ, List·Memᴰ·head, List·Memᴰ·tail}
-use lib.ListN.{length, getD, take, drop, replicate, length-append, length-map, length-replicate}
-use Rattle.rules.specs.Lists.{sum}
+use mathlib.Core.List.{List, [], _∷_, _++_, map, append-assoc, List·Memᴰ, List·Memᴰ·head, List·Memᴰ·tail}
+use mathlib.Core.Bool.{Bool, false}
+use lib.Dec.{leb, eqb}
+use borrow.Author.Tests.{ne-eqb}
+use lib.ListN.{length, getD, take, drop, replicate, length-append, length-map, length-replicate, replicate-append-replicate}
+use Rattle.rules.specs.Lists.{if_then_else_, sum}
 use Rattle.rules.proofs.Lists.{sum-append}
 use Rattle.quote.specs.declared.Level.{Level}
-use Rattle.quote.specs.Levels.{levelAt, levelOf, bestKey, Columns, Searchable}
-use Rattle.quote.proofs.Levels.{levelAt-blanks, levelOf-blanks, bestKey-blanks}
+use Rattle.rules.specs.declared.Side.{Side}
+use Rattle.rules.specs.declared.Order.{Order}
+use Rattle.rules.specs.Quotes.{volumeOf}
+use Rattle.quote.specs.Keys.{keyIn}
+use Rattle.quote.specs.Searches.{ColumnsOf}
+use Rattle.quote.specs.Levels.{held, levelAt, levelOf, bestKey, Columns, Searchable}
+use Rattle.quote.proofs.Levels.{held-blanks, levelAt-blanks, levelOf-blanks, bestKey-blanks}
 use Rattle.side.specs.declared.Change.{Change}
-use Rattle.side.specs.Slots.{Slot, keysOf, volumesOf, levelIn, bestIn, GoodSlots}
+use Rattle.side.specs.Slots.{Slot, keysOf, volumesOf, heldIn, levelIn, bestIn, bestKeyIn, keptIn, GoodSlots}
 use Rattle.side.specs.Internal.{StaleLevel}
 use Rattle.side.proofs.Columns.{padded-at}
-use Rattle.side.proofs.Words.{words-length, count-is, key-is, before-is, at-is, keys-taken, volumes-taken}
+use Rattle.side.proofs.Words.{kept-key, kept-large, words-length, count-is, key-is, before-is, at-is, keys-taken, volumes-taken}
 use Rattle.level.specs.Internal.{levelRead, IsLevel}
 use Rattle.level.proofs.Depths.{own-level, slots-columns}
 
@@ -49,46 +57,61 @@ module _ (slots : List Slot) (g : GoodSlots slots) (n : ℕ) where
         start-most = s;
       }
 
+blanks-more : (xs : List ℕ) (a b : ℕ) → (xs ++ replicate a 0) ++ replicate b 0 ≡ xs ++ replicate (a + b) 0
+blanks-more xs a b = append-assoc xs (replicate a 0) (replicate b 0) ∙ ap (λ (l : List ℕ). xs ++ l) (replicate-append-replicate a b 0)
+
+zero-held : (slots : List Slot) → ((s : Slot) → List·Memᴰ s slots → 1 ≤ s .key) → heldIn (eqb 0) slots ≡ 0
+unfolding held
+zero-held [] h = refl
+zero-held (s ∷ slots) h =
+    let other : eqb 0 (s .key) ≡ false = ne-eqb 0 (s .key) (λ (e : 0 ≡ s .key). let k = h s (List·Memᴰ·head refl) in omega (arith, e)) in
+    let none : (if eqb 0 (s .key) then s .volume else 0) ≡ 0 = ap (λ (b : Bool). if b then s .volume else 0) other in
+    omega (arith, none, zero-held slots (λ x m. h x (List·Memᴰ·tail m)))
+
 -- ---- the words of the orders after a change
 
 module _ (words : List ℕ) (c : Change) (minimum : ℕ) (m : StaleLevel words c minimum) where
   pub moving-length : length words ≡ 256
-  moving-length = words-length words (m .after) (bestIn minimum (m .before)) (m .good .few) (m .is)
+  moving-length = words-length words (m .after) (keptIn minimum (m .before)) (m .good .few) (m .is)
 
-  moving-count : getD words 192 0 ≡ length (m .after)
-  moving-count = count-is words (m .after) (bestIn minimum (m .before)) (m .good .few) (m .is)
+  pub moving-count : getD words 192 0 ≡ length (m .after)
+  moving-count = count-is words (m .after) (keptIn minimum (m .before)) (m .good .few) (m .is)
 
   pub moving-few : getD words 192 0 ≤ 64
   moving-few = omega (arith, moving-count, m .good .few)
 
   -- what stands in them is a level of the orders before it
-  pub moving-level : levelRead words ≡ bestIn minimum (m .before)
+  pub moving-level : levelRead words ≡ keptIn minimum (m .before)
   moving-level =
-      let l = bestIn minimum (m .before) in
+      let l = keptIn minimum (m .before) in
       λ i. record {
         key = key-is words (m .after) l (m .good .few) (m .is) i;
         before = before-is words (m .after) l (m .good .few) (m .is) i;
         at = at-is words (m .after) l (m .good .few) (m .is) i;
       }
 
-  pub carried : (l : Level) → l ≡ levelRead words → IsLevel (m .before) l
+  -- .. the best one, where the side was no small one
+  pub carried : leb (length (m .before)) 4 ≡ false → (l : Level) → l ≡ levelRead words → IsLevel (m .before) l
   unfolding levelOf
-  carried l e =
+  carried many l e =
       let ks = keysOf (m .before) in
       let vs = volumesOf (m .before) in
-      own-level ks vs (bestKey minimum ks vs) l (e ∙ moving-level)
+      own-level ks vs (bestKey minimum ks vs) l (e ∙ moving-level ∙ kept-large minimum (m .before) many)
+
+  pub carried-key : getD words 193 0 ≡ bestKeyIn minimum (m .before)
+  carried-key = ap (λ (l : Level). l .key) moving-level ∙ kept-key minimum (m .before)
 
   -- the front of the columns, of n and k words that are as many
   module _ (to n k : ℕ) (en : n ≡ to) (ek : k ≡ to) (more : getD words 192 0 ≤ to) (most : to ≤ 64) where
-    keys-part : take n (drop 64 words) ≡ keysOf (m .after) ++ replicate (to - length (m .after)) 0
+    pub keys-part : take n (drop 64 words) ≡ keysOf (m .after) ++ replicate (to - length (m .after)) 0
     keys-part =
         ap (λ (j : ℕ). take j (drop 64 words)) en
-        ∙ keys-taken words (m .after) (bestIn minimum (m .before)) (m .good .few) (m .is) to (omega (arith, moving-count)) most
+        ∙ keys-taken words (m .after) (keptIn minimum (m .before)) (m .good .few) (m .is) to (omega (arith, moving-count)) most
 
-    volumes-part : take k (drop 128 words) ≡ volumesOf (m .after) ++ replicate (to - length (m .after)) 0
+    pub volumes-part : take k (drop 128 words) ≡ volumesOf (m .after) ++ replicate (to - length (m .after)) 0
     volumes-part =
         ap (λ (j : ℕ). take j (drop 128 words)) ek
-        ∙ volumes-taken words (m .after) (bestIn minimum (m .before)) (m .good .few) (m .is) to (omega (arith, moving-count)) most
+        ∙ volumes-taken words (m .after) (keptIn minimum (m .before)) (m .good .few) (m .is) to (omega (arith, moving-count)) most
 
     even : length (keysOf (m .after)) ≡ length (volumesOf (m .after))
     even = slots-columns (m .after) (m .good) .even
@@ -99,6 +122,27 @@ module _ (words : List ℕ) (c : Change) (minimum : ℕ) (m : StaleLevel words c
     pub part-searchable : (start : ℕ) → start ≤ 2000000001 → Searchable (take n (drop 64 words)) (take k (drop 128 words)) start
     part-searchable start h =
         rw (keys-part, volumes-part) (with-searchable (m .after) (m .good) (to - length (m .after)) start (omega (arith, moving-count)) h)
+
+    pub part-held : (t : ℕ → Bool) → held t (take n (drop 64 words)) (take k (drop 128 words)) ≡ heldIn t (m .after)
+    part-held t =
+        rw (keys-part, volumes-part) (held-blanks (keysOf (m .after)) (volumesOf (m .after)) even (to - length (m .after)) t)
+
+    -- no order has the key of none
+    pub part-none : held (eqb 0) (take n (drop 64 words)) (take k (drop 128 words)) ≡ 0
+    part-none = part-held (eqb 0) ∙ zero-held (m .after) (m .good .key-least)
+
+    -- orders whose columns are those of the side have these, with more blanks
+    pub part-orders : (side : Side) (orders : List Order) → ColumnsOf side orders (keysOf (m .after)) (volumesOf (m .after))
+        → ColumnsOf side orders (take n (drop 64 words)) (take k (drop 128 words))
+    part-orders side orders c =
+        let more-blanks = to - length (m .after) in
+        record {
+          blanks = c .blanks + more-blanks;
+          keys = keys-part ∙ ap (λ (l : List ℕ). l ++ replicate more-blanks 0) (c .keys) ∙ blanks-more (map (keyIn side) orders) (c .blanks) more-blanks;
+          volumes = volumes-part ∙ ap (λ (l : List ℕ). l ++ replicate more-blanks 0) (c .volumes) ∙ blanks-more (map volumeOf orders) (c .blanks) more-blanks;
+          sided = c .sided;
+          prices = c .prices;
+        }
 
     pub part-level : (key : ℕ) → levelAt (take n (drop 64 words)) (take k (drop 128 words)) key ≡ levelIn (m .after) key
     part-level key =

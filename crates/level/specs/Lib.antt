@@ -1,2 +1,4 @@
+-- What a requote promises.
+pub mod Requotes
 -- What the functions on the best level promise to each other.
 pub mod Internal

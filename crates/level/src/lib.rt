@@ -1,14 +1,18 @@
-// The best level of a side after one of its orders changed: carried where it still holds, else guessed and measured, else searched.
+// The best level of a side after one of its orders changed: carried where it still holds, else guessed, else searched; of a small side
+// found afresh. Document 02, W3, holds at every sum: it is made only for a price that is better than every one already found to qualify.
 ghost use mathlib.Core.Path.{_≡_};
+ghost use mathlib.Core.Bool.{_&&_, false};
 ghost use mathlib.Core.List.{List};
 ghost use Prim.Native.Nat.{ℕ, _+_, _-_, _≤_};
-ghost use lib.Dec.{leb};
+ghost use lib.Dec.{leb, ltb, eqb};
 ghost use lib.ListN.{length, getD};
 ghost use Rattle.rules.specs.Lists.{if_then_else_};
-ghost use Rattle.quote.specs.Levels.{levelAt, levelOf, bestKey, Columns, Searchable};
-ghost use Rattle.side.specs.Slots.{Slot, sideOf, levelIn, bestIn, GoodSlots};
-ghost use Rattle.side.specs.Internal.{StaleLevel, Changed};
-ghost use Rattle.level.specs.Internal.{IsLevel, SumFits, LevelBefore, levelRead};
+ghost use Rattle.quote.specs.Levels.{levelAt, levelOf, isBest, Searchable};
+ghost use Rattle.quote.specs.Tries.{made, foundWith};
+ghost use Rattle.side.specs.Slots.{Slot, levelIn, bestKeyIn, GoodSlots};
+ghost use Rattle.side.specs.Internal.{StaleLevel, Changed, brings};
+ghost use Rattle.level.specs.Requotes.{Requotes};
+ghost use Rattle.level.specs.Internal.{IsLevel, SumFits, LevelBefore, Grown, levelRead, keyAbove, keyBelow, Steps, Sought, Open, Searches, withLevel, putLevel};
 use quote::Level;
 use rules::Contracts;
 use rules::Side;
@@ -19,6 +23,14 @@ use side::COUNT;
 use side::Change;
 use side::KEYS;
 use side::VOLUMES;
+
+// What a requote did: whether the best key may have moved, for how many prices volumes were added up before a search, and for how many
+// orders in the search.
+pub struct Requoted {
+    pub moves: bool,
+    pub guesses: u32,
+    pub sums: u32,
+}
 
 // A sum of contracts that gains and loses: in 64 bits, since what it gains may be what it loses.
 fn changed(sum: u32, gained: u32, lost: u32) -> u32
@@ -55,38 +67,10 @@ fn moved(level: Level, change: Change) -> Level
     }
 }
 
-// ---- a guess at the best key: nothing rests on it, since what it answers is measured before it is taken
-
-// Whether a key is below another. Keys fit 31 bits, and the machine compares numbers with a sign sooner.
-fn under(a: u32, b: u32) -> bool
-    requires { ⌜ (a ≤ 2000000001) × (b ≤ 2000000001) ⌝ }
-{
-    (a as i32) < (b as i32)
-}
-
-fn greater(a: u32, b: u32) -> u32
-    requires { ⌜ (a ≤ 2000000001) × (b ≤ 2000000001) ⌝ }
-    ensures { λ r. ⌜ r ≤ 2000000001 ⌝ }
-{
-    if under(a, b) {
-        return b;
-    }
-    a
-}
-
-fn lesser(a: u32, b: u32) -> u32
-    requires { ⌜ (a ≤ 2000000001) × (b ≤ 2000000001) ⌝ }
-    ensures { λ r. ⌜ r ≤ 2000000001 ⌝ }
-{
-    if under(b, a) {
-        return b;
-    }
-    a
-}
+// ---- the keys next to one
 
 fn key_where(counts: bool, key: u32, other: u32) -> u32
-    requires { ⌜ (key ≤ 2000000001) × (other ≤ 2000000001) ⌝ }
-    ensures { λ r. ⌜ r ≤ 2000000001 ⌝ }
+    ensures { λ r. ⌜ r ≡ (if counts then key else other) ⌝ }
 {
     if counts {
         return key;
@@ -96,14 +80,13 @@ fn key_where(counts: bool, key: u32, other: u32) -> u32
 
 // The next better key, or the best one that there can be.
 fn above(keys: &[u32], key: u32) -> u32
-    requires { ⌜ ((i : ℕ) → getD (now keys) i 0 ≤ 2000000001) × (key ≤ 2000000001) ⌝ }
-    ensures { λ r. ⌜ r ≤ 2000000001 ⌝ }
+    ensures { λ r. ⌜ r ≡ keyAbove key (now (keys .entry)) ⌝ }
 {
     let mut next: u32 = 2000000001;
     let mut i: usize = 0;
     while i < keys.len() {
         let k = keys[i];
-        next = lesser(next, key_where(under(key, k), k, 2000000001));
+        next = numbers::min(next, key_where(key < k, k, 2000000001));
         i += 1;
     }
     next
@@ -111,129 +94,146 @@ fn above(keys: &[u32], key: u32) -> u32
 
 // The next worse key, or none.
 fn below(keys: &[u32], key: u32) -> u32
-    requires { ⌜ ((i : ℕ) → getD (now keys) i 0 ≤ 2000000001) × (key ≤ 2000000001) ⌝ }
-    ensures { λ r. ⌜ r ≤ 2000000001 ⌝ }
+    ensures { λ r. ⌜ r ≡ keyBelow key (now (keys .entry)) ⌝ }
 {
     let mut next: u32 = 0;
     let mut i: usize = 0;
     while i < keys.len() {
         let k = keys[i];
-        next = greater(next, key_where(under(k, key), k, 0));
+        next = numbers::max(next, key_where(k < key, k, 0));
         i += 1;
     }
     next
 }
 
-fn neighbour(keys: &[u32], level: Level, minimum: Contracts) -> u32
-    requires { ⌜ ((i : ℕ) → getD (now keys) i 0 ≤ 2000000001) × (level .key ≤ 2000000001) ⌝ }
-    ensures { λ r. ⌜ r ≤ 2000000001 ⌝ }
+// ---- guesses
+
+// A level that is tried, the best price found to qualify so far, 0 for none, and the number of sums made.
+struct Guess {
+    level: Level,
+    start: u32,
+    sums: u32,
+}
+
+// The best price found to qualify, with one more level.
+fn qualified(level: Level, start: u32, minimum: Contracts) -> u32
+    requires { ⌜ level .before + level .at ≤ 64000000 ⌝ }
+    ensures { λ r. ⌜ r ≡ foundWith (minimum .0) start (made (level .key) (level .before + level .at)) ⌝ }
+{
+    if minimum.0 <= level.before + level.at {
+        return level.key;
+    }
+    start
+}
+
+// A level is tried after a guess, by one sum.
+fn tried(guess: Guess, level: Level, minimum: Contracts) -> Guess
+    requires { ⌜ (level .before + level .at ≤ 64000000) × (guess .sums ≤ 8) ⌝ }
+    ensures { λ r. ⌜ r ≡ withLevel guess level (minimum .0) ⌝ }
+{
+    Guess {
+        level,
+        start: qualified(level, guess.start, minimum),
+        sums: guess.sums + 1,
+    }
+}
+
+// The level next to one that is not the best, on the side where the best one is: only what stands at it is added up, since no order
+// stands between the two.
+fn stepped(keys: &[u32], volumes: &[u32], level: Level, minimum: Contracts) -> Level
+    requires { ⌜ Searchable (now keys) (now volumes) (level .key) × (level ≡ levelAt (now keys) (now volumes) (level .key)) × (isBest level (minimum .0) ≡ false) × (1 ≤ minimum .0) ⌝ }
+    ensures { λ r. ⌜ Steps (minimum .0) (now (keys .entry)) (now (volumes .entry)) level r ⌝ }
 {
     if minimum.0 <= level.before {
-        return above(keys, level.key);
+        let up = above(keys, level.key);
+        let there = quote::held_at(keys, volumes, up);
+        return Level {
+            key: up,
+            before: level.before - there,
+            at: there,
+        };
     }
-    below(keys, level.key)
+    let down = below(keys, level.key);
+    Level {
+        key: down,
+        before: level.before + level.at,
+        at: quote::held_at(keys, volumes, down),
+    }
 }
 
-// The level next to one, on the side where the best one is.
-fn stepped(keys: &[u32], volumes: &[u32], level: Level, minimum: Contracts) -> Level
-    requires { ⌜ Searchable (now keys) (now volumes) (level .key) ⌝ }
-    ensures { λ r. ⌜ (r ≡ levelAt (now (keys .entry)) (now (volumes .entry)) (r .key)) × (r .key ≤ 2000000001) ⌝ }
+// ---- the search
+
+// The greater less the lesser, or 0.
+fn less(a: u32, b: u32) -> u32
+    ensures { λ r. ⌜ r ≡ a - b ⌝ }
 {
-    quote::measured(keys, volumes, neighbour(keys, level, minimum))
+    if a < b {
+        return 0;
+    }
+    a - b
 }
 
-// The level near the old one: itself after the change, or one or two steps from it.
-fn near(keys: &[u32], volumes: &[u32], old: Level, minimum: Contracts) -> Level
-    requires { ⌜ Searchable (now keys) (now volumes) (old .key) × (old ≡ levelAt (now keys) (now volumes) (old .key)) ⌝ }
-    ensures { λ r. ⌜ r ≡ levelAt (now (keys .entry)) (now (volumes .entry)) (r .key) ⌝ }
+// The level by the search, from the best price found to qualify, or from none. Where it finds nothing better, that is from none, and all
+// the contracts of the side stand before no quote.
+fn by_search(side: Side, keys: &[u32], volumes: &[u32], guess: Guess, minimum: Contracts) -> Found
+    requires { ⌜ Searchable (now keys) (now volumes) (guess .start) × Open (minimum .0) (now keys) (now volumes) (guess .start) × (1 ≤ minimum .0) ⌝ }
+    ensures { λ r. ⌜ Searches side (minimum .0) (now (keys .entry)) (now (volumes .entry)) (guess .start) (guess .sums) r ⌝ }
 {
-    if quote::is_best(old, minimum) {
-        return old;
+    let found = quote::search(side, keys, volumes, guess.start, minimum);
+    let quote = found.quote;
+    Found {
+        level: Level {
+            key: quote::quote_key(side, quote),
+            before: found.before,
+            at: less(found.depth, found.before),
+        },
+        guesses: guess.sums,
+        sums: found.sums,
     }
-    let next = stepped(keys, volumes, old, minimum);
+}
+
+// A best level, and the sums that were made for it.
+struct Found {
+    level: Level,
+    guesses: u32,
+    sums: u32,
+}
+
+fn taken(guess: Guess) -> Found
+    ensures { λ r. ⌜ r ≡ record { level = guess .level; guesses = guess .sums; sums = 0 } ⌝ }
+{
+    let level = guess.level;
+    Found {
+        level,
+        guesses: guess.sums,
+        sums: 0,
+    }
+}
+
+// The best level from one that is not: one step from it, or two, or by the search.
+fn sought(side: Side, keys: &[u32], volumes: &[u32], old: Level, minimum: Contracts) -> Found
+    requires { ⌜ Searchable (now keys) (now volumes) (old .key) × (old ≡ levelAt (now keys) (now volumes) (old .key)) × (isBest old (minimum .0) ≡ false) × (1 ≤ minimum .0) × Open (minimum .0) (now keys) (now volumes) 0 ⌝ }
+    ensures { λ r. ⌜ Sought side (minimum .0) (now (keys .entry)) (now (volumes .entry)) old r ⌝ }
+{
+    let known = Guess {
+        level: old,
+        start: qualified(old, 0, minimum),
+        sums: 0,
+    };
+    let first = tried(known, stepped(keys, volumes, old, minimum), minimum);
+    let next = first.level;
     if quote::is_best(next, minimum) {
-        return next;
+        return taken(first);
     }
-    stepped(keys, volumes, next, minimum)
-}
-
-// An order as one number, by which orders compare: its key, then its volume.
-fn packed(key: u32, volume: u32) -> u64 {
-    4294967296 * (key as u64) + volume as u64
-}
-
-fn better(a: u64, b: u64) -> u64 {
-    if a < b {
-        return b;
+    let second = tried(first, stepped(keys, volumes, next, minimum), minimum);
+    let last = second.level;
+    if quote::is_best(last, minimum) {
+        return taken(second);
     }
-    a
+    by_search(side, keys, volumes, second, minimum)
 }
 
-fn worse(a: u64, b: u64) -> u64 {
-    if a < b {
-        return a;
-    }
-    b
-}
-
-// The depth with one more order's volume, where it was not enough without it.
-fn deeper(depth: u64, order: u64, minimum: Contracts) -> u64 {
-    if depth < minimum.0 as u64 {
-        return depth + order % 4294967296;
-    }
-    depth
-}
-
-fn order_where(counts: bool, order: u64, other: u64) -> u64 {
-    if counts {
-        return order;
-    }
-    other
-}
-
-// The key at which the depth of four orders, from the best one down, is first enough; 0 where it never is.
-fn enough_at(first: u64, second: u64, third: u64, last: u64, minimum: Contracts) -> u32 {
-    let m = minimum.0 as u64;
-    let one = deeper(0, first, minimum);
-    let two = deeper(one, second, minimum);
-    let three = deeper(two, third, minimum);
-    let four = deeper(three, last, minimum);
-    let in_four = order_where(m <= four, last, 0);
-    let in_three = order_where(m <= three, third, in_four);
-    let in_two = order_where(m <= two, second, in_three);
-    (order_where(m <= one, first, in_two) / 4294967296) as u32
-}
-
-// The best key of four slots: sorted by five exchanges, the volumes added up from the best one down until they are enough.
-fn of_four(keys: &[u32], volumes: &[u32], minimum: Contracts) -> u32
-    requires { ⌜ (length (now keys) ≡ 4) × Columns (now keys) (now volumes) ⌝ }
-{
-    let a = packed(keys[0], volumes[0]);
-    let b = packed(keys[1], volumes[1]);
-    let c = packed(keys[2], volumes[2]);
-    let d = packed(keys[3], volumes[3]);
-    let p = better(a, b);
-    let q = worse(a, b);
-    let r = better(c, d);
-    let s = worse(c, d);
-    let u = worse(p, r);
-    let v = better(q, s);
-    enough_at(
-        better(p, r),
-        better(u, v),
-        worse(u, v),
-        worse(q, s),
-        minimum,
-    )
-}
-
-// The level that a small side has, of its first four slots.
-fn few(keys: &[u32], volumes: &[u32], minimum: Contracts) -> Level
-    requires { ⌜ (length (now keys) ≡ 4) × Columns (now keys) (now volumes) ⌝ }
-    ensures { λ r. ⌜ r ≡ levelAt (now (keys .entry)) (now (volumes .entry)) (r .key) ⌝ }
-{
-    quote::measured(keys, volumes, of_four(keys, volumes, minimum))
-}
+// ---- the words of a side
 
 // The side's best level as it was last put.
 fn level_of(words: &[u32]) -> Level
@@ -247,85 +247,87 @@ fn level_of(words: &[u32]) -> Level
     }
 }
 
-// A guess at the best level after a change: of a small side afresh, of a greater one from the old level on. It is a level of the
-// side, its depths as they are; whether it is the best is for `is_best` to say.
-fn guessed(words: &[u32], change: Change, minimum: Contracts) -> Level
-    requires { ⌜ StaleLevel (now words) change (minimum .0) ⌝ }
-    ensures { λ r. ⌜ ((m : StaleLevel (now (words .entry)) change (minimum .0)) → IsLevel (m .after) r) ⌝ }
+// Whether the fifth order of a side came: before it the side was small, and kept only its best key.
+fn is_fifth(count: u32, change: Change) -> bool
+    ensures { λ r. ⌜ r ≡ (eqb count 5 && brings change) ⌝ }
+{
+    (count == 5) & ((change.old == 0) & (0 < change.key))
+}
+
+// The level of the old best key after a change: carried, or measured where the fifth order came.
+fn carried(words: &[u32], change: Change) -> Level
+    requires { ⌜ Grown (now words) change ⌝ }
+    ensures { λ r. ⌜ ((minimum : ℕ) (m : StaleLevel (now (words .entry)) change minimum) → r ≡ levelIn (m .after) (bestKeyIn minimum (m .before))) ⌝ }
+{
+    if is_fifth(words[COUNT], change) {
+        return quote::measured(
+            &words[KEYS..KEYS + 8],
+            &words[VOLUMES..VOLUMES + 8],
+            words[BEST],
+        );
+    }
+    moved(level_of(words), change)
+}
+
+// The best level is written into the side's words.
+fn put(words: &mut [u32], level: Level)
+    requires { ⌜ length (now words) ≡ 256 ⌝ }
+    ensures { λ r. ⌜ now (words .exit) ≡ putLevel level (now (words .entry)) ⌝ }
+{
+    words[BEST] = level.key;
+    words[BEFORE] = level.before;
+    words[AT] = level.at;
+}
+
+// The best level moves to where it belongs after a change.
+pub fn requote(words: &mut [u32], side: Side, change: Change, minimum: Contracts) -> Requoted
+    requires { ⌜ StaleLevel (now words) change (minimum .0) × (1 ≤ minimum .0) ⌝ }
+    ensures { λ r. ⌜ ((m : StaleLevel (now (words .entry)) change (minimum .0)) → Requotes side (minimum .0) (m .before) (m .after) (now (words .exit)) r) ⌝ }
 {
     let count = words[COUNT];
     if count <= 4 {
-        return few(
+        let found = small::best(
             &words[KEYS..KEYS + 4],
             &words[VOLUMES..VOLUMES + 4],
             minimum,
         );
+        put(
+            words,
+            Level {
+                key: found.key,
+                before: 0,
+                at: 0,
+            },
+        );
+        return Requoted {
+            moves: true,
+            guesses: found.sums,
+            sums: 0,
+        };
+    }
+    let old = carried(words, change);
+    let measured = quote::volume_where(is_fifth(count, change), 1);
+    if quote::is_best(old, minimum) {
+        put(words, old);
+        return Requoted {
+            moves: false,
+            guesses: measured,
+            sums: 0,
+        };
     }
     let to = side::room(count);
-    let old = moved(level_of(words), change);
-    near(
+    let found = sought(
+        side,
         &words[KEYS..KEYS + to],
         &words[VOLUMES..VOLUMES + to],
         old,
         minimum,
-    )
-}
-
-// The level by the search, from a key that the best one is not below. Only where it finds nothing better is the start's own level
-// measured: that of no quote, since where enough stand before the start there is a better one.
-fn by_search(side: Side, keys: &[u32], volumes: &[u32], start: u32, minimum: Contracts) -> Level
-    requires { ⌜ Searchable (now keys) (now volumes) start × (1 ≤ minimum .0) ⌝ }
-    ensures { λ r. ⌜ (start ≤ bestKey (minimum .0) (now (keys .entry)) (now (volumes .entry)) → r ≡ levelOf (minimum .0) (now (keys .entry)) (now (volumes .entry))) ⌝ }
-{
-    let found = quote::search(side, keys, volumes, start, minimum);
-    let quote = found.quote;
-    let key = quote::quote_key(side, quote);
-    if key == start {
-        return quote::measured(keys, volumes, key);
+    );
+    let level = found.level;
+    put(words, level);
+    Requoted {
+        moves: true,
+        guesses: measured + found.guesses,
+        sums: found.sums,
     }
-    Level {
-        key,
-        before: found.before,
-        at: found.depth - found.before,
-    }
-}
-
-// A key below which the best one cannot be: a level's, where enough stand before it.
-fn start_from(level: Level, minimum: Contracts) -> u32
-    ensures { λ r. ⌜ r ≡ (if leb (minimum .0) (level .before) then level .key else 0) ⌝ }
-{
-    if minimum.0 <= level.before {
-        return level.key;
-    }
-    0
-}
-
-// The best level after a change: the guess, or by the search.
-fn settled(words: &[u32], side: Side, change: Change, minimum: Contracts) -> Level
-    requires { ⌜ StaleLevel (now words) change (minimum .0) × (1 ≤ minimum .0) ⌝ }
-    ensures { λ r. ⌜ ((m : StaleLevel (now (words .entry)) change (minimum .0)) → r ≡ bestIn (minimum .0) (m .after)) ⌝ }
-{
-    let guess = guessed(words, change, minimum);
-    if quote::is_best(guess, minimum) {
-        return guess;
-    }
-    let to = side::room(words[COUNT]);
-    by_search(
-        side,
-        &words[KEYS..KEYS + to],
-        &words[VOLUMES..VOLUMES + to],
-        start_from(guess, minimum),
-        minimum,
-    )
-}
-
-// The best level moves to where it belongs after a change.
-pub fn requote(words: &mut [u32], side: Side, change: Change, minimum: Contracts)
-    requires { ⌜ StaleLevel (now words) change (minimum .0) × (1 ≤ minimum .0) ⌝ }
-    ensures { λ r. ⌜ ((m : StaleLevel (now (words .entry)) change (minimum .0)) → now (words .exit) ≡ sideOf (m .after) (bestIn (minimum .0) (m .after))) ⌝ }
-{
-    let level = settled(words, side, change, minimum);
-    words[BEST] = level.key;
-    words[BEFORE] = level.before;
-    words[AT] = level.at;
 }

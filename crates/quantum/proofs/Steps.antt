@@ -24,8 +24,9 @@ use Rattle.rules.proofs.Bounds.{event-bounds-more}
 use Rattle.record.specs.declared.Fields.{Fields}
 use Rattle.record.specs.Fields.{fieldsFor, goodFields, eventBy, readFields}
 use Rattle.record.proofs.Reading.{time-by, tick-by, fields-say}
-use Rattle.quote.specs.Widest.{WidestFor}
-use Rattle.book.specs.Table.{tableOf, GoodOrders, Held, Holding, Sends, sentTo}
+use Rattle.book.specs.declared.Sent.{Sent}
+use Rattle.book.specs.Sending.{Sending}
+use Rattle.book.specs.Table.{tableOf, GoodOrders, Holding, Sends, sentTo}
 use Rattle.quantum.specs.declared.Duty.{Duty}
 use Rattle.quantum.specs.declared.Clock.{Clock}
 use Rattle.quantum.specs.declared.Stepped.{Stepped}
@@ -128,6 +129,17 @@ module _ (duty : Duty) (clock : Clock) (e : Event) (t : Millis) (entry exit : Li
       subst GoodOrders (live-snoc es e)
       (good-orders row (es ++ (e ∷ [])) (event-bounds-more row es e (s .bounds) (sym (number-is row sp es s) ∙ z)))
 
+  -- .. and keep the quote or not
+  taken-keeps : (sent : Sent) → Sending e (duty .minimum .0) (duty .widest) (clock .keeps) entry exit sent → sent .refusal ≡ n → n ≤ 0
+      → (row : Row) (sp : SpreadRule) (es : List Event) → Represents row sp es duty clock entry
+      → sent .keeps ≡ one (ordersKeep row sp (apply (live es) e))
+  taken-keeps sent h same l row sp es s =
+      let z : n ≡ 0 = omega arith in
+      let gone : sentTo (sent .refusal) (live es) e ≡ apply (live es) e = ap (λ (k : ℕ). sentTo k (live es) e) (same ∙ z) in
+      h .keeps row sp (live es) (good-orders row es (s .bounds)) (subst GoodOrders (sym gone) (taken-good l row sp es s)) (minimum-table s)
+      (ap (λ (m : Contracts). m .0) (minimum-is row sp es duty clock entry s)) (widest-is row sp es duty clock entry s) (keeps-is row sp es clock (s .clock-is))
+      ∙ ap (λ (o : List Order). one (ordersKeep row sp o)) gone
+
   taken-orders : (next : Clock) (keeps : ℕ) → n ≤ 0 → next ≡ ranOn clock t keeps
       → ((row : Row) (sp : SpreadRule) (es : List Event) → Represents row sp es duty clock entry → keeps ≡ one (ordersKeep row sp (apply (live es) e)))
       → Stepping duty clock e entry exit (record { clock = next; refusal = 0 })
@@ -146,36 +158,19 @@ abbrev Timed : Outcome Event → Millis → Type 0
 Timed o t = (e : Event) → o ≡ accepted e → t .0 ≡ timeOf e
 
 -- the orders' answer to them
-module _ (duty : Duty) (clock : Clock) (t : Millis) (entry exit : List ℕ) (n : ℕ) (i : InTime duty clock t) where
-  pub refused-read : (o : Outcome Event) → Timed o t → SendsRead o (duty .minimum .0) entry exit n → (r : Stepped) → 0 < n
-      → (r .clock ≡ clock) × (r .refusal ≡ n) → SteppingRead duty clock o entry exit r
-  refused-read (accepted e) timed sends r l h = refused-orders duty clock e t entry exit n (timed e refl) i sends r l h
+module _ (duty : Duty) (clock : Clock) (t : Millis) (entry exit : List ℕ) (sent : Sent) (i : InTime duty clock t) where
+  pub refused-read : (o : Outcome Event) → Timed o t → SendsRead o (duty .minimum .0) (duty .widest) (clock .keeps) entry exit sent → (r : Stepped)
+      → 0 < sent .refusal → (r .clock ≡ clock) × (r .refusal ≡ sent .refusal) → SteppingRead duty clock o entry exit r
+  refused-read (accepted e) timed sends r l h = refused-orders duty clock e t entry exit (sent .refusal) (timed e refl) i (sends .sends) r l h
   refused-read (refused k) timed sends r l h = (h .0, h .1 ∙ sends .0, sends .1)
 
-  module _ (l : n ≤ 0) where
-    -- the table that an accepted event leaves
-    pub held-after : (o : Outcome Event) → Timed o t → SendsRead o (duty .minimum .0) entry exit n → {hints : List ℕ} → ReachedParts duty clock entry hints → Held exit
-    held-after (accepted e) timed sends r =
-        record {
-          minimum = r .row .minimum .0;
-          live = apply (live (r .events)) e;
-          good = taken-good duty clock e t entry exit n (timed e refl) i sends l (r .row) (r .sp) (r .events) (represents r);
-          is = taken-table duty clock e t entry exit n (timed e refl) i sends l (r .row) (r .sp) (r .events) (represents r);
-        }
-    held-after (refused k) timed sends r =
-        record { minimum = r .row .minimum .0; live = live (r .events); good = good-orders (r .row) (r .events) (r .bounds); is = sends .1 ∙ r .table-is }
-
-    pub taken-read : (o : Outcome Event) → Timed o t → ((k : ℕ) → o ≡ refused k → k ≡ 15) → SendsRead o (duty .minimum .0) entry exit n
-        → (next : Clock) (keeps : ℕ) → next ≡ ranOn clock t keeps
-        → ((row : Row) (sp : SpreadRule) (orders : List Order) → GoodOrders orders → exit ≡ tableOf (row .minimum .0) orders → WidestFor row sp (duty .widest)
-        → keeps ≡ one (ordersKeep row sp orders))
-        → SteppingRead duty clock o entry exit (record { clock = next; refusal = 0 })
-    taken-read (accepted e) timed fifteen sends next keeps g k =
-        taken-orders duty clock e t entry exit n (timed e refl) i sends next keeps l g
-        (λ row sp es s.
-        k row sp (apply (live es) e) (taken-good duty clock e t entry exit n (timed e refl) i sends l row sp es s)
-        (taken-table duty clock e t entry exit n (timed e refl) i sends l row sp es s) (widest-is row sp es duty clock entry s))
-    taken-read (refused k) timed fifteen sends next keeps g h = absurd (omega (arith, l, sends .0, fifteen k refl))
+  pub taken-read : sent .refusal ≤ 0 → (o : Outcome Event) → Timed o t → ((k : ℕ) → o ≡ refused k → k ≡ 15)
+      → SendsRead o (duty .minimum .0) (duty .widest) (clock .keeps) entry exit sent → (next : Clock) → next ≡ ranOn clock t (sent .keeps)
+      → SteppingRead duty clock o entry exit (record { clock = next; refusal = 0 })
+  taken-read l (accepted e) timed fifteen sends next g =
+      taken-orders duty clock e t entry exit (sent .refusal) (timed e refl) i (sends .sends) next (sent .keeps) l g
+      (taken-keeps duty clock e t entry exit (sent .refusal) (timed e refl) i (sends .sends) sent sends refl l)
+  taken-read l (refused k) timed fifteen sends next g = absurd (omega (arith, l, sends .0, fifteen k refl))
 
 -- a tick, and a time that is out of range
 module _ (duty : Duty) (clock : Clock) (f : Fields) (table : List ℕ) where

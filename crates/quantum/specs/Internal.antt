@@ -9,7 +9,8 @@ use Rattle.rules.specs.Lists.{if_then_else_}
 use Rattle.rules.specs.Answers.{Outcome, accepted, refused}
 use Rattle.record.specs.declared.Fields.{Fields}
 use Rattle.record.specs.Fields.{goodFields}
-use Rattle.book.specs.Table.{Sends}
+use Rattle.book.specs.declared.Sent.{Sent}
+use Rattle.book.specs.Sending.{Sending}
 use Rattle.quantum.specs.declared.Duty.{Duty}
 use Rattle.quantum.specs.declared.Clock.{Clock}
 use Rattle.quantum.specs.declared.Stepped.{Stepped}
@@ -29,6 +30,6 @@ abbrev pub tickedBy : Clock → Fields → Stepped
 tickedBy c f = if goodFields f then record { clock = ranOn c (f .t) (c .keeps); refusal = 0 } else record { clock = c; refusal = 15 }
 
 -- what the book does with fields that say an event, and with others
-abbrev pub SendsRead : Outcome Event → ℕ → List ℕ → List ℕ → ℕ → Type 0
-SendsRead (accepted e) minimum entry exit r = Sends e minimum entry exit r
-SendsRead (refused n) minimum entry exit r = (r ≡ n) × (exit ≡ entry)
+abbrev pub SendsRead : Outcome Event → ℕ → ℕ → ℕ → List ℕ → List ℕ → Sent → Type 0
+SendsRead (accepted e) minimum widest keeping entry exit r = Sending e minimum widest keeping entry exit r
+SendsRead (refused n) minimum widest keeping entry exit r = (r .refusal ≡ n) × (exit ≡ entry)

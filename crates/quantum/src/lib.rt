@@ -199,15 +199,28 @@ fn ticked(clock: Clock, f: Fields) -> Stepped
     Stepped { clock, refusal: 15 }
 }
 
-// The trader's refusal, or 15, or 0, and then the orders and the best level of their side are those after the event.
-fn send_fields(table: &mut [u32], hints: &mut [u8], f: Fields, minimum: Contracts) -> u32
+// The trader's refusal, or 15, or 0, and then the orders and the best level of their side are those after the event, and `keeps` says
+// whether they keep the quote; `keeping` is whether those before it do.
+fn send_fields(
+    table: &mut [u32],
+    hints: &mut [u8],
+    f: Fields,
+    minimum: Contracts,
+    widest: u32,
+    keeping: u32,
+) -> book::Sent
     requires { ⌜ Holding (now table) (now hints) (minimum .0) ⌝ }
-    ensures { λ r. ⌜ SendsRead (readFields f) (minimum .0) (now (table .entry)) (now (table .exit)) r ⌝ }
+    ensures { λ r. ⌜ SendsRead (readFields f) (minimum .0) widest keeping (now (table .entry)) (now (table .exit)) r ⌝ }
 {
     if record::is_good(f) {
-        return book::send(table, hints, record::event_of(f), minimum);
+        return book::send(table, hints, record::event_of(f), minimum, widest, keeping);
     }
-    15
+    book::Sent {
+        refusal: 15,
+        keeps: keeping,
+        guesses: 0,
+        sums: 0,
+    }
 }
 
 // The orders and the best quotes after an event in time, then the clock.
@@ -216,13 +229,14 @@ fn taken(duty: Duty, clock: Clock, table: &mut [u32], hints: &mut [u8], f: Field
     ensures { λ r. ⌜ SteppingRead duty clock (readFields f) (now (table .entry)) (now (table .exit)) r ⌝ }
 {
     let minimum = duty.minimum;
-    let refusal = send_fields(table, hints, f, minimum);
+    let sent = send_fields(table, hints, f, minimum, duty.widest, clock.keeps);
+    let refusal = sent.refusal;
     if 0 < refusal {
         return refused(clock, refusal);
     }
     let t = f.t;
     Stepped {
-        clock: onward(clock, t, book::keeps(table, duty.widest)),
+        clock: onward(clock, t, sent.keeps),
         refusal: 0,
     }
 }

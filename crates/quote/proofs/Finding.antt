@@ -23,7 +23,7 @@ use Rattle.rules.proofs.Best.{depth-append, depth-one, sided, one-side}
 use Rattle.rules.proofs.Counting.{count-stretch}
 use Rattle.quote.specs.declared.Searched.{Searched}
 use Rattle.quote.specs.Keys.{keyOf, priceAt, keyIn, quoteKey, quoteAt}
-use Rattle.quote.specs.Levels.{held, enough, greatest, bestKey, foundBy, triedBy, shortBy}
+use Rattle.quote.specs.Levels.{held, enough, greatest, bestKey, foundBy, triedBy, shortBy, depthFrom}
 use Rattle.quote.specs.Searches.{Finds}
 use Rattle.quote.proofs.Keys.{key-least, key-most, key-order, key-price, good-price, key-quote, quote-key, better-at}
 use Rattle.quote.proofs.Levels.{enough-blanks, bestKey-blanks}
@@ -270,7 +270,7 @@ module _ (s : Side) (orders : List Order) (good : Good orders) (one : Sided s or
 pub finds : (side : Side) (ks vs : List ℕ) (start minimum : ℕ) (r : Searched) → start ≤ 2000000001
     → r .quote ≡ quoteAt side (foundBy start minimum ks vs (length ks)) → r .sums ≡ triedBy start minimum ks vs (length ks)
     → r .before ≡ shortBy start minimum ks vs (length ks)
-    → (start < foundBy start minimum ks vs (length ks) → r .depth ≡ held (leb (foundBy start minimum ks vs (length ks))) ks vs)
+    → r .depth ≡ depthFrom start (foundBy start minimum ks vs (length ks)) ks vs
     → Finds side ks vs start minimum r
 finds side ks vs start minimum r most e f b d =
     record {

@@ -44,7 +44,7 @@ held-most t (k ∷ ks) (v ∷ vs) = go (t k) (held-most t ks vs)
     go false l = omega (arith, l)
 
 -- where a test holds more than another, some key passes it and not the other
-held-some : (t u : ℕ → Bool) (ks vs : List ℕ) → held t ks vs < held u ks vs
+pub held-some : (t u : ℕ → Bool) (ks vs : List ℕ) → held t ks vs < held u ks vs
     → (k : ℕ) × List·Memᴰ k ks × (u k ≡ true) × (t k ≡ false)
 unfolding held
 held-some t u [] vs h = absurd (omega (arith, h))
@@ -123,7 +123,7 @@ greatest-zeros t (suc n) = go (t 0) (greatest-zeros t n)
     go false e = e
 
 module _ (ks vs : List ℕ) (even : length ks ≡ length vs) (n : ℕ) where
-  held-blanks : (t : ℕ → Bool) → held t (ks ++ replicate n 0) (vs ++ replicate n 0) ≡ held t ks vs
+  pub held-blanks : (t : ℕ → Bool) → held t (ks ++ replicate n 0) (vs ++ replicate n 0) ≡ held t ks vs
   held-blanks t = omega (arith, held-append t ks vs (replicate n 0) (replicate n 0) even, held-zeros t n)
 
   pub levelAt-blanks : (k : ℕ) → levelAt (ks ++ replicate n 0) (vs ++ replicate n 0) k ≡ levelAt ks vs k
@@ -170,7 +170,7 @@ module _ (minimum : ℕ) (ks vs : List ℕ) where
       (λ k m. let r = kept-in (enough minimum ks vs) ks m in h k (r .0) (leb-true minimum (held (leb k) ks vs) (r .1)))
 
   -- with fewer than `minimum` at better keys, no better key has enough
-  best-most : (k : ℕ) → held (ltb k) ks vs < minimum → bestKey minimum ks vs ≤ k
+  pub best-most : (k : ℕ) → held (ltb k) ks vs < minimum → bestKey minimum ks vs ≤ k
   best-most k few = best-under k (λ x m h. go x h (leb x k) refl)
     where
       go : (x : ℕ) → minimum ≤ held (leb x) ks vs → (b : Bool) → leb x k ≡ b → x ≤ k
@@ -185,7 +185,7 @@ module _ (minimum : ℕ) (ks vs : List ℕ) where
           ))
 
   -- with enough at it besides, a key is there that has enough
-  best-there : (k : ℕ) → held (ltb k) ks vs < minimum → minimum ≤ held (leb k) ks vs → k ≤ bestKey minimum ks vs
+  pub best-there : (k : ℕ) → held (ltb k) ks vs < minimum → minimum ≤ held (leb k) ks vs → k ≤ bestKey minimum ks vs
   best-there k few h = go (held-some (ltb k) (leb k) ks vs (omega (arith, few, h)))
     where
       go : ((x : ℕ) × List·Memᴰ x ks × (leb k x ≡ true) × (ltb k x ≡ false)) → k ≤ bestKey minimum ks vs
@@ -195,7 +195,7 @@ module _ (minimum : ℕ) (ks vs : List ℕ) where
           best-over (Memᴰ·cast (sym at) m) h
 
   -- the level that is best is the best key's
-  best-level : (k : ℕ) → isBest (levelAt ks vs k) minimum ≡ true → bestKey minimum ks vs ≡ k
+  pub best-level : (k : ℕ) → isBest (levelAt ks vs k) minimum ≡ true → bestKey minimum ks vs ≡ k
   unfolding isBest levelAt
   best-level k h =
       let b = both (ltb (held (ltb k) ks vs) minimum) (eqb k 0 || leb minimum (held (ltb k) ks vs + held (eqb k) ks vs)) h in
@@ -251,11 +251,11 @@ nearest k (y ∷ ys) = go (nearest k ys) (ltb k y) refl
 
 module _ (minimum : ℕ) (ks vs : List ℕ) where
   -- with enough at keys better than k, the nearest of them has enough
-  pub start-below : (k : ℕ) → 1 ≤ minimum → minimum ≤ held (ltb k) ks vs → k ≤ bestKey minimum ks vs
+  pub start-below : (k : ℕ) → 1 ≤ minimum → minimum ≤ held (ltb k) ks vs → k < bestKey minimum ks vs
   start-below k some h = go (nearest k ks)
     where
       go : ((x : ℕ) → List·Memᴰ x ks → x ≤ k) ⊎ ((n : ℕ) × List·Memᴰ n ks × (k < n) × ((x : ℕ) → List·Memᴰ x ks → k < x → n ≤ x))
-          → k ≤ bestKey minimum ks vs
+          → k < bestKey minimum ks vs
       go (inl none) =
           let (x, m, e, f) = held-some (λ y. false) (ltb k) ks vs (omega (arith, some, h, held-none ks vs)) in
           absurd (omega (arith, none x m, ltb-true k x e))

@@ -68,3 +68,7 @@ shortAt start minimum ks vs k = if ltb start k && not (enough minimum ks vs k) t
 -- the most of these among the first i
 abbrev pub shortBy : ℕ → ℕ → List ℕ → List ℕ → ℕ → ℕ
 shortBy start minimum ks vs i = greatest (map (shortAt start minimum ks vs) (take i ks))
+
+-- the contracts at what is found or better, 0 where that is the start itself
+abbrev pub depthFrom : ℕ → ℕ → List ℕ → List ℕ → ℕ
+depthFrom start found ks vs = if ltb start found then held (leb found) ks vs else 0

@@ -4,3 +4,4 @@ pub mod Widest
 pub mod Keys
 pub mod Levels
 pub mod Searches
+pub mod Tries

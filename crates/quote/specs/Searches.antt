@@ -1,10 +1,10 @@
 -- What the search for a best quote promises: of the orders whose columns it is lent, the better of the quote that it starts from and
 -- the best one, and for how many orders it added up volumes.
-use Prim.Native.Nat.{ℕ, _<_}
+use Prim.Native.Nat.{ℕ}
 use mathlib.Core.Path.{_≡_}
 use mathlib.Core.List.{List, _++_, map, List·Memᴰ}
 use mathlib.Core.Bool.{true}
-use lib.Dec.{leb, ltb}
+use lib.Dec.{ltb}
 use lib.ListN.{length, replicate}
 use Rattle.rules.specs.declared.Side.{Side}
 use Rattle.rules.specs.declared.Order.{Order}
@@ -13,7 +13,7 @@ use Rattle.rules.specs.Quotes.{same, volumeOf, better, best}
 use Rattle.rules.specs.Search.{sumsOf}
 use Rattle.quote.specs.declared.Searched.{Searched}
 use Rattle.quote.specs.Keys.{keyIn, quoteAt}
-use Rattle.quote.specs.Levels.{held, foundBy}
+use Rattle.quote.specs.Levels.{held, foundBy, depthFrom}
 
 -- the columns of these orders, all of the side: their keys and volumes, blanks behind them
 pub record ColumnsOf (side : Side) (orders : List Order) (ks vs : List ℕ) : Type 0 where
@@ -24,10 +24,10 @@ pub record ColumnsOf (side : Side) (orders : List Order) (ks vs : List ℕ) : Ty
   pub prices : (o : Order) → List·Memᴰ o orders → goodPrice (o .price .0) ≡ true
 
 pub record Finds (side : Side) (ks vs : List ℕ) (start minimum : ℕ) (r : Searched) : Type 0 where
-  -- in keys, with the contracts at better ones, and where it is better than the start those at it or better
+  -- in keys, with the contracts at better ones, and those at it or better: 0 where nothing better than the start is found
   pub found : r .quote ≡ quoteAt side (foundBy start minimum ks vs (length ks))
   pub before : r .before ≡ held (ltb (foundBy start minimum ks vs (length ks))) ks vs
-  pub depth : start < foundBy start minimum ks vs (length ks) → r .depth ≡ held (leb (foundBy start minimum ks vs (length ks))) ks vs
+  pub depth : r .depth ≡ depthFrom start (foundBy start minimum ks vs (length ks)) ks vs
   -- in orders
   pub quote : (orders : List Order) → ColumnsOf side orders ks vs → r .quote ≡ better side (quoteAt side start) (best side minimum orders)
   pub sums : (orders : List Order) → ColumnsOf side orders ks vs → r .sums ≡ sumsOf side minimum (quoteAt side start) orders

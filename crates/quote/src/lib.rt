@@ -1,7 +1,7 @@
 // Prices as keys, a side's depth in lent columns of keys and volumes, the search for a best quote, and the spread test.
 ghost use mathlib.Core.Path.{_≡_};
 ghost use mathlib.Core.Bool.{true};
-ghost use Prim.Native.Nat.{_+_, _≤_, max};
+ghost use Prim.Native.Nat.{_+_, _≤_};
 ghost use lib.IntN.{pos};
 ghost use lib.Signed.{leZ};
 ghost use Rattle.rules.specs.declared.Steps.{Steps};
@@ -10,7 +10,8 @@ ghost use Rattle.rules.specs.Lists.{if_then_else_};
 ghost use Rattle.rules.specs.Units.{steps, goodPrice};
 ghost use Rattle.quote.specs.Widest.{positivePart, widestOf, keysKeep};
 ghost use Rattle.quote.specs.Keys.{keyOf, priceAt, quoteKey, quoteAt};
-ghost use Rattle.quote.specs.Levels.{levelAt, isBest, Columns, Searchable};
+ghost use Rattle.quote.specs.Levels.{held, levelAt, isBest, Columns, Searchable};
+ghost use lib.Dec.{eqb};
 ghost use Rattle.quote.specs.Searches.{Finds};
 use rules::Contracts;
 use rules::Quote;
@@ -87,6 +88,20 @@ pub fn volume_where(counts: bool, volume: u32) -> u32
     (counts as u32) * volume
 }
 
+// What stands at a key.
+pub fn held_at(keys: &[u32], volumes: &[u32], key: u32) -> u32
+    requires { ⌜ Columns (now keys) (now volumes) ⌝ }
+    ensures { λ r. ⌜ r ≡ held (eqb key) (now (keys .entry)) (now (volumes .entry)) ⌝ }
+{
+    let mut at: u32 = 0;
+    let mut i: usize = 0;
+    while i < keys.len() {
+        at += volume_where(key == keys[i], volumes[i]);
+        i += 1;
+    }
+    at
+}
+
 // The level of a key.
 pub fn measured(keys: &[u32], volumes: &[u32], key: u32) -> Level
     requires { ⌜ Columns (now keys) (now volumes) ⌝ }
@@ -112,16 +127,6 @@ pub fn is_best(level: Level, minimum: Contracts) -> bool
 {
     let m = minimum.0;
     (level.before < m) & ((level.key == 0) | (m <= level.before + level.at))
-}
-
-// The greater of two sums.
-fn most(sum: u32, other: u32) -> u32
-    ensures { λ r. ⌜ r ≡ max sum other ⌝ }
-{
-    if sum < other {
-        return other;
-    }
-    sum
 }
 
 // The best quote of a side, from a key that it is better than or that is it: the best price of an order for which those at that
@@ -159,7 +164,7 @@ pub fn search(side: Side, keys: &[u32], volumes: &[u32], start: u32, minimum: Co
                 found = key;
                 enough = depth;
             } else {
-                short = most(short, depth);
+                short = numbers::max(short, depth);
             }
         }
     };

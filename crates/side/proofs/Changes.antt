@@ -1,7 +1,9 @@
 -- What an order more, another, or less does to the sums of contracts and to the bounds. Assumes nothing.
 use Prim.Native.Nat.{ℕ, zero, suc, _+_, _≤_, _<_}
-use mathlib.Core.Path.{_≡_, refl, ap}
-use mathlib.Core.Bool.{Bool, true, false}
+use mathlib.Core.Path.{_≡_, refl, ap, sym, _∙_}
+use mathlib.Core.Bool.{Bool, true, false, _&&_}
+use borrow.Author.Tests.{leb-true, leb-false, lt-leb, lt-ltb, eq-eqb, ne-eqb}
+use lib.Dec.{leb, eqb}
 use mathlib.Core.Logic.{⊎-elim}
 use mathlib.Core.List.{List, [], _∷_, _++_, List·Memᴰ, List·Memᴰ·append-cases, List·Memᴰ·eq-of-singleton}
 use native.Mathlib.Omega.{arith}
@@ -10,7 +12,8 @@ use Rattle.rules.specs.Lists.{if_then_else_}
 use Rattle.rules.proofs.Members.{in-set}
 use Rattle.quote.specs.Levels.{held}
 use Rattle.side.specs.Slots.{Slot, slot, blankSlot, heldIn, GoodSlots}
-use Rattle.side.specs.Internal.{change, volumeWhere, Changed}
+use Rattle.side.specs.declared.Change.{Change}
+use Rattle.side.specs.Internal.{change, volumeWhere, Changed, brings, Grows}
 use Rattle.side.proofs.Lists.{in-take, in-drop}
 
 -- ---- sums
@@ -60,6 +63,50 @@ changed-amended slots place id key volume h t = held-set t slots place (slot id 
 pub changed-removed : (slots : List Slot) (place : ℕ) → place < length slots
     → Changed (change (getD slots place blankSlot .key) (getD slots place blankSlot .volume) 0 0) slots (take place slots ++ drop (suc place) slots)
 changed-removed slots place h t = omega (arith, part-none t, held-without t slots place h)
+
+-- ---- the number of orders
+
+-- no order comes, and there were no fewer
+grows-not : (c : Change) (n k : ℕ) → k ≤ n → brings c ≡ false → 5 ≤ k → leb n 4 ≡ (eqb k 5 && brings c)
+grows-not c n k h b many = lt-leb n 4 (omega (arith, h, many)) ∙ sym (and-false (eqb k 5) (brings c) b)
+  where
+    and-false : (a b : Bool) → b ≡ false → (a && b) ≡ false
+    and-false true b e = e
+    and-false false b e = refl
+
+old-order : (old held key volume : ℕ) → 1 ≤ old → brings (change old held key volume) ≡ false
+old-order old held key volume h = rw (ne-eqb old 0 (λ (e : old ≡ 0). omega (arith, h, e))) refl
+
+pub grows-none : (slots : List Slot) → Grows (change 0 0 0 0) slots slots
+grows-none slots many = grows-not (change 0 0 0 0) (length slots) (length slots) (omega arith) refl many
+
+pub grows-added : (slots : List Slot) (id key volume : ℕ) → 1 ≤ key → Grows (change 0 0 key volume) slots (slots ++ (slot id key volume ∷ []))
+grows-added slots id key volume h many =
+    rw (lt-ltb 0 key h) (go (leb (length slots) 4) refl)
+  where
+    more : length (slots ++ (slot id key volume ∷ [])) ≡ length slots + 1
+    more = length-append slots (slot id key volume ∷ [])
+
+    go : (b : Bool) → leb (length slots) 4 ≡ b → b ≡ (eqb (length (slots ++ (slot id key volume ∷ []))) 5 && true)
+    go true e =
+        let five : length (slots ++ (slot id key volume ∷ [])) ≡ 5 = omega (arith, more, many, leb-true (length slots) 4 e) in
+        rw (eq-eqb (length (slots ++ (slot id key volume ∷ []))) 5 five) refl
+    go false e =
+        let no = leb-false (length slots) 4 e in
+        rw (ne-eqb (length (slots ++ (slot id key volume ∷ []))) 5 (λ (f : length (slots ++ (slot id key volume ∷ [])) ≡ 5). omega (arith, more, f, no))) refl
+
+pub grows-amended : (slots : List Slot) (place id key volume : ℕ) → 1 ≤ getD slots place blankSlot .key
+    → Grows (change (getD slots place blankSlot .key) (getD slots place blankSlot .volume) key volume) slots (set slots place (slot id key volume))
+grows-amended slots place id key volume h many =
+    grows-not (change (getD slots place blankSlot .key) (getD slots place blankSlot .volume) key volume) (length slots) (length (set slots place (slot id key volume)))
+    (omega (arith, length-set slots place (slot id key volume))) (old-order (getD slots place blankSlot .key) (getD slots place blankSlot .volume) key volume h) many
+
+pub grows-removed : (slots : List Slot) (place : ℕ) → 1 ≤ getD slots place blankSlot .key
+    → Grows (change (getD slots place blankSlot .key) (getD slots place blankSlot .volume) 0 0) slots (take place slots ++ drop (suc place) slots)
+grows-removed slots place h many =
+    grows-not (change (getD slots place blankSlot .key) (getD slots place blankSlot .volume) 0 0) (length slots) (length (take place slots ++ drop (suc place) slots))
+    (omega (arith, length-append (take place slots) (drop (suc place) slots), length-take place slots, length-drop (suc place) slots))
+    (old-order (getD slots place blankSlot .key) (getD slots place blankSlot .volume) 0 0 h) many
 
 -- ---- bounds
 

@@ -1,13 +1,26 @@
 -- What the words of a side say of its orders and its level. Assumes nothing.
-use Prim.Native.Nat.{ℕ, _+_, _-_, _≤_, _<_}
+use Prim.Native.Nat.{ℕ, _+_, _-_, _*_, _/_, _≤_, _<_}
 use mathlib.Core.Path.{_≡_, refl, ap, sym, _∙_}
 use mathlib.Core.List.{List, _++_, map}
 use native.Mathlib.Omega.{arith}
+use mathlib.Core.Bool.{Bool, true, false}
+use borrow.Author.Tests.{le-leb}
+use lib.Dec.{leb}
+use Rattle.rules.specs.Lists.{if_then_else_}
+use Rattle.quote.specs.Levels.{levelAt, levelOf}
 use lib.ListN.{length, take, drop, getD, replicate, length-map, List·getD-map}
 use Rattle.quote.specs.declared.Level.{Level}
-use Rattle.side.specs.Slots.{Slot, blankSlot, idsOf, keysOf, volumesOf, column, header, sideOf}
+use Rattle.side.specs.Slots.{Slot, blankSlot, idsOf, keysOf, volumesOf, column, header, sideOf, bestIn, bestKeyIn, keptIn}
 use Rattle.side.specs.Internal.{Sized}
 use Rattle.side.proofs.Columns.{column-length, column-at, column-take, four-length, first-at, second-at, third-at, fourth-at, first-taken, second-taken, third-taken}
+
+-- ---- whole groups of eight
+
+pub room-over : (count to : ℕ) → to ≡ (count + 7) / 8 * 8 → count ≤ to
+room-over count to e = omega (arith, e)
+
+pub room-most : (count to : ℕ) → count ≤ 64 → to ≡ (count + 7) / 8 * 8 → to ≤ 64
+room-most count to h e = omega (arith, h, e)
 
 -- ---- a column of the orders
 
@@ -102,3 +115,23 @@ module _ (words : List ℕ) (slots : List Slot) (level : Level) (few : length sl
       ap (λ (w : List ℕ). take to (drop 128 w)) is
       ∙ third-taken (column (idsOf slots)) (column (keysOf slots)) (column (volumesOf slots)) (column (header slots level)) (long _) (long _) (long _) to k
       ∙ field-take (λ (s : Slot). s .volume) slots to h k
+
+-- ---- what a side keeps of its best level
+
+pub kept-key : (minimum : ℕ) (slots : List Slot) → keptIn minimum slots .key ≡ bestKeyIn minimum slots
+unfolding keptIn levelOf levelAt
+kept-key minimum slots = go (leb (length slots) 4)
+  where
+    go : (b : Bool) → (if b then record { key = bestKeyIn minimum slots; before = 0; at = 0 } else bestIn minimum slots) .key ≡ bestKeyIn minimum slots
+    go true = refl
+    go false = refl
+
+pub kept-small : (minimum : ℕ) (slots : List Slot) → length slots ≤ 4 → keptIn minimum slots ≡ record { key = bestKeyIn minimum slots; before = 0; at = 0 }
+unfolding keptIn
+kept-small minimum slots h =
+    ap (λ (b : Bool). if b then record { key = bestKeyIn minimum slots; before = 0; at = 0 } else bestIn minimum slots) (le-leb (length slots) 4 h)
+
+pub kept-large : (minimum : ℕ) (slots : List Slot) → leb (length slots) 4 ≡ false → keptIn minimum slots ≡ bestIn minimum slots
+unfolding keptIn
+kept-large minimum slots h =
+    ap (λ (b : Bool). if b then record { key = bestKeyIn minimum slots; before = 0; at = 0 } else bestIn minimum slots) h

@@ -2,14 +2,15 @@
 use Prim.Native.Nat.{ℕ, suc, _+_, _-_, _≤_, _<_}
 use mathlib.Core.Path.{_≡_}
 use mathlib.Core.List.{List, [], _∷_, _++_}
-use mathlib.Core.Bool.{Bool}
+use mathlib.Core.Bool.{Bool, _&&_}
+use lib.Dec.{leb, ltb, eqb}
 use lib.ListN.{length, getD, take, drop, set}
 use Rattle.rules.specs.declared.Contracts.{Contracts}
 use Rattle.rules.specs.Lists.{if_then_else_}
 use Rattle.rules.specs.Units.{contracts}
 use Rattle.quote.specs.declared.Level.{Level}
 use Rattle.side.specs.declared.Change.{Change}
-use Rattle.side.specs.Slots.{Slot, slot, blankSlot, sideOf, heldIn, bestIn, GoodSlots}
+use Rattle.side.specs.Slots.{Slot, slot, blankSlot, sideOf, heldIn, keptIn, GoodSlots}
 
 abbrev pub change : ℕ → ℕ → ℕ → ℕ → Change
 change old held key volume = record { old = old; held = contracts held; key = key; volume = contracts volume }
@@ -22,6 +23,14 @@ volumeWhere t key volume = if t key then volume else 0
 abbrev pub Changed : Change → List Slot → List Slot → Type 0
 Changed c before after =
     (t : ℕ → Bool) → heldIn t after + volumeWhere t (c .old) (c .held .0) ≡ heldIn t before + volumeWhere t (c .key) (c .volume .0)
+
+-- an order comes
+abbrev pub brings : Change → Bool
+brings c = eqb (c .old) 0 && ltb 0 (c .key)
+
+-- a side that has more than four orders after a change had at most four before it just where the fifth came
+abbrev pub Grows : Change → List Slot → List Slot → Type 0
+Grows c before after = 5 ≤ length after → leb (length before) 4 ≡ (eqb (length after) 5 && brings c)
 
 -- words of a side's size, with an order's place below its number of orders
 pub record Sized (words : List ℕ) : Type 0 where
@@ -59,4 +68,5 @@ pub record StaleLevel (words : List ℕ) (c : Change) (minimum : ℕ) : Type 0 w
   pub good-before : GoodSlots before
   pub good : GoodSlots after
   pub changed : Changed c before after
-  pub is : words ≡ sideOf after (bestIn minimum before)
+  pub grown : Grows c before after
+  pub is : words ≡ sideOf after (keptIn minimum before)

@@ -4,11 +4,11 @@
 use Prim.Native.Nat.{ℕ, _+_, _-_, _≤_}
 use mathlib.Core.List.{List, [], _∷_, _++_, map, List·Memᴰ}
 use mathlib.Core.Bool.{Bool}
-use lib.Dec.{eqb}
+use lib.Dec.{leb, eqb}
 use lib.ListN.{length, replicate}
 use Rattle.rules.specs.Lists.{if_then_else_}
 use Rattle.quote.specs.declared.Level.{Level}
-use Rattle.quote.specs.Levels.{held, levelAt, levelOf}
+use Rattle.quote.specs.Levels.{held, levelAt, bestKey, levelOf}
 
 -- an order of a side: its id, the key of its price, its volume
 pub record Slot : Type 0 where
@@ -51,6 +51,13 @@ levelIn slots key = levelAt (keysOf slots) (volumesOf slots) key
 
 abbrev pub bestIn : ℕ → List Slot → Level
 bestIn minimum slots = levelOf minimum (keysOf slots) (volumesOf slots)
+
+abbrev pub bestKeyIn : ℕ → List Slot → ℕ
+bestKeyIn minimum slots = bestKey minimum (keysOf slots) (volumesOf slots)
+
+-- what a side keeps of its best level: all of it, or of at most four orders its key alone, since these are searched afresh
+unfoldable pub keptIn : ℕ → List Slot → Level
+keptIn minimum slots = if leb (length slots) 4 then record { key = bestKeyIn minimum slots; before = 0; at = 0 } else bestIn minimum slots
 
 -- at most 64, the keys those of prices in their range, the volumes in theirs
 pub record GoodSlots (slots : List Slot) : Type 0 where

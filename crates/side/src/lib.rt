@@ -3,7 +3,7 @@
 // is no price (crate quote).
 ghost use mathlib.Core.Path.{_≡_};
 ghost use mathlib.Core.List.{List};
-ghost use Prim.Native.Nat.{_≤_, _<_};
+ghost use Prim.Native.Nat.{_+_, _*_, _/_, _≤_, _<_};
 ghost use lib.ListN.{length, getD};
 ghost use Rattle.quote.specs.declared.Level.{Level};
 ghost use Rattle.side.specs.Slots.{Slot, sideOf, seenFrom, seen};
@@ -41,7 +41,7 @@ pub const WORDS: usize = 256;
 // The slots of so many orders, in whole groups of eight: the blanks among them change no sum.
 pub fn room(count: u32) -> usize
     requires { ⌜ count ≤ 64 ⌝ }
-    ensures { λ r. ⌜ (count ≤ r) × (r ≤ 64) ⌝ }
+    ensures { λ r. ⌜ r ≡ (count + 7) / 8 * 8 ⌝ }
 {
     ((count + 7) / 8 * 8) as usize
 }

@@ -2,13 +2,13 @@
 use mathlib.Core.Path.{refl}
 use Rattle.rules.specs.Lists.{filter}
 use Rattle.quote.specs.Levels.{held, levelAt, greatest, bestKey, levelOf}
-use Rattle.side.specs.Slots.{column, sideOf}
+use Rattle.side.specs.Slots.{column, sideOf, keptIn}
 use Rattle.book.specs.Table.{tableOf}
 use Rattle.book.proofs.empty.Statement.{statement}
 use Rattle.book.proofs.empty.Tie as tie
 
 returns : tie.Need-returns
-unfolding tableOf sideOf column levelOf levelAt bestKey greatest filter held
+unfolding tableOf sideOf column keptIn levelOf levelAt bestKey greatest filter held
 returns c minimum = refl
 
 pub empty-spec : {M : Type 1} → statement M

@@ -1,18 +1,25 @@
--- `level::below` is safe and ends, and what it finds is no greater than a key. Assumes nothing.
-use Prim.Native.Nat.{_-_, _≤_}
+-- The loop's invariant: the key next to it among those that were passed. Assumes nothing.
+use Prim.Native.Nat.{ℕ, _-_, _≤_, max}
 use native.Mathlib.Omega.{arith}
-use lib.ListN.{length}
+use mathlib.Core.Path.{_≡_, refl, ap, _∙_}
+use lib.ListN.{length, take}
+use lib.Seq.{take-length}
+use Rattle.rules.specs.Lists.{filter}
+use Rattle.quote.specs.Levels.{greatest}
+use Rattle.level.specs.Internal.{least, keyBelow}
+use Rattle.level.proofs.Nexts.{below-next}
 use Rattle.level.proofs.below.Statement.{statement}
 use Rattle.level.proofs.below.Tie as tie
 
 abbrev Inv-loop : tie.InvT-loop
-Inv-loop keys key next₀ i₀ next i = (i ≤ length keys) × (next ≤ 2000000001)
+Inv-loop keys key next₀ i₀ next i = (i ≤ length keys) × (next ≡ keyBelow key (take i keys))
 
 abbrev μ-loop : tie.MeasureT-loop
 μ-loop keys key next₀ i₀ next i = length keys - i
 
 loop-holds : tie.Need-loop-holds Inv-loop μ-loop
-loop-holds c = omega arith
+unfolding keyBelow least greatest filter
+loop-holds c = (omega arith, refl)
 
 mul-k : tie.Need-mul-k Inv-loop μ-loop
 mul-k c = omega arith
@@ -20,18 +27,11 @@ mul-k c = omega arith
 shared-slice-read-k : tie.Need-shared-slice-read-k Inv-loop μ-loop
 shared-slice-read-k c = omega arith
 
-under-requires : tie.Need-under-requires Inv-loop μ-loop
-under-requires c κs =
-    let s = c .before .before .before .before in
-    (s .pre .0 (c .before .before .loop .i), s .pre .1)
-
 key-where-requires : tie.Need-key-where-requires Inv-loop μ-loop
-key-where-requires c κs =
-    let s = c .before .before .before .before .before in
-    (s .pre .0 (c .before .before .before .loop .i), omega arith)
+key-where-requires c κs = tt
 
-greater-requires : tie.Need-greater-requires Inv-loop μ-loop
-greater-requires c κs = (c .before .before .before .before .loop .inv .1, c .key-where .ensures)
+max-requires : tie.Need-max-requires Inv-loop μ-loop
+max-requires c κs = tt
 
 add-i : tie.Need-add-i Inv-loop μ-loop
 add-i c = omega arith
@@ -40,24 +40,21 @@ loop-less : tie.Need-loop-less Inv-loop μ-loop
 loop-less c = omega arith
 
 loop-again : tie.Need-loop-again Inv-loop μ-loop
-loop-again c = omega arith
+loop-again c =
+    let u = c .before .before .before .before in
+    let a = u .before .before .args in (
+      omega arith,
+      c .max .ensures
+          ∙ ap (λ (x : ℕ). max (u .loop .next) x) (c .before .key-where .ensures)
+          ∙ below-next (a .key) (a .keys .now) (u .loop .i) (u .loop .next) (omega arith) (u .loop .inv .1),
+    )
 
 returns : tie.Need-returns Inv-loop μ-loop
-returns c = c .before .loop .inv .1
+returns c =
+    let u = c .before in
+    let a = u .before .before .args in
+    let end : u .loop .i ≡ length (a .keys .now) = omega arith in
+    u .loop .inv .1 ∙ ap (λ (n : ℕ). keyBelow (a .key) (take n (a .keys .now))) end ∙ ap (keyBelow (a .key)) (take-length (a .keys .now))
 
 pub below-spec : {M : Type 1} → statement M
-below-spec =
-    tie.close
-    (tie.spec
-    Inv-loop
-    μ-loop
-    loop-holds
-    mul-k
-    shared-slice-read-k
-    under-requires
-    key-where-requires
-    greater-requires
-    add-i
-    loop-less
-    loop-again
-    returns)
+below-spec = tie.close (tie.spec Inv-loop μ-loop loop-holds mul-k shared-slice-read-k key-where-requires max-requires add-i loop-less loop-again returns)

@@ -1,51 +1,273 @@
--- `level::requote` meets its contract: the best level stands in the words, and nothing else of them is changed. Assumes nothing.
-use mathlib.Core.Path.{_≡_, ap, _∙_}
-use lib.ListN.{length}
+-- A small side by its search, a larger one by its old best key's level, which stays or gives way to another (Requotes). Assumes nothing.
+use Prim.Native.Nat.{ℕ, _+_, _-_, _≤_}
+use native.Mathlib.Omega.{arith}
+use mathlib.Core.Path.{_≡_, refl, sym, ap, _∙_}
+use mathlib.Core.Bool.{Bool, true, false, _&&_}
+use mathlib.Core.Logic.{inl}
+use mathlib.Core.List.{List}
+use lib.Dec.{eqb}
+use lib.ListN.{length, getD, take, drop, length-take, length-drop}
 use borrow.Author.Needs.{needs}
-use Rattle.side.specs.Slots.{sideOf, bestIn}
-use Rattle.side.proofs.Stores.{level-stored}
-use Rattle.level.proofs.Parts.{moving-length}
+use Rattle.rules.specs.Lists.{if_then_else_}
+use Rattle.quote.specs.declared.Level.{Level}
+use Rattle.quote.specs.Levels.{levelAt, isBest}
+use Rattle.side.specs.Slots.{keysOf, volumesOf, levelIn, bestKeyIn}
+use Rattle.side.proofs.Words.{room-over, room-most}
+use Rattle.level.proofs.Depths.{own-level, level-small, slots-columns}
+use Rattle.level.proofs.Parts.{moving-length, moving-count, moving-few, part-columns, part-searchable, part-level, part-none}
+use Rattle.level.proofs.Starts.{best-key-most}
+use Rattle.level.proofs.Requotes.{small-requotes, same-requotes, sought-requotes}
 use Rattle.level.proofs.requote.Statement.{statement}
 use Rattle.level.proofs.requote.Tie as tie
 
-settled-requires : tie.Need-settled-requires
-settled-requires c κs = search needs
+at-most-one : (n : ℕ) (b : Bool) → n ≡ (if b then 1 else 0) → n ≤ 1
+at-most-one n true e = omega (arith, e)
+at-most-one n false e = omega (arith, e)
 
-slice-write-words : tie.Need-slice-write-words
-slice-write-words c =
-    let s = c .before .before .before in
+slice-read-count : tie.Need-slice-read-count
+slice-read-count c =
+    let s = c .before .before in
     let long : length (s .args .words .now) ≡ 256 = moving-length (s .args .words .now) (s .args .change) (s .args .minimum .0) (s .pre .0) in
     search needs
 
-slice-write-words-2 : tie.Need-slice-write-words-2
-slice-write-words-2 c =
-    let s = c .before .before .before in
+add-best : tie.Need-add-best
+add-best c = search needs
+
+sub-best : tie.Need-sub-best
+sub-best c = search needs
+
+part-best-start : tie.Need-part-best-start
+part-best-start c = search needs
+
+part-best-end : tie.Need-part-best-end
+part-best-end c =
+    let s = c .before .before .before .before in
     let long : length (s .args .words .now) ≡ 256 = moving-length (s .args .words .now) (s .args .change) (s .args .minimum .0) (s .pre .0) in
     search needs
 
-slice-write-words-3 : tie.Need-slice-write-words-3
-slice-write-words-3 c =
-    let s = c .before .before .before in
+add-best-2 : tie.Need-add-best-2
+add-best-2 c = search needs
+
+sub-best-2 : tie.Need-sub-best-2
+sub-best-2 c = search needs
+
+part-best-start-2 : tie.Need-part-best-start-2
+part-best-start-2 c = search needs
+
+part-best-end-2 : tie.Need-part-best-end-2
+part-best-end-2 c =
+    let s = c .before .before .before .before .before in
     let long : length (s .args .words .now) ≡ 256 = moving-length (s .args .words .now) (s .args .change) (s .args .minimum .0) (s .pre .0) in
     search needs
+
+best-requires : tie.Need-best-requires
+best-requires c κs =
+    let s = c .before .before .before .before .before .before in
+    let words = s .args .words .now in
+    let long : length words ≡ 256 = moving-length (s .args .words .now) (s .args .change) (s .args .minimum .0) (s .pre .0) in (
+      omega (arith, length-take 4 (drop 64 words), length-drop 64 words),
+      part-columns (s .args .words .now) (s .args .change) (s .args .minimum .0) (s .pre .0) 4 4 4 refl refl (c .before .before .before .if1 .taken) (omega arith),
+      s .pre .1,
+    )
+
+put-requires : tie.Need-put-requires
+put-requires c κs =
+    let s = c .before .before .before .before .before .before .before .before in
+    moving-length (s .args .words .now) (s .args .change) (s .args .minimum .0) (s .pre .0)
 
 same-length : tie.Need-same-length
 same-length c = search needs
 
 returns : tie.Need-returns
 returns c m =
-    let a = c .before .before .before .args in
-    let minimum = a .minimum .0 in
-    level-stored (m .after) (bestIn minimum (m .before)) (c .settled .result) (m .good .few) (a .words .now) (m .is)
-    ∙ ap (sideOf (m .after)) (c .settled .ensures m)
+    let s = c .before .before .before .before .before .before .before .before .before .before .before in
+    small-requotes (s .args .side) (s .args .words .now) (s .args .change) (s .args .minimum .0) m (c .before .before .before .before .before .before .before .before .if1 .taken) (c .before .before .before .before .best .result) (c .before .before .before .before .best .ensures) (c .before .before .put .last .0) (c .before .before .put .ensures)
+
+carried-requires : tie.Need-carried-requires
+carried-requires c κs =
+    let s = c .before .before .before .before in
+    record { minimum = s .args .minimum .0; stale = s .pre .0; many = omega (arith, c .before .if1 .left, moving-count (s .args .words .now) (s .args .change) (s .args .minimum .0) (s .pre .0)) }
+
+is-fifth-requires : tie.Need-is-fifth-requires
+is-fifth-requires c κs = search needs
+
+volume-where-requires : tie.Need-volume-where-requires
+volume-where-requires c κs = search needs
+
+is-best-requires : tie.Need-is-best-requires
+is-best-requires c κs =
+    let s = c .before .before .before .before .before .before .before in
+    let m = s .pre .0 in
+    let l = c .before .before .carried in
+    level-small (keysOf (m .after)) (volumesOf (m .after)) (l .result) (slots-columns (m .after) (m .good))
+    (own-level (keysOf (m .after)) (volumesOf (m .after)) (bestKeyIn (s .args .minimum .0) (m .before)) (l .result) (l .ensures (s .args .minimum .0) m))
+
+put-requires-2 : tie.Need-put-requires-2
+put-requires-2 c κs =
+    let s = c .before .before .before .before .before .before .before .before .before .before in
+    moving-length (s .args .words .now) (s .args .change) (s .args .minimum .0) (s .pre .0)
+
+same-length-2 : tie.Need-same-length-2
+same-length-2 c = search needs
+
+returns-2 : tie.Need-returns-2
+returns-2 c m =
+    let s = c .before .before .before .before .before .before .before .before .before .before .before .before .before in
+    let a = s .args in
+    let l = c .before .before .before .before .before .before .before .before .carried in
+    let f = c .before .before .before .before .before .before .before .is-fifth in
+    same-requotes (a .side) (s .args .words .now) (s .args .change) (s .args .minimum .0) m (omega (arith, c .before .before .before .before .before .before .before .before .before .before .if1 .left, moving-count (s .args .words .now) (s .args .change) (s .args .minimum .0) m)) (l .result) (l .ensures (a .minimum .0) m)
+    (f .result) (c .before .before .before .before .before .before .volume-where .result) (c .before .before .before .before .before .before .volume-where .ensures) (sym (c .before .before .before .before .before .is-best .ensures) ∙ c .before .before .before .before .if2 .taken)
+    (c .before .before .put2 .last .0) (c .before .before .put2 .ensures)
+
+room-requires : tie.Need-room-requires
+room-requires c κs =
+    let s = c .before .before .before .before .before .before .before .before .before in
+    moving-few (s .args .words .now) (s .args .change) (s .args .minimum .0) (s .pre .0)
+
+add-sought : tie.Need-add-sought
+add-sought c =
+    let s = c .before .before .before .before .before .before .before .before .before .before in
+    let few = moving-few (s .args .words .now) (s .args .change) (s .args .minimum .0) (s .pre .0) in
+    let to = c .room in
+    let over = room-over (getD (s .args .words .now) 192 0) (to .result) (to .ensures) in
+    let most = room-most (getD (s .args .words .now) 192 0) (to .result) few (to .ensures) in
+    record { fits = omega (arith, most) }
+
+sub-sought : tie.Need-sub-sought
+sub-sought c = search needs
+
+part-sought-start : tie.Need-part-sought-start
+part-sought-start c = search needs
+
+part-sought-end : tie.Need-part-sought-end
+part-sought-end c =
+    let s = c .before .before .before .before .before .before .before .before .before .before .before in
+    let few = moving-few (s .args .words .now) (s .args .change) (s .args .minimum .0) (s .pre .0) in
+    let to = c .before .room in
+    let over = room-over (getD (s .args .words .now) 192 0) (to .result) (to .ensures) in
+    let most = room-most (getD (s .args .words .now) 192 0) (to .result) few (to .ensures) in
+    let long : length (s .args .words .now) ≡ 256 = moving-length (s .args .words .now) (s .args .change) (s .args .minimum .0) (s .pre .0) in
+    search needs
+
+add-sought-2 : tie.Need-add-sought-2
+add-sought-2 c =
+    let s = c .before .before .before .before .before .before .before .before .before .before .before .before in
+    let few = moving-few (s .args .words .now) (s .args .change) (s .args .minimum .0) (s .pre .0) in
+    let to = c .before .before .room in
+    let over = room-over (getD (s .args .words .now) 192 0) (to .result) (to .ensures) in
+    let most = room-most (getD (s .args .words .now) 192 0) (to .result) few (to .ensures) in
+    record { fits = omega (arith, most) }
+
+sub-sought-2 : tie.Need-sub-sought-2
+sub-sought-2 c = search needs
+
+part-sought-start-2 : tie.Need-part-sought-start-2
+part-sought-start-2 c = search needs
+
+part-sought-end-2 : tie.Need-part-sought-end-2
+part-sought-end-2 c =
+    let s = c .before .before .before .before .before .before .before .before .before .before .before .before in
+    let few = moving-few (s .args .words .now) (s .args .change) (s .args .minimum .0) (s .pre .0) in
+    let to = c .before .before .room in
+    let over = room-over (getD (s .args .words .now) 192 0) (to .result) (to .ensures) in
+    let most = room-most (getD (s .args .words .now) 192 0) (to .result) few (to .ensures) in
+    let long : length (s .args .words .now) ≡ 256 = moving-length (s .args .words .now) (s .args .change) (s .args .minimum .0) (s .pre .0) in
+    search needs
+
+sought-requires : tie.Need-sought-requires
+sought-requires c κs =
+    let s = c .before .before .before .before .before .before .before .before .before .before .before .before .before in
+    let few = moving-few (s .args .words .now) (s .args .change) (s .args .minimum .0) (s .pre .0) in
+    let to = c .before .before .before .room in
+    let over = room-over (getD (s .args .words .now) 192 0) (to .result) (to .ensures) in
+    let most = room-most (getD (s .args .words .now) 192 0) (to .result) few (to .ensures) in
+    let a = s .args in
+    let m = s .pre .0 in
+    let l = c .before .before .before .before .before .before .before .before .carried in
+    let en : 64 + to .result - 64 ≡ to .result = omega arith in
+    let ek : 128 + to .result - 128 ≡ to .result = omega arith in
+    let is = l .ensures (a .minimum .0) m in
+    let key : l .result .key ≤ 2000000001 = best-key-most (a .minimum .0) (m .before) (m .good-before) (m .after) (l .result) is in (
+      part-searchable (s .args .words .now) (s .args .change) (s .args .minimum .0) m (to .result) (64 + to .result - 64) (128 + to .result - 128) en ek over most (l .result .key) key,
+      own-level (keysOf (m .after)) (volumesOf (m .after)) (bestKeyIn (a .minimum .0) (m .before)) (l .result) is
+          ∙ sym (part-level (s .args .words .now) (s .args .change) (s .args .minimum .0) m (to .result) (64 + to .result - 64) (128 + to .result - 128) en ek over most (l .result .key)),
+      sym (c .before .before .before .before .before .is-best .ensures) ∙ c .before .before .before .before .if2 .left,
+      s .pre .1,
+      record { none = part-none (s .args .words .now) (s .args .change) (s .args .minimum .0) m (to .result) (64 + to .result - 64) (128 + to .result - 128) en ek over most; below = inl refl },
+    )
+
+put-requires-3 : tie.Need-put-requires-3
+put-requires-3 c κs =
+    let s = c .before .before .before .before .before .before .before .before .before .before .before .before .before .before .before .before in
+    moving-length (s .args .words .now) (s .args .change) (s .args .minimum .0) (s .pre .0)
+
+add-t13 : tie.Need-add-t13
+add-t13 c =
+    record {
+      fits =
+          omega (
+            arith,
+            at-most-one (c .before .before .before .before .before .before .before .before .before .before .before .before .before .volume-where .result) (c .before .before .before .before .before .before .before .before .before .before .before .before .before .before .is-fifth .result) (c .before .before .before .before .before .before .before .before .before .before .before .before .before .volume-where .ensures),
+            c .before .before .before .before .before .before .sought .ensures .few,
+          );
+    }
+
+same-length-3 : tie.Need-same-length-3
+same-length-3 c = search needs
+
+returns-3 : tie.Need-returns-3
+returns-3 c m =
+    let s = c .before .before .before .before .before .before .before .before .before .before .before .before .before .before .before .before .before .before .before .before in
+    let few = moving-few (s .args .words .now) (s .args .change) (s .args .minimum .0) (s .pre .0) in
+    let to = c .before .before .before .before .before .before .before .before .before .before .room in
+    let over = room-over (getD (s .args .words .now) 192 0) (to .result) (to .ensures) in
+    let most = room-most (getD (s .args .words .now) 192 0) (to .result) few (to .ensures) in
+    let a = s .args in
+    let l = c .before .before .before .before .before .before .before .before .before .before .before .before .before .before .before .carried in
+    let f = c .before .before .before .before .before .before .before .before .before .before .before .before .before .before .is-fifth in
+    let en : 64 + to .result - 64 ≡ to .result = omega arith in
+    let ek : 128 + to .result - 128 ≡ to .result = omega arith in
+    sought-requotes (a .side) (s .args .words .now) (s .args .change) (s .args .minimum .0) m (omega (arith, c .before .before .before .before .before .before .before .before .before .before .before .before .before .before .before .before .before .if1 .left, moving-count (s .args .words .now) (s .args .change) (s .args .minimum .0) m)) (l .result) (l .ensures (a .minimum .0) m)
+    (f .result) (c .before .before .before .before .before .before .before .before .before .before .before .before .before .volume-where .result) (c .before .before .before .before .before .before .before .before .before .before .before .before .before .volume-where .ensures)
+    (to .result) (64 + to .result - 64) (128 + to .result - 128) en ek over most
+    (c .before .before .before .before .before .before .sought .result) (c .before .before .before .before .before .before .sought .ensures) (c .before .before .before .put3 .last .0) (c .before .before .before .put3 .ensures)
 
 pub requote-spec : {M : Type 1} → statement M
 requote-spec =
     tie.close
     (tie.spec
-    settled-requires
-    slice-write-words
-    slice-write-words-2
-    slice-write-words-3
+    slice-read-count
+    add-best
+    sub-best
+    part-best-start
+    part-best-end
+    add-best-2
+    sub-best-2
+    part-best-start-2
+    part-best-end-2
+    best-requires
+    put-requires
     same-length
-    returns)
+    returns
+    carried-requires
+    is-fifth-requires
+    volume-where-requires
+    is-best-requires
+    put-requires-2
+    same-length-2
+    returns-2
+    room-requires
+    add-sought
+    sub-sought
+    part-sought-start
+    part-sought-end
+    add-sought-2
+    sub-sought-2
+    part-sought-start-2
+    part-sought-end-2
+    sought-requires
+    put-requires-3
+    add-t13
+    same-length-3
+    returns-3)

@@ -1,22 +1,60 @@
--- `level::stepped` meets its contract: what is measured is the level of its own key, which is a key of prices. Assumes nothing.
+-- Nothing stands between a key and the next, so that the sums of one are worked out of the other's (`steps-up`, `steps-down`). Assumes
+-- nothing.
+use native.Mathlib.Omega.{arith}
 use borrow.Author.Needs.{needs}
-use Rattle.level.proofs.Depths.{own-level, level-most}
+use Rattle.level.proofs.Depths.{level-small}
+use Rattle.level.proofs.Nexts.{there-less, steps-up, steps-down}
 use Rattle.level.proofs.stepped.Statement.{statement}
 use Rattle.level.proofs.stepped.Tie as tie
 
-neighbour-requires : tie.Need-neighbour-requires
-neighbour-requires c κs = search needs
+above-requires : tie.Need-above-requires
+above-requires c κs = search needs
 
-measured-requires : tie.Need-measured-requires
-measured-requires c κs = search needs
+held-at-requires : tie.Need-held-at-requires
+held-at-requires c κs = search needs
+
+sub-t9 : tie.Need-sub-t9
+sub-t9 c =
+    let s = c .before .before .before .before .before .before .before .before in
+    let a = s .args in
+    there-less (a .minimum .0) (a .keys .now) (a .volumes .now) (a .level) (s .pre .0) (s .pre .1) (s .pre .3) (c .before .before .before .if1 .taken)
+    (c .before .before .above .result) (c .before .held-at .result) (c .before .before .above .ensures) (c .before .held-at .ensures)
 
 returns : tie.Need-returns
 returns c =
-    let a = c .before .before .before .before .args in
-    let n = c .before .neighbour in (
-      own-level (a .keys .now) (a .volumes .now) (n .result) (c .measured .result) (c .measured .ensures),
-      level-most (a .keys .now) (a .volumes .now) (n .result) (c .measured .result) (c .measured .ensures) (n .ensures),
-    )
+    let s = c .before .before .before .before .before .before .before .before in
+    let a = s .args in
+    steps-up (a .minimum .0) (a .keys .now) (a .volumes .now) (a .level) (s .pre .0) (s .pre .1) (s .pre .3) (c .before .before .before .if1 .taken)
+    (c .before .before .above .result) (c .before .held-at .result) (c .before .before .above .ensures) (c .before .held-at .ensures)
+
+below-requires : tie.Need-below-requires
+below-requires c κs = search needs
+
+add-t10 : tie.Need-add-t10
+add-t10 c =
+    let s = c .before .before .before .before .before .before .before in
+    let a = s .args in
+    record { fits = omega (arith, level-small (a .keys .now) (a .volumes .now) (a .level) (s .pre .0 .columns) (s .pre .1)) }
+
+held-at-requires-2 : tie.Need-held-at-requires-2
+held-at-requires-2 c κs = search needs
+
+returns-2 : tie.Need-returns-2
+returns-2 c =
+    let s = c .before .before .before .before .before .before .before .before in
+    let a = s .args in
+    steps-down (a .minimum .0) (a .keys .now) (a .volumes .now) (a .level) (s .pre .0) (s .pre .1) (s .pre .3) (c .before .before .before .if1 .left) (s .pre .2)
+    (c .before .before .below .result) (c .held-at2 .result) (c .before .before .below .ensures) (c .held-at2 .ensures)
 
 pub stepped-spec : {M : Type 1} → statement M
-stepped-spec = tie.close (tie.spec neighbour-requires measured-requires returns)
+stepped-spec =
+    tie.close
+    (tie.spec
+    above-requires
+    held-at-requires
+    sub-t9
+    returns
+    below-requires
+    add-t10
+    held-at-requires-2
+    returns-2)

@@ -2,9 +2,8 @@
 use borrow.Author.Needs.{needs}
 use Rattle.record.specs.Fields.{readFields}
 use Rattle.record.proofs.Reading.{timed, only-fifteen}
-use Rattle.book.proofs.Table.{held-length}
 use Rattle.quantum.proofs.Represents.{onward}
-use Rattle.quantum.proofs.Steps.{holding, refused-read, held-after, taken-read}
+use Rattle.quantum.proofs.Steps.{holding, refused-read, taken-read}
 use Rattle.quantum.proofs.taken.Statement.{statement}
 use Rattle.quantum.proofs.taken.Tie as tie
 
@@ -23,21 +22,13 @@ same-length-2 c = search needs
 returns : tie.Need-returns
 returns c =
     let g = c .before .before .before .before .before .before in
-    let s = c .before .before .before .before .before .before .before .before .before .before .before .before in
+    let s = g .before .before .before .before .before .before in
     refused-read (s .args .duty) (s .args .clock) (s .args .f .t) (s .args .table .now) (g .send-fields .last .0) (g .send-fields .result) (s .pre .1) (readFields (s .args .f))
     (timed (s .args .f)) (g .send-fields .ensures) (c .refused .result) (c .before .if1 .taken) (c .refused .ensures)
 
-keeps-requires : tie.Need-keeps-requires
-keeps-requires c κs =
-    let g = c .before .before .before .before .before .before .before in
-    let s = c .before .before .before .before .before .before .before .before .before .before .before .before .before in
-    held-length (g .send-fields .last .0)
-    (held-after (s .args .duty) (s .args .clock) (s .args .f .t) (s .args .table .now) (g .send-fields .last .0) (g .send-fields .result) (s .pre .1) (c .before .before .if1 .left)
-    (readFields (s .args .f)) (timed (s .args .f)) (g .send-fields .ensures) (s .pre .0))
-
 onward-requires : tie.Need-onward-requires
 onward-requires c κs =
-    let s = c .before .before .before .before .before .before .before .before .before .before .before .before .before .before in
+    let s = c .before .before .before .before .before .before .before .before .before .before .before .before in
     let r = s .pre .0 in
     onward (r .row) (r .sp) (r .events) (s .args .clock) (r .clock-is) (s .args .f .t) (s .pre .1 .onward)
 
@@ -49,11 +40,11 @@ same-length-4 c = search needs
 
 returns-2 : tie.Need-returns-2
 returns-2 c =
-    let k = c .before in
-    let g = c .before .before .before .before .before .before .before .before .before in
-    let s = c .before .before .before .before .before .before .before .before .before .before .before .before .before .before .before in
-    taken-read (s .args .duty) (s .args .clock) (s .args .f .t) (s .args .table .now) (g .send-fields .last .0) (g .send-fields .result) (s .pre .1) (c .before .before .before .before .if1 .left)
-    (readFields (s .args .f)) (timed (s .args .f)) (only-fifteen (s .args .f)) (g .send-fields .ensures) (c .onward .result) (k .keeps .result) (c .onward .ensures) (k .keeps .ensures)
+    let f = c .before in
+    let g = f .before .before .before .before .before in
+    let s = g .before .before .before .before .before .before in
+    taken-read (s .args .duty) (s .args .clock) (s .args .f .t) (s .args .table .now) (g .send-fields .last .0) (g .send-fields .result) (s .pre .1) (f .if1 .left)
+    (readFields (s .args .f)) (timed (s .args .f)) (only-fifteen (s .args .f)) (g .send-fields .ensures) (c .onward .result) (c .onward .ensures)
 
 pub taken-spec : {M : Type 1} → statement M
 taken-spec =
@@ -64,7 +55,6 @@ taken-spec =
     same-length
     same-length-2
     returns
-    keeps-requires
     onward-requires
     same-length-3
     same-length-4

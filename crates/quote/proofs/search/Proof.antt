@@ -5,12 +5,12 @@ use native.Mathlib.Omega.{arith}
 use mathlib.Core.Path.{_≡_, refl, sym, ap, _∙_}
 use mathlib.Core.List.{List}
 use mathlib.Core.Bool.{Bool, true, false}
-use borrow.Author.Tests.{le-leb, lt-leb}
-use lib.Dec.{leb}
+use borrow.Author.Tests.{le-leb, lt-leb, le-ltb, lt-ltb}
+use lib.Dec.{leb, ltb}
 use lib.ListN.{length, getD, take}
 use Rattle.rules.specs.Lists.{count, filter}
 use Rattle.quote.specs.Keys.{quoteAt}
-use Rattle.quote.specs.Levels.{enough, greatest, foundBy, triedBy, shortBy}
+use Rattle.quote.specs.Levels.{enough, greatest, foundBy, triedBy, shortBy, depthFrom}
 use Rattle.quote.specs.Levels as L
 use Rattle.quote.proofs.Loops.{held-next, held-fits, held-all, found-better, found-few, found-worse, tried-one, tried-none}
 use Rattle.quote.proofs.Short.{short-enough, short-few, short-worse, short-next}
@@ -29,7 +29,7 @@ abbrev Inv-candidates : tie.InvT-candidates
 Inv-candidates side keys volumes start m found₀ enough₀ short₀ sums₀ i₀ found enough short sums i =
     (i ≤ length keys) × (found ≤ 2000000001) × (sums ≤ i) × (found ≡ foundBy start m keys volumes i)
     × (sums ≡ triedBy start m keys volumes i) × (short ≡ shortBy start m keys volumes i)
-    × (start < found → enough ≡ L.held (leb found) keys volumes)
+    × (enough ≡ depthFrom start found keys volumes)
 
 abbrev μ-candidates : tie.MeasureT-candidates
 μ-candidates side keys volumes start m found₀ enough₀ short₀ sums₀ i₀ found enough short sums i = length keys - i
@@ -76,6 +76,13 @@ judged : (w : tie.Then3 Inv-volumes μ-volumes Inv-candidates μ-candidates) (b 
     leb (minimumOf u) (w .before .volumes .held) ≡ b → enough (minimumOf u) (keysOf u) (volumesOf u) (candidate u) ≡ b
 unfolding enough
 judged w b h = ap (leb (minimumOf (outer (w .before)))) (sym (whole w)) ∙ h
+
+-- what stands at the found key or better: nothing yet at the start, else its depth
+depth-start : (start : ℕ) (ks vs : List ℕ) → depthFrom start start ks vs ≡ 0
+depth-start start ks vs = rw (le-ltb start start (omega arith)) refl
+
+depth-found : (start found : ℕ) (ks vs : List ℕ) → start < found → depthFrom start found ks vs ≡ L.held (leb found) ks vs
+depth-found start found ks vs h = rw (lt-ltb start found h) refl
 
 -- what the search has come to after a turn
 abbrev After : Candidates → ℕ → ℕ → ℕ → Type 0
@@ -124,7 +131,7 @@ module _ (u : Candidates) (more : u .candidates .i < length (keysOf u)) where
 
 candidates-holds : tie.Need-candidates-holds Inv-volumes μ-volumes Inv-candidates μ-candidates
 unfolding greatest filter triedBy count
-candidates-holds c = (omega arith, omega (arith, c .before .before .pre .start-most), omega arith, omega arith, refl, refl, λ h. absurd (omega (arith, h)))
+candidates-holds c = (omega arith, omega (arith, c .before .before .pre .start-most), omega arith, omega arith, refl, refl, sym (depth-start (c .before .before .args .start) (c .before .before .args .keys .now) (c .before .before .args .volumes .now)))
 
 quote-at-requires : tie.Need-quote-at-requires Inv-volumes μ-volumes Inv-candidates μ-candidates
 quote-at-requires c κs = omega arith
@@ -195,11 +202,18 @@ candidates-again c =
     let w = c .before in
     let u = outer (w .before) in
     let e = judged w true (le-leb (minimumOf u) (w .before .volumes .held) (omega arith)) in
-    let next = better u (omega arith) (omega arith) e in
-    (omega arith, u .before .before .before .pre .keys (u .candidates .i), omega arith, next .0, next .1, next .2, λ h. whole w)
+    let next = better u (omega arith) (omega arith) e in (
+      omega arith,
+      u .before .before .before .pre .keys (u .candidates .i),
+      omega arith,
+      next .0,
+      next .1,
+      next .2,
+      whole w ∙ sym (depth-found (u .before .before .before .args .start) (candidate u) (keysOf u) (volumesOf u) (omega (arith, u .candidates .inv .3))),
+    )
 
-most-requires : tie.Need-most-requires Inv-volumes μ-volumes Inv-candidates μ-candidates
-most-requires c κs = tt
+max-requires : tie.Need-max-requires Inv-volumes μ-volumes Inv-candidates μ-candidates
+max-requires c κs = tt
 
 candidates-less-2 : tie.Need-candidates-less-2 Inv-volumes μ-volumes Inv-candidates μ-candidates
 candidates-less-2 c = omega arith
@@ -209,7 +223,7 @@ candidates-again-2 c =
     let w = c .before .before in
     let u = outer (w .before) in
     let e = judged w false (lt-leb (minimumOf u) (w .before .volumes .held) (omega arith)) in
-    let next = few u (omega arith) (omega arith) e (w .before .volumes .held) (c .most .result) (whole w) (c .most .ensures) in
+    let next = few u (omega arith) (omega arith) e (w .before .volumes .held) (c .max .result) (whole w) (c .max .ensures) in
     (omega arith, omega arith, omega arith, next .0, next .1, next .2, u .candidates .inv .6)
 
 candidates-less-3 : tie.Need-candidates-less-3 Inv-volumes μ-volumes Inv-candidates μ-candidates
@@ -233,7 +247,7 @@ returns c =
     (u .before .before .before .pre .start-most)
     (c .quote-at .ensures ∙ ap (quoteAt (a .side)) last) (n .inv .4 ∙ ap (triedBy (a .start) (minimumOf u) (keysOf u) (volumesOf u)) end)
     (n .inv .5 ∙ ap (shortBy (a .start) (minimumOf u) (keysOf u) (volumesOf u)) end)
-    (λ h. n .inv .6 (omega (arith, h, last)) ∙ ap (λ (k : ℕ). L.held (leb k) (keysOf u) (volumesOf u)) last)
+    (n .inv .6 ∙ ap (λ (k : ℕ). depthFrom (a .start) k (keysOf u) (volumesOf u)) last)
 
 pub search-spec : {M : Type 1} → statement M
 search-spec =
@@ -261,7 +275,7 @@ search-spec =
     add-sums
     candidates-less
     candidates-again
-    most-requires
+    max-requires
     candidates-less-2
     candidates-again-2
     candidates-less-3

@@ -5,6 +5,7 @@ use native.Mathlib.Nat.{sub-zero}
 use lib.ListN.{take, getD}
 use Rattle.side.specs.Slots.{seenFrom}
 use Rattle.side.proofs.Seen.{seen-exactly, seen-widely}
+use Rattle.side.proofs.Words.{room-over, room-most}
 use borrow.Author.Needs.{needs}
 use Rattle.side.proofs.located.Statement.{statement}
 use Rattle.side.proofs.located.Tie as tie
@@ -55,7 +56,7 @@ returns-2 c = λ slots level few is.
     let to = c .before .before .room in
     c .scan2 .ensures
     ∙ ap (λ (n : ℕ). seenFrom 1 (a .id) (take n (a .words .now))) (sub-zero (to .result))
-    ∙ seen-widely (a .words .now) slots level few is (a .id) (to .result) (to .ensures .0) (to .ensures .1) (c .before .before .before .if1 .left)
+    ∙ seen-widely (a .words .now) slots level few is (a .id) (to .result) (room-over (getD (a .words .now) 192 0) (to .result) (to .ensures)) (room-most (getD (a .words .now) 192 0) (to .result) (c .before .before .before .before .before .before .pre .few) (to .ensures)) (c .before .before .before .if1 .left)
 
 pub located-spec : {M : Type 1} → statement M
 located-spec =

@@ -1,0 +1,171 @@
+-- The table after an event: with the best level of its side moved, it stands for the orders after it. Assumes nothing.
+use Prim.Native.Nat.{ℕ, zero, suc, _≤_, _<_}
+use native.Mathlib.Omega.{arith}
+use mathlib.Core.Path.{_≡_, refl, sym, ap, _∙_, subst}
+use mathlib.Core.Logic.{inl}
+use mathlib.Core.Bool.{Bool, true, false}
+use mathlib.Core.List.{List}
+use lib.ListN.{length}
+use Rattle.rules.specs.declared.Order.{Order}
+use Rattle.rules.specs.declared.Event.{Event}
+use Rattle.rules.specs.declared.Row.{Row}
+use Rattle.rules.specs.declared.SpreadRule.{SpreadRule}
+use Rattle.rules.specs.Lists.{if_then_else_}
+use Rattle.rules.specs.Orders.{apply}
+use Rattle.rules.specs.Kept.{ordersKeep}
+use Rattle.quote.specs.Widest.{WidestFor}
+use Rattle.rules.specs.declared.Side.{Side}
+use Rattle.rules.specs.declared.Side.the-variants.{Buy, Sell}
+use Rattle.side.specs.Slots.{sideOf, keysOf, volumesOf, bestKeyIn, keptIn}
+use Rattle.level.specs.declared.Requoted.{Requoted}
+use Rattle.level.specs.Requotes.{Work, Requotes}
+use Rattle.level.proofs.Tries.{tried-none}
+use Rattle.side.specs.Internal.{StaleLevel}
+use Rattle.side.proofs.Words.{words-length}
+use Rattle.book.specs.declared.Answer.{Answer}
+use Rattle.book.specs.Table.{ofSide, slotsIn, sideIn, tableOf, sentTo, GoodOrders}
+use Rattle.book.specs.Sending.{Works}
+use Rattle.book.specs.Internal.{sideAt, other, joined, appliedTo, Applied, keepsBy}
+use Rattle.book.proofs.Table.{joined-part, joined-put}
+use Rattle.book.proofs.Events.{good-slots}
+use Rattle.book.proofs.Quotes.{keeps-is, same-keeps, slots-orders}
+use Rattle.book.proofs.Applied.{lent, putBack}
+
+-- the two halves by the number of either
+both-halves : (n minimum : ℕ) (live : List Order) → n < 2 → joined n (sideIn minimum (sideAt n) live) (sideIn minimum (other (sideAt n)) live) ≡ tableOf minimum live
+unfolding tableOf
+both-halves zero minimum live h = refl
+both-halves (suc zero) minimum live h = refl
+both-halves (suc (suc n)) minimum live h = absurd (omega arith)
+
+module _ (e : Event) (minimum : ℕ) (live : List Order) (good : GoodOrders live) (mid : List ℕ) (r : Answer) (t : Applied e minimum live mid r) where
+  few-others : length (slotsIn (other (sideAt (r .s))) (sentTo (r .refusal) live e)) ≤ 64
+  few-others = omega (arith, ap length (t .others), good-slots (other (sideAt (r .s))) live good .few)
+
+  own : List ℕ
+  own = sideOf (slotsIn (sideAt (r .s)) (sentTo (r .refusal) live e)) (keptIn minimum (slotsIn (sideAt (r .s)) live))
+
+  others : List ℕ
+  others = sideIn minimum (other (sideAt (r .s))) (sentTo (r .refusal) live e)
+
+  size-own : length own ≡ 256
+  unfolding own
+  size-own = words-length own (slotsIn (sideAt (r .s)) (sentTo (r .refusal) live e)) (keptIn minimum (slotsIn (sideAt (r .s)) live)) (t .good .few) refl
+
+  size-others : length others ≡ 256
+  unfolding others
+  size-others =
+      words-length others (slotsIn (other (sideAt (r .s))) (sentTo (r .refusal) live e)) (keptIn minimum (slotsIn (other (sideAt (r .s))) (sentTo (r .refusal) live e)))
+      few-others refl
+
+  mid-is : mid ≡ joined (r .s) own others
+  unfolding own others appliedTo
+  mid-is = t .table
+
+  -- the half to requote
+  pub moving : StaleLevel (lent (r .s) mid) (r .change) minimum
+  unfolding own
+  moving =
+      record {
+        before = slotsIn (sideAt (r .s)) live;
+        after = slotsIn (sideAt (r .s)) (sentTo (r .refusal) live e);
+        good-before = good-slots (sideAt (r .s)) live good;
+        good = t .good;
+        changed = t .answers;
+        grown = t .grown;
+        is = ap (lent (r .s)) mid-is ∙ joined-part own others size-own size-others (r .s) (t .number);
+      }
+
+  pub sent-is : (side : Side) (half : List ℕ) (q : Requoted) → ((m : StaleLevel (lent (r .s) mid) (r .change) minimum) → Requotes side minimum (m .before) (m .after) half q)
+      → putBack (r .s) mid half ≡ tableOf minimum (sentTo (r .refusal) live e)
+  unfolding moving others
+  sent-is side half q moved =
+      ap (λ (w : List ℕ). putBack (r .s) w half) mid-is
+      ∙ joined-put own others size-own size-others (r .s) half (t .number)
+      ∙ ap (λ (w : List ℕ). joined (r .s) w others) (moved moving .words)
+      ∙ both-halves (r .s) minimum (sentTo (r .refusal) live e) (t .number)
+
+  -- a refused event leaves the table
+  pub stays-is : 0 < r .refusal → mid ≡ tableOf minimum (sentTo (r .refusal) live e)
+  unfolding appliedTo
+  stays-is h = t .table ∙ go (r .refusal) h
+    where
+      go : (n : ℕ) → 0 < n
+          → joined (r .s) (sideOf (slotsIn (sideAt (r .s)) (sentTo n live e)) (keptIn minimum (slotsIn (sideAt (r .s)) live)))
+          (sideIn minimum (other (sideAt (r .s))) (sentTo n live e))
+          ≡ tableOf minimum (sentTo n live e)
+      go zero h = absurd (omega arith)
+      go (suc n) h = both-halves (r .s) minimum live (t .number)
+
+  module _ (side : Side) (is-side : side ≡ sideAt (r .s)) (half : List ℕ) (q : Requoted)
+      (moved : (m : StaleLevel (lent (r .s) mid) (r .change) minimum) → Requotes side minimum (m .before) (m .after) half q) where
+    -- where the best key of its side stays, both stay
+    pub keys-stay : q .moves ≡ false → (s : Side) → bestKeyIn minimum (slotsIn s (sentTo (r .refusal) live e)) ≡ bestKeyIn minimum (slotsIn s live)
+    unfolding moving
+    keys-stay h s = go (r .s) (t .number) (moved moving .stays h) (ap (bestKeyIn minimum) (t .others)) s
+      where
+        go : (n : ℕ) → n < 2
+            → bestKeyIn minimum (slotsIn (sideAt n) (sentTo (r .refusal) live e)) ≡ bestKeyIn minimum (slotsIn (sideAt n) live)
+            → bestKeyIn minimum (slotsIn (other (sideAt n)) (sentTo (r .refusal) live e)) ≡ bestKeyIn minimum (slotsIn (other (sideAt n)) live)
+            → (s : Side) → bestKeyIn minimum (slotsIn s (sentTo (r .refusal) live e)) ≡ bestKeyIn minimum (slotsIn s live)
+        go zero l own others Buy = own
+        go zero l own others Sell = others
+        go (suc n) l own others Buy = others
+        go (suc n) l own others Sell = own
+
+    -- the sums made for it
+    pub sent-work : GoodOrders (sentTo (r .refusal) live e) → Works minimum (sentTo (r .refusal) live e) (q .guesses) (q .sums)
+    unfolding moving
+    sent-work good-after =
+        let after = sentTo (r .refusal) live e in
+        let work : Work side minimum (keysOf (slotsIn side after)) (volumesOf (slotsIn side after)) (q .guesses) (q .sums) =
+        subst (λ (s : Side). Work side minimum (keysOf (slotsIn s after)) (volumesOf (slotsIn s after)) (q .guesses) (q .sums)) (sym is-side) (moved moving .work) in
+        record { side = side; work = work; searched = work .search (ofSide side after) (slots-orders side after good-after) }
+
+    -- an accepted event
+    module _ (none : r .refusal ≡ 0) (good-after : GoodOrders (apply live e)) where
+      after-is : sentTo (r .refusal) live e ≡ apply live e
+      after-is = ap (λ (n : ℕ). sentTo n live e) none
+
+      pub taken-work : Works minimum (apply live e) (q .guesses) (q .sums)
+      taken-work =
+          subst (λ (l : List Order). Works minimum l (q .guesses) (q .sums)) after-is (sent-work (subst GoodOrders (sym after-is) good-after))
+
+      -- whether the quote is kept after it: by the keys, or as before where they stay
+      pub taken-keeps : (row : Row) (spread : SpreadRule) (widest keeping keeps : ℕ) → minimum ≡ row .minimum .0 → WidestFor row spread widest
+          → keeping ≡ (if ordersKeep row spread live then 1 else 0) → keeps ≡ (if q .moves then keepsBy widest (putBack (r .s) mid half) else keeping)
+          → keeps ≡ (if ordersKeep row spread (apply live e) then 1 else 0)
+      taken-keeps row spread widest keeping keeps least law was is = go (q .moves) refl is
+        where
+          exit-is : putBack (r .s) mid half ≡ tableOf (row .minimum .0) (apply live e)
+          exit-is =
+              sent-is side half q moved ∙ ap (tableOf minimum) after-is ∙ ap (λ (n : ℕ). tableOf n (apply live e)) least
+
+          go : (b : Bool) → q .moves ≡ b → keeps ≡ (if b then keepsBy widest (putBack (r .s) mid half) else keeping)
+              → keeps ≡ (if ordersKeep row spread (apply live e) then 1 else 0)
+          go true b k = keeps-is (putBack (r .s) mid half) row spread (apply live e) good-after exit-is widest keeps law k
+          go false b k =
+              k ∙ was
+              ∙ ap (λ (x : Bool). if x then 1 else 0)
+              (sym (same-keeps minimum row spread live (apply live e) good good-after least widest law
+              (λ s. ap (λ (l : List Order). bestKeyIn minimum (slotsIn s l)) (sym after-is) ∙ keys-stay b s)))
+
+-- an event that makes none
+pub no-work : (minimum : ℕ) (orders : List Order) → Works minimum orders 0 0
+no-work minimum orders =
+    let ks = keysOf (slotsIn Buy orders) in
+    let vs = volumesOf (slotsIn Buy orders) in
+    record {
+      side = Buy;
+      work =
+          record {
+            known = 0;
+            known-qualifies = inl refl;
+            start = 0;
+            start-qualifies = inl refl;
+            tried = tried-none minimum ks vs 0;
+            searched = false;
+            search = λ o c. refl;
+          };
+      searched = refl;
+    }

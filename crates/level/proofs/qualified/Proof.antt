@@ -1,0 +1,23 @@
+-- By its test. Assumes nothing.
+use Prim.Native.Nat.{_+_}
+use mathlib.Core.Path.{sym}
+use borrow.Author.Needs.{needs}
+use Rattle.level.proofs.Starts.{found-enough, found-short}
+use Rattle.level.proofs.qualified.Statement.{statement}
+use Rattle.level.proofs.qualified.Tie as tie
+
+add-if1 : tie.Need-add-if1
+add-if1 c = search needs
+
+returns : tie.Need-returns
+returns c =
+    let a = c .before .before .before .args in
+    sym (found-enough (a .minimum .0) (a .start) (a .level .key) (a .level .before + a .level .at) (c .if1 .taken))
+
+returns-2 : tie.Need-returns-2
+returns-2 c =
+    let a = c .before .before .before .args in
+    sym (found-short (a .minimum .0) (a .start) (a .level .key) (a .level .before + a .level .at) (c .if1 .left))
+
+pub qualified-spec : {M : Type 1} → statement M
+qualified-spec = tie.close (tie.spec add-if1 returns returns-2)

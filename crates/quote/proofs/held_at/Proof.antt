@@ -1,0 +1,82 @@
+-- The loop's invariant: what was added up is held at the key in the part of the columns that was passed. Assumes nothing.
+use Prim.Native.Nat.{_+_, _-_, _≤_}
+use native.Mathlib.Omega.{arith}
+use mathlib.Core.Path.{_≡_, refl}
+use lib.Dec.{eqb}
+use lib.ListN.{length, take}
+use Rattle.quote.specs.Levels.{held}
+use Rattle.quote.proofs.Loops.{held-next, held-fits, held-all}
+use Rattle.quote.proofs.held_at.Statement.{statement}
+use Rattle.quote.proofs.held_at.Tie as tie
+
+abbrev Inv-loop : tie.InvT-loop
+Inv-loop keys volumes key at₀ i₀ at i = (i ≤ length keys) × (at ≡ held (eqb key) (take i keys) (take i volumes))
+
+abbrev μ-loop : tie.MeasureT-loop
+μ-loop keys volumes key at₀ i₀ at i = length keys - i
+
+loop-holds : tie.Need-loop-holds Inv-loop μ-loop
+unfolding held
+loop-holds c = (omega arith, refl)
+
+mul-volume-where : tie.Need-mul-volume-where Inv-loop μ-loop
+mul-volume-where c = omega arith
+
+shared-slice-read-volume-where : tie.Need-shared-slice-read-volume-where Inv-loop μ-loop
+shared-slice-read-volume-where c = omega arith
+
+mul-volume-where-2 : tie.Need-mul-volume-where-2 Inv-loop μ-loop
+mul-volume-where-2 c = omega arith
+
+shared-slice-read-volume-where-2 : tie.Need-shared-slice-read-volume-where-2 Inv-loop μ-loop
+shared-slice-read-volume-where-2 c = omega arith
+
+volume-where-requires : tie.Need-volume-where-requires Inv-loop μ-loop
+volume-where-requires c κs = tt
+
+add-at : tie.Need-add-at Inv-loop μ-loop
+add-at c =
+    let u = c .before .before .before .before in
+    let b = u .before .before .before in
+    omega (
+      arith,
+      held-fits (eqb (b .args .key)) (u .loop .i) (b .args .keys .now) (b .args .volumes .now) (u .loop .at) (c .volume-where .result) (omega arith) (b .pre .even) (u .loop .inv .1) (c .volume-where .ensures),
+      b .pre .small,
+    )
+
+add-i : tie.Need-add-i Inv-loop μ-loop
+add-i c = omega arith
+
+loop-less : tie.Need-loop-less Inv-loop μ-loop
+loop-less c = omega arith
+
+loop-again : tie.Need-loop-again Inv-loop μ-loop
+loop-again c =
+    let u = c .before .before .before .before in
+    let b = u .before .before .before in
+    (omega arith, held-next (eqb (b .args .key)) (u .loop .i) (b .args .keys .now) (b .args .volumes .now) (u .loop .at) (c .volume-where .result) (omega arith) (b .pre .even) (u .loop .inv .1) (c .volume-where .ensures))
+
+returns : tie.Need-returns Inv-loop μ-loop
+returns c =
+    let u = c .before in
+    let b = u .before .before .before in
+    let end : u .loop .i ≡ length (b .args .keys .now) = omega arith in
+    held-all (eqb (b .args .key)) (u .loop .i) (b .args .keys .now) (b .args .volumes .now) (u .loop .at) end (b .pre .even) (u .loop .inv .1)
+
+pub held-at-spec : {M : Type 1} → statement M
+held-at-spec =
+    tie.close
+    (tie.spec
+    Inv-loop
+    μ-loop
+    loop-holds
+    mul-volume-where
+    shared-slice-read-volume-where
+    mul-volume-where-2
+    shared-slice-read-volume-where-2
+    volume-where-requires
+    add-at
+    add-i
+    loop-less
+    loop-again
+    returns)
