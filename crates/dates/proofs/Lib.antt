@@ -4,3 +4,4 @@ pub mod Years
 pub mod Months
 pub mod Forms
 pub mod Reading
+pub mod Answers

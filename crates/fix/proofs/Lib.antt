@@ -2,4 +2,6 @@
 pub mod Values
 pub mod Saying
 pub mod Reading
+pub mod Answers
+pub mod Times
 pub mod Examples
