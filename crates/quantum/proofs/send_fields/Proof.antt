@@ -26,13 +26,13 @@ same-length-2 c = search needs
 returns : tie.Need-returns
 returns c =
     let s = c .before .before .before .before .before .before .before .before .before .before .before .before in
-    subst (λ (o : Outcome Event). SendsRead o (s .args .minimum .0) (s .args .table .now) (c .before .before .before .before .send .last .0) (c .before .before .before .before .send .result))
+    subst (λ (o : Outcome Event). SendsRead o (s .args .minimum .0) (s .args .widest) (s .args .keeping) (s .args .table .now) (c .before .before .before .before .send .last .0) (c .before .before .before .before .send .result))
     (says (s .args .f) (sym (c .before .before .before .before .before .before .before .before .before .is-good .ensures) ∙ c .before .before .before .before .before .before .before .before .if1 .taken) (c .before .before .before .before .before .event-of .ensures)) (c .before .before .before .before .send .ensures)
 
 returns-2 : tie.Need-returns-2
 returns-2 c =
     let s = c .before .before .before .before in
-    subst (λ (o : Outcome Event). SendsRead o (s .args .minimum .0) (s .args .table .now) (s .args .table .now) 15)
+    subst (λ (o : Outcome Event). SendsRead o (s .args .minimum .0) (s .args .widest) (s .args .keeping) (s .args .table .now) (s .args .table .now) (record { refusal = 15; keeps = s .args .keeping; guesses = 0; sums = 0 }))
     (says-not (s .args .f) (sym (c .before .is-good .ensures) ∙ c .if1 .left)) (refl, refl)
 
 pub send-fields-spec : {M : Type 1} → statement M

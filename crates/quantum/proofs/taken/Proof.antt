@@ -40,7 +40,7 @@ same-length-4 c = search needs
 
 returns-2 : tie.Need-returns-2
 returns-2 c =
-    let f = c .before in
+    let f = c .before .before in
     let g = f .before .before .before .before .before in
     let s = g .before .before .before .before .before .before in
     taken-read (s .args .duty) (s .args .clock) (s .args .f .t) (s .args .table .now) (g .send-fields .last .0) (g .send-fields .result) (s .pre .1) (f .if1 .left)
