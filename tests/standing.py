@@ -24,6 +24,7 @@ from tools import standing as tool
 
 PROBE = ROOT / "target" / "bin" / "probe"
 GREATEST = 2**32 - 1
+MARKS = 65_536  # makers whose numbers differ by a multiple of it share a mark
 
 
 def words(*numbers):
@@ -45,8 +46,9 @@ def run(data):
 
 
 def number(rng, few):
-    """A maker's number or a rating: out of a few, so that they meet, or any, or an end."""
-    return rng.choice((rng.randrange(few), rng.randrange(few), rng.randrange(GREATEST), 0, GREATEST))
+    """A maker's number or a rating: out of a few, so that they meet, or with their marks, or any, or an end."""
+    low = rng.randrange(few)
+    return rng.choice((low, low, low + MARKS * rng.randrange(1, 4), rng.randrange(GREATEST), 0, GREATEST))
 
 
 def call(rng, few):
@@ -132,7 +134,8 @@ def look(seen, data, printed):
         what = answer if answer.startswith("refused") else "accepted"
         seen[f"{what} {('join', 'change', 'leave')[kind - 1]}"] += 1
     used = last.split()[1:]
-    ratings = used[1::2]
+    makers, ratings = used[::2], used[1::2]
+    seen["makers of one mark"] += len({int(maker) % MARKS for maker in makers}) < len(makers)
     seen["equal ratings"] += any(a == b for a, b in zip(ratings, ratings[1:]))
     seen["standing alone"] += not used and count > size
     seen["all records used"] += size > 0 and len(used) == 2 * size
@@ -141,7 +144,7 @@ def look(seen, data, printed):
 DUE = [
     *(f"accepted {kind}" for kind in ("join", "change", "leave")),
     *(f"refused {n} {kind}" for n in (23, 24) for kind in ("join", "change", "leave")),
-    "refused 25 join", "equal ratings", "standing alone", "all records used", "bad case",
+    "refused 25 join", "equal ratings", "makers of one mark", "standing alone", "all records used", "bad case",
 ]
 
 

@@ -11,7 +11,7 @@ use mathlib.Core.List.{List, [], _∷_, _++_, List·Memᴰ, List·Memᴰ·head, 
 use mathlib.Core.Bool.{Bool, true, false, true≢false, not}
 use lib.Dec.{eqb, leb}
 use lib.ListN.{length, take, drop, length-append, length-drop}
-use lib.Seq.{take-at, length-take-le}
+use lib.Seq.{take-at}
 use borrow.Author.Tests.{eqb-true, eqb-false, eq-eqb, ne-eqb}
 use Rattle.rules.specs.Lists.{if_then_else_}
 use Rattle.rules.specs.Causes.{cause}
@@ -22,8 +22,8 @@ use Rattle.makers.specs.Order.{maker, above, sorted, isOf, present, once
 use Rattle.makers.specs.Calls.{Standing, standing, used, Call, Join, Change, Leave, refusalOf, placed, without, left, changed, step, after, outcomesFrom}
 use Rattle.makers.specs.Roll.{Rated, absent, rated, isPresent, Roll, emptyRoll, noted, rollRefusal, rollChanged, rollStep, rollFrom, rollOutcomesFrom, Stands, Claimed}
 use Rattle.makers.proofs.Order.{above-asym, Sorted, sorted-parts}
-use Rattle.makers.proofs.Placing.{length-placed, in-placed, placed-in, sorted-placed, once-placed, in-without, without-in, absent-without, sorted-without, once-without, length-without}
-use Rattle.makers.proofs.Working.{step-accepted, step-refused, Right, right-not-wrong, JoinPasses, OtherPasses, join-passes, change-passes, leave-passes}
+use Rattle.makers.proofs.Placing.{length-placed, in-placed, placed-in, in-without, without-in, absent-without}
+use Rattle.makers.proofs.Working.{step-accepted, step-refused, Right, right-not-wrong, JoinPasses, OtherPasses, join-passes, change-passes, leave-passes, length-used, length-others, join-right, change-right, leave-right}
 
 -- ---- ratings
 
@@ -109,24 +109,19 @@ stands-says : (s : Standing) (roll : Roll) → Stands s roll → Says (roll .rat
 stands-says s roll h = record { only = h .only; all = h .all }
 
 -- the used records at the front of a list of records
-stands-front : (xs rest : List Maker) (c : ℕ) (roll : Roll) → length xs ≡ c → c ≡ roll .present → Says (roll .rating) xs → sorted xs ≡ true → once xs ≡ true
-    → Stands (standing (xs ++ rest) c) roll
-stands-front xs rest c roll e k s o n =
+stands-front : (xs rest : List Maker) (c : ℕ) (roll : Roll) → length xs ≡ c → c ≡ roll .present → Says (roll .rating) xs → Right (standing (xs ++ rest) c) → Stands (standing (xs ++ rest) c) roll
+stands-front xs rest c roll e k s r =
     let t : take c (xs ++ rest) ≡ xs = take-at xs rest c e in
-    let long = length-append xs rest in
     record {
-      within = omega (arith, long, e);
+      within = r .within;
       count = k;
       only = λ m h. s .only m (subst (λ (l : List Maker). List·Memᴰ m l) t h);
       all = λ m h. subst (λ (l : List Maker). List·Memᴰ m l) (sym t) (s .all m h);
-      in-order = ap sorted t ∙ o;
-      each-once = ap once t ∙ n;
+      in-order = r .in-order;
+      each-once = r .each-once;
     }
 
 module _ (s : Standing) (roll : Roll) (h : Stands s roll) where
-  length-used : length (used s) ≡ s .count
-  length-used = length-take-le (s .count) (s .records) (h .within)
-
   rest-long : (k : ℕ) → length (drop k (s .records)) ≡ length (s .records) - k
   rest-long k = length-drop k (s .records)
 
@@ -134,12 +129,12 @@ module _ (s : Standing) (roll : Roll) (h : Stands s roll) where
       → Stands (changed s (Join m)) (rollChanged roll (Join m)) × (length (changed s (Join m) .records) ≡ length (s .records))
   unfolding changed rollChanged
   join-stands m p =
-      let e : length (placed m (used s)) ≡ s .count + 1 = length-placed m (used s) ∙ ap (λ (k : ℕ). k + 1) length-used in
+      let e : length (placed m (used s)) ≡ s .count + 1 = length-placed m (used s) ∙ ap (λ (k : ℕ). k + 1) (length-used s (p .right)) in
       let long = length-append (placed m (used s)) (drop (s .count + 1) (s .records)) in
       let r = rest-long (s .count + 1) in
       let l = p .room in (
         stands-front (placed m (used s)) (drop (s .count + 1) (s .records)) (s .count + 1) (rollChanged roll (Join m)) e (ap (λ (k : ℕ). k + 1) (h .count))
-            (says-placed (roll .rating) (used s) m (stands-says s roll h) (p .new)) (sorted-placed m (used s) (h .in-order) (p .new)) (once-placed m (used s) (h .each-once) (p .new)),
+            (says-placed (roll .rating) (used s) m (stands-says s roll h) (p .new)) (join-right s m p),
         omega (arith, long, e, r),
       )
 
@@ -148,8 +143,7 @@ module _ (s : Standing) (roll : Roll) (h : Stands s roll) where
   unfolding changed rollChanged
   change-stands m p =
       let w : List Maker = without (m .number) (used s) in
-      let one : length w + 1 ≡ s .count = length-without (m .number) (used s) (h .each-once) (p .there) ∙ length-used in
-      let e : length (placed m w) ≡ s .count = length-placed m w ∙ one in
+      let e : length (placed m w) ≡ s .count = length-placed m w ∙ length-others s (m .number) p in
       let long = length-append (placed m w) (drop (s .count) (s .records)) in
       let r = rest-long (s .count) in
       let l = h .within in
@@ -158,7 +152,7 @@ module _ (s : Standing) (roll : Roll) (h : Stands s roll) where
             (says-same (noted (m .number) (rated (m .rating)) (noted (m .number) absent (roll .rating))) (noted (m .number) (rated (m .rating)) (roll .rating)) (placed m w)
             (λ k. noted-twice (m .number) k (rated (m .rating)) absent (roll .rating))
             (says-placed (noted (m .number) absent (roll .rating)) w m (says-without (roll .rating) (used s) (m .number) (stands-says s roll h)) new))
-            (sorted-placed m w (sorted-without (m .number) (used s) (h .in-order)) new) (once-placed m w (once-without (m .number) (used s) (h .each-once)) new),
+            (change-right s m p),
         omega (arith, long, e, r),
       )
 
@@ -167,12 +161,12 @@ module _ (s : Standing) (roll : Roll) (h : Stands s roll) where
   unfolding changed rollChanged
   leave-stands n p =
       let w : List Maker = without n (used s) in
-      let one : length w + 1 ≡ s .count = length-without n (used s) (h .each-once) (p .there) ∙ length-used in
+      let one : length w + 1 ≡ s .count = length-others s n p in
       let long = length-append w (left n ∷ drop (s .count) (s .records)) in
       let r = rest-long (s .count) in
       let l = h .within in (
         stands-front w (left n ∷ drop (s .count) (s .records)) (s .count - 1) (rollChanged roll (Leave n)) (omega (arith, one)) (ap (λ (k : ℕ). k - 1) (h .count))
-            (says-without (roll .rating) (used s) n (stands-says s roll h)) (sorted-without n (used s) (h .in-order)) (once-without n (used s) (h .each-once)),
+            (says-without (roll .rating) (used s) n (stands-says s roll h)) (leave-right s n p),
         omega (arith, long, one, r),
       )
 

@@ -72,12 +72,12 @@ and-assoc true b c = refl
 and-assoc false b c = refl
 
 module _ {A : Type 0} where
-  every-in : (p : A → Bool) {x : A} {xs : List A} → List·Memᴰ x xs → every p xs ≡ true → p x ≡ true
+  pub every-in : (p : A → Bool) {x : A} {xs : List A} → List·Memᴰ x xs → every p xs ≡ true → p x ≡ true
   unfolding every
   every-in p {x} (List·Memᴰ·head {x = y} {xs = ys} q) e = ap p q ∙ both (p y) (every p ys) e .0
   every-in p {x} (List·Memᴰ·tail {x = y} {xs = ys} k) e = every-in p k (both (p y) (every p ys) e .1)
 
-  in-every : (p : A → Bool) (xs : List A) → ((x : A) → List·Memᴰ x xs → p x ≡ true) → every p xs ≡ true
+  pub in-every : (p : A → Bool) (xs : List A) → ((x : A) → List·Memᴰ x xs → p x ≡ true) → every p xs ≡ true
   unfolding every
   in-every p [] h = refl
   in-every p (x ∷ xs) h = and (h x (List·Memᴰ·head refl)) (in-every p xs (λ y k. h y (List·Memᴰ·tail k)))
@@ -118,7 +118,7 @@ unfolding once
 once-cons m later o = and (ap not (o .other)) (o .rest)
 
 -- one record more, at the end
-and-swap : (a b c d : Bool) → (a && b) && (c && d) ≡ (a && c) && (b && d)
+pub and-swap : (a b c d : Bool) → (a && b) && (c && d) ≡ (a && c) && (b && d)
 and-swap true b true d = refl
 and-swap true true false d = refl
 and-swap true false false d = refl

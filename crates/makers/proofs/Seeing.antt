@@ -12,10 +12,10 @@ use Rattle.rules.proofs.Lists.{both, filter-append, filter-one}
 use Rattle.rules.proofs.Members.{any-append}
 use Rattle.makers.specs.declared.Maker.{Maker}
 use Rattle.makers.specs.declared.Seen.{Seen}
-use Rattle.makers.specs.Order.{above, every, sorted, isOf, present, once}
+use Rattle.makers.specs.Order.{above, every, isOf, present, once}
 use Rattle.makers.specs.Calls.{without}
-use Rattle.makers.specs.Internal.{none, lookOf, seenIn, soundIn, removed}
-use Rattle.makers.proofs.Order.{every-append, sorted-more, once-more}
+use Rattle.makers.specs.Internal.{none, lookOf, seenIn, removed}
+use Rattle.makers.proofs.Order.{once-more}
 use Rattle.makers.proofs.Placing.{without-absent}
 
 -- how many of the other makers' records stand above m
@@ -29,22 +29,8 @@ many-append p (x ∷ xs) ys = omega (arith, many-append p xs ys)
 
 -- what was found after the records xs
 pub record Found (m : Maker) (xs : List Maker) (s : Seen) : Type 0 where
-  pub clear : s .clear ≡ every (λ r. above r m) xs && not (present (m .number) xs)
   pub present : s .present ≡ present (m .number) xs
   pub above : s .above ≡ othersAbove m xs
-
-found-clear : (t a : Bool) (c e p : Bool) → c ≡ e && not p → (if t then false else if a then c else false) ≡ (e && (a && true)) && not (p || (t || false))
-found-clear true true c true true q = refl
-found-clear true true c true false q = refl
-found-clear true true c false p q = refl
-found-clear true false c true true q = refl
-found-clear true false c true false q = refl
-found-clear true false c false p q = refl
-found-clear false true c true true q = q
-found-clear false true c true false q = q
-found-clear false true c false p q = q
-found-clear false false c true p q = refl
-found-clear false false c false p q = refl
 
 found-present : (t p : Bool) → (if t then true else p) ≡ p || (t || false)
 found-present true true = refl
@@ -58,10 +44,6 @@ found-above false true n = omega arith
 found-above false false n = omega arith
 
 -- the fields of one step
-look-clear : (s : Seen) (i : ℕ) (r m : Maker) → lookOf s i r m .clear ≡ (if isOf (m .number) r then false else if above r m then s .clear else false)
-unfolding lookOf
-look-clear s i r m = refl
-
 look-present : (s : Seen) (i : ℕ) (r m : Maker) → lookOf s i r m .present ≡ (if isOf (m .number) r then true else s .present)
 unfolding lookOf
 look-present s i r m = refl
@@ -78,9 +60,6 @@ found-next : (m r : Maker) (xs : List Maker) (s : Seen) (i : ℕ) → Found m xs
 unfolding every any howMany
 found-next m r xs s i f =
     record {
-      clear = look-clear s i r m
-          ∙ found-clear (isOf (m .number) r) (above r m) (s .clear) (every (λ r. above r m) xs) (present (m .number) xs) (f .clear)
-          ∙ sym (rw (every-append (λ r. above r m) xs (r ∷ []), any-append (isOf (m .number)) xs (r ∷ [])) refl);
       present = look-present s i r m
           ∙ found-present (isOf (m .number) r) (s .present)
           ∙ ap (λ (b : Bool). b || (isOf (m .number) r || false)) (f .present)
@@ -93,7 +72,7 @@ found-next m r xs s i f =
 
 pub found : (l : List Maker) (m : Maker) (n : ℕ) → n ≤ length l → Found m (take n l) (seenIn l m n)
 unfolding seenIn every any howMany
-found l m zero h = record { clear = refl; present = refl; above = refl }
+found l m zero h = record { present = refl; above = refl }
 found l m (suc n) h =
     subst (λ (xs : List Maker). Found m xs (lookOf (seenIn l m n) n (getD l n none) m)) (sym (take-suc l n none h))
     (found-next m (getD l n none) (take n l) (seenIn l m n) n (found l m n (omega arith)))
@@ -179,18 +158,3 @@ place l m (suc n) h o p =
         → Place (m .number) (take n l ++ (r ∷ [])) (if t then n else seenIn l m n .at)
     go true t q = place-last (m .number) (take n l) r n (length-take-le n l (omega arith)) t (subst (λ (k : ℕ). present k (take n l) ≡ false) (eqb-true (r .number) (m .number) t) (not-true (present (r .number) (take n l)) (parts .1)))
     go false t q = place-before (m .number) (take n l) r (seenIn l m n .at) (q (or-right (present (m .number) (take n l)) (isOf (m .number) r) there t)) t
-
--- ---- the whole order
-
-and-swap : (a b c d : Bool) → (a && b) && (c && d) ≡ (a && c) && (b && d)
-and-swap true b true d = refl
-and-swap true true false d = refl
-and-swap true false false d = refl
-and-swap false b c d = refl
-
-pub sound-is : (l : List Maker) (n : ℕ) → n ≤ length l → soundIn l n ≡ sorted (take n l) && once (take n l)
-unfolding soundIn sorted once
-sound-is l zero h = refl
-sound-is l (suc n) h =
-    rw (take-suc l n none h, sorted-more (take n l) (getD l n none), once-more (take n l) (getD l n none), sound-is l n (omega arith), found l (getD l n none) n (omega arith) .clear)
-    (and-swap (sorted (take n l)) (once (take n l)) (every (λ r. above r (getD l n none)) (take n l)) (not (present (getD l n none .number) (take n l))))

@@ -4,10 +4,10 @@ use native.Mathlib.Omega.{arith}
 use native.Mathlib.Nat.{min-eq-left}
 use mathlib.Core.Path.{_≡_, refl, sym, ap, subst, _∙_}
 use mathlib.Core.List.{List, [], _∷_, _++_, append-assoc}
-use mathlib.Core.Bool.{Bool, true, false, not, _&&_, _||_}
+use mathlib.Core.Bool.{Bool, true, false, not, _&&_}
 use lib.Dec.{leb, ltb}
-use lib.ListN.{length, take, drop, take-append-drop}
-use lib.Seq.{take-append-le, drop-append-le, length-take-le}
+use lib.ListN.{length, take, drop, take-append-drop, length-append}
+use lib.Seq.{take-append-le, drop-append-le, take-at, length-take-le}
 use borrow.Author.Tests.{ltb-false, le-ltb, leb-false, eq-eqb, ne-eqb, not-false}
 use Rattle.rules.specs.Lists.{if_then_else_, howMany}
 use Rattle.rules.specs.Answers.{outcomeBy}
@@ -20,11 +20,11 @@ use Rattle.makers.specs.declared.Seen.{Seen}
 use Rattle.makers.specs.declared.Plan.{Plan}
 use Rattle.makers.specs.declared.Answer.{Answer}
 use Rattle.makers.specs.Order.{above, sorted, isOf, present, once}
-use Rattle.makers.specs.Calls.{Standing, standing, used, Call, Join, Change, Leave, wrong, refusalOf, placed, without, left, changed, step, answerOf, shown}
-use Rattle.makers.specs.Internal.{seenIn, soundIn, removed, inserted, shifted, recordOf, judged, accepted, planned}
-use Rattle.makers.proofs.Placing.{many-filter, many-le, inserted-append, inserted-between, placed-at, without-absent, sorted-without, length-without}
+use Rattle.makers.specs.Calls.{Standing, standing, used, Call, Join, Change, Leave, wrong, refusalOf, placed, without, left, changed, step, answerOf, shown, after}
+use Rattle.makers.specs.Internal.{seenIn, removed, inserted, shifted, recordOf, judged, accepted, planned}
+use Rattle.makers.proofs.Placing.{many-filter, many-le, inserted-append, inserted-between, placed-at, length-placed, sorted-placed, once-placed, without-absent, absent-without, sorted-without, once-without, length-without}
 use Rattle.makers.proofs.Deciding.{wrong-judged}
-use Rattle.makers.proofs.Seeing.{found, Place, place, sound-is, above-le}
+use Rattle.makers.proofs.Seeing.{found, Place, place, above-le}
 
 -- ---- refused or not
 
@@ -85,6 +85,64 @@ pub leave-passes : (s : Standing) (n : ℕ) → refusalOf s (Leave n) ≡ 0 → 
 unfolding refusalOf
 leave-passes s n e = other-passes s n e
 
+accepted-right : (s : Standing) (call : Call) → refusalOf s call ≡ 0 → Right s
+accepted-right s (Join m) e = join-passes s m e .right
+accepted-right s (Change m) e = change-passes s m e .right
+accepted-right s (Leave n) e = leave-passes s n e .right
+
+-- ---- in order after a call
+
+-- the used records at the front of a list of records
+right-front : (xs rest : List Maker) (c : ℕ) → length xs ≡ c → sorted xs ≡ true → once xs ≡ true → Right (standing (xs ++ rest) c)
+right-front xs rest c e o n =
+    let t : take c (xs ++ rest) ≡ xs = take-at xs rest c e in
+    let long = length-append xs rest in
+    record { within = omega (arith, long, e); in-order = ap sorted t ∙ o; each-once = ap once t ∙ n }
+
+module _ (s : Standing) where
+  pub length-used : Right s → length (used s) ≡ s .count
+  length-used r = length-take-le (s .count) (s .records) (r .within)
+
+  pub length-others : (n : ℕ) → OtherPasses s n → length (without n (used s)) + 1 ≡ s .count
+  length-others n p = length-without n (used s) (p .right .each-once) (p .there) ∙ length-used (p .right)
+
+  pub join-right : (m : Maker) → JoinPasses s m → Right (changed s (Join m))
+  unfolding changed
+  join-right m p =
+      right-front (placed m (used s)) (drop (s .count + 1) (s .records)) (s .count + 1) (length-placed m (used s) ∙ ap (λ (k : ℕ). k + 1) (length-used (p .right)))
+      (sorted-placed m (used s) (p .right .in-order) (p .new)) (once-placed m (used s) (p .right .each-once) (p .new))
+
+  pub change-right : (m : Maker) → OtherPasses s (m .number) → Right (changed s (Change m))
+  unfolding changed
+  change-right m p =
+      let new = absent-without (m .number) (used s) in
+      right-front (placed m (without (m .number) (used s))) (drop (s .count) (s .records)) (s .count) (length-placed m (without (m .number) (used s)) ∙ length-others (m .number) p)
+      (sorted-placed m (without (m .number) (used s)) (sorted-without (m .number) (used s) (p .right .in-order)) new) (once-placed m (without (m .number) (used s)) (once-without (m .number) (used s) (p .right .each-once)) new)
+
+  pub leave-right : (n : ℕ) → OtherPasses s n → Right (changed s (Leave n))
+  unfolding changed
+  leave-right n p =
+      let one = length-others n p in
+      right-front (without n (used s)) (left n ∷ drop (s .count) (s .records)) (s .count - 1) (omega (arith, one)) (sorted-without n (used s) (p .right .in-order)) (once-without n (used s) (p .right .each-once))
+
+  changed-right : (call : Call) → refusalOf s call ≡ 0 → Right (changed s call)
+  changed-right (Join m) e = join-right m (join-passes s m e)
+  changed-right (Change m) e = change-right m (change-passes s m e)
+  changed-right (Leave n) e = leave-right n (leave-passes s n e)
+
+  -- 23 refuses all calls of a list or none: a call that it refuses changes nothing, and one that it does not leaves the records in order
+  wrong-step : (call : Call) → wrong (step s call) ≡ wrong s
+  wrong-step call = go (refusalOf s call) refl
+    where
+      go : (r : ℕ) → refusalOf s call ≡ r → wrong (step s call) ≡ wrong s
+      go zero e = rw (step-accepted s call e) (right-not-wrong (changed s call) (changed-right call e) ∙ sym (right-not-wrong s (accepted-right s call e)))
+      go (suc r) e = rw (step-refused s call (λ k. omega (arith, e, k))) refl
+
+pub wrong-after : (calls : List Call) (s : Standing) → wrong (after s calls) ≡ wrong s
+unfolding after
+wrong-after [] s = refl
+wrong-after (call ∷ calls) s = wrong-after calls (step s call) ∙ wrong-step s call
+
 -- ---- the records that move
 
 removed-append : {A : Type 0} (xs ys : List A) (i : ℕ) → i < length xs → removed (xs ++ ys) i ≡ removed xs i ++ ys
@@ -106,9 +164,6 @@ module _ (l : List Maker) (c : ℕ) (m : Maker) where
   abbrev seen : Seen
   seen = seenIn l m c
 
-  length-used : Right s → length us ≡ c
-  length-used r = length-take-le c l (r .within)
-
   others : Right s → seen .above ≡ howMany (λ r. above r m) (without (m .number) us)
   unfolding without
   others r = found l m c (r .within) .above ∙ many-filter (λ r. not (isOf (m .number) r)) (λ r. above r m) us
@@ -116,7 +171,7 @@ module _ (l : List Maker) (c : ℕ) (m : Maker) where
   join-moves : JoinPasses s m → Moved l c (seen .above) m (placed m us ++ drop (c + 1) l)
   unfolding shifted
   join-moves p =
-      let long = length-used (p .right) in
+      let long = length-used s (p .right) in
       let le = above-le l m c in
       let k : seen .above ≡ howMany (λ r. above r m) us = others (p .right) ∙ ap (howMany (λ r. above r m)) (without-absent (m .number) us (p .new)) in
       record {
@@ -131,18 +186,15 @@ module _ (l : List Maker) (c : ℕ) (m : Maker) where
   taken p =
       let at : Place (m .number) us (seen .at) = place l m c (p .right .within) (p .right .each-once) (p .there) in
       let h : seen .at < length us = at .inside in (
-        subst (λ (k : ℕ). seen .at < k) (length-used (p .right)) h,
+        subst (λ (k : ℕ). seen .at < k) (length-used s (p .right)) h,
         ap (λ (z : List Maker). removed z (seen .at)) (sym (take-append-drop c l)) ∙ removed-append us (drop c l) (seen .at) h ∙ ap (λ (z : List Maker). z ++ drop c l) (at .taken),
       )
-
-  less : OtherPasses s (m .number) → length (without (m .number) us) + 1 ≡ c
-  less p = length-without (m .number) us (p .right .each-once) (p .there) ∙ length-used (p .right)
 
   change-moves : OtherPasses s (m .number) → Moved l (seen .at) (seen .above) m (placed m (without (m .number) us) ++ drop c l)
   unfolding shifted
   change-moves p =
       let t = taken p in
-      let n = less p in
+      let n = length-others s (m .number) p in
       let h = p .right .within in
       let k = others (p .right) in
       let le : seen .above ≤ length (without (m .number) us) = subst (λ (j : ℕ). j ≤ length (without (m .number) us)) (sym k) (many-le (λ r. above r m) (without (m .number) us)) in
@@ -158,7 +210,7 @@ module _ (l : List Maker) (c : ℕ) (m : Maker) where
   unfolding shifted
   leave-moves p =
       let t = taken p in
-      let n = less p in
+      let n = length-others s (m .number) p in
       let h = p .right .within in
       record {
         from-there = let i = t .0 in omega arith;
@@ -218,11 +270,6 @@ does l c (Join m) e = record { refusal = refl; count = refl; moves = join-moves 
 does l c (Change m) e = record { refusal = refl; count = refl; moves = change-moves l c m (change-passes (standing l c) m e) }
 does l c (Leave n) e = record { refusal = refl; count = refl; moves = leave-moves l c (left n) (leave-passes (standing l c) n e) }
 
-accepted-right : (s : Standing) (call : Call) → refusalOf s call ≡ 0 → Right s
-accepted-right s (Join m) e = join-passes s m e .right
-accepted-right s (Change m) e = change-passes s m e .right
-accepted-right s (Leave n) e = leave-passes s n e .right
-
 module _ (l : List Maker) (c : ℕ) (call : Call) where
   abbrev st : Standing
   st = standing l c
@@ -234,23 +281,12 @@ module _ (l : List Maker) (c : ℕ) (call : Call) where
   abbrev found-of : Seen
   found-of = seenIn l (recordOf call) n
 
-  abbrev bad : Bool
-  bad = ltb (length l) c || not (soundIn l n)
-
   abbrev number : ℕ
-  number = judged call bad (found-of .present) (leb (length l) c)
-
-  bad-is : bad ≡ wrong st
-  unfolding wrong
-  bad-is = go (ltb (length l) c) refl
-    where
-      go : (t : Bool) → ltb (length l) c ≡ t → (t || not (soundIn l n)) ≡ (t || not (sorted (take c l) && once (take c l)))
-      go true e = refl
-      go false e = let le = ltb-false (length l) c e in ap not (ap (soundIn l) (min-eq-left le) ∙ sound-is l c le)
+  number = judged call (wrong st) (found-of .present) (leb (length l) c)
 
   -- the number is the paper's
   number-is : number ≡ refusalOf st call
-  number-is = ap (λ (b : Bool). judged call b (found-of .present) (leb (length l) c)) bad-is ∙ go (wrong st) refl ∙ call-judged st call
+  number-is = go (wrong st) refl ∙ call-judged st call
     where
       go : (b : Bool) → wrong st ≡ b → judged call (wrong st) (found-of .present) (leb (length l) c) ≡ judged call (wrong st) (present (recordOf call .number) (take c l)) (leb (length l) c)
       go true e = rw e (wrong-judged call (found-of .present) (leb (length l) c) ∙ sym (wrong-judged call (present (recordOf call .number) (take c l)) (leb (length l) c)))

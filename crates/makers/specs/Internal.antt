@@ -1,15 +1,16 @@
 -- How the calls are worked: what a look through the used records finds, what is to be done, and how a record moves. A reader of the
 -- promises needs none of it.
-use Prim.Native.Nat.{ℕ, zero, suc, _+_, _-_}
+use Prim.Native.Nat.{ℕ, zero, suc, _+_, _-_, _%_}
 use mathlib.Core.List.{List, _∷_, _++_}
-use mathlib.Core.Bool.{Bool, true, false, _&&_}
+use mathlib.Core.Bool.{Bool, true, false, not, _&&_, _||_}
 use lib.Dec.{eqb, ltb}
-use lib.ListN.{take, drop, getD}
+use lib.ListN.{take, drop, getD, set, replicate}
 use Rattle.rules.specs.Lists.{if_then_else_}
 use Rattle.makers.specs.declared.Maker.{Maker}
 use Rattle.makers.specs.declared.Seen.{Seen}
+use Rattle.makers.specs.declared.Checked.{Checked}
 use Rattle.makers.specs.declared.Plan.{Plan}
-use Rattle.makers.specs.Order.{maker, above, isOf}
+use Rattle.makers.specs.Order.{maker, above, isOf, present}
 use Rattle.makers.specs.Calls.{Call, Join, Change, Leave, left}
 
 -- ---- looking
@@ -18,14 +19,13 @@ abbrev pub none : Maker
 none = maker 0 0
 
 abbrev pub unseen : Seen
-unseen = record { clear = true; present = false; at = 0; above = 0 }
+unseen = record { present = false; at = 0; above = 0 }
 
 -- the record r at the place i, where the record m is looked for
 unfoldable pub lookOf : Seen → ℕ → Maker → Maker → Seen
 lookOf s i r m =
     let same = isOf (m .number) r in
     record {
-      clear = if same then false else if above r m then s .clear else false;
       present = if same then true else s .present;
       at = if same then i else s .at;
       above = if same then s .above else if above r m then s .above + 1 else s .above;
@@ -36,10 +36,33 @@ unfoldable pub seenIn : List Maker → Maker → ℕ → Seen
 seenIn l m zero = unseen
 seenIn l m (suc n) = lookOf (seenIn l m n) n (getD l n none) m
 
--- whether each of the first n records stands behind those before it, all of other makers
-unfoldable pub soundIn : List Maker → ℕ → Bool
-soundIn l zero = true
-soundIn l (suc n) = soundIn l n && seenIn l (getD l n none) n .clear
+-- ---- judging the order
+
+-- a record leaves a mark: its number modulo the number of marks, k
+abbrev pub marked : List Bool → ℕ → ℕ → List Bool
+marked marks k number = set marks (number % k) true
+
+-- the marks of the first n records
+unfoldable pub marksIn : ℕ → List Maker → ℕ → List Bool
+marksIn k l zero = replicate k false
+marksIn k l (suc n) = marked (marksIn k l n) k (getD l n none .number)
+
+-- how many of the n records before are looked through for the maker: all of them where the mark is there, else none
+abbrev pub backTo : List Bool → ℕ → ℕ → ℕ → ℕ
+backTo marks k n number = if getD marks (number % k) false then n else 0
+
+-- the record r at the place i stands behind the last one before it
+abbrev pub isBehind : ℕ → Maker → Maker → Bool
+isBehind i last r = eqb i 0 || above last r
+
+-- the record r at the place i after those before it, which may have one of its maker
+unfoldable pub checkOf : Checked → ℕ → Maker → Bool → Checked
+checkOf s i r twice = record { good = s .good && (isBehind i (s .last) r && not twice); last = r }
+
+-- whether each of the first n records stands behind the one before it, no maker twice
+unfoldable pub checkedIn : List Maker → ℕ → Checked
+checkedIn l zero = record { good = true; last = none }
+checkedIn l (suc n) = checkOf (checkedIn l n) n (getD l n none) (present (getD l n none .number) (take n l))
 
 -- ---- moving
 

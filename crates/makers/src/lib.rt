@@ -7,7 +7,7 @@ ghost use lib.Dec.{leb, ltb};
 ghost use Rattle.rules.specs.Lists.{if_then_else_};
 ghost use Rattle.makers.specs.Order.{above};
 ghost use Rattle.makers.specs.Calls.{callOf};
-ghost use Rattle.makers.specs.Internal.{lookOf, nearer, recordOf, judged, accepted, planned};
+ghost use Rattle.makers.specs.Internal.{lookOf, backTo, marked, isBehind, checkOf, nearer, recordOf, judged, accepted, planned};
 
 pub struct Maker {
     pub number: u32,
@@ -27,13 +27,18 @@ pub struct Answer {
     pub refusal: u32,
 }
 
-// What is found of a record among used ones: whether all of them stand above it, none of the same maker; whether the maker is present,
-// and at which place; how many records of other makers stand above it.
+// What is found of a record among used ones: whether the maker is present, and at which place; how many records of other makers stand
+// above it.
 pub struct Seen {
-    pub clear: bool,
     pub present: bool,
     pub at: usize,
     pub above: usize,
+}
+
+// What is found of the order of used records: whether each stands behind the one before it, no maker twice; the last of them.
+pub struct Checked {
+    pub good: bool,
+    pub last: Maker,
 }
 
 // What a call does: the record leaves the place `from`, and stands at `to`; the new count. Refused, nothing moves.
@@ -61,7 +66,6 @@ pub fn look_at(s: Seen, i: usize, r: Maker, m: Maker) -> Seen
 {
     if r.number == m.number {
         return Seen {
-            clear: false,
             present: true,
             at: i,
             above: s.above,
@@ -69,21 +73,51 @@ pub fn look_at(s: Seen, i: usize, r: Maker, m: Maker) -> Seen
     }
     if is_above(r, m) {
         return Seen {
-            clear: s.clear,
             present: s.present,
             at: s.at,
             above: s.above + 1,
         };
     }
-    Seen {
-        clear: false, // out of order
-        present: s.present,
-        at: s.at,
-        above: s.above,
+    s
+}
+
+// How many of the records before are to be looked through for another one of the maker: none where no record before has left this mark,
+// and all j where one has. A record's mark is its number modulo 65,536, so that numbers below that never meet. The record leaves its own.
+pub fn look_back(marks: &mut [bool; 65536], j: usize, number: u32) -> usize
+    ensures { λ r. ⌜ (r ≡ backTo (now (marks .entry)) 65536 j number) × (now (marks .exit) ≡ marked (now (marks .entry)) 65536 number) ⌝ }
+{
+    let slot = (number % 65536) as usize;
+    let met = marks[slot];
+    marks[slot] = true;
+    if met {
+        return j;
+    }
+    0
+}
+
+// Order is seen from neighbours: the record r, the one at the place i, stands behind the last before it. `twice`: its maker has a record
+// before.
+pub fn check(s: Checked, i: usize, r: Maker, twice: bool) -> Checked
+    ensures { λ t. ⌜ t ≡ checkOf s i r twice ⌝ }
+{
+    let last = s.last;
+    let behind = is_behind(i, last, r);
+    Checked {
+        good: both(s.good, both(behind, !twice)),
+        last: r,
     }
 }
 
-pub fn both(a: bool, b: bool) -> bool
+fn is_behind(i: usize, last: Maker, r: Maker) -> bool
+    ensures { λ b. ⌜ b ≡ isBehind i last r ⌝ }
+{
+    if i == 0 {
+        return true;
+    }
+    is_above(last, r)
+}
+
+fn both(a: bool, b: bool) -> bool
     ensures { λ r. ⌜ r ≡ a && b ⌝ }
 {
     if a {
@@ -135,13 +169,14 @@ pub fn lesser(a: usize, b: usize) -> usize
     b
 }
 
-fn is_wrong(size: usize, count: usize, sound: bool) -> bool
-    ensures { λ r. ⌜ r ≡ (ltb size count || not sound) ⌝ }
+// Whether 23 refuses: by the count, and by whether the used records are in order, no maker twice.
+pub fn is_wrong(size: usize, count: usize, good: bool) -> bool
+    ensures { λ r. ⌜ r ≡ (ltb size count || not good) ⌝ }
 {
     if size < count {
         return true;
     }
-    !sound
+    !good
 }
 
 fn is_full(size: usize, count: usize) -> bool
@@ -210,17 +245,12 @@ fn moves(asked: Asked, count: usize, s: Seen) -> Plan
     }
 }
 
-// What a call does, with `size` records lent, by whether the used ones are in order and by what is found of its maker among them.
-pub fn decide(asked: Asked, size: usize, count: usize, sound: bool, s: Seen) -> Plan
+// What a call does, with `size` records lent, by whether 23 refuses it and by what is found of its maker among the used records.
+pub fn decide(asked: Asked, size: usize, count: usize, bad: bool, s: Seen) -> Plan
     requires { ⌜ ((s .present ≡ true) → (0 < count)) ⌝ }
-    ensures { λ r. ⌜ r ≡ planned (callOf asked) (judged (callOf asked) (ltb size count || not sound) (s .present) (leb size count)) count s ⌝ }
+    ensures { λ r. ⌜ r ≡ planned (callOf asked) (judged (callOf asked) bad (s .present) (leb size count)) count s ⌝ }
 {
-    let refusal = judge(
-        asked,
-        is_wrong(size, count, sound),
-        s.present,
-        is_full(size, count),
-    );
+    let refusal = judge(asked, bad, s.present, is_full(size, count));
     if refusal != 0 {
         return Plan {
             from: 0,

@@ -11,7 +11,8 @@ use lib.Seq.{take-suc, drop-cons, set-at, take-length, length-take-le}
 use borrow.Author.Tests.{leb-true}
 use Rattle.rules.specs.Lists.{if_then_else_}
 use Rattle.rules.proofs.Lists.{both}
-use Rattle.makers.specs.Calls.{Standing, Call, Leave, asked, callOf, refusalOf, step, after, outcomesFrom}
+use Rattle.makers.specs.Calls.{Standing, Call, Leave, asked, callOf, wrong, refusalOf, step, after, outcomesFrom}
+use Rattle.makers.proofs.Working.{wrong-after}
 use Rattle.standing.specs.declared.Ready.{Ready}
 use Rattle.standing.specs.Words.{isCall, readable, callsOf}
 use Rattle.standing.specs.Internal.{askedAt, canRun, readyOf}
@@ -100,6 +101,10 @@ module _ (ws : List ℕ) (s : Standing) (before : List ℕ) where
       go : (b : Bool) → (if b then length (callsOf ws) else 0) ≡ length (if b then callsOf ws else [])
       go true = refl
       go false = refl
+
+  -- what was judged at the start holds before every call
+  pub judged-once : (k : ℕ) → wrong (at k) ≡ wrong s
+  judged-once k = wrong-after (upto k) s
 
   pub at-start : at 0 ≡ s
   unfolding after

@@ -3,13 +3,14 @@
 ghost use mathlib.Core.Path.{_≡_};
 ghost use Prim.Native.Nat.{_+_, _*_, _≤_, _<_};
 ghost use lib.ListN.{length, set};
-ghost use Rattle.makers.specs.Calls.{Join, Change, Leave, callOf, standing, step, answerOf};
-ghost use Rattle.makers.specs.Internal.{seenIn, soundIn, shifted};
+ghost use Rattle.makers.specs.Calls.{Join, Change, Leave, callOf, standing, wrong, step, answerOf};
+ghost use Rattle.makers.specs.Internal.{seenIn, shifted};
 ghost use Rattle.standing.specs.Words.{isCall};
 ghost use Rattle.standing.specs.Claim.{ListAnswers};
 ghost use Rattle.standing.specs.Internal.{measured, askedAt, readyOf};
 use makers::Answer;
 use makers::Asked;
+use makers::Checked;
 use makers::Maker;
 use makers::Seen;
 
@@ -38,7 +39,6 @@ fn scan(list: &mut [Maker], upto: usize, m: Maker) -> Seen
     ensures { λ r. ⌜ (r ≡ seenIn (now (list .entry)) m upto) × (now (list .exit) ≡ now (list .entry)) ⌝ }
 {
     let mut s = Seen {
-        clear: true,
         present: false,
         at: 0,
         above: 0,
@@ -66,34 +66,44 @@ fn shift(list: &mut [Maker], from: usize, to: usize, m: Maker)
     list[to] = m;
 }
 
-// Whether each of the first records stands behind all before it, no maker twice. That cannot be seen from neighbours: each pair is looked
-// at.
-fn sound(list: &mut [Maker], count: usize) -> bool
-    requires { ⌜ count ≤ length (now list) ⌝ }
-    ensures { λ r. ⌜ (r ≡ soundIn (now (list .entry)) count) × (now (list .exit) ≡ now (list .entry)) ⌝ }
+// Whether 23 refuses every call: a count above the records lent, or used ones out of order or a maker twice. Order is seen from
+// neighbours. A maker twice is looked for only among the records before one whose mark was there (`makers::look_back`), so that numbers
+// with a mark of their own cost one look each.
+fn judge(list: &mut [Maker], count: usize) -> bool
+    ensures { λ r. ⌜ (r ≡ wrong (standing (now (list .entry)) count)) × (now (list .exit) ≡ now (list .entry)) ⌝ }
 {
-    let mut good = true;
+    let size = list.len();
+    let n = makers::lesser(count, size);
+    let mut marks = [false; 65536];
+    let mut s = Checked {
+        good: true,
+        last: Maker {
+            number: 0,
+            rating: 0,
+        },
+    };
     let mut j = 0;
-    while j < count {
+    while j < n {
         let m = list[j];
-        let seen = scan(&mut *list, j, m);
-        good = makers::both(good, seen.clear);
+        let before = makers::look_back(&mut marks, j, m.number);
+        let seen = scan(&mut *list, before, m);
+        s = makers::check(s, j, m, seen.present);
         j += 1;
     }
-    good
+    makers::is_wrong(size, count, s.good)
 }
 
-// Any call, as three words: the used records are looked through, the answer and the move are decided, and where it is not refused the
-// record moves. `works` of `makers` says that this is what the call is to do.
-pub fn apply(list: &mut [Maker], count: usize, asked: Asked) -> Answer
+// Any call on records that were judged: the used ones are looked through, the answer and the move are decided, and where it is not
+// refused the record moves. `works` of `makers` says that this is what the call is to do.
+fn work(list: &mut [Maker], count: usize, bad: bool, asked: Asked) -> Answer
+    requires { ⌜ bad ≡ wrong (standing (now list) count) ⌝ }
     ensures { λ r. ⌜ (r ≡ answerOf (standing (now (list .entry)) count) (callOf asked)) × (now (list .exit) ≡ step (standing (now (list .entry)) count) (callOf asked) .records) ⌝ }
 {
     let size = list.len();
     let n = makers::lesser(count, size);
     let m = makers::record_of(asked);
-    let good = sound(&mut *list, n);
     let seen = scan(&mut *list, n, m);
-    let p = makers::decide(asked, size, count, good, seen);
+    let p = makers::decide(asked, size, count, bad, seen);
     if p.refusal != 0 {
         return Answer {
             count: p.count,
@@ -107,6 +117,14 @@ pub fn apply(list: &mut [Maker], count: usize, asked: Asked) -> Answer
         count: p.count,
         refusal: p.refusal,
     }
+}
+
+// Any call, as three words: the records are judged, and the call is worked.
+pub fn apply(list: &mut [Maker], count: usize, asked: Asked) -> Answer
+    ensures { λ r. ⌜ (r ≡ answerOf (standing (now (list .entry)) count) (callOf asked)) × (now (list .exit) ≡ step (standing (now (list .entry)) count) (callOf asked) .records) ⌝ }
+{
+    let bad = judge(&mut *list, count);
+    work(&mut *list, count, bad, asked)
 }
 
 // A maker joins with a rating. This, `change` and `leave` are `apply` at one kind: one walk proves all three (`proofs/Thin.antt`).
@@ -227,17 +245,19 @@ fn note(outcomes: &mut [u32], k: usize, n: u32)
 }
 
 // Runs a list of calls, each on the records and the count that the one before left, and writes each call's outcome, 0 or the refusal's
-// number. All run, or none where the words are no list of calls or the outcomes do not fit.
+// number. All run, or none where the words are no list of calls or the outcomes do not fit. The records are judged once: 23 refuses all
+// calls of a list or none (`wrong-after` of `makers`).
 pub fn run(list: &mut [Maker], count: usize, words: &[u32], outcomes: &mut [u32]) -> Ran
     ensures { λ r. ⌜ ListAnswers (now (words .entry)) (standing (now (list .entry)) count) (now (outcomes .entry)) (now (list .exit)) (now (outcomes .exit)) r ⌝ }
 {
     let ready = make_ready(words, outcomes.len());
     let calls = ready.calls;
+    let bad = judge(&mut *list, count);
     let mut c = count;
     let mut k = 0;
     while k < calls {
         let asked = call_at(words, k);
-        let answer = apply(&mut *list, c, asked);
+        let answer = work(&mut *list, c, bad, asked);
         note(&mut *outcomes, k, answer.refusal);
         c = answer.count;
         k += 1;

@@ -3,8 +3,8 @@
 use Prim.Native.Nat.{ℕ, _+_, _<_, _^_}
 use native.Mathlib.Omega.{arith}
 use mathlib.Core.Path.{_≡_, refl, sym, _∙_}
-use mathlib.Core.Bool.{Bool, true, not, _||_}
-use lib.Dec.{ltb, leb}
+use mathlib.Core.Bool.{Bool, true}
+use lib.Dec.{leb}
 use borrow.Author.Needs.{needs}
 use borrow.Author.Tests.{leb-false, eq-eqb, ne-eqb}
 use Rattle.makers.specs.declared.Asked.{Asked}
@@ -14,23 +14,20 @@ use Rattle.makers.proofs.Deciding.{join-room, other-there}
 use Rattle.makers.proofs.decide.Statement.{statement}
 use Rattle.makers.proofs.decide.Tie as tie
 
-is-wrong-requires : tie.Need-is-wrong-requires
-is-wrong-requires c κs = search needs
-
 is-full-requires : tie.Need-is-full-requires
 is-full-requires c κs = search needs
 
 judge-requires : tie.Need-judge-requires
 judge-requires c κs = search needs
 
-same-refusal : (a : Asked) (r : ℕ) (w w′ there f f′ : Bool) → r ≡ judged (callOf a) w there f → w ≡ w′ → f ≡ f′ → r ≡ judged (callOf a) w′ there f′
-same-refusal a r w w′ there f f′ e p q = cc
+same-refusal : (a : Asked) (r : ℕ) (bad there f f′ : Bool) → r ≡ judged (callOf a) bad there f → f ≡ f′ → r ≡ judged (callOf a) bad there f′
+same-refusal a r bad there f f′ e q = cc
 
 returns : tie.Need-returns
 unfolding planned
 returns c =
-    let a = c .before .before .before .before .args in
-    let r = same-refusal (a .asked) (c .before .judge .result) _ (ltb (a .size) (a .count) || not (a .sound)) (a .s .present) _ (leb (a .size) (a .count)) (c .before .judge .ensures) (c .before .before .before .is-wrong .ensures) (c .before .before .is-full .ensures) in
+    let a = c .before .before .before .args in
+    let r = same-refusal (a .asked) (c .before .judge .result) (a .bad) (a .s .present) _ (leb (a .size) (a .count)) (c .before .judge .ensures) (c .before .before .is-full .ensures) in
     rw (sym r, ne-eqb _ _ (c .if1 .taken)) refl
 
 -- what `moves` requires of a call that passes
@@ -45,18 +42,16 @@ room a size count bad there fits held e = (
 
 moves-requires : tie.Need-moves-requires
 moves-requires c κs =
-    let a = c .before .before .before .before .args in
-    let r = same-refusal (a .asked) (c .before .judge .result) _ (ltb (a .size) (a .count) || not (a .sound)) (a .s .present) _ (leb (a .size) (a .count)) (c .before .judge .ensures) (c .before .before .before .is-wrong .ensures) (c .before .before .is-full .ensures) in
-    room (a .asked) (a .size) (a .count) _ (a .s .present) (c .before .before .before .before .fits .size .fits) (c .before .before .before .before .pre) (sym r ∙ c .if1 .left)
+    let a = c .before .before .before .args in
+    let r = same-refusal (a .asked) (c .before .judge .result) (a .bad) (a .s .present) _ (leb (a .size) (a .count)) (c .before .judge .ensures) (c .before .before .is-full .ensures) in
+    room (a .asked) (a .size) (a .count) (a .bad) (a .s .present) (c .before .before .before .fits .size .fits) (c .before .before .before .pre) (sym r ∙ c .if1 .left)
 
 returns-2 : tie.Need-returns-2
 unfolding planned
 returns-2 c =
-    let a = c .before .before .before .before .before .args in
-    let r = same-refusal (a .asked) (c .before .before .judge .result) _ (ltb (a .size) (a .count) || not (a .sound)) (a .s .present) _ (leb (a .size) (a .count)) (c .before .before .judge .ensures) (c .before .before .before .before .is-wrong .ensures) (c .before .before .before .is-full .ensures) in
+    let a = c .before .before .before .before .args in
+    let r = same-refusal (a .asked) (c .before .before .judge .result) (a .bad) (a .s .present) _ (leb (a .size) (a .count)) (c .before .before .judge .ensures) (c .before .before .before .is-full .ensures) in
     c .moves .ensures ∙ rw (eq-eqb _ 0 (sym r ∙ c .before .if1 .left)) refl
 
 pub decide-spec : {M : Type 1} → statement M
-decide-spec =
-    tie.close
-    (tie.spec is-wrong-requires is-full-requires judge-requires returns moves-requires returns-2)
+decide-spec = tie.close (tie.spec is-full-requires judge-requires returns moves-requires returns-2)

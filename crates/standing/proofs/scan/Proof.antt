@@ -26,7 +26,7 @@ use ghost.Atoms.{Atoms}
 use contract.Monad.{Fun, factI}
 use contract.Running.{givenOf, tables, tablesOf}
 use types.Kit.{Given, Item, ‵, _⊛_, ⋆, runs, anyQ, atRet, Sq, _$_, _∵_, !, qed, by, move, keep, drop, use1, split, join, rewrite, fsplit, fjoin, suffices, frame, done}
-use types.Run.{and-then, no-more, land, look, init, store, forget, stop, hop, fld, from, load, lit, true-lit, false-lit, of-opd, bin, assigns, assigns-last, stays, leaves-loop, first, blocks, exec, Below, again, loops, returns, enter, alloc1, alloc0, params1, pass1, pass0, free1, free0}
+use types.Run.{and-then, no-more, land, look, init, store, forget, stop, hop, fld, from, load, lit, false-lit, of-opd, bin, assigns, assigns-last, stays, leaves-loop, first, blocks, exec, Below, again, loops, returns, enter, alloc1, alloc0, params1, pass1, pass0, free1, free0}
 use types.Part.{agg, whole, sub, look-in}
 use sound.WpLaws.{FmC, fmOf, WpFn-mono}
 use denote.RattleType.{RattleType, owns}
@@ -229,7 +229,7 @@ module _ {M : Type 1} (𝓤 : URA M) (H : Heap 𝓤) (A : Atoms 𝓤) (W : Given
 
   start-is : Is S.the-row (so-far 0) (seen-mach (so-far 0) ∷ [])
   unfolding seenIn
-  start-is = LL.owes S.the-type S′.the-laws (so-far 0) (refl, (refl, ((refl, lit< tt), ((refl, lit< tt), tt))))
+  start-is = LL.owes S.the-type S′.the-laws (so-far 0) (refl, ((refl, lit< tt), ((refl, lit< tt), tt)))
 
   start : _≡_ {A = Seen} unseen (so-far 0)
   unfolding seenIn
@@ -241,7 +241,7 @@ module _ {M : Type 1} (𝓤 : URA M) (H : Heap 𝓤) (A : Atoms 𝓤) (W : Given
       alloc1 ! (λ l₀. alloc1 ! (λ l₁. alloc1 ! (λ l₂. alloc1 ! (λ l₃. alloc1 ! (λ l₄. alloc1 ! (λ l₅. alloc1 ! (λ l₆. alloc1 ! (λ l₇. alloc1 ! (λ l₈. alloc1 ! (λ l₉. alloc1 ! (λ l₁₀. alloc0 ! $ params1 ! $
       pass1 ! (init ! 18 refl (tt, (tt, (record { fits = room .0 }, tt)))) $ pass1 ! (init ! 16 refl (tt, record { fits = n-fits })) $ pass1 ! (init ! 14 refl (LL.lawful T.the-type T′.the-laws 𝓤 H A W .typed m _ g .0)) $ pass0 ! $
       -- [_10; …; _9; …; …; _1; …; room for _0; …; the token; what the parameters own]
-      assigns ! (agg ! (and-then ! (true-lit !) (and-then ! (false-lit !) (and-then ! (lit ! tt) (and-then ! (lit ! tt) (no-more !)))))) (from ! (stop !)) (init ! 12 refl (tt, (tt, (tt, (record { fits = lit< tt }, (record { fits = lit< tt }, tt)))))) $
+      assigns ! (agg ! (and-then ! (false-lit !) (and-then ! (lit ! tt) (and-then ! (lit ! tt) (no-more !))))) (from ! (stop !)) (init ! 12 refl (tt, (tt, (record { fits = lit< tt }, (record { fits = lit< tt }, tt))))) $
       rewrite ! 12 (λ (t : Seen). ‵ (fat fullShare seenTy l₄ 0 (seen-mach t))) start refl $
       assigns ! (of-opd ! (lit ! tt)) (from ! (stop !)) (init ! 10 refl (tt, record { fits = lit< tt })) $
       move ! (23 ∷ []) $ fsplit ! $ fsplit ! $ drop ! $ fsplit ! $ move ! (25 ∷ []) $ split ! $ move ! (2 ∷ 3 ∷ 0 ∷ []) $ opens-slice ! tt R ys b o $

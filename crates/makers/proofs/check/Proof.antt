@@ -1,0 +1,30 @@
+-- `makers::check` meets its contract: `checkOf`, test by test. Assumes nothing.
+use mathlib.Core.Path.{_≡_}
+use mathlib.Core.Bool.{Bool, not, _&&_}
+use borrow.Author.Needs.{needs}
+use Prim.Native.Nat.{ℕ}
+use Rattle.makers.specs.declared.Maker.{Maker}
+use Rattle.makers.specs.declared.Checked.{Checked}
+use Rattle.makers.specs.Internal.{isBehind, checkOf}
+use Rattle.makers.proofs.check.Statement.{statement}
+use Rattle.makers.proofs.check.Tie as tie
+
+is-behind-requires : tie.Need-is-behind-requires
+is-behind-requires c κs = search needs
+
+both-requires : tie.Need-both-requires
+both-requires c κs = search needs
+
+both-requires-2 : tie.Need-both-requires-2
+both-requires-2 c κs = search needs
+
+put-together : (s : Checked) (i : ℕ) (r : Maker) (twice behind one all : Bool) → behind ≡ isBehind i (s .last) r → one ≡ behind && not twice → all ≡ s .good && one
+    → _≡_ {A = Checked} (record { good = all; last = r }) (checkOf s i r twice)
+unfolding checkOf
+put-together s i r twice behind one all p q e = cc
+
+returns : tie.Need-returns
+returns c = put-together _ _ _ _ _ _ _ (c .before .before .is-behind .ensures) (c .before .both .ensures) (c .both2 .ensures)
+
+pub check-spec : {M : Type 1} → statement M
+check-spec = tie.close (tie.spec is-behind-requires both-requires both-requires-2 returns)
