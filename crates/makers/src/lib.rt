@@ -224,7 +224,7 @@ fn moves(asked: Asked, count: usize, s: Seen) -> Plan
     if asked.kind == 1 {
         return Plan {
             from: count,
-            to: s.above,
+            to: s.above, // behind those above it
             count: count + 1,
             refusal: 0,
         };

@@ -80,10 +80,10 @@ pub fn add(words: &mut [u32], id: u32, key: u32, volume: Contracts) -> Change
     ensures { λ r. ⌜ Added id key volume (now (words .entry)) (now (words .exit)) r ⌝ }
 {
     let count = words[COUNT];
-    let place = count as usize;
-    words[place] = id;
-    words[KEYS + place] = key;
-    words[VOLUMES + place] = volume.0;
+    let end = count as usize;
+    words[end] = id;
+    words[KEYS + end] = key;
+    words[VOLUMES + end] = volume.0;
     words[COUNT] = count + 1;
     Change {
         old: 0,

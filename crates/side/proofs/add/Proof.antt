@@ -10,8 +10,8 @@ use Rattle.side.proofs.add.Tie as tie
 slice-read-count : tie.Need-slice-read-count
 slice-read-count c = search needs
 
-cast-place : tie.Need-cast-place
-cast-place c = search needs
+cast-end : tie.Need-cast-end
+cast-end c = search needs
 
 mul-words : tie.Need-mul-words
 mul-words c = search needs
@@ -59,7 +59,7 @@ add-spec =
     tie.close
     (tie.spec
     slice-read-count
-    cast-place
+    cast-end
     mul-words
     slice-write-words
     add-words
