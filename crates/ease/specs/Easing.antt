@@ -1,4 +1,4 @@
--- Request W12: the row inside a period.
+-- Document 02, W12: the row inside a period.
 use Prim.Native.Nat.{ℕ, _+_, _*_, _/_, min}
 use mathlib.Core.List.{List, [], _∷_}
 use mathlib.Core.Bool.{Bool, true, false}

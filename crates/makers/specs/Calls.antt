@@ -1,4 +1,4 @@
--- Request W13: "Keep the standing in a lent list of records, maker number and rating, .. with a count of those used. Makers join, change
+-- Document 02, W13: "Keep the standing in a lent list of records, maker number and rating, .. with a count of those used. Makers join, change
 -- rating and leave." The three calls on such a list and count, and what each answers and leaves.
 use Prim.Native.Nat.{ℕ, _+_, _-_}
 use mathlib.Core.List.{List, [], _∷_, _++_}

@@ -1,4 +1,4 @@
--- Request W13: the order of the standing, "sorted by rating downwards, equal ratings by lower maker number, each once".
+-- Document 02, W13: the order of the standing, "sorted by rating downwards, equal ratings by lower maker number, each once".
 use Prim.Native.Nat.{ℕ}
 use mathlib.Core.List.{List, [], _∷_}
 use mathlib.Core.Bool.{Bool, true, not, _&&_}

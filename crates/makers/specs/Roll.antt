@@ -1,4 +1,4 @@
--- Request W13, the claim about lists: "the present makers with the ratings last accepted", worked out afresh from the list of calls. A
+-- Document 02, W13, the claim about lists: "the present makers with the ratings last accepted", worked out afresh from the list of calls. A
 -- roll knows of each number whether a maker has it, and with what rating, and how many makers are present; it knows no records and no
 -- order of them.
 use Prim.Native.Nat.{ℕ, _+_, _-_, _≤_}

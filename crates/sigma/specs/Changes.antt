@@ -1,4 +1,4 @@
--- Request W12: R, from prices.
+-- Document 02, W12: R, from prices.
 use mathlib.Core.List.{List, [], _∷_}
 use mathlib.Core.Bool.{Bool, _||_}
 use lib.Dec.{ltb, eqb}

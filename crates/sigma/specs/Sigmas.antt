@@ -1,4 +1,4 @@
--- Request W12: sigma, from three R.
+-- Document 02, W12: sigma, from three R.
 use Prim.Native.Nat.{ℕ, zero, suc, _+_, _-_, _*_}
 use mathlib.Core.List.{List, [], _∷_}
 use mathlib.Core.Bool.{Bool, _||_}

@@ -1,4 +1,4 @@
--- Request W12: what is answered, and what each case of the answer shows.
+-- Document 02, W12: what is answered, and what each case of the answer shows.
 use Prim.Native.Nat.{ℕ}
 use mathlib.Core.List.{List}
 use mathlib.Core.Bool.{Bool, true, false, _||_}

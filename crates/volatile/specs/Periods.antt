@@ -1,4 +1,4 @@
--- Request W12: the periods, as stretches of days, found from the list of sigmas. A day is counted by the sigmas before it: day 0 is that
+-- Document 02, W12: the periods, as stretches of days, found from the list of sigmas. A day is counted by the sigmas before it: day 0 is that
 -- of the first sigma, and the asked day is the one after the last.
 use Prim.Native.Nat.{ℕ, zero, suc, _-_, _/_}
 use mathlib.Core.List.{List, [], _∷_, _++_}
