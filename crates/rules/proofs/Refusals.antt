@@ -30,7 +30,7 @@ use Rattle.rules.specs.Dates.{Moment, before, at, late}
 use Rattle.rules.specs.Messages as M
 use Rattle.rules.specs.MessageCalls.{messageIn, eventsAt, eventsBy, eventsIn}
 use Rattle.rules.specs.Calls.{Call, Open, Send, Message, Ask, Commit, Close, Drop, Charge, Withdraw, Look, Report, Running, Idle, Quoting, Book, isOpen, amendOf}
-use Rattle.rules.specs.Causes.{Cause, cause, lowest, traderCauses, eventCauses, eventRefusal, sendCauses, otherSide, causesInTurn, causesBy, readCauses, messageCauses, goodTicket, goodSettlement, goodSpreadRule, goodCharges, causes, refusalOf}
+use Rattle.rules.specs.Causes.{Cause, cause, lowest, traderCauses, eventCauses, eventRefusal, sendCauses, otherSideIn, causesInTurn, causesBy, callCauses, messageCauses, goodTicket, goodSettlement, goodSpreadRule, goodCharges, causes, refusalOf}
 use Rattle.rules.specs.Changes.{changed}
 use Rattle.rules.specs.Replies.{replyOf}
 use Rattle.rules.specs.Book.{answerOf, stepBy, step}
@@ -240,44 +240,38 @@ turn-in row events (e ∷ es) p =
     first-passes (eventCauses row events e) _ (passes-event row events e (p .0)) (event-numbered row events e)
     ∙ turn-in row (events ++ (e ∷ [])) es (p .1)
 
-abbrev pub MomentPasses : Row → List Event → M.Message Moment → Moment → Type 0
-MomentPasses row events m before = ⊥
-MomentPasses row events m (at t) = InTurn row events (eventsAt m t)
-MomentPasses row events m late = ⊥
+-- its calls pass in turn, at a time that is one
+abbrev pub CallsPass : Running → M.Message Moment → Moment → Type 0
+CallsPass Idle m t = ⊥
+CallsPass (Quoting place row opening events) m before = ⊥
+CallsPass (Quoting place row opening events) m (at t) = InTurn row events (eventsAt m t)
+CallsPass (Quoting place row opening events) m late = ⊥
 
-abbrev pub ReadPasses : Running → M.Message Moment → Type 0
-ReadPasses Idle m = ⊥
-ReadPasses (Quoting place row opening events) m = (otherSide (live events) m ≡ false) × MomentPasses row events m (M.timeOf m)
-
--- no message is refused by 0: see `read-number` in MessageCalls
 abbrev pub MessagePasses : Running → Outcome (M.Message Moment) → Type 0
 MessagePasses r (refused n) = n ≡ 0
-MessagePasses r (accepted m) = ReadPasses r m
+MessagePasses r (accepted m) = (otherSideIn r m ≡ false) × CallsPass r m (M.timeOf m)
 
-moment-passes : (row : Row) (events : List Event) (m : M.Message Moment) (t : Moment) → lowest (causesBy row events m t) ≡ 0
-    → MomentPasses row events m t
-moment-passes row events m before h = absurd (true≢false (passed 7 true [] h .0))
-moment-passes row events m (at t) h = in-turn row events (eventsAt m t) h
-moment-passes row events m late h = absurd (true≢false (passed 8 true [] h .0))
+calls-pass : (r : Running) (m : M.Message Moment) (t : Moment) → lowest (callCauses r m t) ≡ 0 → CallsPass r m t
+calls-pass Idle m t h = absurd (true≢false (passed 6 true [] h .0))
+calls-pass (Quoting place row opening events) m before h = absurd (true≢false (passed 7 true [] h .0))
+calls-pass (Quoting place row opening events) m (at t) h = in-turn row events (eventsAt m t) h
+calls-pass (Quoting place row opening events) m late h = absurd (true≢false (passed 8 true [] h .0))
 
-passes-moment : (row : Row) (events : List Event) (m : M.Message Moment) (t : Moment) → MomentPasses row events m t
-    → lowest (causesBy row events m t) ≡ 0
-passes-moment row events m before p = absurd p
-passes-moment row events m (at t) p = turn-in row events (eventsAt m t) p
-passes-moment row events m late p = absurd p
+pass-calls : (r : Running) (m : M.Message Moment) (t : Moment) → CallsPass r m t → lowest (callCauses r m t) ≡ 0
+pass-calls Idle m t p = absurd p
+pass-calls (Quoting place row opening events) m before p = absurd p
+pass-calls (Quoting place row opening events) m (at t) p = turn-in row events (eventsAt m t) p
+pass-calls (Quoting place row opening events) m late p = absurd p
 
 message-passes : (r : Running) (read : Outcome (M.Message Moment)) → lowest (messageCauses r read) ≡ 0 → MessagePasses r read
 message-passes r (refused n) h = sym (stop n [] refl) ∙ h
-message-passes Idle (accepted m) h = absurd (true≢false (passed 6 true [] h .0))
-message-passes (Quoting place row opening events) (accepted m) h =
-    let (s, p) = passed 20 (otherSide (live events) m) (causesBy row events m (M.timeOf m)) h in
-    (s, moment-passes row events m (M.timeOf m) p)
+message-passes r (accepted m) h =
+    let (s, p) = passed 20 (otherSideIn r m) (callCauses r m (M.timeOf m)) h in
+    (s, calls-pass r m (M.timeOf m) p)
 
 passes-message : (r : Running) (read : Outcome (M.Message Moment)) → MessagePasses r read → lowest (messageCauses r read) ≡ 0
 passes-message r (refused n) p = stop n [] refl ∙ p
-passes-message Idle (accepted m) p = absurd p
-passes-message (Quoting place row opening events) (accepted m) p =
-    skip 21 (causesBy row events m (M.timeOf m)) (p .0) (passes-moment row events m (M.timeOf m) (p .1))
+passes-message r (accepted m) p = skip 21 (callCauses r m (M.timeOf m)) (p .0) (pass-calls r m (M.timeOf m) (p .1))
 
 -- the events of an accepted message pass in turn
 abbrev pub TurnPasses : Running → List Event → Type 0
@@ -289,7 +283,7 @@ message-turns Idle read p = tt
 message-turns (Quoting place row opening events) (refused n) p = tt
 message-turns (Quoting place row opening events) (accepted m) p = go (M.timeOf m) (p .1)
   where
-    go : (t : Moment) → MomentPasses row events m t → InTurn row events (eventsBy m t)
+    go : (t : Moment) → CallsPass (Quoting place row opening events) m t → InTurn row events (eventsBy m t)
     go before q = absurd q
     go (at t) q = q
     go late q = absurd q

@@ -79,6 +79,11 @@ otherSide orders (M.newOrder id side volume price time) = false
 otherSide orders (M.cancelOrder id orig time) = false
 otherSide orders (M.replaceOrder id orig side volume price time) = any (λ (o : Order). hasId orig o && not (same side (o .side))) orders
 
+-- with no quantum open it is no cause
+abbrev pub otherSideIn : Running → M.Message Moment → Bool
+otherSideIn Idle m = false
+otherSideIn (Quoting place row opening events) m = otherSide (live events) m
+
 -- "the causes of its one or two calls in turn": each event's on the list with those before it
 unfoldable pub causesInTurn : Row → List Event → List Event → List Cause
 causesInTurn row events [] = []
@@ -90,15 +95,15 @@ causesBy row events m before = cause 8 true ∷ []
 causesBy row events m (at t) = causesInTurn row events (eventsAt m t)
 causesBy row events m late = cause 9 true ∷ []
 
--- with none open 7, as of its calls
-abbrev pub readCauses : Running → M.Message Moment → List Cause
-readCauses Idle m = cause 7 true ∷ []
-readCauses (Quoting place row opening events) m = cause 21 (otherSide (live events) m) ∷ causesBy row events m (M.timeOf m)
+-- with none open 7, whatever the time
+abbrev pub callCauses : Running → M.Message Moment → Moment → List Cause
+callCauses Idle m t = cause 7 true ∷ []
+callCauses (Quoting place row opening events) m t = causesBy row events m t
 
--- "20 and 21 first"
+-- "20 and 21 first, then the causes of its one or two calls in turn"
 abbrev pub messageCauses : Running → Outcome (M.Message Moment) → List Cause
 messageCauses running (refused n) = cause n true ∷ []
-messageCauses running (accepted m) = readCauses running m
+messageCauses running (accepted m) = cause 21 (otherSideIn running m) ∷ callCauses running m (M.timeOf m)
 
 -- neither price is below the other
 abbrev pub samePrice : ℤ → ℤ → Bool
