@@ -113,7 +113,7 @@ module _ (terms : Terms) where
   run-taken b [] h = refl
   run-taken b (c ∷ cs) h = ap (λ (x : Book). run terms x cs) (step-accepted terms b c (h .0)) ∙ run-taken (changed b c) cs (h .1)
 
-  run-append : (b : Book) (cs ds : List Call) → run terms b (cs ++ ds) ≡ run terms (run terms b cs) ds
+  pub run-append : (b : Book) (cs ds : List Call) → run terms b (cs ++ ds) ≡ run terms (run terms b cs) ds
   unfolding run
   run-append b [] ds = refl
   run-append b (c ∷ cs) ds = run-append (step terms b c) cs ds
