@@ -1,16 +1,10 @@
 -- The size of a block by its kind. Assumes nothing.
-use Prim.Native.Nat.{ℕ, _-_, _≤_}
-use native.Mathlib.Omega.{arith}
+use Prim.Native.Nat.{ℕ}
 use mathlib.Core.Path.{_≡_, refl, sym, ap, _∙_}
 use mathlib.Core.List.{List, [], _∷_}
 use borrow.Author.Tests.{ne-eqb}
-use lib.ListN.{length, getD, take, drop, length-drop, List·getD-eq-default}
-use lib.Seq.{take-all}
+use lib.ListN.{getD}
 use Rattle.blocks.specs.Kinds.{addDue, due, dueAt}
-
--- past the end of the words
-pub no-word : (ws : List ℕ) (i : ℕ) → length ws ≤ i → 0 ≡ getD ws i 0
-no-word ws i h = sym (List·getD-eq-default ws 0 h)
 
 -- an add with another side than buy or sell
 pub other-side : (side : ℕ) → (side ≡ 1 → ⊥) → (side ≡ 2 → ⊥) → 0 ≡ addDue side
@@ -20,10 +14,6 @@ other-side side a b = rw (ne-eqb side 1 a, ne-eqb side 2 b) refl
 -- what is due is found from the words at places 0, 1 and 3
 pub due-found : (ws : List ℕ) (a b c r : ℕ) → a ≡ getD ws 0 0 → b ≡ getD ws 1 0 → c ≡ getD ws 3 0 → r ≡ due a b c → dueAt ws ≡ r
 due-found ws a b c r e f g h = sym (h ∙ rw (e, f, g) refl)
-
--- the words from a place on
-pub part-from : (ws : List ℕ) (at : ℕ) (part : List ℕ) → part ≡ take (length ws - at) (drop at ws) → part ≡ drop at ws
-part-from ws at part e = e ∙ take-all (length ws - at) (drop at ws) (rw (length-drop at ws) (omega arith))
 
 -- ---- by the kind
 

@@ -3,6 +3,7 @@ use native.Mathlib.Omega.{arith}
 use mathlib.Core.Path.{sym}
 use Rattle.blocks.proofs.Reading.{whole, cut}
 use Rattle.blocks.proofs.Sizes.{due-found}
+use Rattle.words.specs.Bytes.{wordsIn}
 use borrow.Author.Needs.{needs}
 use Rattle.blocks.proofs.size.Statement.{statement}
 use Rattle.blocks.proofs.size.Tie as tie
@@ -19,10 +20,13 @@ word-requires-3 c κs = search needs
 due-words-requires : tie.Need-due-words-requires
 due-words-requires c κs = search needs
 
+count-requires : tie.Need-count-requires
+count-requires c κs = search needs
+
 returns : tie.Need-returns
 returns c =
-    let d = c .before in
-    let ws = d .before .before .before .before .before .args .words .now in
+    let d = c .before .before in
+    let ws = wordsIn (d .before .before .before .before .before .args .bytes .now) in
     sym
     (whole ws (d .due-words .result)
     (due-found ws (d .before .before .before .word .result) (d .before .before .word2 .result) (d .before .word3 .result) (d .due-words .result)
@@ -31,8 +35,8 @@ returns c =
 
 returns-2 : tie.Need-returns-2
 returns-2 c =
-    let d = c .before in
-    let ws = d .before .before .before .before .before .args .words .now in
+    let d = c .before .before in
+    let ws = wordsIn (d .before .before .before .before .before .args .bytes .now) in
     sym
     (cut ws (d .due-words .result)
     (due-found ws (d .before .before .before .word .result) (d .before .before .word2 .result) (d .before .word3 .result) (d .due-words .result)
@@ -42,4 +46,4 @@ returns-2 c =
 pub size-spec : {M : Type 1} → statement M
 size-spec =
     tie.close
-    (tie.spec word-requires word-requires-2 word-requires-3 due-words-requires returns returns-2)
+    (tie.spec word-requires word-requires-2 word-requires-3 due-words-requires count-requires returns returns-2)

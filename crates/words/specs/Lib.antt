@@ -1,0 +1,2 @@
+-- The words in some bytes.
+pub mod Bytes
