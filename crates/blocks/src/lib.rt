@@ -63,7 +63,7 @@ pub enum Decoded {
 }
 
 // The number of words.
-fn count(bytes: &[u8]) -> usize
+pub fn count(bytes: &[u8]) -> usize
     ensures { λ r. ⌜ (r ≡ length (wordsIn (now (bytes .entry)))) × (4 * r ≤ length (now (bytes .entry))) ⌝ }
 {
     bytes.len() / 4
