@@ -2,6 +2,7 @@
 pub mod Sides
 pub mod Slots
 pub mod Table
+pub mod Opposite
 pub mod Events
 pub mod Causes
 pub mod Applied

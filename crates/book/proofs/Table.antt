@@ -79,7 +79,7 @@ module _ (own others : List ℕ) (long : length own ≡ 256) (rest : length othe
 -- ---- the table of live orders
 
 module _ (table : List ℕ) (minimum : ℕ) (live : List Order) (represents : Represents table minimum live) where
-  few-slots : (s : Side) → length (slotsIn s live) ≤ 64
+  pub few-slots : (s : Side) → length (slotsIn s live) ≤ 64
   few-slots s = omega (arith, few-side s live (represents .good), length-map (ofSide s live) (slotOf s))
 
   pub half-length : (s : Side) → length (sideIn minimum s live) ≡ 256

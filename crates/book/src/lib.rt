@@ -11,9 +11,10 @@ ghost use Rattle.rules.specs.declared.Millis.{Millis};
 ghost use Rattle.rules.specs.declared.Row.{Row};
 ghost use Rattle.rules.specs.declared.SpreadRule.{SpreadRule};
 ghost use Rattle.rules.specs.declared.Event.the-variants.{Add, Amend, Cancel, Deal};
-ghost use Rattle.rules.specs.Lists.{if_then_else_};
+ghost use Rattle.rules.specs.Lists.{if_then_else_, any};
+ghost use Rattle.rules.specs.Orders.{hasId};
 ghost use Rattle.rules.specs.Units.{goodPrice, goodVolume};
-ghost use Rattle.rules.specs.Quotes.{best as bestQuote};
+ghost use Rattle.rules.specs.Quotes.{same, best as bestQuote};
 ghost use Rattle.rules.specs.Kept.{ordersKeep};
 ghost use Rattle.quote.specs.Widest.{WidestFor};
 ghost use Rattle.book.specs.Table.{tableOf, slotBy, slotIn, GoodOrders, Held, Holding};
@@ -96,6 +97,15 @@ pub fn count(table: &[u32]) -> u32
     ensures { λ r. ⌜ ((minimum : ℕ) (live : List Order) → GoodOrders live → now (table .entry) ≡ tableOf minimum live → r ≡ length live) ⌝ }
 {
     table[COUNT] + table[WORDS + COUNT]
+}
+
+// Whether a live order of the other side has the id.
+pub fn on_other_side(table: &[u32], side: Side, id: u32) -> bool
+    requires { ⌜ Held (now table) ⌝ }
+    ensures { λ r. ⌜ ((minimum : ℕ) (live : List Order) → GoodOrders live → now (table .entry) ≡ tableOf minimum live → r ≡ any (λ (o : Order). hasId id o && not (same side (o .side))) live) ⌝ }
+{
+    let s = 1 - side_number(side);
+    0 < side::located(&table[WORDS * s..WORDS * s + WORDS], id)
 }
 
 // The slot of what the scans of both sides found, or 128; buys have 0 to 63, sells 64 to 127.

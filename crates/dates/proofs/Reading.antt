@@ -95,14 +95,6 @@ timed v s e =
 
 -- ---- one time from another
 module _ (start sixty : List ℕ) where
-  pub no-start : none ≡ timeIn start → refused 21 ≡ since start sixty
-  unfolding since
-  no-start h = rw (sym h) (by (timeIn sixty))
-    where
-      by : (o : Option Timestamp) → refused 21 ≡ momentFrom none o
-      by none = refl
-      by (some t) = refl
-
   pub no-sixty : none ≡ timeIn sixty → refused 21 ≡ since start sixty
   unfolding since
   no-sixty h = rw (sym h) (by (timeIn start))
@@ -111,9 +103,9 @@ module _ (start sixty : List ℕ) where
       by none = refl
       by (some t) = refl
 
-  pub from-start : (s t : Timestamp) → some s ≡ timeIn start → some t ≡ timeIn sixty → accepted (momentOf s t) ≡ since start sixty
+  pub with-sixty : (t : Timestamp) → some t ≡ timeIn sixty → momentFrom (timeIn start) (some t) ≡ since start sixty
   unfolding since
-  from-start s t h k = rw (sym h, sym k) refl
+  with-sixty t h = ap (momentFrom (timeIn start)) h
 
 -- ---- the last test, by what the code holds
 module _ (v : List ℕ) (s : Timestamp) (a b : Bool) (is : s ≡ partsOf v) (d : a ≡ goodDate s) (k : b ≡ goodClock s) (h : hasForm form v ≡ true) where

@@ -8,9 +8,10 @@ ghost use lib.Dec.{eqb};
 ghost use Prim.Native.Nat.{_+_, _-_, _*_, _≤_, _<_};
 ghost use lib.ListN.{length, getD};
 ghost use Rattle.rules.specs.Lists.{if_then_else_};
+ghost use mathlib.Core.Option.{some};
 ghost use Rattle.rules.specs.Answers.{accepted};
 ghost use Rattle.rules.specs.Digits.{isDigit};
-ghost use Rattle.rules.specs.Dates.{form, hasForm, part, partsOf, isLeap, monthDays, goodDate, goodClock, timeIn, daysOfYears, daysOfMonths, daysBefore, instantOf, momentBetween, momentOf, since as sinceOf};
+ghost use Rattle.rules.specs.Dates.{form, hasForm, part, partsOf, isLeap, monthDays, goodDate, goodClock, timeIn, daysOfYears, daysOfMonths, daysBefore, instantOf, momentBetween, momentOf, momentFrom, since as sinceOf};
 ghost use Rattle.dates.specs.Answers.{shownTime, shownElapsed};
 ghost use Rattle.dates.specs.Times.{Timed};
 ghost use Rattle.dates.specs.Internal.{DigitsAt, clockOf};
@@ -264,15 +265,23 @@ pub fn moment(start: Timestamp, time: Timestamp) -> Elapsed
     between(instant(start), instant(time))
 }
 
-// The same of two byte strings.
-pub fn since(start: &[u8], sixty: &[u8]) -> Elapsed
-    ensures { λ r. ⌜ shownElapsed r ≡ sinceOf (now (start .entry)) (now (sixty .entry)) ⌝ }
+// A time from the quantum's start, whose bytes may say none.
+pub fn after(start: &[u8], time: Timestamp) -> Elapsed
+    requires { ⌜ Timed time ⌝ }
+    ensures { λ r. ⌜ shownElapsed r ≡ momentFrom (timeIn (now (start .entry))) (some time) ⌝ }
 {
     let Time::At(from) = time_in(start) else {
         return Elapsed::Unreadable;
     };
-    let Time::At(to) = time_in(sixty) else {
+    moment(from, time)
+}
+
+// The same where the time is bytes too.
+pub fn since(start: &[u8], sixty: &[u8]) -> Elapsed
+    ensures { λ r. ⌜ shownElapsed r ≡ sinceOf (now (start .entry)) (now (sixty .entry)) ⌝ }
+{
+    let Time::At(time) = time_in(sixty) else {
         return Elapsed::Unreadable;
     };
-    moment(from, to)
+    after(start, time)
 }

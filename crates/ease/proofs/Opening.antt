@@ -20,7 +20,7 @@ use Rattle.rules.specs.Calls.{Call, Open, Send, Close, Running, Quoting, Book}
 use Rattle.rules.specs.Causes.{lowest, causes, refusalOf, readRow}
 use Rattle.rules.specs.Changes.{noted, changed, closedCell, closed, following}
 use Rattle.rules.specs.Book.{step, run}
-use Rattle.requests.specs.DayOrder.{NoneRefused}
+use Rattle.rules.specs.Histories.{NoneRefused}
 use Rattle.rules.proofs.Refusals.{call-passes}
 use Rattle.ease.specs.Easing.{easedRow, wordsOf, eased}
 use Rattle.ease.proofs.Rows.{eased-good}

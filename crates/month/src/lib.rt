@@ -361,6 +361,138 @@ impl Month {
         })
     }
 
+    // Whether the live order that a G's 41 names is not of its side.
+    fn other_side(self, side: Side, id: u32) -> bool
+        requires { ⌜ Reached self ⌝ }
+        ensures { λ r. ⌜ ((new : ℕ) (volume : Contracts) (price : Steps) (t : Moment) (b : B.Book) → BookBounds paper b → self ≡ monthOf b → r ≡ otherSideIn (b .running) (replaceOrder new id side volume price t)) ⌝ }
+    {
+        let quantum = self.quantum;
+        quantum.on_other_side(side, id)
+    }
+
+    // A message whose time is none of the quantum's: with none open that comes first.
+    fn untimely(self, refusal: Refusal) -> AfterCall
+        ensures { λ r. ⌜ (r .month ≡ self) × (r .answer ≡ Answer.Refused (if self .running then refusal else NoQuantumOpen)) ⌝ }
+    {
+        if !self.running {
+            return refused(self, Refusal::NoQuantumOpen);
+        }
+        refused(self, refusal)
+    }
+
+    // D: an order more.
+    fn new_order(
+        self,
+        when: Elapsed,
+        id: u32,
+        side: Side,
+        volume: Contracts,
+        price: Steps,
+    ) -> AfterCall
+        requires { ⌜ Reached self ⌝ }
+        ensures { λ r. ⌜ MessageAnswered self (λ t. newOrder id side volume price t) (shownElapsed when) (r .month) (shownAnswer (r .answer)) ⌝ }
+    {
+        match when {
+            Elapsed::At(t) => self.add(t, id, side, price, volume),
+            Elapsed::Before => self.untimely(Refusal::TimeBackwards),
+            Elapsed::Late => self.untimely(Refusal::TimePastEnd),
+            Elapsed::Unreadable => refused(self, Refusal::FieldWrong),
+        }
+    }
+
+    // F: the order that 41 names goes.
+    fn cancel_order(self, when: Elapsed, id: u32, orig: u32) -> AfterCall
+        requires { ⌜ Reached self ⌝ }
+        ensures { λ r. ⌜ MessageAnswered self (λ t. cancelOrder id orig t) (shownElapsed when) (r .month) (shownAnswer (r .answer)) ⌝ }
+    {
+        match when {
+            Elapsed::At(t) => self.cancel(t, orig),
+            Elapsed::Before => self.untimely(Refusal::TimeBackwards),
+            Elapsed::Late => self.untimely(Refusal::TimePastEnd),
+            Elapsed::Unreadable => refused(self, Refusal::FieldWrong),
+        }
+    }
+
+    // That cancel, and an add on the month after it: both or neither.
+    fn both_or_neither(
+        self,
+        t: Millis,
+        id: u32,
+        orig: u32,
+        side: Side,
+        volume: Contracts,
+        price: Steps,
+    ) -> AfterCall
+        requires { ⌜ Reached self ⌝ }
+        ensures { λ r. ⌜ BothOrNeither self (Cancel t orig) (Add t id side price volume) (r .month) (shownAnswer (r .answer)) ⌝ }
+    {
+        let cancelled = self.cancel(t, orig);
+        let first = cancelled.answer;
+        let between = cancelled.month;
+        if let Answer::Refused(r) = first {
+            return refused(self, r);
+        }
+        let added = between.add(t, id, side, price, volume);
+        let second = added.answer;
+        match second {
+            Answer::Accepted => added,
+            Answer::Refused(r) => refused(self, r),
+        }
+    }
+
+    // G: its side is that of the order that 41 names, where there is one.
+    fn replace_order(
+        self,
+        when: Elapsed,
+        id: u32,
+        orig: u32,
+        side: Side,
+        volume: Contracts,
+        price: Steps,
+    ) -> AfterCall
+        requires { ⌜ Reached self ⌝ }
+        ensures { λ r. ⌜ MessageAnswered self (λ t. replaceOrder id orig side volume price t) (shownElapsed when) (r .month) (shownAnswer (r .answer)) ⌝ }
+    {
+        if self.other_side(side, orig) {
+            return refused(self, Refusal::FieldWrong);
+        }
+        match when {
+            Elapsed::At(t) => self.both_or_neither(t, id, orig, side, volume, price),
+            Elapsed::Before => self.untimely(Refusal::TimeBackwards),
+            Elapsed::Late => self.untimely(Refusal::TimePastEnd),
+            Elapsed::Unreadable => refused(self, Refusal::FieldWrong),
+        }
+    }
+
+    // A FIX message, with the quantum's start: its one or two calls.
+    pub fn message(self, start: &[u8], message: &[u8]) -> AfterCall
+        requires { ⌜ Reached self ⌝ }
+        ensures { λ r. ⌜ Answered self (B.Message (now (start .entry)) (now (message .entry))) (r .month) (shownAnswer (r .answer)) ⌝ }
+    {
+        match fix::read(message) {
+            MessageRead::New {
+                id,
+                side,
+                volume,
+                price,
+                time,
+            } => self.new_order(dates::after(start, time), id, side, volume, price),
+            MessageRead::Cancel { id, orig, time } => {
+                self.cancel_order(dates::after(start, time), id, orig)
+            }
+            MessageRead::Replace {
+                id,
+                orig,
+                side,
+                volume,
+                price,
+                time,
+            } => self.replace_order(dates::after(start, time), id, orig, side, volume, price),
+            MessageRead::FrameWrong => refused(self, Refusal::FrameWrong),
+            MessageRead::FieldWrong => refused(self, Refusal::FieldWrong),
+        }
+    }
+
     // What that amend would do: its refusal, or both best quotes after it and a ticket. The month is as it was.
     pub fn ask(self, t: Millis, id: u32, price: Steps, volume: Contracts) -> AskedAbout
         requires { ⌜ Reached self ⌝ }

@@ -2,18 +2,20 @@
 // `step_fields` takes a record's fields on a lent table, for a run over many; a Quantum holds all three by value, for the month.
 ghost use mathlib.Core.Path.{_≡_};
 ghost use mathlib.Core.List.{List, []};
-ghost use mathlib.Core.Bool.{true, _&&_};
+ghost use mathlib.Core.Bool.{true, not, _&&_};
 ghost use Prim.Native.Nat.{_≤_};
 ghost use lib.Dec.{leb};
 ghost use lib.ListN.{length};
 ghost use Rattle.rules.specs.declared.Event.{Event};
 ghost use Rattle.rules.specs.declared.Row.{Row};
+ghost use Rattle.rules.specs.declared.Order.{Order};
 ghost use Rattle.rules.specs.declared.Side.the-variants.{Buy, Sell};
 ghost use Rattle.rules.specs.Terms.{paper};
 ghost use Rattle.rules.specs.declared.SpreadRule.{SpreadRule};
 ghost use Rattle.rules.specs.Rows.{goodRowFor};
-ghost use Rattle.rules.specs.Orders.{live as liveOrders};
-ghost use Rattle.rules.specs.Quotes.{best as bestQuote};
+ghost use Rattle.rules.specs.Lists.{any};
+ghost use Rattle.rules.specs.Orders.{hasId, live as liveOrders};
+ghost use Rattle.rules.specs.Quotes.{same, best as bestQuote};
 ghost use Rattle.rules.specs.Kept.{bestBid, bestAsk, keptBelow};
 ghost use Rattle.rules.specs.Lapses.{lapsesBelow};
 ghost use Rattle.rules.specs.Causes.{goodSpreadRule};
@@ -389,6 +391,15 @@ impl Quantum {
         ensures { λ r. ⌜ ((row : Row) (sp : SpreadRule) (events : List Event) → EventBounds row events → self ≡ quantumOf row sp events → r ≡ bestAsk row (liveOrders events)) ⌝ }
     {
         self.best(Side::Sell)
+    }
+
+    // Whether a live order of the other side has the id.
+    pub fn on_other_side(self, side: Side, id: u32) -> bool
+        requires { ⌜ Reached self ⌝ }
+        ensures { λ r. ⌜ ((row : Row) (sp : SpreadRule) (events : List Event) → EventBounds row events → self ≡ quantumOf row sp events → r ≡ any (λ (o : Order). hasId id o && not (same side (o .side))) (liveOrders events)) ⌝ }
+    {
+        let table = self.table;
+        book::on_other_side(&table, side, id)
     }
 
     pub fn live(self) -> u32

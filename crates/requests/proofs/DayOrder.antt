@@ -16,17 +16,19 @@ use Rattle.rules.specs.declared.Kopecks.{Kopecks}
 use Rattle.rules.specs.declared.Row.{Row}
 use Rattle.rules.specs.declared.Cell.{Cell}
 use Rattle.rules.specs.declared.Event.{Event}
-use Rattle.rules.specs.Lists.{if_then_else_, sum, howMany, All}
+use Rattle.rules.specs.Lists.{if_then_else_, sum, All}
 use Rattle.rules.specs.Terms.{Terms}
 use Rattle.rules.specs.Rows.{rowOf}
 use Rattle.rules.specs.Cells.{blankCell, placeOf, cellAt}
 use Rattle.rules.specs.Pay.{allFailures, fee}
+use Rattle.rules.specs.MessageCalls.{messageIn}
+use Rattle.rules.specs.MessageCalls as M
 use Rattle.rules.specs.Calls.{Call, Open, Close, counts, Running, Idle, Quoting, Book, freshBook, isOpen, amendOf}
-use Rattle.rules.specs.Causes.{cause, lowest, sendCauses, goodCharges, causes, refusalOf}
-use Rattle.rules.specs.Changes.{noted, closedCell, following, changed}
+use Rattle.rules.specs.Causes.{cause, lowest, sendCauses, messageCauses, goodCharges, causes, refusalOf}
+use Rattle.rules.specs.Changes.{noted, notedAll, closedCell, following, countAfter, changed}
 use Rattle.rules.specs.Book.{step, run, after}
-use Rattle.rules.specs.Histories.{refusalsFrom}
-use Rattle.requests.specs.DayOrder.{Inside, event, ask, commit, look, report, callOf, Whole, callsIn, joined, NoneRefused, placeIn, eventsOf, eventsIn, cellIn, countedIn, countAfter, filedBy, Filed, Rearranged, anywhere, Anywhere, AcceptedToo}
+use Rattle.rules.specs.Histories.{refusalsFrom, NoneRefused}
+use Rattle.requests.specs.DayOrder.{Inside, event, message, ask, commit, look, report, callOf, Whole, callsIn, joined, placeIn, eventsOf, eventsIn, cellIn, countedIn, filedBy, Filed, Rearranged, anywhere, Anywhere, AcceptedToo}
 use Rattle.rules.proofs.Refusals.{within-parts, OpenPasses, call-passes, passes-call, step-accepted}
 use Rattle.rules.proofs.Bounds.{read-bounds, place-small}
 
@@ -37,11 +39,12 @@ abbrev taken : Book → List Call → Book
 taken b [] = b
 taken b (c ∷ cs) = taken (changed b c) cs
 
--- a call that counts, and one that does not
-count-one : (t : Bool) (n count : ℕ) → countAfter ((if t then 1 else 0) + n) count ≡ countAfter n (if t then following count else count)
-unfolding countAfter
-count-one true n count = let e : 1 + n ≡ suc n = omega arith in ap (λ (k : ℕ). countAfter k count) e
-count-one false n count = let e : 0 + n ≡ n = omega arith in ap (λ (k : ℕ). countAfter k count) e
+-- some calls counted, and then more
+count-more : (m n count : ℕ) → countAfter (m + n) count ≡ countAfter n (countAfter m count)
+count-more zero n count = let e : 0 + n ≡ n = omega arith in ap (λ (k : ℕ). countAfter k count) e
+count-more (suc m) n count =
+    let e : suc m + n ≡ suc (m + n) = omega arith in
+    ap (λ (k : ℕ). countAfter k count) e ∙ count-more m n (following count)
 
 abbrev toEnd : List Inside → Kopecks → Kopecks → List Call
 toEnd inside active passive = map callOf inside ++ (Close active passive ∷ [])
@@ -52,9 +55,10 @@ module _ (place : ℕ) (row : Row) (opening : Opening) where
 
   -- an accepted call inside adds its events
   taken-one : (es : List Event) (cells : List Cell) (count : ℕ) (c : Inside)
-      → changed (during es cells count) (callOf c) ≡ during (es ++ eventsOf c) cells (if counts (callOf c) then following count else count)
+      → changed (during es cells count) (callOf c) ≡ during (es ++ eventsOf c) cells (countAfter (counts (callOf c)) count)
   unfolding changed
   taken-one es cells count (event e) = refl
+  taken-one es cells count (message start bytes) = refl
   taken-one es cells count (ask a) = ap (λ (x : List Event). during x cells count) (sym (append-nil es))
   taken-one es cells count (commit a ticket) = refl
   taken-one es cells count (look day expiry quantum) = ap (λ (x : List Event). during x cells count) (sym (append-nil es))
@@ -68,22 +72,22 @@ module _ (place : ℕ) (row : Row) (opening : Opening) where
 
     taken-inside : (es : List Event) (cells : List Cell) (count : ℕ) (inside : List Inside)
         → taken (during es cells count) (toEnd inside active passive)
-        ≡ ended cells (es ++ eventsIn inside) (countAfter (howMany counts (toEnd inside active passive)) count)
-    unfolding changed eventsIn howMany countAfter
+        ≡ ended cells (es ++ eventsIn inside) (countAfter (sum (map counts (toEnd inside active passive))) count)
+    unfolding changed eventsIn sum
     taken-inside es cells count [] = ap (λ (x : List Event). ended cells x (following count)) (sym (append-nil es))
     taken-inside es cells count (c ∷ cs) =
-        let counted = if counts (callOf c) then following count else count in
+        let counted = countAfter (counts (callOf c)) count in
         let events = append-assoc es (eventsOf c) (eventsIn cs) in
-        let number = sym (count-one (counts (callOf c)) (howMany counts (toEnd cs active passive)) count) in
+        let number = sym (count-more (counts (callOf c)) (sum (map counts (toEnd cs active passive))) count) in
         ap (λ (b : Book). taken b (toEnd cs active passive)) (taken-one es cells count c)
         ∙ taken-inside (es ++ eventsOf c) cells counted cs
         ∙ λ i. ended cells (events i) (number i)
 
 taken-whole : (b : Book) (q : Whole) → taken b (callsIn q) ≡ filedBy b q
-unfolding changed howMany
+unfolding changed sum
 taken-whole b q =
     let inside = toEnd (q .inside) (q .active) (q .passive) in
-    let number = sym (count-one true (howMany counts inside) (b .count)) in
+    let number = sym (count-more 1 (sum (map counts inside)) (b .count)) in
     taken-inside (placeIn q) (rowOf (q .words)) (q .opening) (q .active) (q .passive) [] (b .cells) (following (b .count)) (q .inside)
     ∙ λ i. record { running = Idle; cells = set (b .cells) (placeIn q) (cellIn q); count = number i }
 
@@ -109,7 +113,7 @@ module _ (terms : Terms) where
   run-taken b [] h = refl
   run-taken b (c ∷ cs) h = ap (λ (x : Book). run terms x cs) (step-accepted terms b c (h .0)) ∙ run-taken (changed b c) cs (h .1)
 
-  run-append : (b : Book) (cs ds : List Call) → run terms b (cs ++ ds) ≡ run terms (run terms b cs) ds
+  pub run-append : (b : Book) (cs ds : List Call) → run terms b (cs ++ ds) ≡ run terms (run terms b cs) ds
   unfolding run
   run-append b [] ds = refl
   run-append b (c ∷ cs) ds = run-append (step terms b c) cs ds
@@ -273,15 +277,10 @@ module _ {A : Type 0} where
 
 -- ---- the theorem
 
-count-add : (m n count : ℕ) → countAfter (m + n) count ≡ countAfter n (countAfter m count)
-unfolding countAfter
-count-add zero n count = count-one false n count
-count-add (suc m) n count = let e : suc m + n ≡ suc (m + n) = omega arith in ap (λ (k : ℕ). countAfter k count) e ∙ count-add m n (following count)
-
 all-counted : (b : Book) (qs : List Whole) → filedAll b qs .count ≡ countAfter (sum (map countedIn qs)) (b .count)
-unfolding filedAll sum countAfter
+unfolding filedAll sum
 all-counted b [] = refl
-all-counted b (q ∷ qs) = all-counted (filedBy b q) qs ∙ sym (count-add (countedIn q) (sum (map countedIn qs)) (b .count))
+all-counted b (q ∷ qs) = all-counted (filedBy b q) qs ∙ sym (count-more (countedIn q) (sum (map countedIn qs)) (b .count))
 
 all-idle : (b : Book) (qs : List Whole) → b .running ≡ Idle → filedAll b qs .running ≡ Idle
 unfolding filedAll
@@ -338,6 +337,7 @@ module _ (terms : Terms) where
       → refusalOf terms b (callOf c) ≡ refusalOf terms d (callOf c)
   unfolding refusalOf causes
   one-same b d same (event e) h = ap (λ (r : Running). lowest (sendCauses r e)) same
+  one-same b d same (message start bytes) h = ap (λ (r : Running). lowest (messageCauses r (messageIn start bytes))) same
   one-same b d same (ask a) h = ap (λ (r : Running). lowest (sendCauses r (amendOf a))) same
   one-same b d same (commit a ticket) h = absurd (false≢true h)
   one-same b d same (look day expiry quantum) h = absurd (false≢true h)
@@ -347,6 +347,7 @@ module _ (terms : Terms) where
   left-same : (b d : Book) → b .running ≡ d .running → (c : Inside) → changed b (callOf c) .running ≡ changed d (callOf c) .running
   unfolding changed
   left-same b d same (event e) = ap (λ (r : Running). noted r e) same
+  left-same b d same (message start bytes) = ap (λ (r : Running). notedAll r (M.eventsOf start bytes)) same
   left-same b d same (ask a) = same
   left-same b d same (commit a ticket) = ap (λ (r : Running). noted r (amendOf a)) same
   left-same b d same (look day expiry quantum) = same

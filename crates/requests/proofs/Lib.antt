@@ -2,3 +2,4 @@
 pub mod OldMonths
 pub mod OldCharges
 pub mod DayOrder
+pub mod AsCalls

@@ -15,7 +15,7 @@ use Rattle.rules.specs.Rows.{goodRow, goodRowFor}
 use Rattle.rules.specs.Cells.{goodCell, placeOf, cellAt}
 use Rattle.rules.specs.Pay.{met, weightMet, viewOf, cellFailed, failures, allFailures, earned, fee}
 use Rattle.rules.specs.Answers.{outcomeBy}
-use Rattle.rules.specs.Calls.{Call, Open, Send, Ask, Commit, Close, Drop, Charge, Withdraw, Look, Report, chargesIn, mapRows, Book, freshBook, isOpen}
+use Rattle.rules.specs.Calls.{Call, Open, Send, Message, Ask, Commit, Close, Drop, Charge, Withdraw, Look, Report, chargesIn, mapRows, Book, freshBook, isOpen}
 use Rattle.rules.specs.Causes.{cause, lowest, goodCharges, causes, refusalOf}
 use Rattle.rules.specs.Replies.{reportOf, replyOf}
 use Rattle.rules.specs.Book.{answerOf, stepBy, step, run, after}
@@ -61,6 +61,7 @@ module _ (old : Terms) (most : ℕ) (more : old .most-charge ≤ most) where
   unfolding refusalOf causes goodRowFor goodRow viewOf reportOf fee allFailures failures cellFailed earned met weightMet
   call-same b (Open words day opening) h = (refl, refl)
   call-same b (Send e) h = (refl, refl)
+  call-same b (Message start bytes) h = (refl, refl)
   call-same b (Ask a) h = (refl, refl)
   call-same b (Commit a ticket) h = (refl, refl)
   call-same b (Close active passive) h =
@@ -137,6 +138,7 @@ larger-charges old most more calls h = same old most more calls h
 other-rows : (f : List ℕ → List ℕ) (c : Call) → chargesIn (mapRows f c) ≡ chargesIn c
 other-rows f (Open words day opening) = refl
 other-rows f (Send e) = refl
+other-rows f (Message start bytes) = refl
 other-rows f (Ask a) = refl
 other-rows f (Commit a ticket) = refl
 other-rows f (Close active passive) = refl

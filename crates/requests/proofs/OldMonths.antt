@@ -27,10 +27,13 @@ use Rattle.rules.specs.Orders.{live, present}
 use Rattle.rules.specs.Kept.{quotesKeep, ordersKeep, bestBid, bestAsk, upTo, keptAt, keptBelow}
 use Rattle.rules.specs.Lapses.{lapses, lapsesBelow, goodLapseLimit, withinLapseLimit}
 use Rattle.rules.specs.Pay.{thousandths, met, weightMet, cellMet, cellWeight, viewOf, cellFailed, failures, allFailures, earned, fee}
-use Rattle.rules.specs.Answers.{outcomeBy, cell, asked, report}
-use Rattle.rules.specs.Calls.{Call, Open, Send, Ask, Commit, Close, Drop, Charge, Withdraw, Look, Report, Running, Idle, Quoting, Book, freshBook, isOpen, amendOf}
-use Rattle.rules.specs.Causes.{Cause, cause, lowest, eventCauses, sendCauses, goodTicket, goodSettlement, goodSpreadRule, goodCharges, causes, refusalOf}
-use Rattle.rules.specs.Changes.{noted, closedCell, closed, charged, following, changed}
+use Rattle.rules.specs.Answers.{Outcome, accepted, refused, outcomeBy, cell, asked, report}
+use Rattle.rules.specs.Dates.{Moment, before, at, late}
+use Rattle.rules.specs.Messages as M
+use Rattle.rules.specs.MessageCalls.{messageIn, eventsAt, eventsOf}
+use Rattle.rules.specs.Calls.{Call, Open, Send, Message, Ask, Commit, Close, Drop, Charge, Withdraw, Look, Report, Running, Idle, Quoting, Book, freshBook, isOpen, amendOf}
+use Rattle.rules.specs.Causes.{Cause, cause, lowest, eventCauses, sendCauses, otherSideIn, causesInTurn, causesBy, callCauses, messageCauses, goodTicket, goodSettlement, goodSpreadRule, goodCharges, causes, refusalOf}
+use Rattle.rules.specs.Changes.{noted, notedAll, closedCell, closed, charged, following, countAfter, changed}
 use Rattle.rules.specs.Replies.{timeIn, ordersIn, bidIn, askIn, keptIn, lapsesIn, previewOf, reportOf, replyOf}
 use Rattle.rules.specs.Book.{answerOf, stepBy, step, run, after}
 use Rattle.rules.specs.Histories.{refusalsFrom, answersFrom}
@@ -155,15 +158,36 @@ sent-same : (r : Running) (e : Event) → sendCauses (tenfoldRunning r) e ≡ se
 unfolding eventCauses
 sent-same r e = told-same (λ (q : Running). sendCauses q e) (λ place row opening events. refl) r
 
+-- no event's causes go by p, so neither do a message's
+turn-same : (row : Row) (events es : List Event) → causesInTurn (tenfoldRow row) events es ≡ causesInTurn row events es
+unfolding causesInTurn eventCauses
+turn-same row events [] = refl
+turn-same row events (e ∷ es) = ap (λ (cs : List Cause). eventCauses row events e ++ cs) (turn-same row (events ++ (e ∷ [])) es)
+
+moment-same : (row : Row) (events : List Event) (m : M.Message Moment) (t : Moment) → causesBy (tenfoldRow row) events m t ≡ causesBy row events m t
+moment-same row events m before = refl
+moment-same row events m (at t) = turn-same row events (eventsAt m t)
+moment-same row events m late = refl
+
+message-same : (read : Outcome (M.Message Moment)) (r : Running) → messageCauses (tenfoldRunning r) read ≡ messageCauses r read
+message-same (refused n) r = refl
+message-same (accepted m) r =
+    told-same (λ (q : Running). messageCauses q (accepted m))
+    (λ place row opening events.
+    ap (λ (cs : List Cause). cause 21 (otherSideIn (Quoting place row opening events) m) ∷ cs) (moment-same row events m (M.timeOf m))) r
+
 bid-same : (r : Running) → bidIn (tenfoldRunning r) ≡ bidIn r
 bid-same r = told-same bidIn (λ place row opening events. refl) r
 
 ask-same : (r : Running) → askIn (tenfoldRunning r) ≡ askIn r
 ask-same r = told-same askIn (λ place row opening events. refl) r
 
+all-noted-same : (r : Running) (es : List Event) → notedAll (tenfoldRunning r) es ≡ tenfoldRunning (notedAll r es)
+all-noted-same Idle es = refl
+all-noted-same (Quoting place row opening events) es = refl
+
 noted-same : (r : Running) (e : Event) → noted (tenfoldRunning r) e ≡ tenfoldRunning (noted r e)
-noted-same Idle e = refl
-noted-same (Quoting place row opening events) e = refl
+noted-same r e = all-noted-same r (e ∷ [])
 
 closed-same : (r : Running) (active passive : Kopecks) (cells : List Cell)
     → closed (tenfoldRunning r) active passive (map tenfoldCell cells) ≡ map tenfoldCell (closed r active passive cells)
@@ -359,6 +383,13 @@ module _ (most : ℕ) where
       record {
         number = ap lowest (sent-same (b .running) e);
         book = λ n i. record { running = r i; cells = map tenfoldCell (b .cells); count = following (b .count) };
+        reply = refl;
+      }
+  call-same b (Message start bytes) h =
+      let r = all-noted-same (b .running) (eventsOf start bytes) in
+      record {
+        number = ap lowest (message-same (messageIn start bytes) (b .running));
+        book = λ n i. record { running = r i; cells = map tenfoldCell (b .cells); count = countAfter (length (eventsOf start bytes)) (b .count) };
         reply = refl;
       }
   call-same b (Ask a) h =

@@ -1,6 +1,6 @@
 -- Document 02, W9: "two lists of whole quanta on fresh months, each from its open to its close, none refused, no drop, charge or withdraw, one a
 -- rearrangement of the other". proofs/DayOrder shows that the book is then the same.
-use Prim.Native.Nat.{ℕ, zero, suc, _<_}
+use Prim.Native.Nat.{ℕ, _<_}
 use mathlib.Core.Path.{_≡_}
 use mathlib.Core.List.{List, [], _∷_, _++_, map, List·Permᴰ}
 use mathlib.Core.Bool.{Bool, true, false}
@@ -11,21 +11,24 @@ use Rattle.rules.specs.declared.Cell.{Cell}
 use Rattle.rules.specs.declared.Event.{Event}
 use Rattle.rules.specs.declared.Amendment.{Amendment}
 use Rattle.rules.specs.declared.Ticket.{Ticket}
-use Rattle.rules.specs.Lists.{howMany, All}
+use Rattle.rules.specs.Lists.{sum, All}
 use Rattle.rules.specs.Terms.{Terms}
 use Rattle.rules.specs.Rows.{rowOf}
 use Rattle.rules.specs.Cells.{placeOf, cellAt}
 use Rattle.rules.specs.Pay.{allFailures, fee}
-use Rattle.rules.specs.Calls.{Call, Open, Send, Ask, Commit, Close, Look, Report, counts, Idle, Book, freshBook, amendOf}
-use Rattle.rules.specs.Causes.{refusalOf}
-use Rattle.rules.specs.Changes.{closedCell, following}
-use Rattle.rules.specs.Book.{step, run, after}
+use Rattle.rules.specs.MessageCalls as M
+use Rattle.rules.specs.Calls.{Call, Open, Send, Message, Ask, Commit, Close, Look, Report, counts, Idle, Book, freshBook, amendOf}
+use Rattle.rules.specs.Changes.{closedCell, countAfter}
+use Rattle.rules.specs.Book.{run, after}
+use Rattle.rules.specs.Histories.{NoneRefused}
 
 -- ---- whole quanta
 
--- a call that neither opens nor closes a quantum nor touches a cell: an event, ask, commit, look or report; "no drop, charge or withdraw"
+-- a call that neither opens nor closes a quantum nor touches a cell: an event, message, ask, commit, look or report; "no drop, charge or withdraw"
 pub data Inside : Type 0 where
   event : Event → Inside
+  -- document 02, W11: the quantum's start, and the message
+  message : List ℕ → List ℕ → Inside
   ask : Amendment → Inside
   commit : Amendment → Ticket → Inside
   -- day, expiry, quantum
@@ -34,6 +37,7 @@ pub data Inside : Type 0 where
 
 abbrev pub callOf : Inside → Call
 callOf (event e) = Send e
+callOf (message start bytes) = Message start bytes
 callOf (ask a) = Ask a
 callOf (commit a ticket) = Commit a ticket
 callOf (look day expiry quantum) = Look day expiry quantum
@@ -56,11 +60,6 @@ unfoldable pub joined : List Whole → List Call
 joined [] = []
 joined (q ∷ qs) = callsIn q ++ joined qs
 
--- "none refused"
-abbrev pub NoneRefused : Terms → Book → List Call → Type 0
-NoneRefused terms b [] = Unit {0}
-NoneRefused terms b (c ∷ cs) = (refusalOf terms b c ≡ 0) × NoneRefused terms (step terms b c) cs
-
 -- ---- what a whole quantum does to the book
 
 -- the place that its open names
@@ -70,6 +69,7 @@ placeIn q = placeOf (q .day) (rowOf (q .words) .expiry) (rowOf (q .words) .quant
 -- the events that its calls add to the quantum's: a commit "does exactly that amend"
 abbrev pub eventsOf : Inside → List Event
 eventsOf (event e) = e ∷ []
+eventsOf (message start bytes) = M.eventsOf start bytes
 eventsOf (ask a) = []
 eventsOf (commit a ticket) = amendOf a ∷ []
 eventsOf (look day expiry quantum) = []
@@ -85,12 +85,7 @@ cellIn q = closedCell (rowOf (q .words)) (q .opening) (eventsIn (q .inside)) (q 
 
 -- how many of its calls W5's count counts
 abbrev pub countedIn : Whole → ℕ
-countedIn q = howMany counts (callsIn q)
-
--- the count after that many more of them
-unfoldable pub countAfter : ℕ → ℕ → ℕ
-countAfter zero count = count
-countAfter (suc n) count = countAfter n (following count)
+countedIn q = sum (map counts (callsIn q))
 
 -- the book with that cell in that place and those calls counted, no quantum open
 abbrev pub filedBy : Book → Whole → Book
@@ -128,6 +123,7 @@ Rearranged terms = (first second : List Whole) → NoneRefused terms freshBook (
 -- either
 abbrev pub anywhere : Inside → Bool
 anywhere (event e) = true
+anywhere (message start bytes) = true
 anywhere (ask a) = true
 anywhere (commit a ticket) = false
 anywhere (look day expiry quantum) = false

@@ -6,3 +6,5 @@ pub mod OldMonths
 pub mod OldCharges
 -- document 02, W9: days filled in another order
 pub mod DayOrder
+-- document 02, W11: messages stand in a list as their calls
+pub mod AsCalls

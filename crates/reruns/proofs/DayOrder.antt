@@ -10,7 +10,8 @@ use Rattle.rules.specs.Answers.{Outcome, Reply, shownLooked, shownReport}
 use Rattle.rules.specs.Calls.{Call, freshBook}
 use Rattle.rules.specs.Book.{after}
 use Rattle.rules.specs.Calls as B
-use Rattle.requests.specs.DayOrder.{Whole, NoneRefused, joined, Anywhere}
+use Rattle.rules.specs.Histories.{NoneRefused}
+use Rattle.requests.specs.DayOrder.{Whole, joined, Anywhere}
 use Rattle.rules.proofs.Answers.{looked-shown, report-shown}
 use Rattle.requests.proofs.DayOrder.{zeros-accepted, accepted-zeros, rearranged, accepted-too}
 use Rattle.month.specs.declared.Month.{Month}

@@ -7,7 +7,7 @@ use lib.ListN.{getD}
 use Rattle.rules.specs.declared.CellView.{CellView}
 use Rattle.rules.specs.declared.Report.{Report}
 use Rattle.rules.specs.declared.Refusal.{Refusal}
-use Rattle.rules.specs.declared.Refusal.the-variants.{RowNotSevenWords, RowWordOutOfRange, ArgumentOutOfRange, CellFilled, CellBlank, QuantumOpen, NoQuantumOpen, TimeBackwards, TimePastEnd, IdLive, IdNotLive, PriceOrVolumeOutOfRange, TooManyOrders, DealAboveLeft, BadRecord, BufferShort, LapseLimitOutOfRange, StrikesOutOfRange, WrongTicket}
+use Rattle.rules.specs.declared.Refusal.the-variants.{RowNotSevenWords, RowWordOutOfRange, ArgumentOutOfRange, CellFilled, CellBlank, QuantumOpen, NoQuantumOpen, TimeBackwards, TimePastEnd, IdLive, IdNotLive, PriceOrVolumeOutOfRange, TooManyOrders, DealAboveLeft, BadRecord, BufferShort, LapseLimitOutOfRange, StrikesOutOfRange, WrongTicket, FrameWrong, FieldWrong}
 use Rattle.rules.specs.declared.Answer.{Answer}
 use Rattle.rules.specs.declared.Answer.the-variants as A
 use Rattle.rules.specs.declared.Looked.{Looked}
@@ -48,6 +48,8 @@ ordered =
     ∷ LapseLimitOutOfRange
     ∷ StrikesOutOfRange
     ∷ WrongTicket
+    ∷ FrameWrong
+    ∷ FieldWrong
     ∷ []
 
 named : (r : Refusal) → getD ordered (numberOf r) BufferShort ≡ r
@@ -71,6 +73,8 @@ named BufferShort = refl
 named LapseLimitOutOfRange = refl
 named StrikesOutOfRange = refl
 named WrongTicket = refl
+named FrameWrong = refl
+named FieldWrong = refl
 
 pub number-names : (r s : Refusal) → numberOf r ≡ numberOf s → r ≡ s
 number-names r s e = sym (named r) ∙ ap (λ (n : ℕ). getD ordered n BufferShort) e ∙ named s

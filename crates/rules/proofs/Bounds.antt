@@ -3,7 +3,7 @@ use Prim.Native.Nat.{ℕ, zero, suc, _%_, _≤_, _<_}
 use native.Mathlib.Omega.{arith}
 use mathlib.Core.Path.{_≡_, refl, sym, ap, _∙_, subst}
 use mathlib.Core.Logic.{⊎-elim}
-use mathlib.Core.List.{List, [], _∷_, _++_, List·Memᴰ, List·Memᴰ·not-nil}
+use mathlib.Core.List.{List, [], _∷_, _++_, append-nil, append-assoc, List·Memᴰ, List·Memᴰ·not-nil}
 use mathlib.Core.Bool.{true, false≢true}
 use lib.Dec.{leb, eqb}
 use lib.ListN.{length, set, length-set, length-replicate}
@@ -25,16 +25,17 @@ use Rattle.rules.specs.Units.{goodPrice, goodVolume, goodCharge}
 use Rattle.rules.specs.Rows.{goodExpiry, goodQuantum, goodLength, rowOf, goodRow, asRead, goodRowFor}
 use Rattle.rules.specs.Cells.{blankCell, goodCell, placeOf, cellAt}
 use Rattle.rules.specs.Orders.{lessenedOrder, apply, applyAll, live, timeFrom, present}
-use Rattle.rules.specs.Calls.{Call, Open, Send, Ask, Commit, Close, Drop, Charge, Withdraw, Look, Report, Running, Idle, Quoting, Book, freshBook, amendOf}
+use Rattle.rules.specs.Calls.{Call, Open, Send, Message, Ask, Commit, Close, Drop, Charge, Withdraw, Look, Report, Running, Idle, Quoting, Book, freshBook, amendOf}
 use Rattle.rules.specs.Causes.{goodSettlement, goodSpreadRule, eventRefusal, refusalOf}
-use Rattle.rules.specs.Changes.{noted, closedCell, closed, charged, changed}
+use Rattle.rules.specs.MessageCalls.{messageIn, eventsOf}
+use Rattle.rules.specs.Changes.{noted, notedAll, closedCell, closed, charged, changed}
 use Rattle.rules.specs.Book.{stepBy, step, run, after}
 use Rattle.rules.specs.Bounds.{Distinct, EventBounds, OpenBounds, RunningBounds, CellBounds, BookBounds}
 use Rattle.rules.proofs.Lists.{both, and}
 use Rattle.rules.proofs.Members.{getD-in, in-set, in-replicate}
 use Rattle.rules.proofs.Orders.{live-snoc, present-snoc, amended-price, amended-volume, lessened-price, lessened-volume, length-add, distinct-add, all-add, length-amend, distinct-amend, all-amend, length-cancel, distinct-cancel, in-cancel, length-deal, distinct-deal, all-deal}
 use Rattle.rules.proofs.Kept.{ordered-snoc, kept-le}
-use Rattle.rules.proofs.Refusals.{within-parts, TraderPasses, EventPasses, event-passes, SendPasses, CallPasses, call-passes}
+use Rattle.rules.proofs.Refusals.{within-parts, TraderPasses, EventPasses, event-passes, SendPasses, InTurn, TurnPasses, message-turns, CallPasses, call-passes}
 
 -- ---- tests as numbers
 
@@ -211,6 +212,12 @@ event-bounds-passed row es e g p =
       ends = rw present-snoc (p .inside);
     }
 
+-- events in turn
+event-bounds-turn : (row : Row) (es more : List Event) → EventBounds row es → InTurn row es more → EventBounds row (es ++ more)
+event-bounds-turn row es [] g p = subst (EventBounds row) (sym (append-nil es)) g
+event-bounds-turn row es (e ∷ more) g p =
+    subst (EventBounds row) (append-assoc es (e ∷ []) more) (event-bounds-turn row (es ++ (e ∷ [])) more (event-bounds-passed row es e g (p .0)) (p .1))
+
 pub event-bounds-more : (row : Row) (es : List Event) (e : Event) → EventBounds row es → eventRefusal row es e ≡ 0 → EventBounds row (es ++ (e ∷ []))
 event-bounds-more row es e g h = event-bounds-passed row es e g (event-passes row es e h)
 
@@ -231,17 +238,21 @@ module _ (terms : Terms) where
         kept = kept-le (rowOf words) (opening .spread) [] (present []);
       }
 
-  noted-bounds : (r : Running) (e : Event) → RunningBounds terms r → SendPasses r e → RunningBounds terms (noted r e)
-  noted-bounds Idle e g p = tt
-  noted-bounds (Quoting place row opening events) e g p =
+  noted-bounds : (r : Running) (es : List Event) → RunningBounds terms r → TurnPasses r es → RunningBounds terms (notedAll r es)
+  noted-bounds Idle es g p = tt
+  noted-bounds (Quoting place row opening events) es g p =
       record {
         inside = g .inside;
         row-good = g .row-good;
         price-good = g .price-good;
         spread-good = g .spread-good;
-        events-good = event-bounds-passed row events e (g .events-good) p;
-        kept = kept-le row (opening .spread) (events ++ (e ∷ [])) (present (events ++ (e ∷ [])));
+        events-good = event-bounds-turn row events es (g .events-good) p;
+        kept = kept-le row (opening .spread) (events ++ es) (present (events ++ es));
       }
+
+  sent-bounds : (r : Running) (e : Event) → RunningBounds terms r → SendPasses r e → RunningBounds terms (noted r e)
+  sent-bounds Idle e g p = tt
+  sent-bounds (Quoting place row opening events) e g p = noted-bounds (Quoting place row opening events) (e ∷ []) g (p, tt)
 
 -- ---- a filled cell
 
@@ -304,7 +315,7 @@ module _ (terms : Terms) where
       getD-in (b .cells) (placeOf day expiry quantum) blankCell (omega (arith, g .all-cells, cell-small day expiry quantum h))
 
   bounds-changed : (b : Book) (c : Call) → BookBounds terms b → CallPasses terms b c → BookBounds terms (changed b c)
-  unfolding changed
+  unfolding changed eventsOf
   bounds-changed b (Open words day opening) g p =
       record {
         all-cells = g .all-cells;
@@ -312,10 +323,16 @@ module _ (terms : Terms) where
         running = opened terms words day opening (p .row-good) (p .day-good) (p .price-good) (p .spread-good);
       }
   bounds-changed b (Send e) g p =
-      record { all-cells = g .all-cells; filled = g .filled; running = noted-bounds terms (b .running) e (g .running) p }
+      record { all-cells = g .all-cells; filled = g .filled; running = sent-bounds terms (b .running) e (g .running) p }
+  bounds-changed b (Message start bytes) g p =
+      record {
+        all-cells = g .all-cells;
+        filled = g .filled;
+        running = noted-bounds terms (b .running) (eventsOf start bytes) (g .running) (message-turns (b .running) (messageIn start bytes) p);
+      }
   bounds-changed b (Ask a) g p = g
   bounds-changed b (Commit a ticket) g p =
-      record { all-cells = g .all-cells; filled = g .filled; running = noted-bounds terms (b .running) (amendOf a) (g .running) (p .sent) }
+      record { all-cells = g .all-cells; filled = g .filled; running = sent-bounds terms (b .running) (amendOf a) (g .running) (p .sent) }
   bounds-changed b (Close active passive) g p =
       record {
         all-cells = closed-length (b .running) active passive (b .cells) ∙ g .all-cells;

@@ -13,6 +13,7 @@ pub mod Kept
 pub mod Lapses
 pub mod Weights
 pub mod Refusals
+pub mod MessageCalls
 pub mod Bounds
 pub mod Choosing
 pub mod Records

@@ -25,9 +25,12 @@ use Rattle.rules.specs.Rows.{rowOf, goodRowFor}
 use Rattle.rules.specs.Cells.{goodCell, placeOf, cellAt}
 use Rattle.rules.specs.Lapses.{goodLapseLimit}
 use Rattle.rules.specs.Orders.{isLive, left, live, timeOf, present}
-use Rattle.rules.specs.Answers.{accepted, refused, outcomeBy}
-use Rattle.rules.specs.Calls.{Call, Open, Send, Ask, Commit, Close, Drop, Charge, Withdraw, Look, Report, Running, Idle, Quoting, Book, isOpen, amendOf}
-use Rattle.rules.specs.Causes.{Cause, cause, lowest, traderCauses, eventCauses, eventRefusal, sendCauses, goodTicket, goodSettlement, goodSpreadRule, goodCharges, causes, refusalOf}
+use Rattle.rules.specs.Answers.{Outcome, accepted, refused, outcomeBy}
+use Rattle.rules.specs.Dates.{Moment, before, at, late}
+use Rattle.rules.specs.Messages as M
+use Rattle.rules.specs.MessageCalls.{messageIn, eventsAt, eventsBy, eventsIn}
+use Rattle.rules.specs.Calls.{Call, Open, Send, Message, Ask, Commit, Close, Drop, Charge, Withdraw, Look, Report, Running, Idle, Quoting, Book, isOpen, amendOf}
+use Rattle.rules.specs.Causes.{Cause, cause, lowest, traderCauses, eventCauses, eventRefusal, sendCauses, otherSideIn, causesInTurn, causesBy, callCauses, messageCauses, goodTicket, goodSettlement, goodSpreadRule, goodCharges, causes, refusalOf}
 use Rattle.rules.specs.Changes.{changed}
 use Rattle.rules.specs.Replies.{replyOf}
 use Rattle.rules.specs.Book.{answerOf, stepBy, step}
@@ -212,6 +215,79 @@ unfolding eventCauses
 send-numbered Idle e = (λ z. omega (arith, z), tt)
 send-numbered (Quoting place row opening events) e = (λ z. omega (arith, z), (λ z. omega (arith, z), trader-numbered (live events) e))
 
+-- ---- events in turn, and a message's
+
+-- each event passes on the list with those before it
+abbrev pub InTurn : Row → List Event → List Event → Type 0
+InTurn row events [] = Unit
+InTurn row events (e ∷ es) = EventPasses row events e × InTurn row (events ++ (e ∷ [])) es
+
+event-numbered : (row : Row) (events : List Event) (e : Event) → Numbered (eventCauses row events e)
+unfolding eventCauses
+event-numbered row events e = (λ z. omega (arith, z), (λ z. omega (arith, z), trader-numbered (live events) e))
+
+pub in-turn : (row : Row) (events es : List Event) → lowest (causesInTurn row events es) ≡ 0 → InTurn row events es
+unfolding causesInTurn eventRefusal
+in-turn row events [] h = tt
+in-turn row events (e ∷ es) h =
+    let (a, b) = both-pass (eventCauses row events e) (causesInTurn row (events ++ (e ∷ [])) es) (event-numbered row events e) h in
+    (event-passes row events e a, in-turn row (events ++ (e ∷ [])) es b)
+
+turn-in : (row : Row) (events es : List Event) → InTurn row events es → lowest (causesInTurn row events es) ≡ 0
+unfolding causesInTurn eventRefusal
+turn-in row events [] p = clear
+turn-in row events (e ∷ es) p =
+    first-passes (eventCauses row events e) _ (passes-event row events e (p .0)) (event-numbered row events e)
+    ∙ turn-in row (events ++ (e ∷ [])) es (p .1)
+
+-- its calls pass in turn, at a time that is one
+abbrev pub CallsPass : Running → M.Message Moment → Moment → Type 0
+CallsPass Idle m t = ⊥
+CallsPass (Quoting place row opening events) m before = ⊥
+CallsPass (Quoting place row opening events) m (at t) = InTurn row events (eventsAt m t)
+CallsPass (Quoting place row opening events) m late = ⊥
+
+abbrev pub MessagePasses : Running → Outcome (M.Message Moment) → Type 0
+MessagePasses r (refused n) = n ≡ 0
+MessagePasses r (accepted m) = (otherSideIn r m ≡ false) × CallsPass r m (M.timeOf m)
+
+calls-pass : (r : Running) (m : M.Message Moment) (t : Moment) → lowest (callCauses r m t) ≡ 0 → CallsPass r m t
+calls-pass Idle m t h = absurd (true≢false (passed 6 true [] h .0))
+calls-pass (Quoting place row opening events) m before h = absurd (true≢false (passed 7 true [] h .0))
+calls-pass (Quoting place row opening events) m (at t) h = in-turn row events (eventsAt m t) h
+calls-pass (Quoting place row opening events) m late h = absurd (true≢false (passed 8 true [] h .0))
+
+pass-calls : (r : Running) (m : M.Message Moment) (t : Moment) → CallsPass r m t → lowest (callCauses r m t) ≡ 0
+pass-calls Idle m t p = absurd p
+pass-calls (Quoting place row opening events) m before p = absurd p
+pass-calls (Quoting place row opening events) m (at t) p = turn-in row events (eventsAt m t) p
+pass-calls (Quoting place row opening events) m late p = absurd p
+
+message-passes : (r : Running) (read : Outcome (M.Message Moment)) → lowest (messageCauses r read) ≡ 0 → MessagePasses r read
+message-passes r (refused n) h = sym (stop n [] refl) ∙ h
+message-passes r (accepted m) h =
+    let (s, p) = passed 20 (otherSideIn r m) (callCauses r m (M.timeOf m)) h in
+    (s, calls-pass r m (M.timeOf m) p)
+
+passes-message : (r : Running) (read : Outcome (M.Message Moment)) → MessagePasses r read → lowest (messageCauses r read) ≡ 0
+passes-message r (refused n) p = stop n [] refl ∙ p
+passes-message r (accepted m) p = skip 21 (callCauses r m (M.timeOf m)) (p .0) (pass-calls r m (M.timeOf m) (p .1))
+
+-- the events of an accepted message pass in turn
+abbrev pub TurnPasses : Running → List Event → Type 0
+TurnPasses Idle es = Unit
+TurnPasses (Quoting place row opening events) es = InTurn row events es
+
+pub message-turns : (r : Running) (read : Outcome (M.Message Moment)) → MessagePasses r read → TurnPasses r (eventsIn read)
+message-turns Idle read p = tt
+message-turns (Quoting place row opening events) (refused n) p = tt
+message-turns (Quoting place row opening events) (accepted m) p = go (M.timeOf m) (p .1)
+  where
+    go : (t : Moment) → CallsPass (Quoting place row opening events) m t → InTurn row events (eventsBy m t)
+    go before q = absurd q
+    go (at t) q = q
+    go late q = absurd q
+
 -- ---- what an accepted call has passed
 
 pub record OpenPasses (terms : Terms) (b : Book) (words : List ℕ) (day : ℕ) (opening : Opening) : Type 0 where
@@ -267,6 +343,7 @@ module _ (terms : Terms) where
   abbrev pub CallPasses : Book → Call → Type 0
   CallPasses b (Open words day opening) = OpenPasses terms b words day opening
   CallPasses b (Send e) = SendPasses (b .running) e
+  CallPasses b (Message start bytes) = MessagePasses (b .running) (messageIn start bytes)
   CallPasses b (Ask a) = SendPasses (b .running) (amendOf a)
   CallPasses b (Commit a ticket) = CommitPasses b a ticket
   CallPasses b (Close active passive) = ClosePasses terms b active passive
@@ -298,6 +375,7 @@ module _ (terms : Terms) where
         spread-good = not-false (goodSpreadRule (opening .spread)) (a18 .0);
       }
   call-passes b (Send e) h = send-passes (b .running) e h
+  call-passes b (Message start bytes) h = message-passes (b .running) (messageIn start bytes) h
   call-passes b (Ask a) h = send-passes (b .running) (amendOf a) h
   call-passes b (Commit a ticket) h =
       let (s, t) = both-pass (sendCauses (b .running) (amendOf a)) _ (send-numbered (b .running) (amendOf a)) h in
@@ -329,6 +407,7 @@ module _ (terms : Terms) where
       skip _ _ (ap not (eq-eqb (length words) 7 (p .seven)))
       (skip _ _ (ap not (p .row-good)) (skip _ _ (both-not (p .day-good) (p .price-good)) (skip _ _ (p .blank) (skip _ _ (p .idle) (skip _ _ (ap not (p .allowed-good)) (skip _ _ (ap not (p .spread-good)) clear))))))
   passes-call b (Send e) p = passes-send (b .running) e p
+  passes-call b (Message start bytes) p = passes-message (b .running) (messageIn start bytes) p
   passes-call b (Ask a) p = passes-send (b .running) (amendOf a) p
   passes-call b (Commit a ticket) p =
       first-passes (sendCauses (b .running) (amendOf a)) _ (passes-send (b .running) (amendOf a) (p .sent)) (send-numbered (b .running) (amendOf a))

@@ -4,7 +4,7 @@ use Prim.Native.Nat.{ℕ, zero, suc}
 use Rattle.rules.specs.declared.Row.{Row}
 use Rattle.rules.specs.declared.Event.{Event}
 use Rattle.rules.specs.declared.Refusal.{Refusal}
-use Rattle.rules.specs.declared.Refusal.the-variants.{RowNotSevenWords, RowWordOutOfRange, ArgumentOutOfRange, CellFilled, CellBlank, QuantumOpen, NoQuantumOpen, TimeBackwards, TimePastEnd, IdLive, IdNotLive, PriceOrVolumeOutOfRange, TooManyOrders, DealAboveLeft, BadRecord, BufferShort, LapseLimitOutOfRange, StrikesOutOfRange, WrongTicket}
+use Rattle.rules.specs.declared.Refusal.the-variants.{RowNotSevenWords, RowWordOutOfRange, ArgumentOutOfRange, CellFilled, CellBlank, QuantumOpen, NoQuantumOpen, TimeBackwards, TimePastEnd, IdLive, IdNotLive, PriceOrVolumeOutOfRange, TooManyOrders, DealAboveLeft, BadRecord, BufferShort, LapseLimitOutOfRange, StrikesOutOfRange, WrongTicket, FrameWrong, FieldWrong}
 use Rattle.rules.specs.declared.CellView.{CellView}
 use Rattle.rules.specs.declared.Report.{Report}
 use Rattle.rules.specs.declared.Answer.{Answer}
@@ -52,6 +52,9 @@ numberOf LapseLimitOutOfRange = 17
 numberOf StrikesOutOfRange = 18
 -- W5: "19, a ticket whose amendment or count is not the present one, after amend's own"
 numberOf WrongTicket = 19
+-- W11: "20, frame, length, checksum or message type wrong; 21, a used tag absent, twice, unreadable or with a number past 32 bits"
+numberOf FrameWrong = 20
+numberOf FieldWrong = 21
 
 -- what is worked out afresh: accepted with values, or refused by a number
 pub data Outcome (A : Type 0) : Type 0 where

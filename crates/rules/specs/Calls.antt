@@ -2,6 +2,7 @@
 use Prim.Native.Nat.{ℕ}
 use mathlib.Core.List.{List, [], _∷_}
 use mathlib.Core.Bool.{Bool, true, false}
+use lib.ListN.{length}
 use Rattle.rules.specs.declared.Opening.{Opening}
 use Rattle.rules.specs.declared.Kopecks.{Kopecks}
 use Rattle.rules.specs.declared.Row.{Row}
@@ -11,6 +12,7 @@ use Rattle.rules.specs.declared.Event.the-variants.{Amend}
 use Rattle.rules.specs.declared.Amendment.{Amendment}
 use Rattle.rules.specs.declared.Ticket.{Ticket}
 use Rattle.rules.specs.Cells.{blankCells}
+use Rattle.rules.specs.MessageCalls.{eventsOf}
 
 -- The calls, "each by its name and its arguments other than the month". Send is add, amend, cancel, deal or tick: an event.
 pub data Call : Type 0 where
@@ -18,6 +20,8 @@ pub data Call : Type 0 where
   -- the lapse limit
   Open : List ℕ → ℕ → Opening → Call
   Send : Event → Call
+  -- document 02, W11: the quantum's start and a message, both as bytes; "the book judges each itself"
+  Message : List ℕ → List ℕ → Call
   -- document 02, W5: asking names an amendment; "Committing names the amendment again and gives the ticket"
   Ask : Amendment → Call
   Commit : Amendment → Ticket → Call
@@ -35,6 +39,7 @@ pub data Call : Type 0 where
 abbrev pub rowsIn : Call → List (List ℕ)
 rowsIn (Open words day opening) = words ∷ []
 rowsIn (Send e) = []
+rowsIn (Message start bytes) = []
 rowsIn (Ask a) = []
 rowsIn (Commit a ticket) = []
 rowsIn (Close active passive) = []
@@ -48,6 +53,7 @@ rowsIn Report = []
 abbrev pub chargesIn : Call → List Kopecks
 chargesIn (Open words day opening) = []
 chargesIn (Send e) = []
+chargesIn (Message start bytes) = []
 chargesIn (Ask a) = []
 chargesIn (Commit a ticket) = []
 chargesIn (Close active passive) = active ∷ passive ∷ []
@@ -61,6 +67,7 @@ chargesIn Report = []
 abbrev pub mapRows : (List ℕ → List ℕ) → Call → Call
 mapRows f (Open words day opening) = Open (f words) day opening
 mapRows f (Send e) = Send e
+mapRows f (Message start bytes) = Message start bytes
 mapRows f (Ask a) = Ask a
 mapRows f (Commit a ticket) = Commit a ticket
 mapRows f (Close active passive) = Close active passive
@@ -70,18 +77,20 @@ mapRows f (Withdraw day expiry quantum) = Withdraw day expiry quantum
 mapRows f (Look day expiry quantum) = Look day expiry quantum
 mapRows f Report = Report
 
--- document 02, W5: "accepted calls other than asks, looks and reports" are counted
-abbrev pub counts : Call → Bool
-counts (Open words day opening) = true
-counts (Send e) = true
-counts (Ask a) = false
-counts (Commit a ticket) = true
-counts (Close active passive) = true
-counts Drop = true
-counts (Charge day expiry quantum active passive) = true
-counts (Withdraw day expiry quantum) = true
-counts (Look day expiry quantum) = false
-counts Report = false
+-- document 02, W5: "accepted calls other than asks, looks and reports" are counted; by W11 an accepted message "stands there as those
+-- calls", one or two
+abbrev pub counts : Call → ℕ
+counts (Open words day opening) = 1
+counts (Send e) = 1
+counts (Message start bytes) = length (eventsOf start bytes)
+counts (Ask a) = 0
+counts (Commit a ticket) = 1
+counts (Close active passive) = 1
+counts Drop = 1
+counts (Charge day expiry quantum active passive) = 1
+counts (Withdraw day expiry quantum) = 1
+counts (Look day expiry quantum) = 0
+counts Report = 0
 
 -- "Open notes cell, row and SP, with an empty list of events": no quantum, or the open one's cell, row, what else open was told, and the
 -- accepted events

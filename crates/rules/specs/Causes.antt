@@ -1,7 +1,7 @@
 -- Document 01, "Refused calls": the causes of a refusal, each with its number, and the lowest that applies.
 use Prim.Native.Nat.{ℕ}
 use mathlib.Core.List.{List, [], _∷_, _++_}
-use mathlib.Core.Bool.{Bool, true, not, _&&_}
+use mathlib.Core.Bool.{Bool, true, false, not, _&&_}
 use lib.IntN.{ℤ}
 use lib.Dec.{leb, ltb, eqb}
 use lib.Signed.{leZ}
@@ -15,16 +15,20 @@ use Rattle.rules.specs.declared.Event.{Event}
 use Rattle.rules.specs.declared.Event.the-variants.{Add, Amend, Cancel, Deal, Tick}
 use Rattle.rules.specs.declared.Amendment.{Amendment}
 use Rattle.rules.specs.declared.Ticket.{Ticket}
-use Rattle.rules.specs.Lists.{if_then_else_, within}
+use Rattle.rules.specs.Lists.{if_then_else_, within, any}
 use Rattle.rules.specs.Terms.{Terms}
 use Rattle.rules.specs.Units.{goodPrice, goodVolume, goodCharge}
 use Rattle.rules.specs.Rows.{rowOf, goodRowFor}
 use Rattle.rules.specs.Cells.{goodCell, placeOf, cellAt}
-use Rattle.rules.specs.Orders.{isLive, left, live, timeOf, present}
+use Rattle.rules.specs.Orders.{hasId, isLive, left, live, timeOf, present}
+use Rattle.rules.specs.Quotes.{same}
 use Rattle.rules.specs.Strikes.{goodStrike}
 use Rattle.rules.specs.Lapses.{goodLapseLimit}
-use Rattle.rules.specs.Answers.{Outcome, outcomeBy}
-use Rattle.rules.specs.Calls.{Call, Running, Book, isOpen, amendOf, Open, Send, Ask, Commit, Close, Drop, Charge, Withdraw, Look, Report, Idle, Quoting}
+use Rattle.rules.specs.Answers.{Outcome, accepted, refused, outcomeBy}
+use Rattle.rules.specs.Dates.{Moment, before, at, late}
+use Rattle.rules.specs.Messages as M
+use Rattle.rules.specs.MessageCalls.{messageIn, eventsAt}
+use Rattle.rules.specs.Calls.{Call, Running, Book, isOpen, amendOf, Open, Send, Message, Ask, Commit, Close, Drop, Charge, Withdraw, Look, Report, Idle, Quoting}
 
 pub record Cause : Type 0 where
   pub number : ℕ
@@ -68,6 +72,38 @@ eventRefusal row events e = lowest (eventCauses row events e)
 abbrev pub sendCauses : Running → Event → List Cause
 sendCauses Idle e = cause 7 true ∷ []
 sendCauses (Quoting place row opening events) e = eventCauses row events e
+
+-- document 02, W11: "a G whose 54 is not the side of the live order named by 41 is code 21"; with no such order it is not
+abbrev pub otherSide : List Order → M.Message Moment → Bool
+otherSide orders (M.newOrder id side volume price time) = false
+otherSide orders (M.cancelOrder id orig time) = false
+otherSide orders (M.replaceOrder id orig side volume price time) = any (λ (o : Order). hasId orig o && not (same side (o .side))) orders
+
+-- with no quantum open it is no cause
+abbrev pub otherSideIn : Running → M.Message Moment → Bool
+otherSideIn Idle m = false
+otherSideIn (Quoting place row opening events) m = otherSide (live events) m
+
+-- "the causes of its one or two calls in turn": each event's on the list with those before it
+unfoldable pub causesInTurn : Row → List Event → List Event → List Cause
+causesInTurn row events [] = []
+causesInTurn row events (e ∷ es) = eventCauses row events e ++ causesInTurn row (events ++ (e ∷ [])) es
+
+-- "one before [the quantum's start] gets refusal 8, one over 32 bits of milliseconds later refusal 9"
+abbrev pub causesBy : Row → List Event → M.Message Moment → Moment → List Cause
+causesBy row events m before = cause 8 true ∷ []
+causesBy row events m (at t) = causesInTurn row events (eventsAt m t)
+causesBy row events m late = cause 9 true ∷ []
+
+-- with none open 7, whatever the time
+abbrev pub callCauses : Running → M.Message Moment → Moment → List Cause
+callCauses Idle m t = cause 7 true ∷ []
+callCauses (Quoting place row opening events) m t = causesBy row events m t
+
+-- "20 and 21 first, then the causes of its one or two calls in turn"
+abbrev pub messageCauses : Running → Outcome (M.Message Moment) → List Cause
+messageCauses running (refused n) = cause n true ∷ []
+messageCauses running (accepted m) = cause 21 (otherSideIn running m) ∷ callCauses running m (M.timeOf m)
 
 -- neither price is below the other
 abbrev pub samePrice : ℤ → ℤ → Bool
@@ -117,6 +153,7 @@ module _ (terms : Terms) where
       ∷ cause 18 (not (goodSpreadRule (opening .spread)))
       ∷ [])
   causes b (Send e) = sendCauses (b .running) e
+  causes b (Message start bytes) = messageCauses (b .running) (messageIn start bytes)
   causes b (Ask a) = sendCauses (b .running) (amendOf a)
   causes b (Commit a ticket) = sendCauses (b .running) (amendOf a) ++ (cause 19 (not (goodTicket ticket a (b .count))) ∷ [])
   causes b (Close active passive) = cause 3 (not (goodCharges active passive)) ∷ cause 7 (not (isOpen (b .running))) ∷ []

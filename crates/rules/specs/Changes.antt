@@ -1,5 +1,5 @@
 -- Document 01, "Afresh": the book after an accepted call.
-use Prim.Native.Nat.{ℕ, _+_, _%_}
+use Prim.Native.Nat.{ℕ, zero, suc, _+_, _%_}
 use mathlib.Core.List.{List, [], _∷_, _++_}
 use mathlib.Core.Bool.{true}
 use lib.ListN.{length, set}
@@ -8,18 +8,21 @@ use Rattle.rules.specs.declared.Kopecks.{Kopecks}
 use Rattle.rules.specs.declared.Row.{Row}
 use Rattle.rules.specs.declared.Cell.{Cell}
 use Rattle.rules.specs.declared.Event.{Event}
-use Rattle.rules.specs.Lists.{if_then_else_}
 use Rattle.rules.specs.Units.{millis}
 use Rattle.rules.specs.Rows.{rowOf}
 use Rattle.rules.specs.Cells.{blankCell, placeOf, cellAt}
 use Rattle.rules.specs.Kept.{keptBelow}
 use Rattle.rules.specs.Lapses.{lapsesBelow}
-use Rattle.rules.specs.Calls.{Call, Running, Book, counts, amendOf, Open, Send, Ask, Commit, Close, Drop, Charge, Withdraw, Look, Report, Idle, Quoting}
+use Rattle.rules.specs.MessageCalls.{eventsOf}
+use Rattle.rules.specs.Calls.{Call, Running, Book, counts, amendOf, Open, Send, Message, Ask, Commit, Close, Drop, Charge, Withdraw, Look, Report, Idle, Quoting}
 
--- an event "goes to the end of that list"
+-- an event "goes to the end of that list"; a message's one or two go there in turn
+abbrev pub notedAll : Running → List Event → Running
+notedAll Idle es = Idle
+notedAll (Quoting place row opening events) es = Quoting place row opening (events ++ es)
+
 abbrev pub noted : Running → Event → Running
-noted Idle e = Idle
-noted (Quoting place row opening events) e = Quoting place row opening (events ++ (e ∷ []))
+noted running e = notedAll running (e ∷ [])
 
 -- "Close counts K over that list, millisecond by millisecond below L, puts K, L, p, A and P into the cell"; document 02, W1: the quantum "and
 -- each cell carry limit and lapse count"
@@ -58,11 +61,17 @@ charged active passive c =
 unfoldable pub following : ℕ → ℕ
 following count = (count + 1) % 18446744073709551616
 
+-- the count after so many more accepted calls
+abbrev pub countAfter : ℕ → ℕ → ℕ
+countAfter zero count = count
+countAfter (suc n) count = countAfter n (following count)
+
 -- the quantum and the cells after an accepted call
 abbrev pub quantumAndCells : Book → Call → Running × List Cell
 quantumAndCells b (Open words day opening) =
     (Quoting (placeOf day (rowOf words .expiry) (rowOf words .quantum)) (rowOf words) opening [], b .cells)
 quantumAndCells b (Send e) = (noted (b .running) e, b .cells)
+quantumAndCells b (Message start bytes) = (notedAll (b .running) (eventsOf start bytes), b .cells)
 quantumAndCells b (Ask a) = (b .running, b .cells)
 quantumAndCells b (Commit a ticket) = (noted (b .running) (amendOf a), b .cells)
 quantumAndCells b (Close active passive) = (Idle, closed (b .running) active passive (b .cells))
@@ -79,5 +88,5 @@ changed b c =
     record {
       running = quantumAndCells b c .0;
       cells = quantumAndCells b c .1;
-      count = if counts c then following (b .count) else b .count;
+      count = countAfter (counts c) (b .count);
     }

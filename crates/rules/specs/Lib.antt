@@ -21,6 +21,14 @@ pub mod Lapses
 pub mod Pay
 -- "Refused calls" and "Afresh"
 pub mod Answers
+-- document 02, W11: FIX messages, and the calls that they stand for
+pub mod Text
+pub mod Digits
+pub mod Dates
+pub mod Fields
+pub mod Frame
+pub mod Messages
+pub mod MessageCalls
 pub mod Calls
 pub mod Causes
 pub mod Changes
@@ -40,10 +48,3 @@ pub mod Session
 pub mod Fewest
 -- "Checks on paper"
 pub mod Checks
--- document 02, W11: FIX messages
-pub mod Text
-pub mod Digits
-pub mod Dates
-pub mod Fields
-pub mod Frame
-pub mod Messages

@@ -14,7 +14,7 @@ use Rattle.rules.specs.Kept.{bestBid, bestAsk, keptBelow}
 use Rattle.rules.specs.Lapses.{lapsesBelow}
 use Rattle.rules.specs.Pay.{viewOf, allFailures, fee}
 use Rattle.rules.specs.Answers.{Reply, done, cell, asked, report}
-use Rattle.rules.specs.Calls.{Call, Running, Book, isOpen, amendOf, Open, Send, Ask, Commit, Close, Drop, Charge, Withdraw, Look, Report, Idle, Quoting}
+use Rattle.rules.specs.Calls.{Call, Running, Book, isOpen, amendOf, Open, Send, Message, Ask, Commit, Close, Drop, Charge, Withdraw, Look, Report, Idle, Quoting}
 use Rattle.rules.specs.Changes.{noted}
 
 -- ---- what report answers: "open or not, time of the open quantum, number of live orders, both best quotes, kept so far, each
@@ -74,6 +74,7 @@ module _ (terms : Terms) where
   abbrev pub replyOf : Book → Call → Reply
   replyOf b (Open words day opening) = done
   replyOf b (Send e) = done
+  replyOf b (Message start bytes) = done
   replyOf b (Ask a) = asked (previewOf b a)
   replyOf b (Commit a ticket) = done
   replyOf b (Close active passive) = done

@@ -137,6 +137,8 @@ pub enum Refusal {
     LapseLimitOutOfRange,
     StrikesOutOfRange,
     WrongTicket,
+    FrameWrong,
+    FieldWrong,
 }
 
 // The answer of a call that shows nothing when it is accepted.
@@ -244,6 +246,8 @@ pub fn number(refusal: Refusal) -> u32
         Refusal::LapseLimitOutOfRange => 17,
         Refusal::StrikesOutOfRange => 18,
         Refusal::WrongTicket => 19,
+        Refusal::FrameWrong => 20,
+        Refusal::FieldWrong => 21,
     }
 }
 

@@ -1,52 +1,26 @@
--- `dates::since` meets its contract. Assumes nothing.
-use mathlib.Core.Path.{_≡_, refl, sym, ap, _∙_}
+-- The 60's bytes say a time or none. Assumes nothing.
+use mathlib.Core.Path.{sym, ap, _∙_}
 use Rattle.dates.specs.Answers.{shownTime}
-use Rattle.dates.proofs.Reading.{timed, no-start, no-sixty, from-start}
+use Rattle.dates.proofs.Reading.{timed, no-sixty, with-sixty}
 use borrow.Author.Needs.{needs}
 use Rattle.dates.proofs.since.Statement.{statement}
 use Rattle.dates.proofs.since.Tie as tie
 
-time-in-requires : tie.Need-time-in-requires
-time-in-requires c κs = search needs
-
-enum-known-from : tie.Need-enum-known-from
-enum-known-from c = search needs
-
-enum-told : tie.Need-enum-told
-enum-told c = search needs
-
 returns : tie.Need-returns
-returns c = no-start (c .before .before .before .before .before .args .start .now) (c .before .before .before .before .before .args .sixty .now) (sym (ap shownTime (c .enum-told .given .1)) ∙ c .before .before .time-in .ensures)
+returns c =
+    let start = c .before .before .before .before .before in
+    no-sixty (start .args .start .now) (start .args .sixty .now) (sym (ap shownTime (c .enum-told .given .1)) ∙ c .before .before .time-in .ensures)
 
-time-in-requires-2 : tie.Need-time-in-requires-2
-time-in-requires-2 c κs = search needs
-
-enum-known-to : tie.Need-enum-known-to
-enum-known-to c = search needs
-
-enum-told-2 : tie.Need-enum-told-2
-enum-told-2 c = search needs
+after-requires : tie.Need-after-requires
+after-requires c κs =
+    let start = c .before .before .before .before .before .before in
+    timed (start .args .sixty .now) (c .before .time .given .0 .0) (sym (sym (ap shownTime (c .before .time .given .1)) ∙ c .before .before .before .time-in .ensures))
 
 returns-2 : tie.Need-returns-2
-returns-2 c = no-sixty (c .before .before .before .before .before .before .before .before .before .args .start .now) (c .before .before .before .before .before .before .before .before .before .args .sixty .now) (sym (ap shownTime (c .enum-told2 .given .1)) ∙ c .before .before .time-in2 .ensures)
-
-moment-requires : tie.Need-moment-requires
-moment-requires c κs = (timed (c .before .before .before .before .before .before .before .before .before .before .args .start .now) (c .before .before .before .before .before .from .given .0 .0) (sym (sym (ap shownTime (c .before .before .before .before .before .from .given .1)) ∙ c .before .before .before .before .before .before .before .time-in .ensures)), timed (c .before .before .before .before .before .before .before .before .before .before .args .sixty .now) (c .before .to .given .0 .0) (sym (sym (ap shownTime (c .before .to .given .1)) ∙ c .before .before .before .time-in2 .ensures)))
-
-returns-3 : tie.Need-returns-3
-returns-3 c = c .moment .ensures ∙ from-start (c .before .before .before .before .before .before .before .before .before .before .before .args .start .now) (c .before .before .before .before .before .before .before .before .before .before .before .args .sixty .now) (c .before .before .before .before .before .before .from .given .0 .0) (c .before .before .to .given .0 .0) (sym (ap shownTime (c .before .before .before .before .before .before .from .given .1)) ∙ c .before .before .before .before .before .before .before .before .time-in .ensures) (sym (ap shownTime (c .before .before .to .given .1)) ∙ c .before .before .before .before .time-in2 .ensures)
+returns-2 c =
+    let start = c .before .before .before .before .before .before .before in
+    c .after .ensures
+    ∙ with-sixty (start .args .start .now) (start .args .sixty .now) (c .before .before .time .given .0 .0) (sym (ap shownTime (c .before .before .time .given .1)) ∙ c .before .before .before .before .time-in .ensures)
 
 pub since-spec : {M : Type 1} → statement M
-since-spec =
-    tie.close
-    (tie.spec
-    time-in-requires
-    enum-known-from
-    enum-told
-    returns
-    time-in-requires-2
-    enum-known-to
-    enum-told-2
-    returns-2
-    moment-requires
-    returns-3)
+since-spec = tie.close (tie.spec (λ c κs. search needs) (λ c. search needs) (λ c. search needs) returns after-requires returns-2)
