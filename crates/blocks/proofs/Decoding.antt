@@ -1,15 +1,19 @@
 -- A block's arguments, and the call by its kind. Assumes nothing.
-use Prim.Native.Nat.{ℕ, _+_, _-_, _*_, _≤_, _<_, min}
+use Prim.Native.Nat.{ℕ, _+_, _-_, _*_, _/_, _≤_, _<_, min}
 use native.Mathlib.Omega.{arith}
 use mathlib.Core.Path.{_≡_, refl, sym, ap, _∙_}
 use mathlib.Core.List.{List, [], _∷_}
 use borrow.Author.Tests.{ne-eqb}
 use lib.ListN.{length, getD, take, drop, length-take, length-drop}
-use lib.Seq.{getD-take, getD-drop}
+use lib.Seq.{length-take-le, getD-take, getD-drop, ext-getD}
 use Rattle.rules.specs.declared.Side.the-variants.{Buy, Sell}
 use Rattle.rules.specs.declared.Opening.{Opening}
+use Rattle.rules.specs.Widths.{Bytes}
 use Rattle.rules.specs.Calls.{Report}
 use Rattle.rules.specs.Calls as B
+use Rattle.words.specs.Bytes.{wordsIn, bytesOf}
+use Rattle.words.proofs.Bytes.{words-behind}
+use Rattle.words.proofs.Back.{bytes-back}
 use Rattle.blocks.specs.declared.Decoded.{Decoded}
 use Rattle.blocks.specs.declared.Decoded.the-variants as D
 use Rattle.blocks.specs.Kinds.{wideAt, sideOf, rowAt, openingAt, strikeOpeningAt, callBy, callOf}
@@ -59,26 +63,69 @@ row-is ws n a b c d e f g h =
     ∷ row-word ws n 6 _ (omega arith) g i ∷ [])
     ∙ seven (take n (drop 2 ws)) h
 
+-- a part of a message's bytes: one that runs past the whole words ends with them
+span : (from n whole start end : ℕ) → end ≡ min (from + n) whole → start ≡ min from end → end - start ≡ min n (whole - from)
+span from n whole start end e s = omega arith
+
+module _ (b : List ℕ) (at n whole start end : ℕ) (w : whole ≡ 4 * (length b / 4)) (e : end ≡ min (12 + at + n) whole) (s : start ≡ min (12 + at) end) where
+  abbrev inside : List ℕ
+  inside = take (4 * (length (drop 12 b) / 4)) (drop 12 b)
+
+  inside-length : length inside ≡ whole - 12
+  inside-length =
+      let d = length-drop 12 b in
+      length-take (4 * (length (drop 12 b) / 4)) (drop 12 b) ∙ omega arith
+
+  left-length : length (take (end - start) (drop start b)) ≡ end - start
+  left-length =
+      let h : end ≤ length b = omega arith in
+      length-take-le (end - start) (drop start b) (rw (length-drop start b) (omega arith))
+
+  right-length : length (take n (drop at inside)) ≡ min n (whole - (12 + at))
+  right-length =
+      let f : whole - 12 - at ≡ whole - (12 + at) = omega arith in
+      length-take n (drop at inside) ∙ ap (min n) (length-drop at inside ∙ ap (λ (k : ℕ). k - at) inside-length ∙ f)
+
+  each : (i : ℕ) → i < length (take (end - start) (drop start b)) → getD (take (end - start) (drop start b)) i 0 ≡ getD (take n (drop at inside)) i 0
+  each i h =
+      let l = left-length in
+      let d = length-drop 12 b in
+      let j : start + i ≡ 12 + (at + i) = omega arith in
+      getD-take (end - start) (drop start b) i 0 (omega arith)
+      ∙ getD-drop start b i 0
+      ∙ ap (λ (k : ℕ). getD b k 0) j
+      ∙ sym
+      (getD-take n (drop at inside) i 0 (omega arith)
+      ∙ getD-drop at inside i 0
+      ∙ getD-take (4 * (length (drop 12 b) / 4)) (drop 12 b) (at + i) 0 (omega arith)
+      ∙ getD-drop 12 b (at + i) 0)
+
+  pub part-is : Bytes b → take (end - start) (drop start b) ≡ take n (drop at (bytesOf (drop 3 (wordsIn b))))
+  part-is h =
+      ext-getD 0 (take (end - start) (drop start b)) (take n (drop at inside)) (left-length ∙ span (12 + at) n whole start end e s ∙ sym right-length) each
+      ∙ ap (λ (l : List ℕ). take n (drop at l)) (sym (ap bytesOf (words-behind b 3) ∙ bytes-back (drop 12 b) (λ i. rw (getD-drop 12 b i 0) (h (12 + i)))))
+
 -- ---- the call by its kind
 
 -- a kind that says no other call is a report
-not-said : (ws : List ℕ) (kind : ℕ) → NoneOf kind (15 ∷ 14 ∷ 13 ∷ 11 ∷ 10 ∷ 9 ∷ 8 ∷ 7 ∷ 6 ∷ 5 ∷ 4 ∷ 3 ∷ 2 ∷ 1 ∷ []) → callBy kind ws ≡ Report
+not-said : (ws : List ℕ) (kind : ℕ) → NoneOf kind (16 ∷ 15 ∷ 14 ∷ 13 ∷ 11 ∷ 10 ∷ 9 ∷ 8 ∷ 7 ∷ 6 ∷ 5 ∷ 4 ∷ 3 ∷ 2 ∷ 1 ∷ []) → callBy kind ws ≡ Report
 not-said ws kind h =
     rw (
-      ne-eqb kind 1 (h .0 .0 .0 .0 .0 .0 .0 .0 .0 .0 .0 .0 .0 .1),
-      ne-eqb kind 2 (h .0 .0 .0 .0 .0 .0 .0 .0 .0 .0 .0 .0 .1),
-      ne-eqb kind 3 (h .0 .0 .0 .0 .0 .0 .0 .0 .0 .0 .0 .1),
-      ne-eqb kind 4 (h .0 .0 .0 .0 .0 .0 .0 .0 .0 .0 .1),
-      ne-eqb kind 5 (h .0 .0 .0 .0 .0 .0 .0 .0 .0 .1),
-      ne-eqb kind 6 (h .0 .0 .0 .0 .0 .0 .0 .0 .1),
-      ne-eqb kind 7 (h .0 .0 .0 .0 .0 .0 .0 .1),
-      ne-eqb kind 8 (h .0 .0 .0 .0 .0 .0 .1),
-      ne-eqb kind 9 (h .0 .0 .0 .0 .0 .1),
-      ne-eqb kind 10 (h .0 .0 .0 .0 .1),
-      ne-eqb kind 11 (h .0 .0 .0 .1),
-      ne-eqb kind 13 (h .0 .0 .1),
-      ne-eqb kind 14 (h .0 .1),
-      ne-eqb kind 15 (h .1),
+      ne-eqb kind 1 (h .0 .0 .0 .0 .0 .0 .0 .0 .0 .0 .0 .0 .0 .0 .1),
+      ne-eqb kind 2 (h .0 .0 .0 .0 .0 .0 .0 .0 .0 .0 .0 .0 .0 .1),
+      ne-eqb kind 3 (h .0 .0 .0 .0 .0 .0 .0 .0 .0 .0 .0 .0 .1),
+      ne-eqb kind 4 (h .0 .0 .0 .0 .0 .0 .0 .0 .0 .0 .0 .1),
+      ne-eqb kind 5 (h .0 .0 .0 .0 .0 .0 .0 .0 .0 .0 .1),
+      ne-eqb kind 6 (h .0 .0 .0 .0 .0 .0 .0 .0 .0 .1),
+      ne-eqb kind 7 (h .0 .0 .0 .0 .0 .0 .0 .0 .1),
+      ne-eqb kind 8 (h .0 .0 .0 .0 .0 .0 .0 .1),
+      ne-eqb kind 9 (h .0 .0 .0 .0 .0 .0 .1),
+      ne-eqb kind 10 (h .0 .0 .0 .0 .0 .1),
+      ne-eqb kind 11 (h .0 .0 .0 .0 .1),
+      ne-eqb kind 13 (h .0 .0 .0 .1),
+      ne-eqb kind 14 (h .0 .0 .1),
+      ne-eqb kind 15 (h .0 .1),
+      ne-eqb kind 16 (h .1),
     )
     refl
 
@@ -102,6 +149,6 @@ module _ (ws : List ℕ) where
       ap (callWith ws) r ∙ ap (B.Open (rowAt ws) (getD ws (2 + getD ws 1 0) 0)) (o ∙ ap (strikeOpeningAt ws) f)
 
   -- any other kind
-  pub other-is : (kind : ℕ) → kind ≡ getD ws 0 0 → NoneOf kind (15 ∷ 14 ∷ 13 ∷ 11 ∷ 10 ∷ 9 ∷ 8 ∷ 7 ∷ 6 ∷ 5 ∷ 4 ∷ 3 ∷ 2 ∷ 1 ∷ []) → Report ≡ callOf ws
+  pub other-is : (kind : ℕ) → kind ≡ getD ws 0 0 → NoneOf kind (16 ∷ 15 ∷ 14 ∷ 13 ∷ 11 ∷ 10 ∷ 9 ∷ 8 ∷ 7 ∷ 6 ∷ 5 ∷ 4 ∷ 3 ∷ 2 ∷ 1 ∷ []) → Report ≡ callOf ws
   unfolding callOf
   other-is kind e h = sym (not-said ws kind h) ∙ ap (λ (j : ℕ). callBy j ws) e

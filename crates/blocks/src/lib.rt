@@ -1,15 +1,15 @@
 // The format of a list of calls: 32-bit words in a string of bytes, one block a call (docs/FORMATS.md). How many words a block has, which
 // call it says, and how many calls and words are read from a list. The words are those of `wordsIn`: all that is read of the bytes goes
-// through `word` and `count`.
+// through `word`, `part` and `count`.
 //
 // One more kind of block is one arm of `due` and one of `decode`, with a variant of `Decoded` if it says a call that has none; in specs/
 // a clause of `due` and of `callBy`, `callWith`, `wordsOf` and `CallFits`; in `script` an arm of `call`.
 ghost use mathlib.Core.Path.{_≡_};
-ghost use Prim.Native.Nat.{_+_, _*_, _≤_, _<_};
-ghost use lib.ListN.{length, getD, drop};
+ghost use Prim.Native.Nat.{_+_, _*_, _/_, _≤_, _<_};
+ghost use lib.ListN.{length, getD, take, drop};
 ghost use Rattle.rules.specs.Units.{millis, contracts};
-ghost use Rattle.words.specs.Bytes.{wordsIn};
-ghost use Rattle.blocks.specs.Kinds.{addDue, due, blockSize, rowAt, stepsAt, openingAt, strikeAt, strikeOpeningAt, wideAt, chargeAt, amendmentAt, ticketAt, sideOf, callBy, callOf};
+ghost use Rattle.words.specs.Bytes.{wordsIn, bytesOf};
+ghost use Rattle.blocks.specs.Kinds.{addDue, dueAt, blockSize, rowAt, startAt, messageAt, stepsAt, openingAt, strikeAt, strikeOpeningAt, wideAt, chargeAt, amendmentAt, ticketAt, sideOf, callBy, callOf};
 ghost use Rattle.blocks.specs.Measures.{Measures};
 ghost use Rattle.blocks.specs.Decoded.{callWith};
 ghost use Rattle.blocks.specs.Internal.{Place};
@@ -31,13 +31,15 @@ pub struct Measured {
     pub words: usize,
 }
 
-// The call that a block says, by its arguments. An open's row is not among them, since no enum holds an array: it is `row` of the bytes.
+// The call that a block says, by its arguments. An open's row and a message's bytes are not among them, since no enum holds an array or a
+// reference: they are `row`, `start` and `message` of the block's bytes.
 pub enum Decoded {
     Open {
         day: u32,
         opening: Opening,
     },
     Send(Event),
+    Message,
     Ask(Amendment),
     Commit(Amendment, Ticket),
     Close(Kopecks, Kopecks),
@@ -92,15 +94,23 @@ fn add_due(side: u32) -> usize
     }
 }
 
-// How many words a block is due, by its kind, the word behind that and an add's side. The kinds:
-fn due_words(kind: u32, n: u32, side: u32) -> usize
-    ensures { λ r. ⌜ r ≡ due kind n side ⌝ }
+// A message has three words and those of its bytes, filled up to whole words.
+fn message_due(s: u32, m: u32) -> usize
+    ensures { λ r. ⌜ r ≡ 3 + (s + m + 3) / 4 ⌝ }
 {
+    3 + (numbers::length(s) + numbers::length(m) + 3) / 4
+}
+
+// How many words the block at the front is due. The kinds:
+fn due_words(bytes: &[u8]) -> usize
+    ensures { λ r. ⌜ r ≡ dueAt (wordsIn (now (bytes .entry))) ⌝ }
+{
+    let kind = word(bytes, 0);
     match kind {
-        // open, with n row words
-        1 => 5 + numbers::length(n),
+        // open, with as many row words as the second says
+        1 => 5 + numbers::length(word(bytes, 1)),
         // add, amend, cancel, deal, tick
-        2 => add_due(side),
+        2 => add_due(word(bytes, 3)),
         3 => 5,
         4 => 3,
         5 => 4,
@@ -113,11 +123,13 @@ fn due_words(kind: u32, n: u32, side: u32) -> usize
         // look, report
         11 => 4,
         12 => 1,
-        // open a strike, with n row words
-        13 => 8 + numbers::length(n),
+        // open a strike, with as many row words
+        13 => 8 + numbers::length(word(bytes, 1)),
         // ask, commit
         14 => 5,
         15 => 11,
+        // message
+        16 => message_due(word(bytes, 1), word(bytes, 2)),
         _ => 0,
     }
 }
@@ -126,7 +138,7 @@ fn due_words(kind: u32, n: u32, side: u32) -> usize
 pub fn size(bytes: &[u8]) -> usize
     ensures { λ r. ⌜ r ≡ blockSize (wordsIn (now (bytes .entry))) ⌝ }
 {
-    let n = due_words(word(bytes, 0), word(bytes, 1), word(bytes, 3));
+    let n = due_words(bytes);
     if n <= count(bytes) {
         return n;
     }
@@ -207,6 +219,32 @@ pub fn row(bytes: &[u8]) -> [u32; 7]
         word(bytes, 7),
         word(bytes, 8),
     ]
+}
+
+// So many bytes from a place on, of those behind a block's first three words, as far as there are whole words.
+fn part(bytes: &[u8], at: usize, n: usize) -> &[u8]
+    requires { ⌜ (at < 4294967296) × (n < 4294967296) ⌝ }
+    ensures { λ r. ⌜ now r ≡ take n (drop at (bytesOf (drop 3 (wordsIn (now (bytes .entry)))))) ⌝ }
+{
+    let end = numbers::min_length(12 + at + n, 4 * count(bytes));
+    let start = numbers::min_length(12 + at, end);
+    &bytes[start..end]
+}
+
+// The quantum's start that is given with a message.
+pub fn start(bytes: &[u8]) -> &[u8]
+    ensures { λ r. ⌜ now r ≡ startAt (wordsIn (now (bytes .entry))) ⌝ }
+{
+    part(bytes, 0, numbers::length(word(bytes, 1)))
+}
+
+// The message.
+pub fn message(bytes: &[u8]) -> &[u8]
+    ensures { λ r. ⌜ now r ≡ messageAt (wordsIn (now (bytes .entry))) ⌝ }
+{
+    let at = numbers::length(word(bytes, 1));
+    let n = numbers::length(word(bytes, 2));
+    part(bytes, at, n)
 }
 
 // SP and the lapse limit, which stand one behind the other.
@@ -436,6 +474,7 @@ pub fn decode(bytes: &[u8]) -> Decoded
         13 => open(bytes, strike_opening_at(bytes, behind)),
         14 => ask(bytes),
         15 => commit(bytes),
+        16 => Decoded::Message,
         _ => Decoded::Report,
     }
 }

@@ -1,2 +1,2 @@
--- The words in some bytes.
+-- The words in some bytes, and the bytes of some words.
 pub mod Bytes

@@ -138,6 +138,11 @@ returns-14 c =
 returns-15 : tie.Need-returns-15
 returns-15 c =
     let s = c .before in
+    by-kind (wordsIn (s .before .before .before .args .bytes .now)) (s .before .word .result) 16 (s .before .word .ensures) (c .match .keys15)
+
+returns-16 : tie.Need-returns-16
+returns-16 c =
+    let s = c .before in
     other-is (wordsIn (s .before .before .before .args .bytes .now)) (s .before .word .result) (s .before .word .ensures) (c .match .rest)
 
 pub decode-spec : {M : Type 1} → statement M
@@ -176,4 +181,5 @@ decode-spec =
     returns-12
     returns-13
     returns-14
-    returns-15)
+    returns-15
+    returns-16)
