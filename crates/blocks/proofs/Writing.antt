@@ -1,11 +1,11 @@
 -- Every list of calls can be written: the calls read from the words of a list are that list, and all its words are read. Assumes nothing.
-use Prim.Native.Nat.{ℕ, zero, suc, _+_, _*_, _<_}
+use Prim.Native.Nat.{ℕ, zero, suc, _+_, _-_, _*_, _/_, _<_}
 use native.Mathlib.Omega.{arith}
 use mathlib.Core.Path.{_≡_, refl, sym, ap, _∙_}
 use mathlib.Core.List.{List, [], _∷_, _++_, append-assoc}
 use lib.IntN.{ℤ}
 use lib.ListN.{length, getD, take, drop, length-append}
-use lib.Seq.{take-at, getD-append-add, drop-append-seam}
+use lib.Seq.{take-at, drop-at, take-append-add, getD-append-add, drop-append-seam}
 use Rattle.rules.specs.declared.Side.{Side}
 use Rattle.rules.specs.declared.Side.the-variants.{Buy, Sell}
 use Rattle.rules.specs.declared.SpreadRule.{SpreadRule}
@@ -16,12 +16,15 @@ use Rattle.rules.specs.declared.Event.{Event}
 use Rattle.rules.specs.declared.Event.the-variants.{Add, Amend, Cancel, Deal, Tick}
 use Rattle.rules.specs.Units.{steps, kopecks}
 use Rattle.rules.specs.Records.{signedOf, unsignedOf}
-use Rattle.rules.specs.Widths.{Word, SignedWord, Fits}
-use Rattle.rules.specs.Calls.{Call, Open, Send, Ask, Commit, Close, Drop, Charge, Withdraw, Look, Report}
+use Rattle.rules.specs.Widths.{Word, SignedWord, Fits, Bytes}
+use Rattle.rules.specs.Calls.{Call, Open, Send, Message, Ask, Commit, Close, Drop, Charge, Withdraw, Look, Report}
 use Rattle.rules.proofs.Records.{signed-unsigned, unsigned-fits}
+use Rattle.words.specs.Bytes.{bytesOf}
+use Rattle.words.proofs.Bytes.{words-length}
+use Rattle.words.proofs.Back.{bytes-append, bytes-back, words-fit as words-in-fit}
 use Rattle.blocks.specs.Kinds.{addDue, due, dueAt, blockSize, callOf}
 use Rattle.blocks.specs.Reading.{callsOf, wordsRead}
-use Rattle.blocks.specs.Writing.{sideWord, eventWords, low, high, openKind, openingWords, wordsOf, scriptOf, Words, Wide, SpreadRuleFits, AmendmentFits, CallFits, AllFit}
+use Rattle.blocks.specs.Writing.{sideWord, eventWords, low, high, openKind, openingWords, filled, wordsOf, scriptOf, Words, Wide, SpreadRuleFits, AmendmentFits, CallFits, AllFit}
 use Rattle.blocks.proofs.Reading.{whole, short, calls-none, calls-more, words-none, words-more}
 
 -- ---- the size
@@ -42,10 +45,18 @@ unfolding due
 open-due words day (Settled sp) allowed rest = rw (length-append words (day ∷ openingWords (Settled sp) allowed)) (omega arith)
 open-due words day (OfStrike s) allowed rest = rw (length-append words (day ∷ openingWords (OfStrike s) allowed)) (omega arith)
 
+-- the number of words that hold so many bytes
+filled-length : (bytes : List ℕ) → length (filled bytes) ≡ (length bytes + 3) / 4
+filled-length bytes = words-length (bytes ++ (0 ∷ 0 ∷ 0 ∷ [])) ∙ ap (λ (n : ℕ). n / 4) (length-append bytes (0 ∷ 0 ∷ 0 ∷ []))
+
+message-due : (start bytes : List ℕ) → 3 + (length start + length bytes + 3) / 4 ≡ suc (suc (suc (length (filled (start ++ bytes)))))
+message-due start bytes = omega (arith, filled-length (start ++ bytes), length-append start bytes)
+
 call-due : (c : Call) (rest : List ℕ) → dueAt (wordsOf c ++ rest) ≡ length (wordsOf c)
 unfolding wordsOf due
 call-due (Open words day opening) rest = open-due words day (opening .spread) (opening .allowed) rest
 call-due (Send e) rest = event-due e rest
+call-due (Message start bytes) rest = message-due start bytes
 call-due (Ask a) rest = refl
 call-due (Commit a ticket) rest = refl
 call-due (Close active passive) rest = refl
@@ -72,6 +83,7 @@ call-some : (c : Call) → 0 < length (wordsOf c)
 unfolding wordsOf
 call-some (Open words day opening) = omega arith
 call-some (Send e) = event-some e
+call-some (Message start bytes) = omega arith
 call-some (Ask a) = omega arith
 call-some (Commit a ticket) = omega arith
 call-some (Close active passive) = omega arith
@@ -151,10 +163,67 @@ open-back words day (OfStrike s) allowed h rest =
       allowed = word-at 13 words day opening rest (3 + n + 4) 5 (omega arith) i;
     })
 
+-- what holds of each number of two lists holds of each number of both
+each-of : (P : ℕ → Type 0) (xs ys : List ℕ) → ((i : ℕ) → P (getD xs i 0)) → ((i : ℕ) → P (getD ys i 0)) → (i : ℕ) → P (getD (xs ++ ys) i 0)
+each-of P [] ys h k i = k i
+each-of P (x ∷ xs) ys h k zero = h 0
+each-of P (x ∷ xs) ys h k (suc i) = each-of P xs ys (λ j. h (suc j)) k i
+
+zeros : Bytes (0 ∷ 0 ∷ 0 ∷ [])
+zeros zero = omega arith
+zeros (suc zero) = omega arith
+zeros (suc (suc zero)) = omega arith
+zeros (suc (suc (suc i))) = omega arith
+
+filled-bytes : (bytes : List ℕ) → Bytes bytes → Bytes (bytes ++ (0 ∷ 0 ∷ 0 ∷ []))
+filled-bytes bytes h = each-of (λ (n : ℕ). n < 256) bytes (0 ∷ 0 ∷ 0 ∷ []) h zeros
+
+both-bytes : (start bytes : List ℕ) → Bytes start → Bytes bytes → Bytes (start ++ bytes)
+both-bytes start bytes hs hb = each-of (λ (n : ℕ). n < 256) start bytes hs hb
+
+-- the bytes of a message's words: the start, the message, and what fills them up and follows
+module _ (start bytes rest : List ℕ) (hs : Bytes start) (hb : Bytes bytes) where
+  abbrev both : List ℕ
+  both = start ++ bytes
+
+  abbrev filling : ℕ
+  filling = 4 * ((length both + 3) / 4) - length both
+
+  abbrev tail : List ℕ
+  tail = take filling (0 ∷ 0 ∷ 0 ∷ []) ++ bytesOf rest
+
+  behind-both : bytesOf (filled both) ≡ both ++ take filling (0 ∷ 0 ∷ 0 ∷ [])
+  behind-both =
+      let e : 4 * (length (both ++ (0 ∷ 0 ∷ 0 ∷ [])) / 4) ≡ length both + filling = rw (length-append both (0 ∷ 0 ∷ 0 ∷ [])) (omega arith) in
+      bytes-back (both ++ (0 ∷ 0 ∷ 0 ∷ [])) (filled-bytes both (both-bytes start bytes hs hb))
+      ∙ ap (λ (k : ℕ). take k (both ++ (0 ∷ 0 ∷ 0 ∷ []))) e
+      ∙ take-append-add both (0 ∷ 0 ∷ 0 ∷ []) filling
+
+  parts : bytesOf (filled both ++ rest) ≡ start ++ (bytes ++ tail)
+  parts =
+      bytes-append (filled both) rest
+      ∙ ap (λ (l : List ℕ). l ++ bytesOf rest) behind-both
+      ∙ append-assoc both (take filling (0 ∷ 0 ∷ 0 ∷ [])) (bytesOf rest)
+      ∙ append-assoc start bytes tail
+
+  message-back : callOf (16 ∷ length start ∷ length bytes ∷ (filled both ++ rest)) ≡ Message start bytes
+  unfolding callOf
+  message-back =
+      let s : take (length start) (bytesOf (filled both ++ rest)) ≡ start =
+      ap (take (length start)) parts ∙ take-at start (bytes ++ tail) (length start) refl
+      in
+      let m : take (length bytes) (drop (length start) (bytesOf (filled both ++ rest))) ≡ bytes =
+      ap (λ (l : List ℕ). take (length bytes) (drop (length start) l)) parts
+      ∙ ap (take (length bytes)) (drop-at start (bytes ++ tail) (length start) refl)
+      ∙ take-at bytes tail (length bytes) refl
+      in
+      λ i. Message (s i) (m i)
+
 pub call-back : (c : Call) → CallFits c → (rest : List ℕ) → callOf (wordsOf c ++ rest) ≡ c
 unfolding wordsOf callOf
 call-back (Open words day opening) h rest = open-back words day (opening .spread) (opening .allowed) (h .3) rest
 call-back (Send e) h rest = event-back e h rest
+call-back (Message start bytes) h rest = message-back start bytes rest (h .2) (h .3)
 call-back (Ask a) h rest = ap Ask (amendment-back a (h .2))
 call-back (Commit a ticket) h rest =
     λ i.
@@ -215,8 +284,7 @@ put : {w : ℕ} {ws : List ℕ} → Word w → Fine ws → Fine (w ∷ ws)
 put {w} {ws} h k = record { all = at-each w ws h (k .all) }
 
 joined : (xs ys : List ℕ) → Words xs → Fine ys → Fine (xs ++ ys)
-joined [] ys h k = k
-joined (x ∷ xs) ys h k = put (h 0) (joined xs ys (λ i. h (suc i)) k)
+joined xs ys h k = record { all = each-of Word xs ys h (k .all) }
 
 side-fits : (side : Side) → Word (sideWord side)
 side-fits Buy = omega arith
@@ -252,6 +320,8 @@ call-fits (Open words day opening) h =
     put (kind-fits (opening .spread))
     (put (h .0) (joined words (day ∷ openingWords (opening .spread) (opening .allowed)) (h .1) (put (h .2) (spread-words (opening .spread) (opening .allowed) (h .3) (h .4)))))
 call-fits (Send e) h = event-fits e h
+call-fits (Message start bytes) h =
+    put (omega arith) (put (h .0) (put (h .1) (record { all = words-in-fit ((start ++ bytes) ++ (0 ∷ 0 ∷ 0 ∷ [])) (filled-bytes (start ++ bytes) (both-bytes start bytes (h .2) (h .3))) })))
 call-fits (Ask a) h = put (omega arith) (amendment-words a h none)
 call-fits (Commit a ticket) h =
     put (omega arith) (amendment-words a (h .0) (amendment-words (ticket .amendment) (h .1) (wide-words (h .2) none)))

@@ -1,6 +1,6 @@
 -- One block of a list of calls as 32-bit words (docs/FORMATS.md): how many words it has, and the call that it says. The kind is its first
 -- word. One more kind is one clause of `due`, `callBy` and, in Writing, of `wordsOf` and `CallFits`; each has its clause in the code.
-use Prim.Native.Nat.{ℕ, _+_, _*_}
+use Prim.Native.Nat.{ℕ, _+_, _*_, _/_}
 use mathlib.Core.List.{List}
 use mathlib.Core.Bool.{_||_}
 use lib.Dec.{leb, eqb}
@@ -18,7 +18,8 @@ use Rattle.rules.specs.declared.Event.the-variants.{Add, Amend, Cancel, Deal, T
 use Rattle.rules.specs.Lists.{if_then_else_}
 use Rattle.rules.specs.Units.{millis, steps, contracts, kopecks}
 use Rattle.rules.specs.Records.{signedOf}
-use Rattle.rules.specs.Calls.{Call, Open, Send, Ask, Commit, Close, Drop, Charge, Withdraw, Look, Report}
+use Rattle.rules.specs.Calls.{Call, Open, Send, Message, Ask, Commit, Close, Drop, Charge, Withdraw, Look, Report}
+use Rattle.words.specs.Bytes.{bytesOf}
 
 -- the word at a place of a block; past the end of the words it is 0, which is no kind and no side
 abbrev pub word : List ℕ → ℕ → ℕ
@@ -30,15 +31,17 @@ word ws i = getD ws i 0
 unfoldable pub addDue : ℕ → ℕ
 addDue side = if eqb side 1 || eqb side 2 then 6 else 0
 
--- The number of words that a block of a kind is due, n the word behind the kind and side the fourth: `1 n w1..wn day SP allowed` open
--- with n row words; an add; `3 t id price volume` amend; `4 t id` cancel; `5 t id volume` deal; `6 t` tick; `7 Alow Ahigh Plow Phigh`
--- close; `8` drop; `9 day expiry quantum Alow Ahigh Plow Phigh` charge; `10 day expiry quantum` withdraw; `11 day expiry quantum` look;
--- `12` report; by document 02, W4, `13 n w1..wn day a difference days b allowed` open a strike; by W5 `14 t id price volume` ask, and
--- `15 t id price volume` commit, then the ticket, `t id price volume countlow counthigh`. It is 0 for another kind.
-unfoldable pub due : ℕ → ℕ → ℕ → ℕ
-due kind n side =
+-- The number of words that a block of a kind is due: `1 n w1..wn day SP allowed` open with n row words; an add; `3 t id price volume`
+-- amend; `4 t id` cancel; `5 t id volume` deal; `6 t` tick; `7 Alow Ahigh Plow Phigh` close; `8` drop; `9 day expiry quantum Alow Ahigh
+-- Plow Phigh` charge; `10 day expiry quantum` withdraw; `11 day expiry quantum` look; `12` report; by document 02, W4, `13 n w1..wn day a
+-- difference days b allowed` open a strike; by W5 `14 t id price volume` ask, and `15 t id price volume` commit, then the ticket, `t id
+-- price volume countlow counthigh`; by W11 `16 s m` message, then the words of s + m bytes, filled up to whole words. It is 0 for another
+-- kind.
+unfoldable pub due : ℕ → List ℕ → ℕ
+due kind ws =
+    let n = word ws 1 in
     if eqb kind 1 then 5 + n
-    else if eqb kind 2 then addDue side
+    else if eqb kind 2 then addDue (word ws 3)
     else if eqb kind 3 then 5
     else if eqb kind 4 then 3
     else if eqb kind 5 then 4
@@ -52,10 +55,11 @@ due kind n side =
     else if eqb kind 13 then 8 + n
     else if eqb kind 14 then 5
     else if eqb kind 15 then 11
+    else if eqb kind 16 then 3 + (n + word ws 2 + 3) / 4
     else 0
 
 abbrev pub dueAt : List ℕ → ℕ
-dueAt ws = due (word ws 0) (word ws 1) (word ws 3)
+dueAt ws = due (word ws 0) ws
 
 -- The number of words of the call at the front; 0 where there is none: at the end of the words, or before a block that is cut short,
 -- of another kind, or an add with another side.
@@ -98,6 +102,14 @@ amendmentAt ws i =
 abbrev pub ticketAt : List ℕ → ℕ → Ticket
 ticketAt ws i = record { amendment = amendmentAt ws i; count = wideAt ws (i + 4) }
 
+-- a message's bytes stand behind the first three words: those of the quantum's start, as many as the second says, and directly behind
+-- them those of the message, as many as the third says
+abbrev pub startAt : List ℕ → List ℕ
+startAt ws = take (word ws 1) (bytesOf (drop 3 ws))
+
+abbrev pub messageAt : List ℕ → List ℕ
+messageAt ws = take (word ws 2) (drop (word ws 1) (bytesOf (drop 3 ws)))
+
 abbrev pub sideOf : ℕ → Side
 sideOf s = if eqb s 1 then Buy else Sell
 
@@ -123,6 +135,7 @@ callBy kind ws =
     else if eqb kind 13 then Open (rowAt ws) (word ws (2 + n)) (strikeOpeningAt ws (3 + n))
     else if eqb kind 14 then Ask (amendmentAt ws 1)
     else if eqb kind 15 then Commit (amendmentAt ws 1) (ticketAt ws 5)
+    else if eqb kind 16 then Message (startAt ws) (messageAt ws)
     else Report
 
 -- The call that the block at the front says, where there is one.

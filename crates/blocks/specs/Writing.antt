@@ -11,8 +11,9 @@ use Rattle.rules.specs.declared.Amendment.{Amendment}
 use Rattle.rules.specs.declared.Event.{Event}
 use Rattle.rules.specs.declared.Event.the-variants.{Add, Amend, Cancel, Deal, Tick}
 use Rattle.rules.specs.Records.{unsignedOf}
-use Rattle.rules.specs.Widths.{Word, SignedWord, Fits}
-use Rattle.rules.specs.Calls.{Call, Open, Send, Ask, Commit, Close, Drop, Charge, Withdraw, Look, Report}
+use Rattle.rules.specs.Widths.{Word, SignedWord, Fits, Bytes}
+use Rattle.rules.specs.Calls.{Call, Open, Send, Message, Ask, Commit, Close, Drop, Charge, Withdraw, Look, Report}
+use Rattle.words.specs.Bytes.{wordsIn}
 
 -- a side's word
 abbrev pub sideWord : Side → ℕ
@@ -44,10 +45,15 @@ abbrev pub openingWords : SpreadRule → ℕ → List ℕ
 openingWords (Settled sp) allowed = unsignedOf (sp .0) ∷ allowed ∷ []
 openingWords (OfStrike s) allowed = s .a ∷ s .difference ∷ s .days ∷ s .b ∷ allowed ∷ []
 
+-- the words of some bytes, the last one filled up with bytes 0: of three behind them, those behind the last whole word are no word
+abbrev pub filled : List ℕ → List ℕ
+filled bytes = wordsIn (bytes ++ (0 ∷ 0 ∷ 0 ∷ []))
+
 -- a call's block
 unfoldable pub wordsOf : Call → List ℕ
 wordsOf (Open words day opening) = openKind (opening .spread) ∷ length words ∷ (words ++ (day ∷ openingWords (opening .spread) (opening .allowed)))
 wordsOf (Send e) = eventWords e
+wordsOf (Message start bytes) = 16 ∷ length start ∷ length bytes ∷ filled (start ++ bytes)
 wordsOf (Ask a) = 14 ∷ a .t .0 ∷ a .id ∷ unsignedOf (a .price .0) ∷ a .volume .0 ∷ []
 wordsOf (Commit a ticket) =
     let b = ticket .amendment in
@@ -83,10 +89,11 @@ SpreadRuleFits (OfStrike s) = Word (s .a) × Word (s .difference) × Word (s .da
 abbrev pub AmendmentFits : Amendment → Type 0
 AmendmentFits a = Word (a .t .0) × Word (a .id) × SignedWord (a .price .0) × Word (a .volume .0)
 
--- each number of the call fits its type, and the number of an open's row words fits its word
+-- each number of the call fits its type, and the number of an open's row words, or of a message's bytes, fits its word
 abbrev pub CallFits : Call → Type 0
 CallFits (Open words day opening) = Word (length words) × Words words × Word day × SpreadRuleFits (opening .spread) × Word (opening .allowed)
 CallFits (Send e) = Fits e
+CallFits (Message start bytes) = Word (length start) × Word (length bytes) × Bytes start × Bytes bytes
 CallFits (Ask a) = AmendmentFits a
 CallFits (Commit a ticket) = AmendmentFits a × AmendmentFits (ticket .amendment) × Wide (ticket .count)
 CallFits (Close active passive) = Wide (active .0) × Wide (passive .0)

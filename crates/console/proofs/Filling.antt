@@ -1,37 +1,28 @@
 -- A slice that is filled from its front by a function of the place. Assumes nothing.
-use Prim.Native.Nat.{ℕ, zero, suc, _+_, _≤_, _<_}
+use Prim.Native.Nat.{ℕ, suc, _+_, _≤_, _<_}
 use native.Mathlib.Omega.{arith}
 use native.Mathlib.Numerals.{add-one}
 use mathlib.Core.Path.{_≡_, refl, sym, ap, _∙_}
-use mathlib.Core.List.{List, [], _∷_, _++_, map, append-nil}
-use lib.ListN.{length, drop, set, length-map, length-append, length-drop}
+use mathlib.Core.List.{List, _++_, map, append-nil}
+use lib.ListN.{length, drop, set, length-append, length-drop}
 use lib.Seq.{append-snoc, drop-cons, drop-length, set-at}
 use Rattle.rules.specs.Lists.{below}
-
-below-length : (n : ℕ) → length (below n) ≡ n
-unfolding below
-below-length zero = refl
-below-length (suc n) = length-append (below n) (n ∷ []) ∙ omega (arith, below-length n)
+use Rattle.words.proofs.Places.{places-length, places-more}
 
 module _ {A : Type 0} (f : ℕ → A) where
   -- the front is filled as far as i, and the rest is as it was
   abbrev pub filled : List A → ℕ → List A
   filled l i = map f (below i) ++ drop i l
 
-  map-snoc : (ks : List ℕ) (k : ℕ) → map f (ks ++ (k ∷ [])) ≡ map f ks ++ (f k ∷ [])
-  map-snoc [] k = refl
-  map-snoc (x ∷ ks) k = ap (λ (l : List A). f x ∷ l) (map-snoc ks k)
-
   pub none-filled : (l : List A) → l ≡ filled l 0
   unfolding below
   none-filled l = refl
 
   one-filled : (d : A) (l : List A) (i : ℕ) → i < length l → set (filled l i) i (f i) ≡ filled l (i + 1)
-  unfolding below
   one-filled d l i h =
       ap (λ (r : List A). set (map f (below i) ++ r) i (f i)) (drop-cons l i d h)
-      ∙ set-at (map f (below i)) _ (drop (suc i) l) (f i) i (length-map (below i) f ∙ below-length i)
-      ∙ sym (ap (λ (k : ℕ). filled l k) (add-one i) ∙ ap (λ (m : List A). m ++ drop (suc i) l) (map-snoc (below i) i) ∙ append-snoc (map f (below i)) (f i) (drop (suc i) l))
+      ∙ set-at (map f (below i)) _ (drop (suc i) l) (f i) i (places-length f i)
+      ∙ sym (ap (λ (k : ℕ). filled l k) (add-one i) ∙ ap (λ (m : List A). m ++ drop (suc i) l) (places-more f i) ∙ append-snoc (map f (below i)) (f i) (drop (suc i) l))
 
   -- a turn of the loop
   pub one-more : (d : A) (l now : List A) (i : ℕ) (x : A) → i < length l → now ≡ filled l i → x ≡ f i → set now i x ≡ filled l (i + 1)
@@ -43,4 +34,4 @@ module _ {A : Type 0} (f : ℕ → A) where
       ap (λ (k : ℕ). filled l k) e ∙ ap (λ (r : List A). map f (below (length l)) ++ r) (drop-length l) ∙ append-nil (map f (below (length l)))
 
   pub filled-length : (l : List A) (i : ℕ) → i ≤ length l → length (filled l i) ≡ length l
-  filled-length l i h = length-append (map f (below i)) (drop i l) ∙ omega (arith, length-map (below i) f ∙ below-length i, length-drop i l)
+  filled-length l i h = length-append (map f (below i)) (drop i l) ∙ omega (arith, places-length f i, length-drop i l)

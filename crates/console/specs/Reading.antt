@@ -1,13 +1,9 @@
--- The words and prices that stand in some bytes: "four bytes each, low byte first", a price in two's complement.
+-- The prices that stand in some bytes: "four bytes each, low byte first", in two's complement.
 use Prim.Native.Nat.{ℕ, _+_, _*_}
 use mathlib.Core.List.{List, map}
 use lib.IntN.{ℤ}
 use Rattle.rules.specs.Lists.{below}
 use Rattle.rules.specs.Records.{signedOf, wordAt}
-
--- the n words that start at a byte
-abbrev pub wordsFrom : List ℕ → ℕ → ℕ → List ℕ
-wordsFrom bytes from n = map (λ (i : ℕ). wordAt bytes (from + 4 * i)) (below n)
 
 -- the n prices that start at a byte
 abbrev pub pricesFrom : List ℕ → ℕ → ℕ → List ℤ

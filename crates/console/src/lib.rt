@@ -8,7 +8,8 @@ ghost use Prim.Native.Nat.{_+_, _*_, _≤_};
 ghost use lib.ListN.{length};
 ghost use Rattle.io.specs.Counts.{Counts};
 ghost use Rattle.rules.specs.Records.{signedOf, wordAt};
-ghost use Rattle.console.specs.Reading.{wordsFrom, pricesFrom};
+ghost use Rattle.words.specs.Bytes.{wordsFrom};
+ghost use Rattle.console.specs.Reading.{pricesFrom};
 
 pub fn text(bytes: &[u8]) {
     io::write_all(STDOUT_FILENO, bytes);

@@ -2,8 +2,8 @@
 ghost use mathlib.Core.Path.{_≡_};
 ghost use Prim.Native.Nat.{_*_, _≤_};
 ghost use lib.ListN.{length};
+ghost use Rattle.words.specs.Bytes.{wordsIn};
 ghost use Rattle.blocks.specs.Reading.{wordsRead};
-ghost use Rattle.console.specs.Reading.{wordsFrom};
 use console::field;
 use console::field_line;
 use console::number;
@@ -128,13 +128,13 @@ fn line(shown: Shown) {
 }
 
 // Runs the calls from a fresh month, and answers how many words they have.
-fn play(words: &[u32]) -> usize
-    ensures { λ r. ⌜ (r ≡ wordsRead (now (words .entry))) × (r ≤ length (now (words .entry))) ⌝ }
+fn play(bytes: &[u8]) -> usize
+    ensures { λ r. ⌜ (r ≡ wordsRead (wordsIn (now (bytes .entry)))) × (4 * r ≤ length (now (bytes .entry))) ⌝ }
 {
     let mut month = Month::fresh();
     let mut at: usize = 0;
     loop {
-        let done = script::block(month, words, at);
+        let done = script::block(month, bytes, at);
         let next = done.next;
         if next == at {
             return at;
@@ -146,26 +146,11 @@ fn play(words: &[u32]) -> usize
     }
 }
 
-// The same on bytes, whose words are put into the lent ones first.
-fn play_bytes(bytes: &[u8], words: &mut [u32]) -> usize
-    requires { ⌜ 4 * length (now words) ≤ length (now bytes) ⌝ }
-    ensures { λ r. ⌜ (r ≡ wordsRead (wordsFrom (now (bytes .entry)) 0 (length (now (words .entry))))) × (r ≤ length (now (words .entry))) ⌝ }
-{
-    console::read_words(bytes, 0, words);
-    play(words)
-}
-
 // Room for all the bytes of the longest list, and one more.
 fn room() -> [u8; 262145]
     ensures { λ r. ⌜ 262145 ≡ length r ⌝ }
 {
     [0; 262145]
-}
-
-fn word_room() -> [u32; 65536]
-    ensures { λ r. ⌜ 65536 ≡ length r ⌝ }
-{
-    [0; 65536]
 }
 
 fn main() {
@@ -175,9 +160,7 @@ fn main() {
         text(b"too long\n");
         return;
     }
-    let count = n / 4;
-    let mut words = word_room();
-    let read = play_bytes(&bytes, &mut words[..count]);
+    let read = play(&bytes[..n]);
     if 4 * read < n {
         field_line(b"stopped at word ", read as u32 + 1);
     }

@@ -49,10 +49,10 @@ module _ (a b c d : ℕ) (ha : a < 256) (hb : b < 256) (hc : c < 256) (hd : d < 
   byte-3 : (a + 256 * b + 65536 * c + 16777216 * d) / 16777216 % 256 ≡ d
   byte-3 = omega arith
 
-  word-fits : Word (a + 256 * b + 65536 * c + 16777216 * d)
+  pub word-fits : Word (a + 256 * b + 65536 * c + 16777216 * d)
   word-fits = omega arith
 
-  bytes-of-word : wordBytes (a + 256 * b + 65536 * c + 16777216 * d) ≡ a ∷ b ∷ c ∷ d ∷ []
+  pub bytes-of-word : wordBytes (a + 256 * b + 65536 * c + 16777216 * d) ≡ a ∷ b ∷ c ∷ d ∷ []
   unfolding wordBytes
   bytes-of-word = rw (byte-0, byte-1, byte-2, byte-3) refl
 

@@ -9,7 +9,7 @@ use Rattle.rules.specs.Calls.{Call}
 use Rattle.month.specs.declared.Month.{Month}
 use Rattle.month.specs.Represents.{Answered}
 use Rattle.blocks.specs.declared.Decoded.{Decoded}
-use Rattle.blocks.specs.Kinds.{blockSize, rowAt, callOf}
+use Rattle.blocks.specs.Kinds.{blockSize, callOf}
 use Rattle.blocks.specs.Decoded.{callWith}
 use Rattle.script.specs.declared.Shown.{Shown}
 use Rattle.script.specs.declared.Done.{Done}
@@ -22,20 +22,19 @@ pub shown-by : {A : Type 0} (show : A → Outcome Reply) {a b : A} {s : Shown} �
 shown-by show e f = f ∙ ap (λ x. shownOf (show x)) (sym e)
 
 -- what a call of the month promises, told on: the call is the one that was decoded
-pub told : {m month : Month} {next : ℕ} {answer : Outcome Reply} {r : Done} (row : List ℕ) {said d : Decoded} → said ≡ d
-    → Answered m (callWith row d) month answer → Tells month next answer r
-    → (r .next ≡ next) × Performed m (callWith row said) (r .month) (r .shown)
-told {m} {month} {next} {answer} {r} row {said} {d} e a t = (
+pub told : {m month : Month} {next : ℕ} {answer : Outcome Reply} {r : Done} (ws : List ℕ) {said d : Decoded} → said ≡ d
+    → Answered m (callWith ws d) month answer → Tells month next answer r
+    → (r .next ≡ next) × Performed m (callWith ws said) (r .month) (r .shown)
+told {m} {month} {next} {answer} {r} ws {said} {d} e a t = (
   t .1,
-  subst (λ (c : Call). Performed m c (r .month) (r .shown)) (ap (callWith row) (sym e))
+  subst (λ (c : Call). Performed m c (r .month) (r .shown)) (ap (callWith ws) (sym e))
       (record { month = λ calls is. t .0 ∙ a .month calls is; shown = λ calls is. t .2 ∙ ap shownOf (a .answer calls is) }),
 )
 
 -- the call that was decoded is the one that the block says
-pub said : {m month : Month} {shown : Shown} (part row : List ℕ) (d : Decoded) → row ≡ rowAt part → callWith (rowAt part) d ≡ callOf part
-    → Performed m (callWith row d) month shown → Performed m (callOf part) month shown
-said {m} {month} {shown} part row d e f p =
-    subst (λ (c : Call). Performed m c month shown) (ap (λ (l : List ℕ). callWith l d) e ∙ f) p
+pub said : {m month : Month} {shown : Shown} (part : List ℕ) (d : Decoded) → callWith part d ≡ callOf part
+    → Performed m (callWith part d) month shown → Performed m (callOf part) month shown
+said {m} {month} {shown} part d f p = subst (λ (c : Call). Performed m c month shown) f p
 
 module _ (m : Month) (ws : List ℕ) (at size : ℕ) (part : List ℕ) (p : part ≡ drop at ws) (e : size ≡ blockSize part) where
   size-is : size ≡ blockSize (drop at ws)

@@ -1,8 +1,14 @@
 // A list of calls run from a fresh month: the call that a block says, on the month (`block`), and the whole list (`run`). What a block
 // says is the codec's (`blocks`).
 ghost use mathlib.Core.Path.{_≡_};
+ghost use Prim.Native.Nat.{_≤_};
+ghost use lib.Dec.{eqb};
+ghost use Rattle.rules.specs.Lists.{if_then_else_};
 ghost use Rattle.rules.specs.Answers.{shownAnswer, shownLooked, shownAsked, shownReport};
-ghost use Rattle.month.specs.Represents.{Reached};
+ghost use Rattle.rules.specs.Calls as B;
+ghost use Rattle.month.specs.Represents.{Reached, Answered};
+ghost use Rattle.words.specs.Bytes.{wordsIn};
+ghost use Rattle.blocks.specs.Kinds.{rowAt};
 ghost use Rattle.blocks.specs.Decoded.{callWith};
 ghost use Rattle.script.specs.declared.Outcome.the-variants as O;
 ghost use Rattle.script.specs.Blocks.{blankReport, showing, shownOf, outcomeNumber, Performed, Stepped};
@@ -20,6 +26,7 @@ use rules::CellView;
 use rules::Kopecks;
 use rules::Looked;
 use rules::Millis;
+use rules::Opening;
 use rules::Preview;
 use rules::Quote;
 use rules::Report;
@@ -161,14 +168,33 @@ fn tell_report(reported: Reported, next: usize) -> Done
     Done { month, next, shown }
 }
 
-// The call on the month, `row` an open's: one arm a call. An event is sent by `block`, past this choice: the compiler copies the month at
-// each choice that it passes through, and events are most of a list.
-fn call(month: Month, said: Decoded, row: &[u32], next: usize) -> Done
+// As many words of an open's row as are handed on: a row of another length than seven is refused whatever it holds, so none are.
+fn handed_on(length: usize) -> usize
+    ensures { λ r. ⌜ (r ≡ (if eqb length 7 then 7 else 0)) × (r ≤ 7) ⌝ }
+{
+    if length == 7 {
+        return 7;
+    }
+    0
+}
+
+fn open(month: Month, bytes: &[u8], day: u32, opening: Opening) -> AfterCall
     requires { ⌜ Reached month ⌝ }
-    ensures { λ r. ⌜ (r .next ≡ next) × Performed month (callWith (now (row .entry)) said) (r .month) (r .shown) ⌝ }
+    ensures { λ r. ⌜ Answered month (B.Open (rowAt (wordsIn (now (bytes .entry)))) day opening) (r .month) (shownAnswer (r .answer)) ⌝ }
+{
+    let row = blocks::row(bytes);
+    let n = handed_on(blocks::row_length(bytes));
+    month.open(&row[..n], day, opening)
+}
+
+// The call on the month, with the bytes of its block: one arm a call. An event is sent by `block`, past this choice: the compiler copies
+// the month at each choice that it passes through, and events are most of a list.
+fn call(month: Month, said: Decoded, bytes: &[u8], next: usize) -> Done
+    requires { ⌜ Reached month ⌝ }
+    ensures { λ r. ⌜ (r .next ≡ next) × Performed month (callWith (wordsIn (now (bytes .entry))) said) (r .month) (r .shown) ⌝ }
 {
     match said {
-        Decoded::Open { day, opening } => tell(month.open(row, day, opening), next),
+        Decoded::Open { day, opening } => tell(open(month, bytes, day, opening), next),
         Decoded::Send(e) => tell(month.send(e), next),
         Decoded::Ask(a) => tell_asked(month.ask(a.t, a.id, a.price, a.volume), next),
         Decoded::Commit(a, ticket) => {
@@ -208,15 +234,17 @@ fn no_call(month: Month, at: usize) -> Done
     }
 }
 
-// One block of a list: the call that it says, run on the month. Where there is no call, the month and the place are as they were.
-pub fn block(month: Month, words: &[u32], at: usize) -> Done
+// One block of a list, at a place among its words: the call that it says, run on the month. Where there is no call, the month and the
+// place are as they were.
+pub fn block(month: Month, bytes: &[u8], at: usize) -> Done
     requires { ⌜ Reached month ⌝ }
-    ensures { λ r. ⌜ Stepped month (now (words .entry)) at r ⌝ }
+    ensures { λ r. ⌜ Stepped month (wordsIn (now (bytes .entry))) at r ⌝ }
 {
-    if words.len() < at {
+    if blocks::count(bytes) < at {
         return no_call(month, at);
     }
-    let rest = &words[at..];
+    let from = 4 * at;
+    let rest = &bytes[from..];
     let size = blocks::size(rest);
     if size == 0 {
         return no_call(month, at);
@@ -225,15 +253,15 @@ pub fn block(month: Month, words: &[u32], at: usize) -> Done
     let next = at + size;
     match said {
         Decoded::Send(e) => tell(month.send(e), next),
-        _ => call(month, said, blocks::row(rest), next),
+        _ => call(month, said, rest, next),
     }
 }
 
 // A list of calls, each on the month that the one before handed back, from a fresh one; each call's outcome goes to the lent buffer.
-pub fn run(words: &[u32], outcomes: &mut [u32]) -> Ran
-    ensures { λ r. ⌜ ListAnswers (now (words .entry)) (now (outcomes .entry)) (now (outcomes .exit)) r ⌝ }
+pub fn run(bytes: &[u8], outcomes: &mut [u32]) -> Ran
+    ensures { λ r. ⌜ ListAnswers (wordsIn (now (bytes .entry))) (now (outcomes .entry)) (now (outcomes .exit)) r ⌝ }
 {
-    let list = blocks::measure(words);
+    let list = blocks::measure(bytes);
     let calls = list.calls;
     let read = list.words;
     let mut month = Month::fresh();
@@ -248,7 +276,7 @@ pub fn run(words: &[u32], outcomes: &mut [u32]) -> Ran
     let mut at: usize = 0;
     let mut k: usize = 0;
     while k < calls {
-        let done = block(month, words, at);
+        let done = block(month, bytes, at);
         let shown = done.shown;
         let outcome = shown.outcome;
         outcomes[k] = number(outcome);

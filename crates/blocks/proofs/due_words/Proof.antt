@@ -1,11 +1,18 @@
 -- `blocks::due_words` meets its contract, kind by kind (`due-is`); any other kind is due no words. Assumes nothing.
-use Prim.Native.Nat.{ℕ, _+_}
+use Prim.Native.Nat.{ℕ, _+_, _/_}
 use mathlib.Core.Path.{ap, _∙_}
-use Rattle.blocks.specs.Kinds.{due}
+use Rattle.words.specs.Bytes.{wordsIn}
+use Rattle.blocks.specs.Kinds.{addDue, due}
 use Rattle.blocks.proofs.Sizes.{due-is, other-due}
 use borrow.Author.Needs.{needs}
 use Rattle.blocks.proofs.due_words.Statement.{statement}
 use Rattle.blocks.proofs.due_words.Tie as tie
+
+word-requires : tie.Need-word-requires
+word-requires c κs = search needs
+
+word-requires-2 : tie.Need-word-requires-2
+word-requires-2 c κs = search needs
 
 length-requires : tie.Need-length-requires
 length-requires c κs = search needs
@@ -13,8 +20,14 @@ length-requires c κs = search needs
 add-result : tie.Need-add-result
 add-result c = search needs
 
+word-requires-3 : tie.Need-word-requires-3
+word-requires-3 c κs = search needs
+
 add-due-requires : tie.Need-add-due-requires
 add-due-requires c κs = search needs
+
+word-requires-4 : tie.Need-word-requires-4
+word-requires-4 c κs = search needs
 
 length-requires-2 : tie.Need-length-requires-2
 length-requires-2 c κs = search needs
@@ -22,84 +35,137 @@ length-requires-2 c κs = search needs
 add-result-2 : tie.Need-add-result-2
 add-result-2 c = search needs
 
+word-requires-5 : tie.Need-word-requires-5
+word-requires-5 c κs = search needs
+
+word-requires-6 : tie.Need-word-requires-6
+word-requires-6 c κs = search needs
+
+message-due-requires : tie.Need-message-due-requires
+message-due-requires c κs = search needs
+
 returns : tie.Need-returns
 unfolding due
 returns c =
-    let a = c .before .before .args in
-    ap (λ (n : ℕ). 5 + n) (c .length .ensures .0) ∙ due-is (a .kind) 1 (a .n) (a .side) (c .before .match .keys1)
+    let s = c .before .before .before in
+    ap (λ (n : ℕ). 5 + n) (c .length .ensures .0 ∙ c .before .word2 .ensures)
+    ∙ due-is (wordsIn (s .before .before .args .bytes .now)) (s .word .result) 1 (s .word .ensures) (c .before .before .match .keys1)
 
 returns-2 : tie.Need-returns-2
 unfolding due
 returns-2 c =
-    let a = c .before .before .args in
-    c .add-due .ensures ∙ due-is (a .kind) 2 (a .n) (a .side) (c .before .match .keys2)
+    let s = c .before .before .before in
+    c .add-due .ensures ∙ ap addDue (c .before .word3 .ensures)
+    ∙ due-is (wordsIn (s .before .before .args .bytes .now)) (s .word .result) 2 (s .word .ensures) (c .before .before .match .keys2)
 
 returns-3 : tie.Need-returns-3
 unfolding due
-returns-3 c = let a = c .before .args in due-is (a .kind) 3 (a .n) (a .side) (c .match .keys3)
+returns-3 c =
+    let s = c .before in
+    due-is (wordsIn (s .before .before .args .bytes .now)) (s .word .result) 3 (s .word .ensures) (c .match .keys3)
 
 returns-4 : tie.Need-returns-4
 unfolding due
-returns-4 c = let a = c .before .args in due-is (a .kind) 4 (a .n) (a .side) (c .match .keys4)
+returns-4 c =
+    let s = c .before in
+    due-is (wordsIn (s .before .before .args .bytes .now)) (s .word .result) 4 (s .word .ensures) (c .match .keys4)
 
 returns-5 : tie.Need-returns-5
 unfolding due
-returns-5 c = let a = c .before .args in due-is (a .kind) 5 (a .n) (a .side) (c .match .keys5)
+returns-5 c =
+    let s = c .before in
+    due-is (wordsIn (s .before .before .args .bytes .now)) (s .word .result) 5 (s .word .ensures) (c .match .keys5)
 
 returns-6 : tie.Need-returns-6
 unfolding due
-returns-6 c = let a = c .before .args in due-is (a .kind) 6 (a .n) (a .side) (c .match .keys6)
+returns-6 c =
+    let s = c .before in
+    due-is (wordsIn (s .before .before .args .bytes .now)) (s .word .result) 6 (s .word .ensures) (c .match .keys6)
 
 returns-7 : tie.Need-returns-7
 unfolding due
-returns-7 c = let a = c .before .args in due-is (a .kind) 7 (a .n) (a .side) (c .match .keys7)
+returns-7 c =
+    let s = c .before in
+    due-is (wordsIn (s .before .before .args .bytes .now)) (s .word .result) 7 (s .word .ensures) (c .match .keys7)
 
 returns-8 : tie.Need-returns-8
 unfolding due
-returns-8 c = let a = c .before .args in due-is (a .kind) 8 (a .n) (a .side) (c .match .keys8)
+returns-8 c =
+    let s = c .before in
+    due-is (wordsIn (s .before .before .args .bytes .now)) (s .word .result) 8 (s .word .ensures) (c .match .keys8)
 
 returns-9 : tie.Need-returns-9
 unfolding due
-returns-9 c = let a = c .before .args in due-is (a .kind) 9 (a .n) (a .side) (c .match .keys9)
+returns-9 c =
+    let s = c .before in
+    due-is (wordsIn (s .before .before .args .bytes .now)) (s .word .result) 9 (s .word .ensures) (c .match .keys9)
 
 returns-10 : tie.Need-returns-10
 unfolding due
-returns-10 c = let a = c .before .args in due-is (a .kind) 10 (a .n) (a .side) (c .match .keys10)
+returns-10 c =
+    let s = c .before in
+    due-is (wordsIn (s .before .before .args .bytes .now)) (s .word .result) 10 (s .word .ensures) (c .match .keys10)
 
 returns-11 : tie.Need-returns-11
 unfolding due
-returns-11 c = let a = c .before .args in due-is (a .kind) 11 (a .n) (a .side) (c .match .keys11)
+returns-11 c =
+    let s = c .before in
+    due-is (wordsIn (s .before .before .args .bytes .now)) (s .word .result) 11 (s .word .ensures) (c .match .keys11)
 
 returns-12 : tie.Need-returns-12
 unfolding due
-returns-12 c = let a = c .before .args in due-is (a .kind) 12 (a .n) (a .side) (c .match .keys12)
+returns-12 c =
+    let s = c .before in
+    due-is (wordsIn (s .before .before .args .bytes .now)) (s .word .result) 12 (s .word .ensures) (c .match .keys12)
 
 returns-13 : tie.Need-returns-13
 unfolding due
 returns-13 c =
-    let a = c .before .before .args in
-    ap (λ (n : ℕ). 8 + n) (c .length2 .ensures .0) ∙ due-is (a .kind) 13 (a .n) (a .side) (c .before .match .keys13)
+    let s = c .before .before .before in
+    ap (λ (n : ℕ). 8 + n) (c .length2 .ensures .0 ∙ c .before .word4 .ensures)
+    ∙ due-is (wordsIn (s .before .before .args .bytes .now)) (s .word .result) 13 (s .word .ensures) (c .before .before .match .keys13)
 
 returns-14 : tie.Need-returns-14
 unfolding due
-returns-14 c = let a = c .before .args in due-is (a .kind) 14 (a .n) (a .side) (c .match .keys14)
+returns-14 c =
+    let s = c .before in
+    due-is (wordsIn (s .before .before .args .bytes .now)) (s .word .result) 14 (s .word .ensures) (c .match .keys14)
 
 returns-15 : tie.Need-returns-15
 unfolding due
-returns-15 c = let a = c .before .args in due-is (a .kind) 15 (a .n) (a .side) (c .match .keys15)
+returns-15 c =
+    let s = c .before in
+    due-is (wordsIn (s .before .before .args .bytes .now)) (s .word .result) 15 (s .word .ensures) (c .match .keys15)
 
 returns-16 : tie.Need-returns-16
-returns-16 c = let a = c .before .args in other-due (a .kind) (a .n) (a .side) (c .match .rest)
+unfolding due
+returns-16 c =
+    let s = c .before .before .before .before in
+    c .message-due .ensures
+    ∙ (λ i. 3 + (c .before .before .word5 .ensures i + c .before .word6 .ensures i + 3) / 4)
+    ∙ due-is (wordsIn (s .before .before .args .bytes .now)) (s .word .result) 16 (s .word .ensures) (c .before .before .before .match .keys16)
+
+returns-17 : tie.Need-returns-17
+returns-17 c =
+    let s = c .before in
+    other-due (wordsIn (s .before .before .args .bytes .now)) (s .word .result) (s .word .ensures) (c .match .rest)
 
 pub due-words-spec : {M : Type 1} → statement M
 due-words-spec =
     tie.close
     (tie.spec
+    word-requires
+    word-requires-2
     length-requires
     add-result
+    word-requires-3
     add-due-requires
+    word-requires-4
     length-requires-2
     add-result-2
+    word-requires-5
+    word-requires-6
+    message-due-requires
     returns
     returns-2
     returns-3
@@ -115,4 +181,5 @@ due-words-spec =
     returns-13
     returns-14
     returns-15
-    returns-16)
+    returns-16
+    returns-17)

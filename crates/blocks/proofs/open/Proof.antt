@@ -3,6 +3,7 @@ use Prim.Native.Nat.{ℕ}
 use mathlib.Core.Path.{ap, _∙_}
 use lib.ListN.{getD}
 use Rattle.blocks.specs.declared.Decoded.the-variants as D
+use Rattle.words.specs.Bytes.{wordsIn}
 use borrow.Author.Needs.{needs}
 use Rattle.blocks.proofs.open.Statement.{statement}
 use Rattle.blocks.proofs.open.Tie as tie
@@ -16,7 +17,7 @@ word-requires c κs = search needs
 returns : tie.Need-returns
 returns c =
     let a = c .before .before .before .args in
-    ap (λ (day : ℕ). D.Open day (a .opening)) (c .word .ensures ∙ ap (λ (i : ℕ). getD (a .words .now) i 0) (c .before .row-end .ensures .0))
+    ap (λ (day : ℕ). D.Open day (a .opening)) (c .word .ensures ∙ ap (λ (i : ℕ). getD (wordsIn (a .bytes .now)) i 0) (c .before .row-end .ensures .0))
 
 pub open-spec : {M : Type 1} → statement M
 open-spec = tie.close (tie.spec row-end-requires word-requires returns)

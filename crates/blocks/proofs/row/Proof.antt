@@ -1,51 +1,49 @@
--- `blocks::row` meets its contract: an end past the words is the words' end, as with `take`. Assumes nothing.
-use Prim.Native.Nat.{ℕ, _+_, min}
-use mathlib.Core.Path.{_≡_, ap, _∙_}
-use lib.ListN.{length, getD}
+-- `blocks::row` meets its contract: the words behind the first two, one by one. Assumes nothing.
+use lib.ListN.{getD}
+use Rattle.words.specs.Bytes.{wordsIn}
 use Rattle.blocks.proofs.Decoding.{row-is}
 use borrow.Author.Needs.{needs}
 use Rattle.blocks.proofs.row.Statement.{statement}
 use Rattle.blocks.proofs.row.Tie as tie
 
-row-end-requires : tie.Need-row-end-requires
-row-end-requires c κs = search needs
+word-requires : tie.Need-word-requires
+word-requires c κs = search needs
 
-min-length-requires : tie.Need-min-length-requires
-min-length-requires c κs = search needs
+word-requires-2 : tie.Need-word-requires-2
+word-requires-2 c κs = search needs
 
-min-length-requires-2 : tie.Need-min-length-requires-2
-min-length-requires-2 c κs = search needs
+word-requires-3 : tie.Need-word-requires-3
+word-requires-3 c κs = search needs
 
-mul-result : tie.Need-mul-result
-mul-result c = search needs
+word-requires-4 : tie.Need-word-requires-4
+word-requires-4 c κs = search needs
 
-sub-result : tie.Need-sub-result
-sub-result c = search needs
+word-requires-5 : tie.Need-word-requires-5
+word-requires-5 c κs = search needs
 
-part-result-start : tie.Need-part-result-start
-part-result-start c = search needs
+word-requires-6 : tie.Need-word-requires-6
+word-requires-6 c κs = search needs
 
-part-result-end : tie.Need-part-result-end
-part-result-end c = search needs
+word-requires-7 : tie.Need-word-requires-7
+word-requires-7 c κs = search needs
 
 returns : tie.Need-returns
-returns c =
-    let n = c .before .before .before in
-    let ws = n .before .before .args .words .now in
-    let m : c .before .before .min-length .result ≡ min (2 + getD ws 1 0) (length ws) =
-    c .before .before .min-length .ensures ∙ ap (λ (k : ℕ). min k (length ws)) (n .row-end .ensures .0)
-    in
-    row-is ws (getD ws 1 0) (c .before .min-length2 .result) (c .before .before .min-length .result) m (c .before .min-length2 .ensures)
+returns c h =
+    let f = c .before .before .before in
+    let b = f .before .before .before in
+    let ws = wordsIn (b .before .before .args .bytes .now) in
+    row-is ws (getD ws 1 0) (b .word .ensures) (f .before .before .word2 .ensures) (f .before .word3 .ensures) (f .word4 .ensures)
+    (c .before .before .word5 .ensures) (c .before .word6 .ensures) (c .word7 .ensures) h
 
 pub row-spec : {M : Type 1} → statement M
 row-spec =
     tie.close
     (tie.spec
-    row-end-requires
-    min-length-requires
-    min-length-requires-2
-    mul-result
-    sub-result
-    part-result-start
-    part-result-end
+    word-requires
+    word-requires-2
+    word-requires-3
+    word-requires-4
+    word-requires-5
+    word-requires-6
+    word-requires-7
     returns)

@@ -1,13 +1,14 @@
--- `blocks::size_at` meets its contract: the part that it hands on is the words from that place. Assumes nothing.
+-- `blocks::size_at` meets its contract: the words of the part that it hands on are those from that place. Assumes nothing.
+use Prim.Native.Nat.{_*_}
 use mathlib.Core.Path.{refl, ap, _∙_}
 use Rattle.blocks.specs.Kinds.{blockSize}
-use Rattle.blocks.proofs.Sizes.{part-from}
+use Rattle.words.proofs.Bytes.{part-words}
 use borrow.Author.Needs.{needs}
 use Rattle.blocks.proofs.size_at.Statement.{statement}
 use Rattle.blocks.proofs.size_at.Tie as tie
 
-mul-rest : tie.Need-mul-rest
-mul-rest c = search needs
+mul-from : tie.Need-mul-from
+mul-from c = search needs
 
 sub-rest : tie.Need-sub-rest
 sub-rest c = search needs
@@ -23,9 +24,9 @@ size-requires c κs = search needs
 
 returns : tie.Need-returns
 returns c = let a = c .before .before .before .args in
-    c .size .ensures ∙ ap blockSize (part-from (a .words .now) (a .at) _ refl)
+    c .size .ensures ∙ ap blockSize (part-words (a .bytes .now) (a .at) (4 * a .at) refl)
 
 pub size-at-spec : {M : Type 1} → statement M
 size-at-spec =
     tie.close
-    (tie.spec mul-rest sub-rest part-rest-start part-rest-end size-requires returns)
+    (tie.spec mul-from sub-rest part-rest-start part-rest-end size-requires returns)

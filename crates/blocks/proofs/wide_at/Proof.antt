@@ -1,5 +1,6 @@
 -- `blocks::wide_at` meets its contract: the two words and their places. Assumes nothing.
 use Rattle.blocks.proofs.Decoding.{wide-is}
+use Rattle.words.specs.Bytes.{wordsIn}
 use borrow.Author.Needs.{needs}
 use Rattle.blocks.proofs.wide_at.Statement.{statement}
 use Rattle.blocks.proofs.wide_at.Tie as tie
@@ -28,7 +29,7 @@ add-result c = search needs
 returns : tie.Need-returns
 returns c =
     let a = c .before .before .before .before .before .args in
-    wide-is (a .words .now) (a .i) (c .before .before .before .word .ensures) (c .before .word2 .ensures) (c .before .before .wide .ensures .0) (c .wide2 .ensures .0)
+    wide-is (wordsIn (a .bytes .now)) (a .i) (c .before .before .before .word .ensures) (c .before .word2 .ensures) (c .before .before .wide .ensures .0) (c .wide2 .ensures .0)
 
 pub wide-at-spec : {M : Type 1} → statement M
 wide-at-spec =

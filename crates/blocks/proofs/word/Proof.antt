@@ -1,20 +1,29 @@
--- `blocks::word` meets its contract: past the end `getD` gives 0. Assumes nothing.
-use Rattle.blocks.proofs.Sizes.{no-word}
+-- `blocks::word` meets its contract: the word that starts at four times its place; past the end `getD` gives 0. Assumes nothing.
+use native.Mathlib.Omega.{arith}
+use mathlib.Core.Path.{sym, _∙_}
+use lib.ListN.{List·getD-eq-default}
+use Rattle.words.specs.Bytes.{wordsIn}
+use Rattle.words.proofs.Bytes.{words-length, word-in}
 use borrow.Author.Needs.{needs}
 use Rattle.blocks.proofs.word.Statement.{statement}
 use Rattle.blocks.proofs.word.Tie as tie
 
-mul-result : tie.Need-mul-result
-mul-result c = search needs
+count-requires : tie.Need-count-requires
+count-requires c κs = search needs
 
-shared-slice-read-result : tie.Need-shared-slice-read-result
-shared-slice-read-result c = search needs
+mul-word-at : tie.Need-mul-word-at
+mul-word-at c = search needs
+
+word-at-requires : tie.Need-word-at-requires
+word-at-requires c κs = search needs
 
 returns : tie.Need-returns
-returns c = search needs
+returns c =
+    let a = c .before .before .before .before .args in
+    c .word-at .ensures ∙ sym (word-in (a .bytes .now) (a .i) (omega (arith, words-length (a .bytes .now))))
 
 returns-2 : tie.Need-returns-2
-returns-2 c = no-word (c .before .args .words .now) (c .before .args .i) (c .if1 .left)
+returns-2 c = sym (List·getD-eq-default (wordsIn (c .before .before .before .args .bytes .now)) 0 (omega arith))
 
 pub word-spec : {M : Type 1} → statement M
-word-spec = tie.close (tie.spec mul-result shared-slice-read-result returns returns-2)
+word-spec = tie.close (tie.spec count-requires mul-word-at word-at-requires returns returns-2)

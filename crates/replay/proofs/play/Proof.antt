@@ -4,21 +4,23 @@ use Prim.Native.Nat.{_-_}
 use native.Mathlib.Omega.{arith}
 use borrow.Author.Needs.{needs}
 use lib.ListN.{length}
+use Rattle.words.specs.Bytes.{wordsIn}
+use Rattle.words.proofs.Bytes.{words-length}
 use Rattle.script.proofs.Playing.{Underway, underway, inside, all-read, nearer, still-underway}
 use Rattle.replay.proofs.play.Statement.{statement}
 use Rattle.replay.proofs.play.Tie as tie
 
 abbrev Inv-loop : tie.InvT-loop
-Inv-loop words month₀ at₀ month at = Underway words month at
+Inv-loop bytes month₀ at₀ month at = Underway (wordsIn bytes) month at
 
 abbrev μ-loop : tie.MeasureT-loop
-μ-loop words month₀ at₀ month at = length words - at
+μ-loop bytes month₀ at₀ month at = length (wordsIn bytes) - at
 
 fresh-requires : tie.Need-fresh-requires Inv-loop μ-loop
 fresh-requires c κs = search needs
 
 loop-holds : tie.Need-loop-holds Inv-loop μ-loop
-loop-holds c = underway (c .before .before .args .words .now) (c .fresh .result) (c .fresh .ensures)
+loop-holds c = underway (wordsIn (c .before .before .args .bytes .now)) (c .fresh .result) (c .fresh .ensures)
 
 block-requires : tie.Need-block-requires Inv-loop μ-loop
 block-requires c κs = c .loop .inv .reached
@@ -27,7 +29,10 @@ returns : tie.Need-returns Inv-loop μ-loop
 returns c =
     let l = c .before .before .loop in
     let b = c .before .block in
-    (all-read (c .before .before .before .before .before .args .words .now) (l .month) (l .at) (l .inv) (b .result) (b .ensures) (c .if1 .taken), inside (c .before .before .before .before .before .args .words .now) (l .month) (l .at) (l .inv))
+    let bytes = c .before .before .before .before .before .args .bytes .now in (
+      all-read (wordsIn bytes) (l .month) (l .at) (l .inv) (b .result) (b .ensures) (c .if1 .taken),
+      omega (arith, inside (wordsIn bytes) (l .month) (l .at) (l .inv), words-length bytes),
+    )
 
 line-requires : tie.Need-line-requires Inv-loop μ-loop
 line-requires c κs = search needs
@@ -37,13 +42,13 @@ loop-less c =
     let l = c .before .before .before .before .before .loop in
     let b = c .before .before .before .before .block in
     omega
-    (arith, nearer (c .before .before .before .before .before .before .before .before .args .words .now) (l .month) (l .at) (l .inv) (b .result) (b .ensures) (c .before .before .before .if1 .left))
+    (arith, nearer (wordsIn (c .before .before .before .before .before .before .before .before .args .bytes .now)) (l .month) (l .at) (l .inv) (b .result) (b .ensures) (c .before .before .before .if1 .left))
 
 loop-again : tie.Need-loop-again Inv-loop μ-loop
 loop-again c =
     let l = c .before .before .before .before .before .loop in
     let b = c .before .before .before .before .block in
-    still-underway (c .before .before .before .before .before .before .before .before .args .words .now) (l .month) (l .at) (l .inv) (b .result) (b .ensures) (c .before .before .before .if1 .left)
+    still-underway (wordsIn (c .before .before .before .before .before .before .before .before .args .bytes .now)) (l .month) (l .at) (l .inv) (b .result) (b .ensures) (c .before .before .before .if1 .left)
 
 pub play-spec : {M : Type 1} → statement M
 play-spec =

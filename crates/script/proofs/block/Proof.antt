@@ -1,10 +1,11 @@
 -- `script::block` meets its contract: the part that it hands on is the words from that place. Assumes nothing.
-use Prim.Native.Nat.{_-_}
+use Prim.Native.Nat.{_-_, _*_}
 use native.Mathlib.Omega.{arith}
 use mathlib.Core.Path.{refl, ap, _∙_}
 use lib.ListN.{length, take, drop}
-use Rattle.blocks.specs.Kinds.{blockSize, rowAt}
-use Rattle.blocks.proofs.Sizes.{part-from}
+use Rattle.words.specs.Bytes.{wordsIn}
+use Rattle.words.proofs.Bytes.{part-words}
+use Rattle.blocks.specs.Kinds.{blockSize}
 use Rattle.blocks.proofs.Reading.{none-past}
 use Rattle.blocks.proofs.Loops.{next-fits}
 use Rattle.script.proofs.Performing.{told, stepped-none, stepped-some, said}
@@ -12,17 +13,20 @@ use borrow.Author.Needs.{needs}
 use Rattle.script.proofs.block.Statement.{statement}
 use Rattle.script.proofs.block.Tie as tie
 
+count-requires : tie.Need-count-requires
+count-requires c κs = search needs
+
 no-call-requires : tie.Need-no-call-requires
 no-call-requires c κs = search needs
 
 returns : tie.Need-returns
 returns c =
-    let a = c .before .before .before .args in
-    stepped-none (a .month) (a .words .now) (a .at) 0 _ refl (none-past (a .words .now) (a .at) (c .before .if1 .taken)) (c .no-call .result) refl
+    let a = c .before .before .before .before .args in
+    stepped-none (a .month) (wordsIn (a .bytes .now)) (a .at) 0 _ refl (none-past (wordsIn (a .bytes .now)) (a .at) (omega arith)) (c .no-call .result) refl
     (c .no-call .ensures)
 
-mul-rest : tie.Need-mul-rest
-mul-rest c = search needs
+mul-from : tie.Need-mul-from
+mul-from c = search needs
 
 sub-rest : tie.Need-sub-rest
 sub-rest c = search needs
@@ -42,8 +46,8 @@ no-call-requires-2 c κs = search needs
 returns-2 : tie.Need-returns-2
 returns-2 c =
     let f = c .before .before in
-    let a = f .before .before .before .before .args in
-    stepped-none (a .month) (a .words .now) (a .at) (f .size .result) _ (part-from (a .words .now) (a .at) _ refl) (f .size .ensures) (c .no-call2 .result)
+    let a = f .before .before .before .before .before .args in
+    stepped-none (a .month) (wordsIn (a .bytes .now)) (a .at) (f .size .result) _ (part-words (a .bytes .now) (a .at) (4 * a .at) refl) (f .size .ensures) (c .no-call2 .result)
     (c .before .if2 .taken) (c .no-call2 .ensures)
 
 decode-requires : tie.Need-decode-requires
@@ -52,9 +56,9 @@ decode-requires c κs = search needs
 add-next : tie.Need-add-next
 add-next c =
     let f = c .before .before in
-    let a = f .before .before .before .before .args in
+    let a = f .before .before .before .before .before .args in
     omega
-    (arith, next-fits (a .words .now) (a .at) (f .size .result) (f .before .before .if1 .left) (f .size .ensures ∙ ap blockSize (part-from (a .words .now) (a .at) _ refl)))
+    (arith, next-fits (wordsIn (a .bytes .now)) (a .at) (f .size .result) (omega arith) (f .size .ensures ∙ ap blockSize (part-words (a .bytes .now) (a .at) (4 * a .at) refl)))
 
 enum-known-said : tie.Need-enum-known-said
 enum-known-said c = search needs
@@ -65,9 +69,6 @@ send-requires c κs = search needs
 tell-requires : tie.Need-tell-requires
 tell-requires c κs = search needs
 
-row-requires : tie.Need-row-requires
-row-requires c κs = search needs
-
 call-requires : tie.Need-call-requires
 call-requires c κs = search needs
 
@@ -75,28 +76,29 @@ returns-3 : tie.Need-returns-3
 returns-3 c =
     let d = c .before .before .before .before .before in
     let f = d .before .before in
-    let a = f .before .before .before .before .args in
-    let part = take (length (a .words .now) - a .at) (drop (a .at) (a .words .now)) in
-    let s = told (rowAt part) (c .before .before .before .said .given .1) (c .before .send .ensures) (c .tell .ensures) in
-    stepped-some (a .month) (a .words .now) (a .at) (f .size .result) _ (part-from (a .words .now) (a .at) _ refl) (f .size .ensures) (c .tell .result)
-    (d .before .if2 .left) (s .0) (said part _ (d .decode .result) refl (d .decode .ensures) (s .1))
+    let a = f .before .before .before .before .before .args in
+    let part = wordsIn (take (length (a .bytes .now) - 4 * a .at) (drop (4 * a .at) (a .bytes .now))) in
+    let s = told part (c .before .before .before .said .given .1) (c .before .send .ensures) (c .tell .ensures) in
+    stepped-some (a .month) (wordsIn (a .bytes .now)) (a .at) (f .size .result) _ (part-words (a .bytes .now) (a .at) (4 * a .at) refl) (f .size .ensures) (c .tell .result)
+    (d .before .if2 .left) (s .0) (said part (d .decode .result) (d .decode .ensures) (s .1))
 
 returns-4 : tie.Need-returns-4
 returns-4 c =
-    let d = c .before .before .before in
+    let d = c .before .before in
     let f = d .before .before in
-    let a = f .before .before .before .before .args in
-    stepped-some (a .month) (a .words .now) (a .at) (f .size .result) _ (part-from (a .words .now) (a .at) _ refl) (f .size .ensures) (c .call .result)
+    let a = f .before .before .before .before .before .args in
+    stepped-some (a .month) (wordsIn (a .bytes .now)) (a .at) (f .size .result) _ (part-words (a .bytes .now) (a .at) (4 * a .at) refl) (f .size .ensures) (c .call .result)
     (d .before .if2 .left) (c .call .ensures .0)
-    (said _ _ (d .decode .result) (c .before .row .ensures) (d .decode .ensures) (c .call .ensures .1))
+    (said _ (d .decode .result) (d .decode .ensures) (c .call .ensures .1))
 
 pub block-spec : {M : Type 1} → statement M
 block-spec =
     tie.close
     (tie.spec
+    count-requires
     no-call-requires
     returns
-    mul-rest
+    mul-from
     sub-rest
     part-rest-start
     part-rest-end
@@ -108,7 +110,6 @@ block-spec =
     enum-known-said
     send-requires
     tell-requires
-    row-requires
     call-requires
     returns-3
     returns-4)

@@ -5,17 +5,18 @@ use native.Mathlib.Omega.{arith}
 use mathlib.Core.Path.{_≡_}
 use borrow.Author.Needs.{needs}
 use lib.ListN.{length}
+use Rattle.words.specs.Bytes.{wordsIn}
 use Rattle.blocks.specs.Reading.{callsOf}
 use Rattle.script.proofs.Running.{Ongoing, starts, is-reached, out-length, goes-on, too-short, finished}
 use Rattle.script.proofs.run.Statement.{statement}
 use Rattle.script.proofs.run.Tie as tie
 
 abbrev Inv-loop : tie.InvT-loop
-Inv-loop words outcomes₀ calls read month₀ at₀ k₀ outcomes month at k =
-    Ongoing words outcomes₀ outcomes month at k × (calls ≡ length (callsOf words))
+Inv-loop bytes outcomes₀ calls read month₀ at₀ k₀ outcomes month at k =
+    Ongoing (wordsIn bytes) outcomes₀ outcomes month at k × (calls ≡ length (callsOf (wordsIn bytes)))
 
 abbrev μ-loop : tie.MeasureT-loop
-μ-loop words outcomes₀ calls read month₀ at₀ k₀ outcomes month at k = calls - k
+μ-loop bytes outcomes₀ calls read month₀ at₀ k₀ outcomes month at k = calls - k
 
 measure-requires : tie.Need-measure-requires Inv-loop μ-loop
 measure-requires c κs = search needs
@@ -26,21 +27,21 @@ fresh-requires c κs = search needs
 returns : tie.Need-returns Inv-loop μ-loop
 returns c =
     let s = c .before .before .before .before .before in
-    too-short (s .args .words .now) (s .args .outcomes .now) (c .before .fresh .result) (c .before .before .measure .result) (c .before .before .measure .ensures)
+    too-short (wordsIn (s .args .bytes .now)) (s .args .outcomes .now) (c .before .fresh .result) (c .before .before .measure .result) (c .before .before .measure .ensures)
     (omega arith) (c .before .fresh .ensures)
 
 loop-holds : tie.Need-loop-holds Inv-loop μ-loop
 loop-holds c =
     let s = c .before .before .before .before .before in
     let m = c .before .before .measure in
-    let r : length (callsOf (s .args .words .now)) ≤ length (s .args .outcomes .now) = omega (arith, m .ensures .calls) in
-    (starts (s .args .words .now) (s .args .outcomes .now) (c .before .fresh .result) r (c .before .fresh .ensures), m .ensures .calls)
+    let r : length (callsOf (wordsIn (s .args .bytes .now))) ≤ length (s .args .outcomes .now) = omega (arith, m .ensures .calls) in
+    (starts (wordsIn (s .args .bytes .now)) (s .args .outcomes .now) (c .before .fresh .result) r (c .before .fresh .ensures), m .ensures .calls)
 
 block-requires : tie.Need-block-requires Inv-loop μ-loop
 block-requires c κs =
     let s = c .before .before .before .before .before .before .before in
     let l = c .before .loop in
-    is-reached (s .args .words .now) (s .args .outcomes .now) (l .outcomes) (l .month) (l .at) (l .k) (l .inv .0)
+    is-reached (wordsIn (s .args .bytes .now)) (s .args .outcomes .now) (l .outcomes) (l .month) (l .at) (l .k) (l .inv .0)
 
 number-requires : tie.Need-number-requires Inv-loop μ-loop
 number-requires c κs = search needs
@@ -56,7 +57,7 @@ slice-write-outcomes c =
     let s = c .before .before .before .before .before .before .before .before .before .before in
     let l = c .before .before .before .before .loop in
     omega
-    (arith, l .inv .0 .room, l .inv .1, out-length (s .args .words .now) (s .args .outcomes .now) (l .outcomes) (l .month) (l .at) (l .k) (l .inv .0))
+    (arith, l .inv .0 .room, l .inv .1, out-length (wordsIn (s .args .bytes .now)) (s .args .outcomes .now) (l .outcomes) (l .month) (l .at) (l .k) (l .inv .0))
 
 add-k : tie.Need-add-k Inv-loop μ-loop
 add-k c = omega arith
@@ -68,7 +69,7 @@ loop-again : tie.Need-loop-again Inv-loop μ-loop
 loop-again c =
     let s = c .before .before .before .before .before .before .before .before .before .before .before in
     let l = c .before .before .before .before .before .loop in (
-      goes-on (s .args .words .now) (s .args .outcomes .now) (l .outcomes) (l .month) (l .at) (l .k) (l .inv .0) (omega (arith, l .inv .1))
+      goes-on (wordsIn (s .args .bytes .now)) (s .args .outcomes .now) (l .outcomes) (l .month) (l .at) (l .k) (l .inv .0) (omega (arith, l .inv .1))
           (c .before .before .before .block .result) (c .before .before .before .block .ensures) (c .before .number .result) (c .before .number .ensures),
       l .inv .1,
     )
@@ -77,14 +78,14 @@ same-length : tie.Need-same-length Inv-loop μ-loop
 same-length c =
     let s = c .before .before .before .before .before .before .before in
     let l = c .before .loop in
-    out-length (s .args .words .now) (s .args .outcomes .now) (l .outcomes) (l .month) (l .at) (l .k) (l .inv .0)
+    out-length (wordsIn (s .args .bytes .now)) (s .args .outcomes .now) (l .outcomes) (l .month) (l .at) (l .k) (l .inv .0)
 
 returns-2 : tie.Need-returns-2 Inv-loop μ-loop
 returns-2 c =
     let s = c .before .before .before .before .before .before .before in
     let l = c .before .loop in
     let m = c .before .before .before .before .measure in
-    finished (s .args .words .now) (s .args .outcomes .now) (l .outcomes) (l .month) (l .at) (l .k) (l .inv .0) (m .result) (m .ensures)
+    finished (wordsIn (s .args .bytes .now)) (s .args .outcomes .now) (l .outcomes) (l .month) (l .at) (l .k) (l .inv .0) (m .result) (m .ensures)
     (omega arith)
 
 pub run-spec : {M : Type 1} → statement M

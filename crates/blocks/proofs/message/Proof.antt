@@ -1,0 +1,41 @@
+-- `blocks::message` meets its contract: as many bytes as the third word says, behind those of the start. Assumes nothing.
+use mathlib.Core.Path.{_∙_}
+use lib.ListN.{take, drop}
+use Rattle.words.specs.Bytes.{wordsIn, bytesOf}
+use borrow.Author.Needs.{needs}
+use Rattle.blocks.proofs.message.Statement.{statement}
+use Rattle.blocks.proofs.message.Tie as tie
+
+word-requires : tie.Need-word-requires
+word-requires c κs = search needs
+
+length-requires : tie.Need-length-requires
+length-requires c κs = search needs
+
+word-requires-2 : tie.Need-word-requires-2
+word-requires-2 c κs = search needs
+
+length-requires-2 : tie.Need-length-requires-2
+length-requires-2 c κs = search needs
+
+part-requires : tie.Need-part-requires
+part-requires c κs = search needs
+
+returns : tie.Need-returns
+returns c =
+    let l = c .before in
+    let f = l .before .before in
+    let ws = wordsIn (f .before .before .before .args .bytes .now) in
+    c .part .ensures
+    ∙ λ i. take ((l .length2 .ensures .0 ∙ l .before .word2 .ensures) i) (drop ((f .length .ensures .0 ∙ f .before .word .ensures) i) (bytesOf (drop 3 ws)))
+
+pub message-spec : {M : Type 1} → statement M
+message-spec =
+    tie.close
+    (tie.spec
+    word-requires
+    length-requires
+    word-requires-2
+    length-requires-2
+    part-requires
+    returns)

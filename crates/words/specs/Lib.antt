@@ -1,0 +1,2 @@
+-- The words in some bytes, and the bytes of some words.
+pub mod Bytes
