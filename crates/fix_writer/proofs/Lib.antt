@@ -1,0 +1,5 @@
+-- Laws about bytes laid one behind the other, about numbers in digits, and about messages that are written.
+pub mod Laying
+pub mod Decimals
+pub mod Numbers
+pub mod Framing
