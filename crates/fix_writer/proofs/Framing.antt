@@ -79,7 +79,7 @@ regroup-5 : (a b c d e : List ℕ) → (((a ++ b) ++ c) ++ d) ++ e ≡ a ++ (b +
 regroup-5 a b c d e = simp append-assoc
 
 -- the fields from 35 to 60
-pub bodyBytes : Message (List ℕ) → List ℕ
+unfoldable pub bodyBytes : Message (List ℕ) → List ℕ
 bodyBytes m = fieldsBytes (fieldWith typeTag (kindText (kindOf m)) ∷ writtenFields m)
 
 module _ (id orig : ℕ) (side : Side) (volume : Contracts) (price : Steps) (sixty : List ℕ) where

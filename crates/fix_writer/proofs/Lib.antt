@@ -3,3 +3,8 @@ pub mod Laying
 pub mod Decimals
 pub mod Numbers
 pub mod Framing
+pub mod Fields
+pub mod Values
+pub mod Back
+pub mod Lengths
+pub mod Claims
