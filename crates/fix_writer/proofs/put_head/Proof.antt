@@ -1,0 +1,40 @@
+-- `fix_writer::put_head` meets its contract. Assumes nothing.
+use native.Mathlib.Omega.{arith}
+use mathlib.Core.Path.{_∙_}
+use Rattle.rules.specs.Fields.{fieldBytes}
+use Rattle.fix_writer.specs.Internal.{headBytes}
+use Rattle.fix_writer.proofs.Laying.{three}
+use Rattle.fix_writer.proofs.Decimals.{two-digits}
+use borrow.Author.Needs.{needs}
+use Rattle.fix_writer.proofs.put_head.Statement.{statement}
+use Rattle.fix_writer.proofs.put_head.Tie as tie
+
+slice-aggregate-put-all : tie.Need-slice-aggregate-put-all
+slice-aggregate-put-all c = search needs
+
+put-all-requires : tie.Need-put-all-requires
+put-all-requires c κs = search needs
+
+cast-put-number : tie.Need-cast-put-number
+cast-put-number c = search needs
+
+put-number-requires : tie.Need-put-number-requires
+put-number-requires c κs = (c .before .put-all .ensures .size ∙ c .before .before .before .before .pre .0, omega (arith, c .before .put-all .ensures .place, two-digits (c .before .before .before .before .args .n) (c .before .before .before .before .pre .1) (c .before .before .before .before .pre .2)))
+
+put-requires : tie.Need-put-requires
+put-requires c κs = (c .before .put-number .ensures .size ∙ c .before .before .before .put-all .ensures .size ∙ c .before .before .before .before .before .before .pre .0, omega (arith, c .before .before .before .put-all .ensures .place, c .before .put-number .ensures .place, two-digits (c .before .before .before .before .before .before .args .n) (c .before .before .before .before .before .before .pre .1) (c .before .before .before .before .before .before .pre .2)))
+
+returns : tie.Need-returns
+unfolding fieldBytes headBytes
+returns c = three (c .before .before .before .before .before .before .before .args .out .now) 0 (c .before .before .before .before .put-all .ensures) (c .before .before .put-number .ensures) (c .put .ensures)
+
+pub put-head-spec : {M : Type 1} → statement M
+put-head-spec =
+    tie.close
+    (tie.spec
+    slice-aggregate-put-all
+    put-all-requires
+    cast-put-number
+    put-number-requires
+    put-requires
+    returns)

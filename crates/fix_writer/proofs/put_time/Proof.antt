@@ -1,0 +1,37 @@
+-- `fix_writer::put_time` meets its contract. Assumes nothing.
+use native.Mathlib.Omega.{arith}
+use mathlib.Core.Path.{sym}
+use mathlib.Core.List.{append-nil}
+use Rattle.rules.specs.Fields.{fieldBytes, fieldsBytes}
+use Rattle.rules.specs.Messages.{fieldWith, timeTag}
+use Rattle.fix_writer.proofs.Laying.{three, named}
+use borrow.Author.Needs.{needs}
+use Rattle.fix_writer.proofs.put_time.Statement.{statement}
+use Rattle.fix_writer.proofs.put_time.Tie as tie
+
+slice-aggregate-put-all : tie.Need-slice-aggregate-put-all
+slice-aggregate-put-all c = search needs
+
+put-all-requires : tie.Need-put-all-requires
+put-all-requires c κs = search needs
+
+put-all-requires-2 : tie.Need-put-all-requires-2
+put-all-requires-2 c κs = search needs
+
+put-requires : tie.Need-put-requires
+put-requires c κs = search needs
+
+returns : tie.Need-returns
+unfolding fieldBytes fieldsBytes
+returns c =
+    let start = c .before .before .before .before .before .before .before .before in
+    let tag = c .before .before .before .before .put-all .ensures in
+    let value = c .before .before .put-all2 .ensures in (
+      named (start .args .out .now) (start .args .at) (sym (append-nil (fieldBytes (fieldWith timeTag (start .args .sixty .now))))) (three (start .args .out .now) (start .args .at) tag value (c .put .ensures)),
+      omega (arith, tag .place, value .place, c .put .ensures .place),
+    )
+
+pub put-time-spec : {M : Type 1} → statement M
+put-time-spec =
+    tie.close
+    (tie.spec slice-aggregate-put-all put-all-requires put-all-requires-2 put-requires returns)

@@ -1,0 +1,21 @@
+-- `fix_writer::side_digit` meets its contract. Assumes nothing.
+use mathlib.Core.Path.{refl, sym, ap}
+use borrow.Author.Needs.{needs}
+use Rattle.rules.specs.Messages.{sideText}
+use Rattle.fix_writer.proofs.side_digit.Statement.{statement}
+use Rattle.fix_writer.proofs.side_digit.Tie as tie
+
+enum-told : tie.Need-enum-told
+enum-told c = search needs
+
+enum-told-2 : tie.Need-enum-told-2
+enum-told-2 c = search needs
+
+returns : tie.Need-returns
+returns c = sym (ap sideText (c .enum-told .given .1))
+
+returns-2 : tie.Need-returns-2
+returns-2 c = sym (ap sideText (c .enum-told2 .given .1))
+
+pub side-digit-spec : {M : Type 1} → statement M
+side-digit-spec = tie.close (tie.spec enum-told enum-told-2 returns returns-2)

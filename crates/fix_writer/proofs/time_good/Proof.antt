@@ -1,0 +1,27 @@
+-- `fix_writer::time_good` meets its contract. Assumes nothing.
+use mathlib.Core.Path.{sym, ap, _∙_}
+use borrow.Author.Needs.{needs}
+use Rattle.dates.specs.Answers.{shownTime}
+use Rattle.fix_writer.specs.Internal.{isSome, isTime}
+use Rattle.fix_writer.proofs.time_good.Statement.{statement}
+use Rattle.fix_writer.proofs.time_good.Tie as tie
+
+time-in-requires : tie.Need-time-in-requires
+time-in-requires c κs = search needs
+
+enum-told : tie.Need-enum-told
+enum-told c = search needs
+
+enum-told-2 : tie.Need-enum-told-2
+enum-told-2 c = search needs
+
+returns : tie.Need-returns
+unfolding isTime
+returns c = sym (ap (λ t. isSome (shownTime t)) (c .enum-told .given .1)) ∙ ap isSome (c .before .before .time-in .ensures)
+
+returns-2 : tie.Need-returns-2
+unfolding isTime
+returns-2 c = sym (ap (λ t. isSome (shownTime t)) (c .enum-told2 .given .1)) ∙ ap isSome (c .before .before .time-in .ensures)
+
+pub time-good-spec : {M : Type 1} → statement M
+time-good-spec = tie.close (tie.spec time-in-requires enum-told enum-told-2 returns returns-2)
