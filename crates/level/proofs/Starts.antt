@@ -159,9 +159,9 @@ module _ (minimum : ℕ) (ks vs : List ℕ) (known : ℕ) where
       go false e = let more = ap (λ (x : Guess). x .sums) (f .steps e .1) in omega (arith, more)
 
   -- the changed order's key: it is tried only where it is better than every price found
-  pub guess-change : (g : Guess) (key : ℕ) → Near g → isBest (g .level) minimum ≡ false → Guessed (atChange minimum ks vs g key)
+  pub guess-change : (g r : Guess) (key : ℕ) → Near g → isBest (g .level) minimum ≡ false → r ≡ atChange minimum ks vs g key → Guessed r
   unfolding levelAt
-  guess-change g key p not-yet = go (canBeBest (g .level) key minimum) refl
+  guess-change g r key p not-yet is = subst Guessed (sym is) (go (canBeBest (g .level) key minimum) refl)
     where
       better : (b : Bool) → leb minimum (g .level .before) ≡ b → (if b then ltb (g .level .key) key else ltb 0 key && ltb key (g .level .key)) ≡ true
           → (eqb (g .start) 0 || ltb (g .start) key) ≡ true
@@ -174,8 +174,10 @@ module _ (minimum : ℕ) (ks vs : List ℕ) (known : ℕ) where
       go true e = guess-more g (levelAt ks vs key) (p .guessed) not-yet refl (better (leb minimum (g .level .before)) refl e)
       go false e = p .guessed
 
-  pub change-sums : (g : Guess) (key : ℕ) → atChange minimum ks vs g key .sums ≤ g .sums + 1
-  change-sums g key = go (canBeBest (g .level) key minimum)
+  pub change-sums : (g r : Guess) (key : ℕ) → r ≡ atChange minimum ks vs g key → r .sums ≤ g .sums + 1
+  change-sums g r key is =
+      let same = ap (λ (x : Guess). x .sums) is in
+      omega (arith, same, go (canBeBest (g .level) key minimum))
     where
       go : (b : Bool) → (if b then withLevel g (levelAt ks vs key) minimum else g) .sums ≤ g .sums + 1
       go true = omega arith

@@ -4,7 +4,7 @@
 ghost use mathlib.Core.Path.{_≡_};
 ghost use mathlib.Core.Bool.{_&&_, false};
 ghost use mathlib.Core.List.{List};
-ghost use Prim.Native.Nat.{ℕ, _+_, _-_, _≤_};
+ghost use Prim.Native.Nat.{ℕ, _+_, _-_, _≤_, min, max};
 ghost use lib.Dec.{leb, ltb, eqb};
 ghost use lib.ListN.{length, getD};
 ghost use Rattle.rules.specs.Lists.{if_then_else_};
@@ -80,6 +80,34 @@ fn moved(level: Level, change: Change) -> Level
 
 // ---- the keys next to one
 
+// Whether a key is worse than another. Keys fit 31 bits, and a processor compares several numbers at once sooner with a sign.
+fn under(a: u32, b: u32) -> bool
+    requires { ⌜ (a ≤ 2000000001) × (b ≤ 2000000001) ⌝ }
+    ensures { λ r. ⌜ r ≡ ltb a b ⌝ }
+{
+    (a as i32) < (b as i32)
+}
+
+fn lesser(a: u32, b: u32) -> u32
+    requires { ⌜ (a ≤ 2000000001) × (b ≤ 2000000001) ⌝ }
+    ensures { λ r. ⌜ r ≡ min a b ⌝ }
+{
+    if under(b, a) {
+        return b;
+    }
+    a
+}
+
+fn greater(a: u32, b: u32) -> u32
+    requires { ⌜ (a ≤ 2000000001) × (b ≤ 2000000001) ⌝ }
+    ensures { λ r. ⌜ r ≡ max a b ⌝ }
+{
+    if under(a, b) {
+        return b;
+    }
+    a
+}
+
 fn key_where(counts: bool, key: u32, other: u32) -> u32
     ensures { λ r. ⌜ r ≡ (if counts then key else other) ⌝ }
 {
@@ -91,13 +119,14 @@ fn key_where(counts: bool, key: u32, other: u32) -> u32
 
 // The next better key, or the best one that there can be.
 fn above(keys: &[u32], key: u32) -> u32
+    requires { ⌜ ((i : ℕ) → getD (now keys) i 0 ≤ 2000000001) × (key ≤ 2000000001) ⌝ }
     ensures { λ r. ⌜ r ≡ keyAbove key (now (keys .entry)) ⌝ }
 {
     let mut next: u32 = 2000000001;
     let mut i: usize = 0;
     while i < keys.len() {
         let k = keys[i];
-        next = numbers::min(next, key_where(key < k, k, 2000000001));
+        next = lesser(next, key_where(under(key, k), k, 2000000001));
         i += 1;
     }
     next
@@ -105,13 +134,14 @@ fn above(keys: &[u32], key: u32) -> u32
 
 // The next worse key, or none.
 fn below(keys: &[u32], key: u32) -> u32
+    requires { ⌜ ((i : ℕ) → getD (now keys) i 0 ≤ 2000000001) × (key ≤ 2000000001) ⌝ }
     ensures { λ r. ⌜ r ≡ keyBelow key (now (keys .entry)) ⌝ }
 {
     let mut next: u32 = 0;
     let mut i: usize = 0;
     while i < keys.len() {
         let k = keys[i];
-        next = numbers::max(next, key_where(k < key, k, 0));
+        next = greater(next, key_where(under(k, key), k, 0));
         i += 1;
     }
     next

@@ -74,19 +74,17 @@ holds-last c =
     let f = c .before .before .before .before in
     let q = f .before .before .before .before .before .before in
     let a = q .before .before .before .args in
-    subst (Holds q) (sym (c .at-change .ensures))
-    (guess-change (a .minimum .0) (a .keys .now) (a .volumes .now) (foundWith (a .minimum .0) 0 (made (a .old .key) (a .old .before + a .old .at))) (f .farther .result) (a .key) (near-second f) (not-second (c .before)))
+    guess-change (a .minimum .0) (a .keys .now) (a .volumes .now) (foundWith (a .minimum .0) 0 (made (a .old .key) (a .old .before + a .old .at)))
+    (f .farther .result) (c .at-change .result) (a .key) (near-second f) (not-second (c .before)) (c .at-change .ensures)
 
 three : (c : tie.After-at-change) → c .at-change .result .sums ≤ 3
 three c =
     let f = c .before .before .before .before in
     let a = f .before .before .before .before .before .before .before .before .before .args in
-    let sums = ap (λ (g : Guess). g .sums) (c .at-change .ensures) in
     omega (
       arith,
       two f,
-      sums,
-      change-sums (a .minimum .0) (a .keys .now) (a .volumes .now) (foundWith (a .minimum .0) 0 (made (a .old .key) (a .old .before + a .old .at))) (f .farther .result) (a .key),
+      change-sums (a .minimum .0) (a .keys .now) (a .volumes .now) (foundWith (a .minimum .0) 0 (made (a .old .key) (a .old .before + a .old .at))) (f .farther .result) (c .at-change .result) (a .key) (c .at-change .ensures),
     )
 
 fits : (c : tie.After-qualified) (g : Guess) → Holds c g → g .level .before + g .level .at ≤ 64000000
