@@ -21,7 +21,7 @@ tried-requires : tie.Need-tried-requires
 tried-requires c κs =
     let s = c .before .before .before .before .before in
     let a = s .args in (
-      level-small (a .keys .now) (a .volumes .now) (c .measured .result) (s .pre .0) (own-level (a .keys .now) (a .volumes .now) (a .key) (c .measured .result) (c .measured .ensures)),
+      level-small (a .keys .now) (a .volumes .now) (c .measured .result) (s .pre .0) (own-level (a .keys .now) (a .volumes .now) _ (c .measured .result) (c .measured .ensures)),
       s .pre .1,
     )
 
