@@ -1,11 +1,13 @@
-//! The counting twin: it takes an event by the steps of the proved meter (crates side, level and quote), and counts the
-//! records that made a search, and the sums that the searches made. It is compared and not timed.
+//! The counting twin: it takes an event by the steps of the proved meter (crates side, small, level and quote), and counts as
+//! `book::send` does. It sees that each sum keeps W3's rule. It is compared and not timed.
 
 use crate::session::*;
 
-/// How many records made a search, and for how many orders the searches added up volumes.
+/// For how many prices volumes were added up before a search (`Sent.guesses`), how many records made a search, and for how many
+/// orders the searches added up volumes (`Sent.sums`).
 #[derive(Clone, Copy, Default)]
 pub struct Counts {
+    pub guesses: u64,
     pub searches: u64,
     pub sums: u64,
 }
@@ -22,6 +24,55 @@ impl Level {
     /// Whether it is the best quote's: fewer than M before it, and M or more with it, or no quote at all.
     fn is_best(&self, least: u32) -> bool {
         self.before < least && (self.key == 0 || least <= self.before + self.at)
+    }
+
+    /// How many contracts stand too many before it, or how many are missing at it or better, where it is not the best.
+    fn lacking(&self, least: u32) -> u32 {
+        if least <= self.before {
+            return self.before - least;
+        }
+        least - (self.before + self.at)
+    }
+
+    /// Whether the best level can be at a key, seen from this one, which is not the best.
+    fn can_be_best(&self, key: u32, least: u32) -> bool {
+        if least <= self.before {
+            return self.key < key;
+        }
+        0 < key && key < self.key
+    }
+}
+
+/// One event's work on a best quote: the best key found to qualify, 0 for none, and what was counted.
+struct Work {
+    least: u32,
+    found: u32,
+    counts: Counts,
+}
+
+impl Work {
+    /// What stands at a key or better is known.
+    fn known(&mut self, key: u32, depth: u32) {
+        if self.least <= depth {
+            self.found = key;
+        }
+    }
+
+    /// A sum for a key: W3 asks that it is better than every one already found to qualify.
+    fn summed(&mut self, key: u32, depth: u32) {
+        assert!(
+            self.found == 0 || self.found < key,
+            "a sum for {key}, where {} qualifies",
+            self.found
+        );
+        self.known(key, depth);
+    }
+
+    /// A level is tried, by one sum.
+    fn tried(&mut self, level: Level) -> Level {
+        self.counts.guesses += 1;
+        self.summed(level.key, level.before + level.at);
+        level
     }
 }
 
@@ -67,19 +118,16 @@ impl Side {
         }
     }
 
-    /// The search from a key: volumes are added up for an order only if its key is better than every one already found to
-    /// qualify. The best key, and for how many orders it added up.
-    fn search(&self, start: u32, least: u32) -> (u32, u64) {
-        let (mut found, mut sums) = (start, 0);
+    /// The search from the best key found to qualify: volumes are added up for an order only if its key is better than it.
+    fn search(&self, work: &mut Work) -> Level {
+        work.counts.searches += 1;
         for o in &self.orders {
-            if found < o.key {
-                sums += 1;
-                if least <= self.sum(|k| k >= o.key) {
-                    found = o.key;
-                }
+            if work.found < o.key {
+                work.counts.sums += 1;
+                work.summed(o.key, self.sum(|k| k >= o.key));
             }
         }
-        (found, sums)
+        self.measured(work.found)
     }
 
     /// The old level after a change of one order.
@@ -92,42 +140,80 @@ impl Side {
         }
     }
 
-    /// The level next to one, on the side where the best one is.
-    fn stepped(&self, level: Level, least: u32) -> Level {
+    /// The level next to one, on the side where the best one is: what stands at it is added up.
+    fn stepped(&self, level: Level, work: &mut Work) -> Level {
         let keys = self.orders.iter().map(|o| o.key);
-        self.measured(if least <= level.before {
-            keys.filter(|k| *k > level.key).min().unwrap_or(u32::MAX)
+        let key = if work.least <= level.before {
+            keys.filter(|k| *k > level.key)
+                .min()
+                .unwrap_or(2_000_000_001)
         } else {
             keys.filter(|k| *k < level.key).max().unwrap_or(0)
-        })
+        };
+        work.tried(self.measured(key))
     }
 
-    /// Of a small side the search, unrolled there and not counted; of a greater one the old level, or one or two steps on.
-    fn guessed(&self, change: &Change, least: u32) -> Level {
-        if self.orders.len() <= 4 {
-            return self.measured(self.search(0, least).0);
+    /// The best level of a small side, of which only the key is kept: from the best order down until they are enough.
+    fn few(&self, work: &mut Work) -> Level {
+        let mut sorted: Vec<_> = self.orders.iter().map(|o| (o.key, o.volume)).collect();
+        sorted.sort_by(|a, b| b.cmp(a));
+        let mut depth = 0;
+        for (key, volume) in sorted {
+            if work.least <= depth {
+                break;
+            }
+            depth += volume;
+            work.counts.guesses += 1;
+            work.summed(key, depth);
+        }
+        Level {
+            key: work.found,
+            ..Level::default()
+        }
+    }
+
+    /// The old best key's level after a change: where the fifth order came, only its key was kept, and it is measured.
+    fn carried(&self, change: &Change, work: &mut Work) -> Level {
+        if self.orders.len() == 5 && change.old == 0 {
+            return work.tried(self.measured(self.level.key));
         }
         let old = self.moved(change);
-        if old.is_best(least) {
-            return old;
+        work.known(old.key, old.before + old.at);
+        old
+    }
+
+    /// The best level from one that is not: one step from it, or two, or at the changed order's key, or by the search.
+    fn sought(&self, old: Level, key: u32, work: &mut Work) -> Level {
+        let mut level = self.stepped(old, work);
+        if !level.is_best(work.least) && level.lacking(work.least) <= 8 * level.at {
+            level = self.stepped(level, work);
         }
-        let next = self.stepped(old, least);
-        if next.is_best(least) {
-            return next;
+        if !level.is_best(work.least) && level.can_be_best(key, work.least) {
+            level = work.tried(self.measured(key));
         }
-        self.stepped(next, least)
+        if level.is_best(work.least) {
+            return level;
+        }
+        self.search(work)
     }
 
     fn requote(&mut self, change: &Change, least: u32, counts: &mut Counts) {
-        self.level = self.guessed(change, least);
-        if self.level.is_best(least) {
-            return;
-        }
-        let enough = least <= self.level.before;
-        let (key, sums) = self.search(part(enough, self.level.key), least);
-        self.level = self.measured(key);
-        counts.searches += 1;
-        counts.sums += sums;
+        let mut work = Work {
+            least,
+            found: 0,
+            counts: *counts,
+        };
+        self.level = if self.orders.len() <= 4 {
+            self.few(&mut work)
+        } else {
+            let old = self.carried(change, &mut work);
+            if old.is_best(least) {
+                old
+            } else {
+                self.sought(old, change.key, &mut work)
+            }
+        };
+        *counts = work.counts;
     }
 }
 

@@ -1,5 +1,5 @@
 //! The proved meter's C call against two meters in Rust: their answers are compared, and their time measured. A third one
-//! in Rust counts the searches.
+//! in Rust counts the sums.
 
 mod counted;
 mod fast;
@@ -193,13 +193,14 @@ fn main() {
         "records",
         "kept %",
         "stretches",
+        "guesses",
         "searches %",
         "sums",
     ];
     let mut titles: Vec<_> = titles.map(String::from).into();
     titles.extend(names.iter().map(|n| format!("{n} ns")));
     titles.extend(names[1..].iter().map(|n| format!("{}/{n}", names[0])));
-    println!("Records in a hundred that made a search, sums that a search made, nanoseconds a record, and ratios:");
+    println!("Sums that a record made before a search, records in a hundred that made a search, sums that a search made, nanoseconds a record, and ratios:");
     println!();
     row(titles.clone());
     row(titles.iter().map(|_| "--:".to_string()));
@@ -226,8 +227,10 @@ fn main() {
             let kept = answer as f64 / input::LENGTH as f64 * 100.0;
             let mut cells = vec![name.to_string(), n.to_string(), format!("{kept:.1}")];
             cells.push(STRETCHES.load(Relaxed).to_string());
+            let guesses = counts.guesses as f64 / n as f64;
             let percent = counts.searches as f64 / n as f64 * 100.0;
             let sums = counts.sums as f64 / counts.searches.max(1) as f64;
+            cells.push(format!("{guesses:.2}"));
             cells.extend([format!("{percent:.2}"), format!("{sums:.1}")]);
             cells.extend(pace.iter().map(|p| format!("{p:.1}")));
             cells.extend(pace[1..].iter().map(|p| format!("{:.2}", pace[0] / p)));

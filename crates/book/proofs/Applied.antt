@@ -251,7 +251,7 @@ module _ (t : Millis) (minimum : ℕ) (live : List Order) (table : List ℕ) (re
         (made .words slots (keptIn minimum slots) (good-before n .few) within (part-is table minimum live represents n small))
 
     -- the side's words after it went, for the hints
-    pub placed : (half hints : List ℕ) (c : Change) → length hints ≡ 1024 → Removed k (lent n table) half c → Placed (putBack n table half) hints n
+    pub placed : (half hints : List ℕ) (c : Change) → length hints ≡ 2048 → Removed k (lent n table) half c → Placed (putBack n table half) hints n
     placed half hints c long made =
         let left = take k slots ++ drop (suc k) slots in
         let few = good-removed slots k (good-before n) .few in

@@ -65,7 +65,7 @@ pub record Located (table : List ℕ) (slot : ℕ) : Type 0 where
 -- the places of a side's orders, to write down in the hints
 pub record Placed (table hints : List ℕ) (s : ℕ) : Type 0 where
   pub long : length table ≡ 512
-  pub hinted : length hints ≡ 1024
+  pub hinted : length hints ≡ 2048
   pub number : s < 2
   pub few : getD table (256 * s + 192) 0 ≤ 64
 

@@ -1,6 +1,6 @@
 -- What an event promises: the trader's refusal and the table after it (`Sends`), whether the live orders then keep the quote, and the sums
 -- that were made for the best quote of its side. All of it holds whatever the hints contain; the hints after it are the one thing that is
--- left free, 1,024 bytes.
+-- left free, 2,048 bytes.
 use Prim.Native.Nat.{ℕ}
 use mathlib.Core.Path.{_≡_}
 use mathlib.Core.List.{List}

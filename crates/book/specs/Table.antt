@@ -54,7 +54,7 @@ pub record Holding (table hints : List ℕ) (minimum : ℕ) : Type 0 where
   pub live : List Order
   pub good : GoodOrders live
   pub is : table ≡ tableOf minimum live
-  pub hinted : length hints ≡ 1024
+  pub hinted : length hints ≡ 2048
   pub some : 1 ≤ minimum
 
 -- the slot of the order with an id: a buy's place, 64 + a sell's, or 128 where no live order has it

@@ -1,5 +1,5 @@
 // The live orders of both sides in 512 lent words (specs/Table has their layout): an event's order is found by its id, and an accepted
-// event changes its side's orders and best level. `hints` has 1,024 bytes that say where an id was last found; nothing rests on it.
+// event changes its side's orders and best level. `hints` has 2,048 bytes that say where an id was last found; nothing rests on it.
 ghost use mathlib.Core.Path.{_≡_};
 ghost use mathlib.Core.List.{List, []};
 ghost use mathlib.Core.Bool.{_&&_, not};
@@ -37,7 +37,7 @@ use side::WORDS;
 pub const TABLE: usize = 512;
 
 // The number of hints.
-const HINTS: u32 = 1024;
+const HINTS: u32 = 2048;
 
 // The answer to an event: the refusal's number; or 0, and what changes on which side, buys 0 and sells 1.
 struct Answer {
@@ -130,14 +130,14 @@ fn names(word: u32, id: u32) -> bool
 
 // Where an id was last found.
 fn note(hints: &mut [u8], id: u32, slot: usize)
-    requires { ⌜ (length (now hints) ≡ 1024) × (slot ≤ 128) ⌝ }
+    requires { ⌜ (length (now hints) ≡ 2048) × (slot ≤ 128) ⌝ }
 {
     hints[(id % HINTS) as usize] = slot as u8;
 }
 
 // The slot of the order with the id, or 128: the one that was last found for an id like this, where it stands there.
 fn find(table: &[u32], hints: &mut [u8], id: u32) -> usize
-    requires { ⌜ Held (now table) × (length (now hints) ≡ 1024) ⌝ }
+    requires { ⌜ Held (now table) × (length (now hints) ≡ 2048) ⌝ }
     ensures { λ r. ⌜ ((minimum : ℕ) (live : List Order) → Represents (now (table .entry)) minimum live → r ≡ slotIn id live) ⌝ }
 {
     let hint = (hints[(id % HINTS) as usize] % 128) as usize;
@@ -184,7 +184,7 @@ fn add(
     price: Steps,
     volume: Contracts,
 ) -> Answer
-    requires { ⌜ Located (now table) slot × (length (now hints) ≡ 1024) ⌝ }
+    requires { ⌜ Located (now table) slot × (length (now hints) ≡ 2048) ⌝ }
     ensures { λ r. ⌜ ((t : Millis) (minimum : ℕ) (live : List Order) → Represents (now (table .entry)) minimum live → slot ≡ slotIn id live → Applied (Add t id side price volume) minimum live (now (table .exit)) r) ⌝ }
 {
     if slot < 128 {
@@ -231,7 +231,7 @@ fn amend(table: &mut [u32], slot: usize, price: Steps, volume: Contracts) -> Ans
 
 // The order in a slot goes: refused by 11 where there is none. The orders behind it move up, and the hints with them.
 fn cancel(table: &mut [u32], hints: &mut [u8], slot: usize) -> Answer
-    requires { ⌜ Located (now table) slot × (length (now hints) ≡ 1024) ⌝ }
+    requires { ⌜ Located (now table) slot × (length (now hints) ≡ 2048) ⌝ }
     ensures { λ r. ⌜ ((t : Millis) (id minimum : ℕ) (live : List Order) → Represents (now (table .entry)) minimum live → slot ≡ slotIn id live → Applied (Cancel t id) minimum live (now (table .exit)) r) ⌝ }
 {
     if 128 <= slot {
@@ -246,7 +246,7 @@ fn cancel(table: &mut [u32], hints: &mut [u8], slot: usize) -> Answer
 
 // What is left of the order stands in its place, or the order goes where nothing is: refused by 11, 12 or 14.
 fn deal(table: &mut [u32], hints: &mut [u8], slot: usize, volume: Contracts) -> Answer
-    requires { ⌜ Located (now table) slot × (length (now hints) ≡ 1024) ⌝ }
+    requires { ⌜ Located (now table) slot × (length (now hints) ≡ 2048) ⌝ }
     ensures { λ r. ⌜ ((t : Millis) (id minimum : ℕ) (live : List Order) → Represents (now (table .entry)) minimum live → slot ≡ slotIn id live → Applied (Deal t id volume) minimum live (now (table .exit)) r) ⌝ }
 {
     if 128 <= slot {
@@ -307,7 +307,7 @@ fn id_of(e: Event) -> u32
 
 // The answer to an event, and the orders after it; the best level of its side is still that of before.
 fn changed(table: &mut [u32], hints: &mut [u8], e: Event) -> Answer
-    requires { ⌜ Held (now table) × (length (now hints) ≡ 1024) ⌝ }
+    requires { ⌜ Held (now table) × (length (now hints) ≡ 2048) ⌝ }
     ensures { λ r. ⌜ ((minimum : ℕ) (live : List Order) → Represents (now (table .entry)) minimum live → Applied e minimum live (now (table .exit)) r) ⌝ }
 {
     let slot = find(table, hints, id_of(e));

@@ -8,6 +8,10 @@ use mathlib.Core.List.{List, [], _∷_, _++_, List·Memᴰ, List·Memᴰ·head, 
 use mathlib.Core.Bool.{Bool, true, false, _||_, true≢false}
 use borrow.Author.Tests.{ltb-true, ltb-false, leb-true, leb-false, eqb-false, lt-ltb, le-leb}
 use lib.Dec.{leb, ltb, eqb}
+use lib.IntN.{pos}
+use lib.Signed.{ltZ}
+use mir.Syntax.{w32}
+use mir.Val.{toZ}
 use lib.ListN.{length, getD, take}
 use lib.Seq.{take-suc, take-length}
 use Rattle.rules.specs.Lists.{if_then_else_, filter}
@@ -16,6 +20,18 @@ use Rattle.quote.specs.declared.Level.{Level}
 use Rattle.quote.specs.Levels.{held, greatest, levelAt, isBest, Searchable}
 use Rattle.quote.proofs.Levels.{held-le-in, held-some, held-none, level-split, greatest-append, greatest-over, greatest-under}
 use Rattle.level.specs.Internal.{least, keyAbove, keyBelow, Steps}
+
+-- ---- keys compared with a sign
+
+signed : (n : ℕ) → n ≤ 2000000001 → toZ w32 n ≡ pos n
+signed n h = rw (lt-ltb n 2147483648 (omega (arith, h))) refl
+
+pub signed-less : (a b : ℕ) → a ≤ 2000000001 → b ≤ 2000000001 → ltZ (toZ w32 a) (toZ w32 b) ≡ ltb a b
+signed-less a b h k = rw (signed a h, signed b k) refl
+
+pub where-most : (b : Bool) (k other n : ℕ) → k ≤ 2000000001 → other ≤ 2000000001 → n ≡ (if b then k else other) → n ≤ 2000000001
+where-most true k other n h l e = omega (arith, h, e)
+where-most false k other n h l e = omega (arith, l, e)
 
 -- ---- one key further in the columns
 

@@ -4,7 +4,7 @@ use native.Mathlib.Omega.{arith}
 use mathlib.Core.Path.{_≡_, refl, sym, ap, _∙_, subst}
 use mathlib.Core.Logic.{_⊎_, inl, inr}
 use mathlib.Core.List.{List, [], _∷_}
-use mathlib.Core.Bool.{Bool, true, false, _||_, true≢false}
+use mathlib.Core.Bool.{Bool, true, false, _&&_, _||_, true≢false}
 use borrow.Author.Tests.{leb-true, leb-false, ltb-true, ltb-false, eqb-true, eqb-false, lt-ltb, le-leb, lt-leb, le-ltb, eq-eqb}
 use lib.Dec.{leb, ltb, eqb}
 use lib.ListN.{length, getD}
@@ -27,7 +27,7 @@ use Rattle.side.specs.Slots.{Slot, keysOf, volumesOf, levelIn, bestKeyIn, GoodS
 use Rattle.level.proofs.Parts.{keys-most}
 use Rattle.level.specs.declared.Guess.{Guess}
 use Rattle.level.specs.declared.Found.{Found}
-use Rattle.level.specs.Internal.{Steps, Open, Searches, Sought, withLevel}
+use Rattle.level.specs.Internal.{Steps, Open, Searches, Sought, withLevel, fallsShort, Farther, canBeBest, atChange}
 use Rattle.level.proofs.Nexts.{not-best}
 use Rattle.level.proofs.Tries.{tried-none, tried-more}
 
@@ -45,13 +45,20 @@ or-true : (b : Bool) → b || true ≡ true
 or-true true = refl
 or-true false = refl
 
+-- a choice by whether enough stand before
+pub where-enough : {A : Type 0} (minimum n : ℕ) (x y : A) → minimum ≤ n → (if leb minimum n then x else y) ≡ x
+where-enough minimum n x y h = ap (λ (b : Bool). if b then x else y) (le-leb minimum n h)
+
+pub where-short : {A : Type 0} (minimum n : ℕ) (x y : A) → n < minimum → (if leb minimum n then x else y) ≡ y
+where-short minimum n x y h = ap (λ (b : Bool). if b then x else y) (lt-leb minimum n h)
+
 -- ---- a level
 
 pub found-enough : (minimum found key depth : ℕ) → minimum ≤ depth → foundWith minimum found (made key depth) ≡ key
-found-enough minimum found key depth h = ap (λ (b : Bool). if b then key else found) (le-leb minimum depth h)
+found-enough minimum found key depth h = where-enough minimum depth key found h
 
 pub found-short : (minimum found key depth : ℕ) → depth < minimum → foundWith minimum found (made key depth) ≡ found
-found-short minimum found key depth h = ap (λ (b : Bool). if b then key else found) (lt-leb minimum depth h)
+found-short minimum found key depth h = where-short minimum depth key found h
 
 module _ (ks vs : List ℕ) (l : Level) (is : l ≡ levelAt ks vs (l .key)) where
   pub before-held : l .before ≡ held (ltb (l .key)) ks vs
@@ -67,13 +74,16 @@ module _ (ks vs : List ℕ) (l : Level) (is : l ≡ levelAt ks vs (l .key)) wher
 -- ---- guesses
 
 module _ (minimum : ℕ) (ks vs : List ℕ) (known : ℕ) where
-  -- a level, with the sums made up to it; where it is not the best, a search may start from what they found, and nothing was found where
-  -- too few stand before it
+  -- a level, with the sums made up to it; where it is not the best, a search may start from what they found
   pub record Guessed (g : Guess) : Type 0 where
     pub is : g .level ≡ levelAt ks vs (g .level .key)
-    pub most : g .level .key ≤ 2000000001
     pub tried : Tried minimum ks vs known (g .sums) (g .start)
     pub below : isBest (g .level) minimum ≡ false → (g .start ≡ 0) ⊎ (minimum ≤ held (ltb (g .start)) ks vs)
+
+  -- one that steps lead to: nothing was found where too few stand before it, else its own price is the best one found
+  pub record Near (g : Guess) : Type 0 where
+    pub guessed : Guessed g
+    pub most : g .level .key ≤ 2000000001
     pub none : isBest (g .level) minimum ≡ false → g .level .before < minimum → g .start ≡ 0
     pub at : minimum ≤ g .level .before → g .start ≡ g .level .key
 
@@ -95,17 +105,25 @@ module _ (minimum : ℕ) (ks vs : List ℕ) (known : ℕ) where
           let f = found-short minimum start (l .key) (l .before + l .at) (not-best l minimum not-yet (leb-false minimum (l .before) e) .1) in
           subst (λ (k : ℕ). (k ≡ 0) ⊎ (minimum ≤ held (ltb k) ks vs)) (sym f) old
 
+  -- one more level, at a price better than every one found
+  guess-more : (g : Guess) (l : Level) → Guessed g → isBest (g .level) minimum ≡ false → l ≡ levelAt ks vs (l .key)
+      → (eqb (g .start) 0 || ltb (g .start) (l .key)) ≡ true → Guessed (withLevel g l minimum)
+  guess-more g l p not-yet is turn =
+      record {
+        is = is;
+        tried =
+            tried-more minimum ks vs known (g .sums) (g .start) (l .key) (l .before + l .at) (p .tried) turn
+            (omega (arith, depth-held ks vs l is));
+        below = λ n. with-below (g .start) l is n (p .below not-yet);
+      }
+
   -- one step further
-  pub guess-stepped : (g : Guess) (l : Level) → Guessed g → isBest (g .level) minimum ≡ false → Steps minimum ks vs (g .level) l
-      → Guessed (withLevel g l minimum)
+  pub guess-stepped : (g : Guess) (l : Level) → Near g → isBest (g .level) minimum ≡ false → Steps minimum ks vs (g .level) l
+      → Near (withLevel g l minimum)
   guess-stepped g l p not-yet s =
       record {
-        is = s .is;
+        guessed = guess-more g l (p .guessed) not-yet (s .is) (turn (leb minimum (g .level .before)) refl);
         most = s .most;
-        tried =
-            tried-more minimum ks vs known (g .sums) (g .start) (l .key) (l .before + l .at) (p .tried) (turn (leb minimum (g .level .before)) refl)
-            (omega (arith, depth-held ks vs l (s .is)));
-        below = λ n. with-below (g .start) l (s .is) n (p .below not-yet);
         none = λ n few. stays n few (leb minimum (g .level .before)) refl;
         at = λ h. found-enough minimum (g .start) (l .key) (l .before + l .at) (omega (arith, h));
       }
@@ -125,17 +143,60 @@ module _ (minimum : ℕ) (ks vs : List ℕ) (known : ℕ) where
           found-short minimum (g .start) (l .key) (l .before + l .at) (not-best l minimum n few .1)
           ∙ p .none not-yet (leb-false minimum (g .level .before) e)
 
+  -- one step more, or none
+  pub guess-farther : (g r : Guess) → Near g → isBest (g .level) minimum ≡ false → Farther minimum ks vs g r → Near r
+  guess-farther g r p not-yet f = go (fallsShort (g .level) minimum) refl
+    where
+      go : (b : Bool) → fallsShort (g .level) minimum ≡ b → Near r
+      go true e = subst Near (sym (f .stays e)) p
+      go false e = let (s, is) = f .steps e in subst Near (sym is) (guess-stepped g (r .level) p not-yet s)
+
+  pub farther-sums : (g r : Guess) → Farther minimum ks vs g r → r .sums ≤ g .sums + 1
+  farther-sums g r f = go (fallsShort (g .level) minimum) refl
+    where
+      go : (b : Bool) → fallsShort (g .level) minimum ≡ b → r .sums ≤ g .sums + 1
+      go true e = let same = ap (λ (x : Guess). x .sums) (f .stays e) in omega (arith, same)
+      go false e = let more = ap (λ (x : Guess). x .sums) (f .steps e .1) in omega (arith, more)
+
+  -- the changed order's key: it is tried only where it is better than every price found
+  pub guess-change : (g r : Guess) (key : ℕ) → Near g → isBest (g .level) minimum ≡ false → r ≡ atChange minimum ks vs g key → Guessed r
+  unfolding levelAt
+  guess-change g r key p not-yet is = subst Guessed (sym is) (go (canBeBest (g .level) key minimum) refl)
+    where
+      better : (b : Bool) → leb minimum (g .level .before) ≡ b → (if b then ltb (g .level .key) key else ltb 0 key && ltb key (g .level .key)) ≡ true
+          → (eqb (g .start) 0 || ltb (g .start) key) ≡ true
+      better true e can =
+          let own = p .at (leb-true minimum (g .level .before) e) in
+          rw (own, can) (or-true (eqb (g .level .key) 0))
+      better false e can = rw (p .none not-yet (leb-false minimum (g .level .before) e)) refl
+
+      go : (b : Bool) → canBeBest (g .level) key minimum ≡ b → Guessed (if b then withLevel g (levelAt ks vs key) minimum else g)
+      go true e = guess-more g (levelAt ks vs key) (p .guessed) not-yet refl (better (leb minimum (g .level .before)) refl e)
+      go false e = p .guessed
+
+  pub change-sums : (g r : Guess) (key : ℕ) → r ≡ atChange minimum ks vs g key → r .sums ≤ g .sums + 1
+  change-sums g r key is =
+      let same = ap (λ (x : Guess). x .sums) is in
+      omega (arith, same, go (canBeBest (g .level) key minimum))
+    where
+      go : (b : Bool) → (if b then withLevel g (levelAt ks vs key) minimum else g) .sums ≤ g .sums + 1
+      go true = omega arith
+      go false = omega arith
+
 -- no sum yet: what is known is the level's own key, where it qualifies
 pub guess-known : (minimum : ℕ) (ks vs : List ℕ) (l : Level) (start : ℕ) → l ≡ levelAt ks vs (l .key) → l .key ≤ 2000000001 → isBest l minimum ≡ false
     → start ≡ foundWith minimum 0 (made (l .key) (l .before + l .at))
-    → Guessed minimum ks vs (foundWith minimum 0 (made (l .key) (l .before + l .at))) (record { level = l; start = start; sums = 0 })
+    → Near minimum ks vs (foundWith minimum 0 (made (l .key) (l .before + l .at))) (record { level = l; start = start; sums = 0 })
 guess-known minimum ks vs l start is most not-yet e =
     let known = foundWith minimum 0 (made (l .key) (l .before + l .at)) in
     record {
-      is = is;
+      guessed =
+          record {
+            is = is;
+            tried = subst (λ (k : ℕ). Tried minimum ks vs known 0 k) (sym e) (tried-none minimum ks vs known);
+            below = λ n. subst (λ (k : ℕ). (k ≡ 0) ⊎ (minimum ≤ held (ltb k) ks vs)) (sym e) (with-below minimum ks vs 0 0 l is n (inl refl));
+          };
       most = most;
-      tried = subst (λ (k : ℕ). Tried minimum ks vs known 0 k) (sym e) (tried-none minimum ks vs known);
-      below = λ n. subst (λ (k : ℕ). (k ≡ 0) ⊎ (minimum ≤ held (ltb k) ks vs)) (sym e) (with-below minimum ks vs 0 0 l is n (inl refl));
       none = λ n few. e ∙ found-short minimum 0 (l .key) (l .before + l .at) (not-best l minimum n few .1);
       at = λ h. e ∙ found-enough minimum 0 (l .key) (l .before + l .at) (omega (arith, h));
     }

@@ -1,10 +1,10 @@
 -- What the functions on the best level promise to each other.
-use Prim.Native.Nat.{ℕ, _+_, _≤_, _<_, min}
+use Prim.Native.Nat.{ℕ, _+_, _-_, _*_, _≤_, _<_, min}
 use mathlib.Core.Path.{_≡_}
 use mathlib.Core.Logic.{_⊎_}
 use mathlib.Core.List.{List, [], _∷_}
-use mathlib.Core.Bool.{Bool, true}
-use lib.Dec.{ltb, eqb}
+use mathlib.Core.Bool.{Bool, true, false, _&&_}
+use lib.Dec.{leb, ltb, eqb}
 use lib.ListN.{length, getD, set}
 use Rattle.rules.specs.declared.Side.{Side}
 use Rattle.rules.specs.declared.Order.{Order}
@@ -80,6 +80,26 @@ pub record Steps (minimum : ℕ) (ks vs : List ℕ) (l r : Level) : Type 0 where
 abbrev pub withLevel : Guess → Level → ℕ → Guess
 withLevel g l minimum =
     record { level = l; start = foundWith minimum (g .start) (made (l .key) (l .before + l .at)); sums = g .sums + 1 }
+
+-- what stands too much before a level, or is missing at it or better
+abbrev pub lackingAt : Level → ℕ → ℕ
+lackingAt l minimum = if leb minimum (l .before) then l .before - minimum else minimum - (l .before + l .at)
+
+abbrev pub fallsShort : Level → ℕ → Bool
+fallsShort l minimum = ltb (8 * l .at) (lackingAt l minimum)
+
+-- one step more, or none where it is vain
+pub record Farther (minimum : ℕ) (ks vs : List ℕ) (g r : Guess) : Type 0 where
+  pub stays : fallsShort (g .level) minimum ≡ true → r ≡ g
+  pub steps : fallsShort (g .level) minimum ≡ false → Steps minimum ks vs (g .level) (r .level) × (r ≡ withLevel g (r .level) minimum)
+
+-- the side of a level on which the best one is
+abbrev pub canBeBest : Level → ℕ → ℕ → Bool
+canBeBest l key minimum = if leb minimum (l .before) then ltb (l .key) key else ltb 0 key && ltb key (l .key)
+
+-- a key is tried where the best level can be there
+abbrev pub atChange : ℕ → List ℕ → List ℕ → Guess → ℕ → Guess
+atChange minimum ks vs g key = if canBeBest (g .level) key minimum then withLevel g (levelAt ks vs key) minimum else g
 
 -- where a search may start: from none, or from a price with enough before it; and no order has the key of none
 pub record Open (minimum : ℕ) (ks vs : List ℕ) (start : ℕ) : Type 0 where

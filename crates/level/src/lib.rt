@@ -1,18 +1,19 @@
-// The best level of a side after one of its orders changed: carried where it still holds, else guessed, else searched; of a small side
-// found afresh. Document 02, W3, holds at every sum: it is made only for a price that is better than every one already found to qualify.
+// The best level of a side after one of its orders changed: carried where it still holds, else guessed (next to the old one, or where the
+// order went), else searched; of a small side found afresh. Document 02, W3, holds at every sum: it is made only for a price that is
+// better than every one already found to qualify.
 ghost use mathlib.Core.Path.{_≡_};
 ghost use mathlib.Core.Bool.{_&&_, false};
 ghost use mathlib.Core.List.{List};
-ghost use Prim.Native.Nat.{ℕ, _+_, _-_, _≤_};
+ghost use Prim.Native.Nat.{ℕ, _+_, _-_, _≤_, min, max};
 ghost use lib.Dec.{leb, ltb, eqb};
 ghost use lib.ListN.{length, getD};
 ghost use Rattle.rules.specs.Lists.{if_then_else_};
-ghost use Rattle.quote.specs.Levels.{levelAt, levelOf, isBest, Searchable};
+ghost use Rattle.quote.specs.Levels.{levelAt, levelOf, isBest, Columns, Searchable};
 ghost use Rattle.quote.specs.Tries.{made, foundWith};
 ghost use Rattle.side.specs.Slots.{Slot, levelIn, bestKeyIn, GoodSlots};
 ghost use Rattle.side.specs.Internal.{StaleLevel, Changed, brings};
 ghost use Rattle.level.specs.Requotes.{Requotes};
-ghost use Rattle.level.specs.Internal.{IsLevel, SumFits, LevelBefore, Grown, levelRead, keyAbove, keyBelow, Steps, Sought, Open, Searches, withLevel, putLevel};
+ghost use Rattle.level.specs.Internal.{IsLevel, SumFits, LevelBefore, Grown, levelRead, keyAbove, keyBelow, Steps, lackingAt, fallsShort, Farther, canBeBest, atChange, Sought, Open, Searches, withLevel, putLevel};
 use quote::Level;
 use rules::Contracts;
 use rules::Side;
@@ -38,6 +39,16 @@ fn changed(sum: u32, gained: u32, lost: u32) -> u32
     ensures { λ r. ⌜ r ≡ sum + gained - lost ⌝ }
 {
     (sum as u64 + gained as u64 - lost as u64) as u32
+}
+
+// A number less another, or 0.
+fn less(a: u32, b: u32) -> u32
+    ensures { λ r. ⌜ r ≡ a - b ⌝ }
+{
+    if a < b {
+        return 0;
+    }
+    a - b
 }
 
 // A level after a change of one order.
@@ -69,6 +80,34 @@ fn moved(level: Level, change: Change) -> Level
 
 // ---- the keys next to one
 
+// Whether a key is worse than another. Keys fit 31 bits, and a processor compares several numbers at once sooner with a sign.
+fn under(a: u32, b: u32) -> bool
+    requires { ⌜ (a ≤ 2000000001) × (b ≤ 2000000001) ⌝ }
+    ensures { λ r. ⌜ r ≡ ltb a b ⌝ }
+{
+    (a as i32) < (b as i32)
+}
+
+fn lesser(a: u32, b: u32) -> u32
+    requires { ⌜ (a ≤ 2000000001) × (b ≤ 2000000001) ⌝ }
+    ensures { λ r. ⌜ r ≡ min a b ⌝ }
+{
+    if under(b, a) {
+        return b;
+    }
+    a
+}
+
+fn greater(a: u32, b: u32) -> u32
+    requires { ⌜ (a ≤ 2000000001) × (b ≤ 2000000001) ⌝ }
+    ensures { λ r. ⌜ r ≡ max a b ⌝ }
+{
+    if under(a, b) {
+        return b;
+    }
+    a
+}
+
 fn key_where(counts: bool, key: u32, other: u32) -> u32
     ensures { λ r. ⌜ r ≡ (if counts then key else other) ⌝ }
 {
@@ -80,13 +119,14 @@ fn key_where(counts: bool, key: u32, other: u32) -> u32
 
 // The next better key, or the best one that there can be.
 fn above(keys: &[u32], key: u32) -> u32
+    requires { ⌜ ((i : ℕ) → getD (now keys) i 0 ≤ 2000000001) × (key ≤ 2000000001) ⌝ }
     ensures { λ r. ⌜ r ≡ keyAbove key (now (keys .entry)) ⌝ }
 {
     let mut next: u32 = 2000000001;
     let mut i: usize = 0;
     while i < keys.len() {
         let k = keys[i];
-        next = numbers::min(next, key_where(key < k, k, 2000000001));
+        next = lesser(next, key_where(under(key, k), k, 2000000001));
         i += 1;
     }
     next
@@ -94,13 +134,14 @@ fn above(keys: &[u32], key: u32) -> u32
 
 // The next worse key, or none.
 fn below(keys: &[u32], key: u32) -> u32
+    requires { ⌜ ((i : ℕ) → getD (now keys) i 0 ≤ 2000000001) × (key ≤ 2000000001) ⌝ }
     ensures { λ r. ⌜ r ≡ keyBelow key (now (keys .entry)) ⌝ }
 {
     let mut next: u32 = 0;
     let mut i: usize = 0;
     while i < keys.len() {
         let k = keys[i];
-        next = numbers::max(next, key_where(k < key, k, 0));
+        next = greater(next, key_where(under(k, key), k, 0));
         i += 1;
     }
     next
@@ -161,17 +202,59 @@ fn stepped(keys: &[u32], volumes: &[u32], level: Level, minimum: Contracts) -> L
     }
 }
 
-// ---- the search
-
-// The greater less the lesser, or 0.
-fn less(a: u32, b: u32) -> u32
-    ensures { λ r. ⌜ r ≡ a - b ⌝ }
+// How many contracts stand too many before a level that is not the best, or how many are missing at it or better.
+fn lacking(level: Level, minimum: Contracts) -> u32
+    requires { ⌜ level .before + level .at ≤ 64000000 ⌝ }
+    ensures { λ r. ⌜ r ≡ lackingAt level (minimum .0) ⌝ }
 {
-    if a < b {
-        return 0;
+    if minimum.0 <= level.before {
+        return level.before - minimum.0;
     }
-    a - b
+    less(minimum.0, level.before + level.at)
 }
+
+// Whether another step is vain: what stands at the level is less than an eighth of what it lacks, so that the best one is likely far.
+fn falls_short(level: Level, minimum: Contracts) -> bool
+    requires { ⌜ level .before + level .at ≤ 64000000 ⌝ }
+    ensures { λ r. ⌜ r ≡ fallsShort level (minimum .0) ⌝ }
+{
+    8 * level.at < lacking(level, minimum)
+}
+
+// One step more from a guess that is not the best, where it is not vain.
+fn farther(keys: &[u32], volumes: &[u32], guess: Guess, minimum: Contracts) -> Guess
+    requires { ⌜ Searchable (now keys) (now volumes) (guess .level .key) × (guess .level ≡ levelAt (now keys) (now volumes) (guess .level .key)) × (isBest (guess .level) (minimum .0) ≡ false) × (1 ≤ minimum .0) × (guess .sums ≤ 8) ⌝ }
+    ensures { λ r. ⌜ Farther (minimum .0) (now (keys .entry)) (now (volumes .entry)) guess r ⌝ }
+{
+    let level = guess.level;
+    if falls_short(level, minimum) {
+        return guess;
+    }
+    tried(guess, stepped(keys, volumes, level, minimum), minimum)
+}
+
+// Whether the best level can be at a key, as seen from a level that is not the best: above it where enough stand before it, else below it.
+fn can_be_best(level: Level, key: u32, minimum: Contracts) -> bool
+    ensures { λ r. ⌜ r ≡ canBeBest level key (minimum .0) ⌝ }
+{
+    if minimum.0 <= level.before {
+        return level.key < key;
+    }
+    (0 < key) & (key < level.key)
+}
+
+// The changed order's key is tried, where the best level can be there: an order that jumps mostly takes the best quote with it.
+fn at_change(keys: &[u32], volumes: &[u32], guess: Guess, key: u32, minimum: Contracts) -> Guess
+    requires { ⌜ Columns (now keys) (now volumes) × (guess .sums ≤ 8) ⌝ }
+    ensures { λ r. ⌜ r ≡ atChange (minimum .0) (now (keys .entry)) (now (volumes .entry)) guess key ⌝ }
+{
+    if can_be_best(guess.level, key, minimum) {
+        return tried(guess, quote::measured(keys, volumes, key), minimum);
+    }
+    guess
+}
+
+// ---- the search
 
 // The level by the search, from the best price found to qualify, or from none. Where it finds nothing better, that is from none, and all
 // the contracts of the side stand before no quote.
@@ -210,8 +293,15 @@ fn taken(guess: Guess) -> Found
     }
 }
 
-// The best level from one that is not: one step from it, or two, or by the search.
-fn sought(side: Side, keys: &[u32], volumes: &[u32], old: Level, minimum: Contracts) -> Found
+// The best level from one that is not: one step from it, or two, or at the changed order's key, or by the search.
+fn sought(
+    side: Side,
+    keys: &[u32],
+    volumes: &[u32],
+    old: Level,
+    key: u32,
+    minimum: Contracts,
+) -> Found
     requires { ⌜ Searchable (now keys) (now volumes) (old .key) × (old ≡ levelAt (now keys) (now volumes) (old .key)) × (isBest old (minimum .0) ≡ false) × (1 ≤ minimum .0) × Open (minimum .0) (now keys) (now volumes) 0 ⌝ }
     ensures { λ r. ⌜ Sought side (minimum .0) (now (keys .entry)) (now (volumes .entry)) old r ⌝ }
 {
@@ -225,12 +315,17 @@ fn sought(side: Side, keys: &[u32], volumes: &[u32], old: Level, minimum: Contra
     if quote::is_best(next, minimum) {
         return taken(first);
     }
-    let second = tried(first, stepped(keys, volumes, next, minimum), minimum);
-    let last = second.level;
-    if quote::is_best(last, minimum) {
+    let second = farther(keys, volumes, first, minimum);
+    let near = second.level;
+    if quote::is_best(near, minimum) {
         return taken(second);
     }
-    by_search(side, keys, volumes, second, minimum)
+    let last = at_change(keys, volumes, second, key, minimum);
+    let far = last.level;
+    if quote::is_best(far, minimum) {
+        return taken(last);
+    }
+    by_search(side, keys, volumes, last, minimum)
 }
 
 // ---- the words of a side
@@ -321,6 +416,7 @@ pub fn requote(words: &mut [u32], side: Side, change: Change, minimum: Contracts
         &words[KEYS..KEYS + to],
         &words[VOLUMES..VOLUMES + to],
         old,
+        change.key,
         minimum,
     );
     let level = found.level;

@@ -73,7 +73,7 @@ module _ (row : Row) (sp : SpreadRule) (es : List Event) (q : Quantum) (is : q �
   unfolding quantumOf dutyOf
   whole-is = ap (λ (x : Quantum). x .duty .length) is
 
-pub reached-parts : (q : Quantum) (hints : List ℕ) → Reached q → length hints ≡ 1024 → ReachedParts (q .duty) (q .clock) (q .table) hints
+pub reached-parts : (q : Quantum) (hints : List ℕ) → Reached q → length hints ≡ 2048 → ReachedParts (q .duty) (q .clock) (q .table) hints
 reached-parts q hints r h =
     let s = represents-all (r .row) (r .sp) (r .events) q (r .is) (r .bounds) in
     record {

@@ -89,7 +89,7 @@ pub record ReachedParts (duty : Duty) (clock : Clock) (table hints : List ℕ) :
   pub duty-is : duty ≡ dutyOf row sp
   pub clock-is : clock ≡ clockOf row sp events
   pub table-is : table ≡ tableAfter row events
-  pub hinted : length hints ≡ 1024
+  pub hinted : length hints ≡ 2048
 
 -- they stand for these events
 pub record Represents (row : Row) (sp : SpreadRule) (events : List Event) (duty : Duty) (clock : Clock) (table : List ℕ) : Type 0 where

@@ -282,7 +282,7 @@ fn stepped_on(duty: Duty, clock: Clock, table: [u32; 512], e: Event) -> Sent
     ensures { λ r. ⌜ Answered (record { duty = duty; clock = clock; table = table }) e r ⌝ }
 {
     let mut next = table;
-    let mut hints = [0u8; 1024];
+    let mut hints = [0u8; 2048];
     let stepped = step(duty, clock, &mut next, &mut hints, e);
     let after = stepped.clock;
     let n = stepped.refusal;

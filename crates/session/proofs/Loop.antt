@@ -150,7 +150,7 @@ module _ (most : ℕ) (row : Row) (sp : Steps) (bytes base : List ℕ) where
       }
 
   module _ (w : Progress) (at place : ℕ) (table buffer : List ℕ) (g : LoopState most row sp bytes base w at place table buffer) where
-    pub loop-reached : (duty : Duty) (hints : List ℕ) → goodRow paper row ≡ true → duty ≡ dutyOf row (Settled sp) → length hints ≡ 1024 → ReachedRun w duty table hints
+    pub loop-reached : (duty : Duty) (hints : List ℕ) → goodRow paper row ≡ true → duty ≡ dutyOf row (Settled sp) → length hints ≡ 2048 → ReachedRun w duty table hints
     loop-reached duty hints good d h =
         record {
           row = row;

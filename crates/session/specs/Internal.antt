@@ -101,7 +101,7 @@ pub record ReachedRun (w : Progress) (duty : Duty) (table hints : List ℕ) : Ty
   pub is : w ≡ progressAt row sp events
   pub duty-is : duty ≡ dutyOf row sp
   pub table-is : table ≡ tableAfter row events
-  pub hinted : length hints ≡ 1024
+  pub hinted : length hints ≡ 2048
 
 -- they stand for these events
 pub record RepresentsRun (row : Row) (sp : SpreadRule) (es : List Event) (w : Progress) (duty : Duty) (table : List ℕ) : Type 0 where

@@ -177,7 +177,7 @@ fn run_records(most: u32, row: Row, sp: Steps, records: &[u8], buffer: &mut [u32
 {
     let duty = quantum::duty_of(row, SpreadRule::Settled(sp));
     let mut table = book::empty();
-    let mut hints = [0u8; 1024];
+    let mut hints = [0u8; 2048];
     let mut progress = begin();
     let mut at: usize = 0;
     let full = 20 * numbers::min_length(records.len() / 20, numbers::length(most));

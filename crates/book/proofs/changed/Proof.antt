@@ -40,7 +40,7 @@ located c =
       at = slot-is c (held .minimum) (held .live) (held-represents table held);
     }
 
-hinted : (c : tie.After-find) → length (c .find .last .1 .0) ≡ 1024
+hinted : (c : tie.After-find) → length (c .find .last .1 .0) ≡ 2048
 hinted c = c .find .kept .1 .0 ∙ c .before .before .before .before .before .before .pre .1
 
 add-requires : tie.Need-add-requires

@@ -42,7 +42,7 @@ names-requires c κs = search needs
 returns : tie.Need-returns
 returns c = λ minimum live represents.
     let start = c .before .before .before .before .before .before in
-    word-is (start .args .table .now) minimum live represents (start .args .id) (getD (start .args .hints .now) (start .args .id % 1024) 0 % 128)
+    word-is (start .args .table .now) minimum live represents (start .args .id) (getD (start .args .hints .now) (start .args .id % 2048) 0 % 128)
     (c .before .names .result) (omega arith) (c .before .names .ensures) (c .if1 .taken)
 
 sub-located : tie.Need-sub-located

@@ -2,24 +2,26 @@
 use Prim.Native.Nat.{ℕ, _-_, _≤_, min}
 use native.Mathlib.Omega.{arith}
 use mathlib.Core.Path.{_≡_, refl, ap, _∙_}
-use lib.ListN.{length, take}
+use mathlib.Core.Bool.{Bool}
+use lib.Dec.{ltb}
+use lib.ListN.{length, getD, take}
 use lib.Seq.{take-length}
-use Rattle.rules.specs.Lists.{filter}
+use Rattle.rules.specs.Lists.{if_then_else_, filter}
 use Rattle.quote.specs.Levels.{greatest}
 use Rattle.level.specs.Internal.{least, keyAbove}
-use Rattle.level.proofs.Nexts.{above-next}
+use Rattle.level.proofs.Nexts.{where-most, above-next}
 use Rattle.level.proofs.above.Statement.{statement}
 use Rattle.level.proofs.above.Tie as tie
 
 abbrev Inv-loop : tie.InvT-loop
-Inv-loop keys key next₀ i₀ next i = (i ≤ length keys) × (next ≡ keyAbove key (take i keys))
+Inv-loop keys key next₀ i₀ next i = (i ≤ length keys) × (next ≡ keyAbove key (take i keys)) × (next ≤ 2000000001)
 
 abbrev μ-loop : tie.MeasureT-loop
 μ-loop keys key next₀ i₀ next i = length keys - i
 
 loop-holds : tie.Need-loop-holds Inv-loop μ-loop
 unfolding keyAbove least greatest filter
-loop-holds c = (omega arith, refl)
+loop-holds c = (omega arith, refl, omega arith)
 
 mul-k : tie.Need-mul-k Inv-loop μ-loop
 mul-k c = omega arith
@@ -27,11 +29,19 @@ mul-k c = omega arith
 shared-slice-read-k : tie.Need-shared-slice-read-k Inv-loop μ-loop
 shared-slice-read-k c = omega arith
 
+under-requires : tie.Need-under-requires Inv-loop μ-loop
+under-requires c κs =
+    let s = c .before .before .before .before in
+    let most = s .pre .0 (c .before .before .loop .i) in
+    (s .pre .1, most)
+
 key-where-requires : tie.Need-key-where-requires Inv-loop μ-loop
 key-where-requires c κs = tt
 
-min-requires : tie.Need-min-requires Inv-loop μ-loop
-min-requires c κs = tt
+lesser-requires : tie.Need-lesser-requires Inv-loop μ-loop
+lesser-requires c κs =
+    let u = c .before .before .before .before in
+    (u .loop .inv .2, where-most (c .before .under .result) (getD (u .before .before .args .keys .now) (u .loop .i) 0) 2000000001 (c .key-where .result) (u .before .before .pre .0 (u .loop .i)) (omega arith) (c .key-where .ensures))
 
 add-i : tie.Need-add-i Inv-loop μ-loop
 add-i c = omega arith
@@ -41,12 +51,15 @@ loop-less c = omega arith
 
 loop-again : tie.Need-loop-again Inv-loop μ-loop
 loop-again c =
-    let u = c .before .before .before .before in
-    let a = u .before .before .args in (
+    let u = c .before .before .before .before .before in
+    let a = u .before .before .args in
+    let k = getD (a .keys .now) (u .loop .i) 0 in
+    let w = c .before .key-where in
+    let is : w .result ≡ (if ltb (a .key) k then k else 2000000001) = w .ensures ∙ ap (λ (b : Bool). if b then k else 2000000001) (c .before .before .under .ensures) in
+    let most = where-most (c .before .before .under .result) k 2000000001 (w .result) (u .before .before .pre .0 (u .loop .i)) (omega arith) (w .ensures) in (
       omega arith,
-      c .min .ensures
-          ∙ ap (λ (x : ℕ). min (u .loop .next) x) (c .before .key-where .ensures)
-          ∙ above-next (a .key) (a .keys .now) (u .loop .i) (u .loop .next) (omega arith) (u .loop .inv .1),
+      c .lesser .ensures ∙ ap (min (u .loop .next)) is ∙ above-next (a .key) (a .keys .now) (u .loop .i) (u .loop .next) (omega arith) (u .loop .inv .1),
+      omega (arith, c .lesser .ensures, most, u .loop .inv .2),
     )
 
 returns : tie.Need-returns Inv-loop μ-loop
@@ -57,4 +70,4 @@ returns c =
     u .loop .inv .1 ∙ ap (λ (n : ℕ). keyAbove (a .key) (take n (a .keys .now))) end ∙ ap (keyAbove (a .key)) (take-length (a .keys .now))
 
 pub above-spec : {M : Type 1} → statement M
-above-spec = tie.close (tie.spec Inv-loop μ-loop loop-holds mul-k shared-slice-read-k key-where-requires min-requires add-i loop-less loop-again returns)
+above-spec = tie.close (tie.spec Inv-loop μ-loop loop-holds mul-k shared-slice-read-k under-requires key-where-requires lesser-requires add-i loop-less loop-again returns)

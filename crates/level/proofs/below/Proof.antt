@@ -2,24 +2,26 @@
 use Prim.Native.Nat.{ℕ, _-_, _≤_, max}
 use native.Mathlib.Omega.{arith}
 use mathlib.Core.Path.{_≡_, refl, ap, _∙_}
-use lib.ListN.{length, take}
+use mathlib.Core.Bool.{Bool}
+use lib.Dec.{ltb}
+use lib.ListN.{length, getD, take}
 use lib.Seq.{take-length}
-use Rattle.rules.specs.Lists.{filter}
+use Rattle.rules.specs.Lists.{if_then_else_, filter}
 use Rattle.quote.specs.Levels.{greatest}
 use Rattle.level.specs.Internal.{least, keyBelow}
-use Rattle.level.proofs.Nexts.{below-next}
+use Rattle.level.proofs.Nexts.{where-most, below-next}
 use Rattle.level.proofs.below.Statement.{statement}
 use Rattle.level.proofs.below.Tie as tie
 
 abbrev Inv-loop : tie.InvT-loop
-Inv-loop keys key next₀ i₀ next i = (i ≤ length keys) × (next ≡ keyBelow key (take i keys))
+Inv-loop keys key next₀ i₀ next i = (i ≤ length keys) × (next ≡ keyBelow key (take i keys)) × (next ≤ 2000000001)
 
 abbrev μ-loop : tie.MeasureT-loop
 μ-loop keys key next₀ i₀ next i = length keys - i
 
 loop-holds : tie.Need-loop-holds Inv-loop μ-loop
 unfolding keyBelow least greatest filter
-loop-holds c = (omega arith, refl)
+loop-holds c = (omega arith, refl, omega arith)
 
 mul-k : tie.Need-mul-k Inv-loop μ-loop
 mul-k c = omega arith
@@ -27,11 +29,19 @@ mul-k c = omega arith
 shared-slice-read-k : tie.Need-shared-slice-read-k Inv-loop μ-loop
 shared-slice-read-k c = omega arith
 
+under-requires : tie.Need-under-requires Inv-loop μ-loop
+under-requires c κs =
+    let s = c .before .before .before .before in
+    let most = s .pre .0 (c .before .before .loop .i) in
+    (most, s .pre .1)
+
 key-where-requires : tie.Need-key-where-requires Inv-loop μ-loop
 key-where-requires c κs = tt
 
-max-requires : tie.Need-max-requires Inv-loop μ-loop
-max-requires c κs = tt
+greater-requires : tie.Need-greater-requires Inv-loop μ-loop
+greater-requires c κs =
+    let u = c .before .before .before .before in
+    (u .loop .inv .2, where-most (c .before .under .result) (getD (u .before .before .args .keys .now) (u .loop .i) 0) 0 (c .key-where .result) (u .before .before .pre .0 (u .loop .i)) (omega arith) (c .key-where .ensures))
 
 add-i : tie.Need-add-i Inv-loop μ-loop
 add-i c = omega arith
@@ -41,12 +51,15 @@ loop-less c = omega arith
 
 loop-again : tie.Need-loop-again Inv-loop μ-loop
 loop-again c =
-    let u = c .before .before .before .before in
-    let a = u .before .before .args in (
+    let u = c .before .before .before .before .before in
+    let a = u .before .before .args in
+    let k = getD (a .keys .now) (u .loop .i) 0 in
+    let w = c .before .key-where in
+    let is : w .result ≡ (if ltb k (a .key) then k else 0) = w .ensures ∙ ap (λ (b : Bool). if b then k else 0) (c .before .before .under .ensures) in
+    let most = where-most (c .before .before .under .result) k 0 (w .result) (u .before .before .pre .0 (u .loop .i)) (omega arith) (w .ensures) in (
       omega arith,
-      c .max .ensures
-          ∙ ap (λ (x : ℕ). max (u .loop .next) x) (c .before .key-where .ensures)
-          ∙ below-next (a .key) (a .keys .now) (u .loop .i) (u .loop .next) (omega arith) (u .loop .inv .1),
+      c .greater .ensures ∙ ap (max (u .loop .next)) is ∙ below-next (a .key) (a .keys .now) (u .loop .i) (u .loop .next) (omega arith) (u .loop .inv .1),
+      omega (arith, c .greater .ensures, most, u .loop .inv .2),
     )
 
 returns : tie.Need-returns Inv-loop μ-loop
@@ -57,4 +70,4 @@ returns c =
     u .loop .inv .1 ∙ ap (λ (n : ℕ). keyBelow (a .key) (take n (a .keys .now))) end ∙ ap (keyBelow (a .key)) (take-length (a .keys .now))
 
 pub below-spec : {M : Type 1} → statement M
-below-spec = tie.close (tie.spec Inv-loop μ-loop loop-holds mul-k shared-slice-read-k key-where-requires max-requires add-i loop-less loop-again returns)
+below-spec = tie.close (tie.spec Inv-loop μ-loop loop-holds mul-k shared-slice-read-k under-requires key-where-requires greater-requires add-i loop-less loop-again returns)

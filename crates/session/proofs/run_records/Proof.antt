@@ -16,7 +16,7 @@ use Rattle.session.proofs.run_records.Tie as tie
 
 abbrev Inv-loop : tie.InvT-loop
 Inv-loop most row records buffer₀ duty table₀ hints₀ progress₀ at₀ full buffer table hints progress at =
-    LoopBytes at full (length records) most × (length buffer ≡ length buffer₀) × (length table ≡ 512) × (length hints ≡ 1024)
+    LoopBytes at full (length records) most × (length buffer ≡ length buffer₀) × (length table ≡ 512) × (length hints ≡ 2048)
     × ((sp : Steps) → duty ≡ dutyOf row (Settled sp) → LoopState most row sp records buffer₀ progress at (at / 20 + 1) table buffer)
 
 abbrev μ-loop : tie.MeasureT-loop

@@ -1,0 +1,19 @@
+-- Its test. Assumes nothing.
+use Prim.Native.Nat.{ℕ, _*_}
+use mathlib.Core.Path.{ap}
+use lib.Dec.{ltb}
+use borrow.Author.Needs.{needs}
+use Rattle.level.proofs.falls_short.Statement.{statement}
+use Rattle.level.proofs.falls_short.Tie as tie
+
+mul-result : tie.Need-mul-result
+mul-result c = search needs
+
+lacking-requires : tie.Need-lacking-requires
+lacking-requires c κs = search needs
+
+returns : tie.Need-returns
+returns c = ap (ltb (8 * c .before .before .args .level .at)) (c .lacking .ensures)
+
+pub falls-short-spec : {M : Type 1} → statement M
+falls-short-spec = tie.close (tie.spec mul-result lacking-requires returns)

@@ -1,0 +1,27 @@
+-- By its test. Assumes nothing.
+use Prim.Native.Nat.{_+_, _-_}
+use mathlib.Core.Path.{sym, _∙_}
+use borrow.Author.Needs.{needs}
+use Rattle.level.proofs.Starts.{where-enough, where-short}
+use Rattle.level.proofs.lacking.Statement.{statement}
+use Rattle.level.proofs.lacking.Tie as tie
+
+returns : tie.Need-returns
+returns c =
+    let a = c .before .before .before .before .before .args in
+    sym (where-enough (a .minimum .0) (a .level .before) (a .level .before - a .minimum .0) (a .minimum .0 - (a .level .before + a .level .at)) (c .before .before .if1 .taken))
+
+add-less : tie.Need-add-less
+add-less c = search needs
+
+less-requires : tie.Need-less-requires
+less-requires c κs = search needs
+
+returns-2 : tie.Need-returns-2
+returns-2 c =
+    let a = c .before .before .before .before .before .args in
+    c .less .ensures
+    ∙ sym (where-short (a .minimum .0) (a .level .before) (a .level .before - a .minimum .0) (a .minimum .0 - (a .level .before + a .level .at)) (c .before .before .if1 .left))
+
+pub lacking-spec : {M : Type 1} → statement M
+lacking-spec = tie.close (tie.spec returns add-less less-requires returns-2)
