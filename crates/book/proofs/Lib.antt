@@ -7,3 +7,4 @@ pub mod Causes
 pub mod Applied
 pub mod Quotes
 pub mod Sendings
+pub mod Searching

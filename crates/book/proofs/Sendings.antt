@@ -2,9 +2,11 @@
 use Prim.Native.Nat.{ℕ, zero, suc, _≤_, _<_}
 use native.Mathlib.Omega.{arith}
 use mathlib.Core.Path.{_≡_, refl, sym, ap, _∙_, subst}
-use mathlib.Core.Logic.{inl}
+use mathlib.Core.Logic.{inl, inr}
 use mathlib.Core.Bool.{Bool, true, false}
-use mathlib.Core.List.{List}
+use mathlib.Core.List.{List, Memᴰ·of-map}
+use borrow.Author.Tests.{leb-true}
+use lib.Dec.{leb}
 use lib.ListN.{length}
 use Rattle.rules.specs.declared.Order.{Order}
 use Rattle.rules.specs.declared.Event.{Event}
@@ -16,14 +18,15 @@ use Rattle.rules.specs.Kept.{ordersKeep}
 use Rattle.quote.specs.Widest.{WidestFor}
 use Rattle.rules.specs.declared.Side.{Side}
 use Rattle.rules.specs.declared.Side.the-variants.{Buy, Sell}
-use Rattle.side.specs.Slots.{sideOf, keysOf, volumesOf, bestKeyIn, keptIn}
+use Rattle.quote.proofs.Levels.{held-some, held-none}
+use Rattle.quote.proofs.Finding.{may-start}
+use Rattle.side.specs.Slots.{Slot, sideOf, keysOf, volumesOf, bestKeyIn, keptIn, GoodSlots}
 use Rattle.level.specs.declared.Requoted.{Requoted}
-use Rattle.level.specs.Requotes.{Work, Requotes}
-use Rattle.level.proofs.Tries.{tried-none}
+use Rattle.level.specs.Requotes.{Qualifies, Work, Requotes}
 use Rattle.side.specs.Internal.{StaleLevel}
 use Rattle.side.proofs.Words.{words-length}
 use Rattle.book.specs.declared.Answer.{Answer}
-use Rattle.book.specs.Table.{ofSide, slotsIn, sideIn, tableOf, sentTo, GoodOrders}
+use Rattle.book.specs.Table.{ofSide, slotsIn, sideIn, tableOf, OfSide, sentTo, GoodOrders}
 use Rattle.book.specs.Sending.{Works}
 use Rattle.book.specs.Internal.{sideAt, other, joined, appliedTo, Applied, keepsBy}
 use Rattle.book.proofs.Table.{joined-part, joined-put}
@@ -37,6 +40,16 @@ unfolding tableOf
 both-halves zero minimum live h = refl
 both-halves (suc zero) minimum live h = refl
 both-halves (suc (suc n)) minimum live h = absurd (omega arith)
+
+-- a price that qualifies is in its range: an order stands at it or better
+start-most : (minimum : ℕ) (slots : List Slot) → GoodSlots slots → (start : ℕ) → 1 ≤ minimum → Qualifies minimum (keysOf slots) (volumesOf slots) start
+    → start ≤ 2000000001
+start-most minimum slots good start some (inl e) = omega (arith, e)
+start-most minimum slots good start some (inr h) =
+    let (k, m, pass, fail) =
+    held-some (λ (k : ℕ). false) (leb start) (keysOf slots) (volumesOf slots) (omega (arith, h, some, held-none (keysOf slots) (volumesOf slots))) in
+    let (s, i, e) = Memᴰ·of-map (λ (s : Slot). s .key) slots m in
+    omega (arith, leb-true start k pass, e, good .key-most s i)
 
 module _ (e : Event) (minimum : ℕ) (live : List Order) (good : GoodOrders live) (mid : List ℕ) (r : Answer) (t : Applied e minimum live mid r) where
   few-others : length (slotsIn (other (sideAt (r .s))) (sentTo (r .refusal) live e)) ≤ 64
@@ -113,23 +126,30 @@ module _ (e : Event) (minimum : ℕ) (live : List Order) (good : GoodOrders live
         go (suc n) l own others Buy = others
         go (suc n) l own others Sell = own
 
-    -- the sums made for it
-    pub sent-work : GoodOrders (sentTo (r .refusal) live e) → Works minimum (sentTo (r .refusal) live e) (q .guesses) (q .sums)
-    unfolding moving
-    sent-work good-after =
-        let after = sentTo (r .refusal) live e in
-        let work : Work side minimum (keysOf (slotsIn side after)) (volumesOf (slotsIn side after)) (q .guesses) (q .sums) =
-        subst (λ (s : Side). Work side minimum (keysOf (slotsIn s after)) (volumesOf (slotsIn s after)) (q .guesses) (q .sums)) (sym is-side) (moved moving .work) in
-        record { side = side; work = work; searched = work .search (ofSide side after) (slots-orders side after good-after) }
-
     -- an accepted event
     module _ (none : r .refusal ≡ 0) (good-after : GoodOrders (apply live e)) where
       after-is : sentTo (r .refusal) live e ≡ apply live e
       after-is = ap (λ (n : ℕ). sentTo n live e) none
 
-      pub taken-work : Works minimum (apply live e) (q .guesses) (q .sums)
-      taken-work =
-          subst (λ (l : List Order). Works minimum l (q .guesses) (q .sums)) after-is (sent-work (subst GoodOrders (sym after-is) good-after))
+      -- the sums made for it
+      pub taken-work : 1 ≤ minimum → Works e minimum live (q .guesses) (q .sums)
+      unfolding moving
+      taken-work some =
+          let after = apply live e in
+          let columns = slots-orders side after good-after in
+          let work : Work side minimum (keysOf (slotsIn side after)) (volumesOf (slotsIn side after)) (q .guesses) (q .sums) =
+          subst (λ (l : List Order). Work side minimum (keysOf (slotsIn side l)) (volumesOf (slotsIn side l)) (q .guesses) (q .sums)) after-is
+          (subst (λ (s : Side). Work side minimum (keysOf (slotsIn s (sentTo (r .refusal) live e))) (volumesOf (slotsIn s (sentTo (r .refusal) live e))) (q .guesses) (q .sums))
+          (sym is-side) (moved moving .work)) in
+          record {
+            side = side;
+            its-side = subst (λ (s : Side). OfSide s live e) (sym is-side) (t .side none);
+            work = work;
+            found =
+                may-start side minimum (ofSide side after) (keysOf (slotsIn side after)) (volumesOf (slotsIn side after)) columns (work .start)
+                (start-most minimum (slotsIn side after) (good-slots side after good-after) (work .start) some (work .start-qualifies)) (work .start-qualifies);
+            searched = work .search (ofSide side after) columns;
+          }
 
       -- whether the quote is kept after it: by the keys, or as before where they stay
       pub taken-keeps : (row : Row) (spread : SpreadRule) (widest keeping keeps : ℕ) → minimum ≡ row .minimum .0 → WidestFor row spread widest
@@ -149,23 +169,3 @@ module _ (e : Event) (minimum : ℕ) (live : List Order) (good : GoodOrders live
               ∙ ap (λ (x : Bool). if x then 1 else 0)
               (sym (same-keeps minimum row spread live (apply live e) good good-after least widest law
               (λ s. ap (λ (l : List Order). bestKeyIn minimum (slotsIn s l)) (sym after-is) ∙ keys-stay b s)))
-
--- an event that makes none
-pub no-work : (minimum : ℕ) (orders : List Order) → Works minimum orders 0 0
-no-work minimum orders =
-    let ks = keysOf (slotsIn Buy orders) in
-    let vs = volumesOf (slotsIn Buy orders) in
-    record {
-      side = Buy;
-      work =
-          record {
-            known = 0;
-            known-qualifies = inl refl;
-            start = 0;
-            start-qualifies = inl refl;
-            tried = tried-none minimum ks vs 0;
-            searched = false;
-            search = λ o c. refl;
-          };
-      searched = refl;
-    }

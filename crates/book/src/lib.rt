@@ -10,7 +10,7 @@ ghost use Rattle.rules.specs.declared.Order.{Order};
 ghost use Rattle.rules.specs.declared.Millis.{Millis};
 ghost use Rattle.rules.specs.declared.Row.{Row};
 ghost use Rattle.rules.specs.declared.SpreadRule.{SpreadRule};
-ghost use Rattle.rules.specs.declared.Event.the-variants.{Add, Amend, Cancel, Deal};
+ghost use Rattle.rules.specs.declared.Event.the-variants.{Amend, Cancel, Deal};
 ghost use Rattle.rules.specs.Lists.{if_then_else_};
 ghost use Rattle.rules.specs.Units.{goodPrice, goodVolume};
 ghost use Rattle.rules.specs.Quotes.{best as bestQuote};
@@ -18,18 +18,17 @@ ghost use Rattle.rules.specs.Kept.{ordersKeep};
 ghost use Rattle.quote.specs.Widest.{WidestFor};
 ghost use Rattle.book.specs.Table.{tableOf, slotBy, slotIn, GoodOrders, Held, Holding};
 ghost use Rattle.book.specs.Sending.{Sending};
-ghost use Rattle.book.specs.Internal.{Numbers, sideAt, idOf, Represents, Located, Placed, answer, noChange, Applied, keepsBy};
+ghost use Rattle.book.specs.Internal.{Numbers, sideAt, idOf, addOf, orderIn, orderWith, Represents, Located, Placed, answer, noChange, Applied, keepsBy};
 use numbers::both;
 use rules::Contracts;
 use rules::Event;
+use rules::Order;
 use rules::Quote;
 use rules::Side;
 use rules::Steps;
 use side::BEST;
 use side::COUNT;
 use side::Change;
-use side::KEYS;
-use side::VOLUMES;
 use side::WORDS;
 
 // The words of the table: the buys', then the sells'.
@@ -165,18 +164,13 @@ fn in_range(price: Steps, volume: Contracts) -> bool
 }
 
 // One more order, behind the others of its side: refused by 10, 12 or 13, in this order.
-fn add(
-    table: &mut [u32],
-    hints: &mut [u8],
-    slot: usize,
-    id: u32,
-    side: Side,
-    price: Steps,
-    volume: Contracts,
-) -> Answer
+fn add(table: &mut [u32], hints: &mut [u8], slot: usize, order: Order) -> Answer
     requires { ⌜ Located (now table) slot × (length (now hints) ≡ 1024) ⌝ }
-    ensures { λ r. ⌜ ((t : Millis) (minimum : ℕ) (live : List Order) → Represents (now (table .entry)) minimum live → slot ≡ slotIn id live → Applied (Add t id side price volume) minimum live (now (table .exit)) r) ⌝ }
+    ensures { λ r. ⌜ ((t : Millis) (minimum : ℕ) (live : List Order) → Represents (now (table .entry)) minimum live → slot ≡ slotIn (order .id) live → Applied (addOf t order) minimum live (now (table .exit)) r) ⌝ }
 {
+    let side = order.side;
+    let price = order.price;
+    let volume = order.volume;
     if slot < 128 {
         return refused(10);
     }
@@ -185,14 +179,35 @@ fn add(
             return refused(13);
         }
         let s = side_number(side);
-        note(hints, id, 64 * s + table[WORDS * s + COUNT] as usize);
-        let key = quote::key_of(side, price);
+        note(hints, order.id, 64 * s + table[WORDS * s + COUNT] as usize);
         return done(
             s,
-            side::add(&mut table[WORDS * s..WORDS * s + WORDS], id, key, volume),
+            side::add(&mut table[WORDS * s..WORDS * s + WORDS], order),
         );
     }
     refused(12)
+}
+
+// The order in a slot.
+fn order_in(table: &[u32], slot: usize) -> Order
+    requires { ⌜ Located (now table) slot × (slot < 128) ⌝ }
+    ensures { λ r. ⌜ ((id minimum : ℕ) (live : List Order) → Represents (now (table .entry)) minimum live → slot ≡ slotIn id live → r ≡ orderIn slot live) ⌝ }
+{
+    let s = slot / 64;
+    side::order_at(&table[WORDS * s..WORDS * s + WORDS], side_at(s), slot % 64)
+}
+
+// An order with another price and volume.
+fn renewed(order: Order, price: Steps, volume: Contracts) -> Order
+    ensures { λ r. ⌜ r ≡ orderWith order price volume ⌝ }
+{
+    let side = order.side;
+    Order {
+        id: order.id,
+        side,
+        price,
+        volume,
+    }
 }
 
 // Another price and volume for the order in a slot, which keeps its id, its side and its place: refused by 11 or 12.
@@ -204,15 +219,14 @@ fn amend(table: &mut [u32], slot: usize, price: Steps, volume: Contracts) -> Ans
         return refused(11);
     }
     if in_range(price, volume) {
+        let order = order_in(table, slot);
         let s = slot / 64;
-        let key = quote::key_of(side_at(s), price);
         return done(
             s,
-            side::amend(
+            side::put(
                 &mut table[WORDS * s..WORDS * s + WORDS],
                 slot % 64,
-                key,
-                volume,
+                renewed(order, price, volume),
             ),
         );
     }
@@ -229,7 +243,7 @@ fn cancel(table: &mut [u32], hints: &mut [u8], slot: usize) -> Answer
     }
     let s = slot / 64;
     let place = slot % 64;
-    let change = side::remove(&mut table[WORDS * s..WORDS * s + WORDS], place);
+    let change = side::remove(&mut table[WORDS * s..WORDS * s + WORDS], side_at(s), place);
     rehint(table, hints, s, place);
     done(s, change)
 }
@@ -243,9 +257,9 @@ fn deal(table: &mut [u32], hints: &mut [u8], slot: usize, volume: Contracts) -> 
         return refused(11);
     }
     if ranges::volume(volume) {
-        let s = slot / 64;
-        let place = slot % 64;
-        let held = table[WORDS * s + (VOLUMES + place)];
+        let order = order_in(table, slot);
+        let price = order.price;
+        let held = order.volume.0;
         let dealt = volume.0;
         if held < dealt {
             return refused(14);
@@ -253,14 +267,13 @@ fn deal(table: &mut [u32], hints: &mut [u8], slot: usize, volume: Contracts) -> 
         if held == dealt {
             return cancel(table, hints, slot);
         }
-        let key = table[WORDS * s + (KEYS + place)];
+        let s = slot / 64;
         return done(
             s,
-            side::amend(
+            side::put(
                 &mut table[WORDS * s..WORDS * s + WORDS],
-                place,
-                key,
-                Contracts(held - dealt),
+                slot % 64,
+                renewed(order, price, Contracts(held - dealt)),
             ),
         );
     }
@@ -308,7 +321,17 @@ fn changed(table: &mut [u32], hints: &mut [u8], e: Event) -> Answer
             side,
             price,
             volume,
-        } => add(table, hints, slot, id, side, price, volume),
+        } => add(
+            table,
+            hints,
+            slot,
+            Order {
+                id,
+                side,
+                price,
+                volume,
+            },
+        ),
         Event::Amend {
             t: _,
             id: _,
@@ -369,9 +392,10 @@ pub fn send(
         };
     }
     let s = answer.s;
+    let side = side_at(s);
     let requoted = level::requote(
         &mut table[WORDS * s..WORDS * s + WORDS],
-        side_at(s),
+        side,
         answer.change,
         minimum,
     );

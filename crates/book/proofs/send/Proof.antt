@@ -14,7 +14,7 @@ use Rattle.rules.specs.Kept.{ordersKeep}
 use Rattle.book.specs.Table.{tableOf, sentTo}
 use Rattle.book.specs.Internal.{Applied}
 use Rattle.book.proofs.Table.{table-length}
-use Rattle.book.proofs.Sendings.{moving, sent-is, stays-is, taken-keeps, taken-work, no-work}
+use Rattle.book.proofs.Sendings.{moving, sent-is, stays-is, taken-keeps, taken-work}
 use Rattle.book.proofs.send.Statement.{statement}
 use Rattle.book.proofs.send.Tie as tie
 
@@ -44,7 +44,8 @@ returns c =
           };
       keeps = λ row spread live good after is least law was.
           was ∙ ap (λ (l : List Order). if ordersKeep row spread l then 1 else 0) (sym (refused-stays (t .result .refusal) live (a .e) (c .if1 .taken)));
-      work = λ live good after is. no-work (a .minimum .0) (sentTo (t .result .refusal) live (a .e));
+      work = λ live good after is none. absurd (omega (arith, none, c .if1 .taken));
+      none = λ h. (refl, refl);
     }
 
 -- for the orders that the caller has in hand
@@ -56,17 +57,20 @@ long c =
     let a = c .before .before .before .before .before .args in
     c .changed .kept .0 ∙ table-length (a .table .now) (a .minimum .0) (c .before .before .before .before .before .pre .live) (record { good = c .before .before .before .before .before .pre .good; is = c .before .before .before .before .before .pre .is })
 
+side-at-requires : tie.Need-side-at-requires
+side-at-requires c κs = search needs
+
 mul-requote : tie.Need-mul-requote
-mul-requote c = record { fits = omega (arith, turn (c .before .before .before .before .before) .number) }
+mul-requote c = record { fits = omega (arith, turn (c .before .before .before .before .before .before) .number) }
 
 mul-requote-2 : tie.Need-mul-requote-2
-mul-requote-2 c = record { fits = omega (arith, turn (c .before .before .before .before .before) .number) }
+mul-requote-2 c = record { fits = omega (arith, turn (c .before .before .before .before .before .before) .number) }
 
 add-requote : tie.Need-add-requote
-add-requote c = record { fits = omega (arith, turn (c .before .before .before .before .before) .number) }
+add-requote c = record { fits = omega (arith, turn (c .before .before .before .before .before .before) .number) }
 
 mul-requote-3 : tie.Need-mul-requote-3
-mul-requote-3 c = record { fits = omega (arith, turn (c .before .before .before .before .before) .number) }
+mul-requote-3 c = record { fits = omega (arith, turn (c .before .before .before .before .before .before) .number) }
 
 sub-requote : tie.Need-sub-requote
 sub-requote c = search needs
@@ -75,10 +79,7 @@ part-requote-start : tie.Need-part-requote-start
 part-requote-start c = search needs
 
 part-requote-end : tie.Need-part-requote-end
-part-requote-end c = omega (arith, turn (c .before .before .before .before .before) .number, long (c .before .before .before .before .before))
-
-side-at-requires : tie.Need-side-at-requires
-side-at-requires c κs = search needs
+part-requote-end c = omega (arith, turn (c .before .before .before .before .before .before) .number, long (c .before .before .before .before .before .before))
 
 requote-requires : tie.Need-requote-requires
 requote-requires c κs =
@@ -102,7 +103,7 @@ returns-2 c =
     let a = c .before .before .before .before .before .before .before .before .before .before .before .before .before .before .before .before .before .args in
     let t = c .before .before .before .before .before .before .before .before .before .before .before .before .changed in
     let q = c .before .before .before .before .requote in
-    let s = c .before .before .before .before .before .side-at in
+    let s = c .before .before .before .before .before .before .side-at in
     let none : t .result .refusal ≡ 0 = omega (arith, c .before .before .before .before .before .before .before .if1 .left) in
     record {
       sends =
@@ -117,9 +118,11 @@ returns-2 c =
           taken-keeps (a .e) (a .minimum .0) live good (t .last .0) (t .result) (t .ensures (a .minimum .0) live (record { good = good; is = is }))
           (s .result) (s .ensures) (q .last .0) (q .result) (q .ensures) none after row spread (a .widest) (a .keeping) (c .keeps-after .result) least law was
           (c .keeps-after .ensures);
-      work = λ live good after is.
+      work = λ live good after is zero.
           taken-work (a .e) (a .minimum .0) live good (t .last .0) (t .result) (t .ensures (a .minimum .0) live (record { good = good; is = is }))
-          (s .result) (s .ensures) (q .last .0) (q .result) (q .ensures) none after;
+          (s .result) (s .ensures) (q .last .0) (q .result) (q .ensures) none after
+          (c .before .before .before .before .before .before .before .before .before .before .before .before .before .before .before .before .before .pre .some);
+      none = λ h. absurd (omega (arith, h));
     }
 
 pub send-spec : {M : Type 1} → statement M
@@ -130,6 +133,7 @@ send-spec =
     same-length
     same-length-2
     returns
+    side-at-requires
     mul-requote
     mul-requote-2
     add-requote
@@ -137,7 +141,6 @@ send-spec =
     sub-requote
     part-requote-start
     part-requote-end
-    side-at-requires
     requote-requires
     keeps-after-requires
     same-length-3
