@@ -12,7 +12,7 @@ use Rattle.rules.specs.declared.Millis.{Millis}
 use Rattle.rules.specs.declared.Steps.{Steps}
 use Rattle.rules.specs.declared.Contracts.{Contracts}
 use Rattle.rules.specs.declared.Event.{Event}
-use Rattle.rules.specs.declared.Event.the-variants.{Amend, Cancel, Deal, Tick}
+use Rattle.rules.specs.declared.Event.the-variants.{Amend, Cancel, Deal}
 use Rattle.rules.specs.Orders.{isLive, left, apply}
 use Rattle.rules.specs.Units.{goodPrice, contracts}
 use Rattle.rules.specs.Quotes.{same}
@@ -20,7 +20,7 @@ use Rattle.rules.specs.Causes.{lowest, traderCauses}
 use Rattle.rules.proofs.Members.{length-filter, getD-in}
 use Rattle.rules.proofs.Orders.{cancel-at, deal-all}
 use Rattle.rules.proofs.Bounds.{volume-bounds}
-use Rattle.rules.proofs.Refusals.{clear, trader-passes}
+use Rattle.rules.proofs.Refusals.{trader-passes}
 use Rattle.quote.proofs.Keys.{key-least, key-most}
 use Rattle.side.specs.declared.Change.{Change}
 use Rattle.side.specs.Slots.{Slot, blankSlot, slotOf, orderOf, sideOf, keptIn, GoodSlots}
@@ -69,13 +69,6 @@ module _ (e : Event) (minimum : ℕ) (live : List Order) (table : List ℕ) (rep
         grown = subst (Grows c (slotsIn (sideAt n) live)) (sym own) grown;
         answers = subst (Changed c (slotsIn (sideAt n) live)) (sym own) answers;
       })
-
-pub idle : (t : Millis) (minimum : ℕ) (live : List Order) (table : List ℕ) → Represents table minimum live → (r : Answer) → r ≡ answer 0 0 noChange
-    → Applied (Tick t) minimum live table r
-unfolding tableOf appliedTo apply
-idle t minimum live table represents r is =
-    subst (Applied (Tick t) minimum live table) (sym is)
-    (record { number = omega arith; refusal = sym clear; side = λ z. refl; table = represents .is; others = refl; good = good-slots Buy live (represents .good); grown = grows-none (slotsIn Buy live); answers = λ t. refl })
 
 -- two accepted events that leave the same orders
 pub same-turn : (d e : Event) (minimum : ℕ) (live : List Order) (exit : List ℕ) (r : Answer) → lowest (traderCauses live d) ≡ 0

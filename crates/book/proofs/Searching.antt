@@ -8,17 +8,20 @@ use Rattle.rules.specs.declared.Row.{Row}
 use Rattle.rules.specs.declared.Event.{Event}
 use Rattle.rules.specs.Lists.{if_then_else_}
 use Rattle.rules.specs.Orders.{apply, live}
+use Rattle.rules.specs.Answers.{Outcome, accepted}
 use Rattle.rules.specs.Causes.{lowest, traderCauses, eventCauses, eventRefusal}
 use Rattle.rules.specs.Search.{sumsOf}
 use Rattle.rules.specs.Bounds.{EventBounds}
 use Rattle.rules.proofs.Orders.{live-snoc}
 use Rattle.rules.proofs.Bounds.{event-bounds-none, event-bounds-more}
 use Rattle.rules.proofs.Refusals.{passed}
+use Rattle.record.specs.declared.Fields.{Fields}
+use Rattle.record.specs.Fields.{readFields}
 use Rattle.quote.specs.Keys.{quoteAt}
 use Rattle.quote.specs.Searches.{MayStart}
 use Rattle.book.specs.declared.Sent.{Sent}
 use Rattle.book.specs.Table.{ofSide, tableOf, GoodOrders}
-use Rattle.book.specs.Sending.{Works, Sending}
+use Rattle.book.specs.Sending.{Works, Sending, SendsRead}
 use Rattle.book.specs.Searching.{AcceptedAfter, Accepted, NextSearch}
 
 bounds-after : (row : Row) (before events : List Event) → EventBounds row before → AcceptedAfter row before events → EventBounds row (before ++ events)
@@ -56,13 +59,20 @@ of-events row events e guesses sums w =
           is (w .searched);
     }
 
-pub next-search : (row : Row) (events : List Event) (e : Event) → Accepted row events → eventRefusal row events e ≡ 0
+next-event : (row : Row) (events : List Event) (e : Event) → Accepted row events → eventRefusal row events e ≡ 0
     → (widest keeping : ℕ) (exit : List ℕ) (r : Sent) → Sending e (row .minimum .0) widest keeping (tableOf (row .minimum .0) (live events)) exit r
     → NextSearch row events e (r .sums)
-next-search row events e a h widest keeping exit r sending =
+next-event row events e a h widest keeping exit r sending =
     let bounds = accepted-bounds row events a in
     let good = good-live row events bounds in
     let after : GoodOrders (apply (live events) e) =
     subst GoodOrders (live-snoc events e) (good-live row (events ++ (e ∷ [])) (event-bounds-more row events e bounds h)) in
     let none : r .refusal ≡ 0 = sending .sends .refusal (live events) good refl ∙ trader-accepts row events e h in
     of-events row events e (r .guesses) (r .sums) (sending .work (live events) good after refl none)
+
+pub next-search : (row : Row) (events : List Event) (e : Event) → Accepted row events → eventRefusal row events e ≡ 0
+    → (f : Fields) → readFields f ≡ accepted e → (widest keeping : ℕ) (exit : List ℕ) (r : Sent)
+    → SendsRead (readFields f) (row .minimum .0) widest keeping (tableOf (row .minimum .0) (live events)) exit r → NextSearch row events e (r .sums)
+next-search row events e a h f is widest keeping exit r sends =
+    next-event row events e a h widest keeping exit r
+    (subst (λ (o : Outcome Event). SendsRead o (row .minimum .0) widest keeping (tableOf (row .minimum .0) (live events)) exit r) is sends)

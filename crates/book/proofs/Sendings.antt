@@ -14,6 +14,7 @@ use Rattle.rules.specs.declared.Row.{Row}
 use Rattle.rules.specs.declared.SpreadRule.{SpreadRule}
 use Rattle.rules.specs.Lists.{if_then_else_}
 use Rattle.rules.specs.Orders.{apply}
+use Rattle.rules.specs.Answers.{Outcome, accepted, refused}
 use Rattle.rules.specs.Kept.{ordersKeep}
 use Rattle.quote.specs.Widest.{WidestFor}
 use Rattle.rules.specs.declared.Side.{Side}
@@ -27,8 +28,8 @@ use Rattle.side.specs.Internal.{StaleLevel}
 use Rattle.side.proofs.Words.{words-length}
 use Rattle.book.specs.declared.Answer.{Answer}
 use Rattle.book.specs.Table.{ofSide, slotsIn, sideIn, tableOf, OfSide, sentTo, GoodOrders}
-use Rattle.book.specs.Sending.{Works}
-use Rattle.book.specs.Internal.{sideAt, other, joined, appliedTo, Applied, keepsBy}
+use Rattle.book.specs.Sending.{Works, SendsRead}
+use Rattle.book.specs.Internal.{sideAt, other, joined, appliedTo, answer, noChange, Applied, AppliedRead, keepsBy}
 use Rattle.book.proofs.Table.{joined-part, joined-put}
 use Rattle.book.proofs.Events.{good-slots}
 use Rattle.book.proofs.Quotes.{keeps-is, same-keeps, slots-orders}
@@ -169,3 +170,71 @@ module _ (e : Event) (minimum : ℕ) (live : List Order) (good : GoodOrders live
               ∙ ap (λ (x : Bool). if x then 1 else 0)
               (sym (same-keeps minimum row spread live (apply live e) good good-after least widest law
               (λ s. ap (λ (l : List Order). bestKeyIn minimum (slotsIn s l)) (sym after-is) ∙ keys-stay b s)))
+
+-- ---- the fields of a record
+
+-- what they do to the orders, for all live orders that the table stands for
+abbrev Told : Outcome Event → ℕ → List ℕ → List ℕ → Answer → Type 0
+Told o minimum entry mid r = (live : List Order) → GoodOrders live → entry ≡ tableOf minimum live → AppliedRead o minimum live entry mid r
+
+pub read-number : (o : Outcome Event) (minimum : ℕ) (live : List Order) (entry mid : List ℕ) (r : Answer) → AppliedRead o minimum live entry mid r → r .s < 2
+read-number (accepted e) minimum live entry mid r t = t .number
+read-number (refused n) minimum live entry mid r t =
+    let z : r .s ≡ 0 = ap (λ (a : Answer). a .s) (t .0) in
+    omega (arith, z)
+
+-- fields that are not refused say an event: 15 is the only number that refuses fields
+not-refused : (n : ℕ) (r : Answer) → r ≡ answer n 0 noChange → n ≡ 15 → r .refusal ≡ 0 → ⊥
+not-refused n r e fifteen z =
+    let k : r .refusal ≡ n = ap (λ (a : Answer). a .refusal) e in
+    omega (arith, k, fifteen, z)
+
+pub read-moving : (o : Outcome Event) (minimum : ℕ) (live : List Order) → GoodOrders live → (entry mid : List ℕ) (r : Answer)
+    → AppliedRead o minimum live entry mid r → ((n : ℕ) → o ≡ refused n → n ≡ 15) → r .refusal ≡ 0 → StaleLevel (lent (r .s) mid) (r .change) minimum
+read-moving (accepted e) minimum live good entry mid r t fifteen z = moving e minimum live good mid r t
+read-moving (refused n) minimum live good entry mid r t fifteen z = absurd (not-refused n r (t .0) (fifteen n refl) z)
+
+refused-stays : (n : ℕ) (live : List Order) (e : Event) → 0 < n → sentTo n live e ≡ live
+refused-stays zero live e h = absurd (omega arith)
+refused-stays (suc n) live e h = refl
+
+pub refused-sends : (o : Outcome Event) (minimum widest keeping : ℕ) (entry mid : List ℕ) (r : Answer) → Told o minimum entry mid r
+    → (live : List Order) → GoodOrders live → entry ≡ tableOf minimum live → 0 < r .refusal
+    → SendsRead o minimum widest keeping entry mid (record { refusal = r .refusal; keeps = keeping; guesses = 0; sums = 0 })
+refused-sends (accepted e) minimum widest keeping entry mid r told live good is h =
+    record {
+      sends =
+          record {
+            refusal = λ live good is. told live good is .refusal;
+            table = λ live good is. stays-is e minimum live good mid r (told live good is) h;
+          };
+      keeps = λ row spread live good after is least law was.
+          was ∙ ap (λ (l : List Order). if ordersKeep row spread l then 1 else 0) (sym (refused-stays (r .refusal) live e h));
+      work = λ live good after is none. absurd (omega (arith, none, h));
+      none = λ l. (refl, refl);
+    }
+refused-sends (refused n) minimum widest keeping entry mid r told live good is h =
+    let t = told live good is in
+    ((λ i. record { refusal = t .0 i .refusal; keeps = keeping; guesses = 0; sums = 0 }), t .1)
+
+pub taken-sends : (o : Outcome Event) (minimum widest keeping : ℕ) (entry mid : List ℕ) (r : Answer) → Told o minimum entry mid r
+    → ((n : ℕ) → o ≡ refused n → n ≡ 15) → (live : List Order) → GoodOrders live → entry ≡ tableOf minimum live → r .refusal ≡ 0 → 1 ≤ minimum
+    → (side : Side) → side ≡ sideAt (r .s) → (half : List ℕ) (q : Requoted)
+    → ((m : StaleLevel (lent (r .s) mid) (r .change) minimum) → Requotes side minimum (m .before) (m .after) half q)
+    → (keeps : ℕ) → keeps ≡ (if q .moves then keepsBy widest (putBack (r .s) mid half) else keeping)
+    → SendsRead o minimum widest keeping entry (putBack (r .s) mid half) (record { refusal = 0; keeps = keeps; guesses = q .guesses; sums = q .sums })
+taken-sends (accepted e) minimum widest keeping entry mid r told fifteen live good is none some side is-side half q moved keeps k =
+    record {
+      sends =
+          record {
+            refusal = λ live good is. sym none ∙ told live good is .refusal;
+            table = λ live good is.
+                sent-is e minimum live good mid r (told live good is) side half q moved ∙ ap (λ (n : ℕ). tableOf minimum (sentTo n live e)) none;
+          };
+      keeps = λ row spread live good after is least law was.
+          taken-keeps e minimum live good mid r (told live good is) side is-side half q moved none after row spread widest keeping keeps least law was k;
+      work = λ live good after is zero. taken-work e minimum live good mid r (told live good is) side is-side half q moved none after some;
+      none = λ h. absurd (omega (arith, h));
+    }
+taken-sends (refused n) minimum widest keeping entry mid r told fifteen live good is none some side is-side half q moved keeps k =
+    absurd (not-refused n r (told live good is .0) (fifteen n refl) none)

@@ -1,5 +1,5 @@
 -- Document 02, W3, of lists of events: "show that this is exactly the number of such orders, in the order searched." `next-search` in
--- proofs/Searching shows it of what `send` answers, for every list of accepted events and the next one.
+-- proofs/Searching shows it of what `send` answers to the fields of an event, for every list of accepted events and the next one.
 use Prim.Native.Nat.{ℕ}
 use mathlib.Core.Path.{_≡_}
 use mathlib.Core.List.{List, [], _∷_, _++_}

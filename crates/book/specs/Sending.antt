@@ -11,6 +11,7 @@ use Rattle.rules.specs.declared.Row.{Row}
 use Rattle.rules.specs.declared.SpreadRule.{SpreadRule}
 use Rattle.rules.specs.Lists.{if_then_else_}
 use Rattle.rules.specs.Orders.{apply}
+use Rattle.rules.specs.Answers.{Outcome, accepted, refused}
 use Rattle.rules.specs.Kept.{ordersKeep}
 use Rattle.rules.specs.Search.{sumsOf}
 use Rattle.quote.specs.Keys.{quoteAt}
@@ -40,3 +41,9 @@ pub record Sending (e : Event) (minimum widest keeping : ℕ) (entry exit : List
       → Works e minimum live (r .guesses) (r .sums)
   -- a refused event makes no sum
   pub none : 0 < r .refusal → (r .guesses ≡ 0) × (r .sums ≡ 0)
+
+-- what the fields of a record promise: those of an event what it promises; others their refusal, and the table as it was
+abbrev pub SendsRead : Outcome Event → ℕ → ℕ → ℕ → List ℕ → List ℕ → Sent → Type 0
+SendsRead (accepted e) minimum widest keeping entry exit r = Sending e minimum widest keeping entry exit r
+SendsRead (refused n) minimum widest keeping entry exit r =
+    (r ≡ record { refusal = n; keeps = keeping; guesses = 0; sums = 0 }) × (exit ≡ entry)

@@ -61,8 +61,8 @@ slotBy buys sells = if ltb 0 buys then buys - 1 else if ltb 0 sells then 63 + se
 abbrev pub slotIn : ℕ → List Order → ℕ
 slotIn id live = slotBy (seen id (slotsIn Buy live)) (seen id (slotsIn Sell live))
 
--- the side of the order that an event names: an add's own, else that of the live order with the id. A tick names none, and is taken for
--- one of the buys, which it leaves as they are
+-- the side of the order that an event names: an add's own, else that of the live order with the id. A tick names none, and the table is
+-- not asked
 abbrev pub Named : Side → List Order → ℕ → Type 0
 Named side live id = (o : Order) × List·Memᴰ o live × (hasId id o ≡ true) × (o .side ≡ side)
 
@@ -71,7 +71,7 @@ OfSide side live (Add t id own price volume) = own ≡ side
 OfSide side live (Amend t id price volume) = Named side live id
 OfSide side live (Cancel t id) = Named side live id
 OfSide side live (Deal t id volume) = Named side live id
-OfSide side live (Tick t) = Buy ≡ side
+OfSide side live (Tick t) = ⊥
 
 -- the live orders after an event that the number refuses, or none where it is 0
 abbrev pub sentTo : ℕ → List Order → Event → List Order

@@ -11,17 +11,19 @@ ghost use Rattle.rules.specs.declared.Millis.{Millis};
 ghost use Rattle.rules.specs.declared.Row.{Row};
 ghost use Rattle.rules.specs.declared.SpreadRule.{SpreadRule};
 ghost use Rattle.rules.specs.declared.Event.the-variants.{Amend, Cancel, Deal};
-ghost use Rattle.rules.specs.Lists.{if_then_else_};
+ghost use Rattle.rules.specs.declared.Side.the-variants.{Buy, Sell};
+ghost use Rattle.rules.specs.Lists.{if_then_else_, within};
 ghost use Rattle.rules.specs.Units.{goodPrice, goodVolume};
 ghost use Rattle.rules.specs.Quotes.{best as bestQuote};
 ghost use Rattle.rules.specs.Kept.{ordersKeep};
 ghost use Rattle.quote.specs.Widest.{WidestFor};
 ghost use Rattle.book.specs.Table.{tableOf, slotBy, slotIn, GoodOrders, Held, Holding};
-ghost use Rattle.book.specs.Sending.{Sending};
-ghost use Rattle.book.specs.Internal.{Numbers, sideAt, idOf, addOf, orderIn, orderWith, Represents, Located, Placed, answer, noChange, Applied, keepsBy};
+ghost use Rattle.record.specs.Fields.{readFields};
+ghost use Rattle.book.specs.Sending.{SendsRead};
+ghost use Rattle.book.specs.Internal.{Numbers, sideAt, addOf, orderIn, orderWith, orderBy, Lessens, Represents, Located, Placed, answer, noChange, Applied, AppliedRead, keepsBy};
 use numbers::both;
+use record::Fields;
 use rules::Contracts;
-use rules::Event;
 use rules::Order;
 use rules::Quote;
 use rules::Side;
@@ -280,72 +282,72 @@ fn deal(table: &mut [u32], hints: &mut [u8], slot: usize, volume: Contracts) -> 
     refused(12)
 }
 
-// The id that an event names; a tick names none.
-fn id_of(e: Event) -> u32
-    ensures { λ r. ⌜ r ≡ idOf e ⌝ }
+// ---- the fields of a record
+
+// Whether a kind adds an order.
+fn is_add(kind: u32) -> bool
+    ensures { λ r. ⌜ r ≡ within 1 2 kind ⌝ }
 {
-    match e {
-        Event::Add {
-            t: _,
-            id,
-            side: _,
-            price: _,
-            volume: _,
-        } => id,
-        Event::Amend {
-            t: _,
-            id,
-            price: _,
-            volume: _,
-        } => id,
-        Event::Cancel { t: _, id } => id,
-        Event::Deal {
-            t: _,
-            id,
-            volume: _,
-        } => id,
-        Event::Tick { t: _ } => 0,
+    (1 <= kind) & (kind <= 2)
+}
+
+// The side of a kind that adds an order.
+fn side_of(kind: u32) -> Side
+    ensures { λ r. ⌜ r ≡ (if eqb kind 1 then Buy else Sell) ⌝ }
+{
+    if kind == 1 {
+        return Side::Buy;
+    }
+    Side::Sell
+}
+
+// The order that the fields of an add say.
+fn order_of(f: Fields) -> Order
+    ensures { λ r. ⌜ r ≡ orderBy f ⌝ }
+{
+    let price = f.price;
+    let volume = f.volume;
+    Order {
+        id: f.id,
+        side: side_of(f.kind),
+        price,
+        volume,
     }
 }
 
-// The answer to an event, and the orders after it; the best level of its side is still that of before.
-fn changed(table: &mut [u32], hints: &mut [u8], e: Event) -> Answer
-    requires { ⌜ Held (now table) × (length (now hints) ≡ 1024) ⌝ }
-    ensures { λ r. ⌜ ((minimum : ℕ) (live : List Order) → Represents (now (table .entry)) minimum live → Applied e minimum live (now (table .exit)) r) ⌝ }
+// A cancel, a deal, or fields that say no event.
+fn lessened(table: &mut [u32], hints: &mut [u8], slot: usize, f: Fields) -> Answer
+    requires { ⌜ Located (now table) slot × (length (now hints) ≡ 1024) × Lessens f ⌝ }
+    ensures { λ r. ⌜ ((minimum : ℕ) (live : List Order) → Represents (now (table .entry)) minimum live → slot ≡ slotIn (f .id) live → AppliedRead (readFields f) minimum live (now (table .entry)) (now (table .exit)) r) ⌝ }
 {
-    let slot = find(table, hints, id_of(e));
-    match e {
-        Event::Add {
-            t: _,
-            id,
-            side,
-            price,
-            volume,
-        } => add(
-            table,
-            hints,
-            slot,
-            Order {
-                id,
-                side,
-                price,
-                volume,
-            },
-        ),
-        Event::Amend {
-            t: _,
-            id: _,
-            price,
-            volume,
-        } => amend(table, slot, price, volume),
-        Event::Cancel { t: _, id: _ } => cancel(table, hints, slot),
-        Event::Deal {
-            t: _,
-            id: _,
-            volume,
-        } => deal(table, hints, slot, volume),
-        Event::Tick { t: _ } => refused(0),
+    let kind = f.kind;
+    let volume = f.volume;
+    if record::is_good(f) {
+        if kind == 4 {
+            return cancel(table, hints, slot);
+        }
+        return deal(table, hints, slot, volume);
     }
+    refused(15)
+}
+
+// The answer to the fields of a record that is no tick, and the orders after it; the best level of its side is still that of before. The
+// kind is looked at once: what 15 refuses is looked for only where it is neither an add's nor an amendment's.
+fn changed(table: &mut [u32], hints: &mut [u8], f: Fields) -> Answer
+    requires { ⌜ Held (now table) × (length (now hints) ≡ 1024) × (f .kind ≡ 6 → ⊥) ⌝ }
+    ensures { λ r. ⌜ ((minimum : ℕ) (live : List Order) → Represents (now (table .entry)) minimum live → AppliedRead (readFields f) minimum live (now (table .entry)) (now (table .exit)) r) ⌝ }
+{
+    let kind = f.kind;
+    let price = f.price;
+    let volume = f.volume;
+    let slot = find(table, hints, f.id);
+    if kind == 3 {
+        return amend(table, slot, price, volume);
+    }
+    if is_add(kind) {
+        return add(table, hints, slot, order_of(f));
+    }
+    lessened(table, hints, slot, f)
 }
 
 // What an event comes to: the number of the trader's refusal, or 0; whether the live orders then keep the quote, 1 or 0; for how many
@@ -368,20 +370,21 @@ fn keeps_after(table: &[u32], widest: u32, keeping: u32, moves: bool) -> u32
     keeping
 }
 
-// An event: refused, or the orders and the best level of its side are those after it. `keeping` is whether the orders before it keep the
-// quote. Whatever the hints contain, the answer and the table are the same.
+// An event that is no tick, by the fields of its record: refused, or the orders and the best level of its side are those after it; fields
+// that say no event are refused by 15. `keeping` is whether the orders before it keep the quote. Whatever the hints contain, the answer
+// and the table are the same.
 pub fn send(
     table: &mut [u32],
     hints: &mut [u8],
-    e: Event,
+    f: Fields,
     minimum: Contracts,
     widest: u32,
     keeping: u32,
 ) -> Sent
-    requires { ⌜ Holding (now table) (now hints) (minimum .0) ⌝ }
-    ensures { λ r. ⌜ Sending e (minimum .0) widest keeping (now (table .entry)) (now (table .exit)) r ⌝ }
+    requires { ⌜ Holding (now table) (now hints) (minimum .0) × (f .kind ≡ 6 → ⊥) ⌝ }
+    ensures { λ r. ⌜ SendsRead (readFields f) (minimum .0) widest keeping (now (table .entry)) (now (table .exit)) r ⌝ }
 {
-    let answer = changed(table, hints, e);
+    let answer = changed(table, hints, f);
     let refusal = answer.refusal;
     if 0 < refusal {
         return Sent {
