@@ -1,14 +1,12 @@
 -- Each kind by its own function. Assumes nothing.
 use mathlib.Core.Path.{_≡_, sym, ap, _∙_, subst}
-use Prim.Native.Nat.{ℕ}
-use mathlib.Core.List.{List}
 use lib.ListN.{length}
 use borrow.Author.Needs.{needs}
 use Rattle.rules.specs.declared.Order.{Order}
 use Rattle.rules.specs.declared.Event.{Event}
 use Rattle.rules.specs.Answers.{Outcome}
 use Rattle.book.specs.Table.{slotIn}
-use Rattle.book.specs.Internal.{addOf, Represents, Located, Applied, AppliedRead}
+use Rattle.book.specs.Internal.{addOf, Located, Applied, AppliedRead}
 use Rattle.book.proofs.Table.{held-represents, held-length}
 use Rattle.book.proofs.ByKind.{says-amend, says-add}
 use Rattle.book.proofs.changed.Statement.{statement}
