@@ -14,21 +14,22 @@ use Rattle.rules.specs.declared.Contracts.{Contracts}
 use Rattle.rules.specs.declared.Event.{Event}
 use Rattle.rules.specs.declared.Event.the-variants.{Add, Amend, Cancel, Deal}
 use Rattle.rules.specs.Lists.{if_then_else_}
-use Rattle.rules.specs.Units.{contracts}
+use Rattle.rules.specs.Units.{goodPrice, steps, contracts}
 use Rattle.rules.specs.Orders.{left, apply}
 use Rattle.rules.specs.Quotes.{same}
+use Rattle.rules.proofs.Lists.{kept-in}
 use Rattle.rules.proofs.Members.{getD-in}
 use Rattle.rules.proofs.Orders.{amend-at, cancel-at, deal-some, left-at}
 use Rattle.rules.proofs.Bounds.{volume-bounds}
 use Rattle.quote.specs.Keys.{keyOf}
-use Rattle.quote.proofs.Keys.{key-least, key-most}
-use Rattle.side.specs.Slots.{Slot, slot, blankSlot, GoodSlots}
+use Rattle.quote.proofs.Keys.{key-least, key-most, price-key}
+use Rattle.side.specs.Slots.{Slot, slot, blankSlot, slotOf, orderOf, GoodSlots}
 use Rattle.side.proofs.Lists.{map-set, map-take, map-drop}
 use Rattle.side.proofs.Changes.{GoodSlot, all-good}
-use Rattle.book.specs.Table.{ofSide, slotOf, slotsIn, GoodOrders}
-use Rattle.book.specs.Internal.{other}
-use Rattle.book.proofs.Sides.{names, side-add, side-named, unnamed, other-unlive, left-in, few-side, distinct-side, in-side}
-use Rattle.book.proofs.Slots.{blankOrder, Has}
+use Rattle.book.specs.Table.{ofSide, slotsIn, Named, GoodOrders}
+use Rattle.book.specs.Internal.{other, blankOrder, orderWith}
+use Rattle.book.proofs.Sides.{names, side-add, side-named, unnamed, same-is, other-unlive, left-in, few-side, distinct-side, in-side}
+use Rattle.book.proofs.Slots.{Has}
 use Rattle.book.proofs.Table.{slot-at}
 
 -- ---- the bounds of slots
@@ -85,16 +86,11 @@ module _ (live : List Order) (t : Millis) (id : ℕ) (side : Side) (price : Step
 -- ---- the order at a place of a side
 
 module _ (live : List Order) (good : GoodOrders live) (s : Side) (k id : ℕ) (h : Has id (ofSide s live) k) where
-  o : Order
+  abbrev o : Order
   o = getD (ofSide s live) k blankOrder
 
   here : List·Memᴰ o (ofSide s live)
-  unfolding o
   here = getD-in (ofSide s live) k blankOrder (h .inside)
-
-  is-slot : getD (slotsIn s live) k blankSlot ≡ slotOf s o
-  unfolding o
-  is-slot = slot-at s (ofSide s live) k (h .inside)
 
   some : (x : Order) → List·Memᴰ x (ofSide s live) → 1 ≤ x .volume .0
   some x m = volume-bounds (x .volume .0) (good .volumes x (in-side s live good m)) .0
@@ -102,14 +98,30 @@ module _ (live : List Order) (good : GoodOrders live) (s : Side) (k id : ℕ) (h
   pub inside : k < length (slotsIn s live)
   inside = omega (arith, h .inside, length-map (ofSide s live) (slotOf s))
 
-  pub left-is : left id live ≡ getD (slotsIn s live) k blankSlot .volume
-  unfolding o
-  left-is =
-      left-in id live (good .distinct) (in-side s live good here) (h .has) ∙ sym (ap (λ (x : Slot). x .volume) is-slot)
+  -- what is known of it
+  pub its-side : o .side ≡ s
+  its-side = same-is s (o .side) (kept-in (λ (x : Order). same s (x .side)) live here .1)
+
+  pub its-price : goodPrice (o .price .0) ≡ true
+  its-price = good .prices o (in-side s live good here)
+
+  pub its-volume : o .volume .0 ≤ 1000000
+  its-volume = volume-bounds (o .volume .0) (good .volumes o (in-side s live good here)) .1
+
+  pub named : Named s live id
+  named = (o, in-side s live good here, h .has, its-side)
+
+  pub left-is : o .volume .0 ≡ left id live
+  left-is = sym (left-in id live (good .distinct) (in-side s live good here) (h .has))
+
+  -- it is the one that is stored there
+  pub order-is : orderOf s (getD (slotsIn s live) k blankSlot) ≡ o
+  order-is =
+      ap (orderOf s) (slot-at s (ofSide s live) k (h .inside))
+      ∙ (λ i. record { id = o .id; side = sym its-side i; price = steps (price-key s (o .price .0) its-price i); volume = o .volume })
 
   -- the other side stays
   pub others-stay : (e : Event) → names id e → slotsIn (other s) (apply live e) ≡ slotsIn (other s) live
-  unfolding o
   others-stay e n =
       ap (map (slotOf (other s)))
       (side-named (other s) live id e n
@@ -117,9 +129,6 @@ module _ (live : List Order) (good : GoodOrders live) (s : Side) (k id : ℕ) (h
       (λ x m. good .volumes x (in-side (other s) live good m)))
 
   -- one order of the side set, or away
-  set-slots : (x : Order) → map (slotOf s) (set (ofSide s live) k x) ≡ set (slotsIn s live) k (slotOf s x)
-  set-slots x = map-set (slotOf s) (ofSide s live) k x
-
   without : map (slotOf s) (take k (ofSide s live) ++ drop (suc k) (ofSide s live)) ≡ take k (slotsIn s live) ++ drop (suc k) (slotsIn s live)
   without =
       map-append (slotOf s) (take k (ofSide s live)) (drop (suc k) (ofSide s live))
@@ -127,15 +136,13 @@ module _ (live : List Order) (good : GoodOrders live) (s : Side) (k id : ℕ) (h
       ∙ ap (λ (l : List Slot). take k (slotsIn s live) ++ l) (map-drop (slotOf s) (suc k) (ofSide s live))
 
   pub amended : (t : Millis) (price : Steps) (volume : Contracts)
-      → slotsIn s (apply live (Amend t id price volume))
-      ≡ set (slotsIn s live) k (slot (getD (slotsIn s live) k blankSlot .id) (keyOf s (price .0)) (volume .0))
-  unfolding o apply
+      → slotsIn s (apply live (Amend t id price volume)) ≡ set (slotsIn s live) k (slotOf s (orderWith o price volume))
+  unfolding apply
   amended t price volume =
       ap (map (slotOf s))
       (side-named s live id (Amend t id price volume) refl
       ∙ amend-at id (ofSide s live) k blankOrder (distinct-side s live good) (h .inside) (h .has) price volume)
-      ∙ set-slots (record { id = o .id; side = o .side; price = price; volume = volume })
-      ∙ ap (λ (i : ℕ). set (slotsIn s live) k (slot i (keyOf s (price .0)) (volume .0))) (sym (ap (λ (x : Slot). x .id) is-slot))
+      ∙ map-set (slotOf s) (ofSide s live) k (orderWith o price volume)
 
   pub cancelled : (t : Millis) → slotsIn s (apply live (Cancel t id)) ≡ take k (slotsIn s live) ++ drop (suc k) (slotsIn s live)
   unfolding apply
@@ -144,20 +151,11 @@ module _ (live : List Order) (good : GoodOrders live) (s : Side) (k id : ℕ) (h
       (side-named s live id (Cancel t id) refl ∙ cancel-at id (ofSide s live) k blankOrder (distinct-side s live good) (h .inside) (h .has))
       ∙ without
 
-  module _ (t : Millis) (volume : Contracts) where
-    held : left id (ofSide s live) ≡ getD (slotsIn s live) k blankSlot .volume
-    unfolding o
-    held =
-        left-at id (ofSide s live) k blankOrder (distinct-side s live good) (h .inside) (h .has) ∙ sym (ap (λ (x : Slot). x .volume) is-slot)
-
-    pub dealt-some : volume .0 < getD (slotsIn s live) k blankSlot .volume
-        → slotsIn s (apply live (Deal t id volume))
-        ≡ set (slotsIn s live) k
-        (slot (getD (slotsIn s live) k blankSlot .id) (getD (slotsIn s live) k blankSlot .key) (getD (slotsIn s live) k blankSlot .volume - volume .0))
-    unfolding o
-    dealt-some l =
-        ap (map (slotOf s))
-        (side-named s live id (Deal t id volume) refl
-        ∙ deal-some id (ofSide s live) k blankOrder (distinct-side s live good) (h .inside) (h .has) some t volume (omega (arith, held)))
-        ∙ set-slots (record { id = o .id; side = o .side; price = o .price; volume = contracts (o .volume .0 - volume .0) })
-        ∙ ap (λ (x : Slot). set (slotsIn s live) k (slot (x .id) (x .key) (x .volume - volume .0))) (sym is-slot)
+  pub dealt-some : (t : Millis) (volume : Contracts) → volume .0 < o .volume .0
+      → slotsIn s (apply live (Deal t id volume)) ≡ set (slotsIn s live) k (slotOf s (orderWith o (o .price) (contracts (o .volume .0 - volume .0))))
+  dealt-some t volume l =
+      ap (map (slotOf s))
+      (side-named s live id (Deal t id volume) refl
+      ∙ deal-some id (ofSide s live) k blankOrder (distinct-side s live good) (h .inside) (h .has) some t volume
+      (omega (arith, left-at id (ofSide s live) k blankOrder (distinct-side s live good) (h .inside) (h .has))))
+      ∙ map-set (slotOf s) (ofSide s live) k (orderWith o (o .price) (contracts (o .volume .0 - volume .0)))

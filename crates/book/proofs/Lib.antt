@@ -7,4 +7,6 @@ pub mod Events
 pub mod Causes
 pub mod Applied
 pub mod Quotes
+pub mod ByKind
 pub mod Sendings
+pub mod Searching

@@ -22,9 +22,9 @@ use Rattle.quote.specs.Widest.{WidestFor, keysKeep}
 use Rattle.quote.proofs.Keys.{GoodQuote, good-quote}
 use Rattle.quote.proofs.Finding.{bestOf, side-most, best-key, key-best}
 use Rattle.quote.proofs.Spread.{keys-law}
-use Rattle.side.specs.Slots.{Slot, keysOf, volumesOf, bestKeyIn, keptIn}
+use Rattle.side.specs.Slots.{Slot, slotOf, keysOf, volumesOf, bestKeyIn, keptIn}
 use Rattle.side.proofs.Words.{kept-key}
-use Rattle.book.specs.Table.{ofSide, slotOf, slotsIn, tableOf, GoodOrders}
+use Rattle.book.specs.Table.{ofSide, slotsIn, tableOf, GoodOrders}
 use Rattle.book.specs.Internal.{sideAt, Represents}
 use Rattle.book.proofs.Table.{side-best}
 

@@ -2,9 +2,11 @@
 use Prim.Native.Nat.{ℕ, zero, suc, _≤_, _<_}
 use native.Mathlib.Omega.{arith}
 use mathlib.Core.Path.{_≡_, refl, sym, ap, _∙_, subst}
-use mathlib.Core.Logic.{inl}
+use mathlib.Core.Logic.{inl, inr}
 use mathlib.Core.Bool.{Bool, true, false}
-use mathlib.Core.List.{List}
+use mathlib.Core.List.{List, Memᴰ·of-map}
+use borrow.Author.Tests.{leb-true}
+use lib.Dec.{leb}
 use lib.ListN.{length}
 use Rattle.rules.specs.declared.Order.{Order}
 use Rattle.rules.specs.declared.Event.{Event}
@@ -12,20 +14,22 @@ use Rattle.rules.specs.declared.Row.{Row}
 use Rattle.rules.specs.declared.SpreadRule.{SpreadRule}
 use Rattle.rules.specs.Lists.{if_then_else_}
 use Rattle.rules.specs.Orders.{apply}
+use Rattle.rules.specs.Answers.{Outcome, accepted, refused}
 use Rattle.rules.specs.Kept.{ordersKeep}
 use Rattle.quote.specs.Widest.{WidestFor}
 use Rattle.rules.specs.declared.Side.{Side}
 use Rattle.rules.specs.declared.Side.the-variants.{Buy, Sell}
-use Rattle.side.specs.Slots.{sideOf, keysOf, volumesOf, bestKeyIn, keptIn}
+use Rattle.quote.proofs.Levels.{held-some, held-none}
+use Rattle.quote.proofs.Finding.{may-start}
+use Rattle.side.specs.Slots.{Slot, sideOf, keysOf, volumesOf, bestKeyIn, keptIn, GoodSlots}
 use Rattle.level.specs.declared.Requoted.{Requoted}
-use Rattle.level.specs.Requotes.{Work, Requotes}
-use Rattle.level.proofs.Tries.{tried-none}
+use Rattle.level.specs.Requotes.{Qualifies, Work, Requotes}
 use Rattle.side.specs.Internal.{StaleLevel}
 use Rattle.side.proofs.Words.{words-length}
 use Rattle.book.specs.declared.Answer.{Answer}
-use Rattle.book.specs.Table.{ofSide, slotsIn, sideIn, tableOf, sentTo, GoodOrders}
-use Rattle.book.specs.Sending.{Works}
-use Rattle.book.specs.Internal.{sideAt, other, joined, appliedTo, Applied, keepsBy}
+use Rattle.book.specs.Table.{ofSide, slotsIn, sideIn, tableOf, OfSide, sentTo, GoodOrders}
+use Rattle.book.specs.Sending.{Works, SendsRead}
+use Rattle.book.specs.Internal.{sideAt, other, joined, appliedTo, answer, noChange, Applied, AppliedRead, keepsBy}
 use Rattle.book.proofs.Table.{joined-part, joined-put}
 use Rattle.book.proofs.Events.{good-slots}
 use Rattle.book.proofs.Quotes.{keeps-is, same-keeps, slots-orders}
@@ -37,6 +41,16 @@ unfolding tableOf
 both-halves zero minimum live h = refl
 both-halves (suc zero) minimum live h = refl
 both-halves (suc (suc n)) minimum live h = absurd (omega arith)
+
+-- a price that qualifies is in its range: an order stands at it or better
+start-most : (minimum : ℕ) (slots : List Slot) → GoodSlots slots → (start : ℕ) → 1 ≤ minimum → Qualifies minimum (keysOf slots) (volumesOf slots) start
+    → start ≤ 2000000001
+start-most minimum slots good start some (inl e) = omega (arith, e)
+start-most minimum slots good start some (inr h) =
+    let (k, m, pass, fail) =
+    held-some (λ (k : ℕ). false) (leb start) (keysOf slots) (volumesOf slots) (omega (arith, h, some, held-none (keysOf slots) (volumesOf slots))) in
+    let (s, i, e) = Memᴰ·of-map (λ (s : Slot). s .key) slots m in
+    omega (arith, leb-true start k pass, e, good .key-most s i)
 
 module _ (e : Event) (minimum : ℕ) (live : List Order) (good : GoodOrders live) (mid : List ℕ) (r : Answer) (t : Applied e minimum live mid r) where
   few-others : length (slotsIn (other (sideAt (r .s))) (sentTo (r .refusal) live e)) ≤ 64
@@ -113,23 +127,30 @@ module _ (e : Event) (minimum : ℕ) (live : List Order) (good : GoodOrders live
         go (suc n) l own others Buy = others
         go (suc n) l own others Sell = own
 
-    -- the sums made for it
-    pub sent-work : GoodOrders (sentTo (r .refusal) live e) → Works minimum (sentTo (r .refusal) live e) (q .guesses) (q .sums)
-    unfolding moving
-    sent-work good-after =
-        let after = sentTo (r .refusal) live e in
-        let work : Work side minimum (keysOf (slotsIn side after)) (volumesOf (slotsIn side after)) (q .guesses) (q .sums) =
-        subst (λ (s : Side). Work side minimum (keysOf (slotsIn s after)) (volumesOf (slotsIn s after)) (q .guesses) (q .sums)) (sym is-side) (moved moving .work) in
-        record { side = side; work = work; searched = work .search (ofSide side after) (slots-orders side after good-after) }
-
     -- an accepted event
     module _ (none : r .refusal ≡ 0) (good-after : GoodOrders (apply live e)) where
       after-is : sentTo (r .refusal) live e ≡ apply live e
       after-is = ap (λ (n : ℕ). sentTo n live e) none
 
-      pub taken-work : Works minimum (apply live e) (q .guesses) (q .sums)
-      taken-work =
-          subst (λ (l : List Order). Works minimum l (q .guesses) (q .sums)) after-is (sent-work (subst GoodOrders (sym after-is) good-after))
+      -- the sums made for it
+      pub taken-work : 1 ≤ minimum → Works e minimum live (q .guesses) (q .sums)
+      unfolding moving
+      taken-work some =
+          let after = apply live e in
+          let columns = slots-orders side after good-after in
+          let work : Work side minimum (keysOf (slotsIn side after)) (volumesOf (slotsIn side after)) (q .guesses) (q .sums) =
+          subst (λ (l : List Order). Work side minimum (keysOf (slotsIn side l)) (volumesOf (slotsIn side l)) (q .guesses) (q .sums)) after-is
+          (subst (λ (s : Side). Work side minimum (keysOf (slotsIn s (sentTo (r .refusal) live e))) (volumesOf (slotsIn s (sentTo (r .refusal) live e))) (q .guesses) (q .sums))
+          (sym is-side) (moved moving .work)) in
+          record {
+            side = side;
+            its-side = subst (λ (s : Side). OfSide s live e) (sym is-side) (t .side none);
+            work = work;
+            found =
+                may-start side minimum (ofSide side after) (keysOf (slotsIn side after)) (volumesOf (slotsIn side after)) columns (work .start)
+                (start-most minimum (slotsIn side after) (good-slots side after good-after) (work .start) some (work .start-qualifies)) (work .start-qualifies);
+            searched = work .search (ofSide side after) columns;
+          }
 
       -- whether the quote is kept after it: by the keys, or as before where they stay
       pub taken-keeps : (row : Row) (spread : SpreadRule) (widest keeping keeps : ℕ) → minimum ≡ row .minimum .0 → WidestFor row spread widest
@@ -150,22 +171,70 @@ module _ (e : Event) (minimum : ℕ) (live : List Order) (good : GoodOrders live
               (sym (same-keeps minimum row spread live (apply live e) good good-after least widest law
               (λ s. ap (λ (l : List Order). bestKeyIn minimum (slotsIn s l)) (sym after-is) ∙ keys-stay b s)))
 
--- an event that makes none
-pub no-work : (minimum : ℕ) (orders : List Order) → Works minimum orders 0 0
-no-work minimum orders =
-    let ks = keysOf (slotsIn Buy orders) in
-    let vs = volumesOf (slotsIn Buy orders) in
+-- ---- the fields of a record
+
+-- what they do to the orders, for all live orders that the table stands for
+abbrev Told : Outcome Event → ℕ → List ℕ → List ℕ → Answer → Type 0
+Told o minimum entry mid r = (live : List Order) → GoodOrders live → entry ≡ tableOf minimum live → AppliedRead o minimum live entry mid r
+
+pub read-number : (o : Outcome Event) (minimum : ℕ) (live : List Order) (entry mid : List ℕ) (r : Answer) → AppliedRead o minimum live entry mid r → r .s < 2
+read-number (accepted e) minimum live entry mid r t = t .number
+read-number (refused n) minimum live entry mid r t =
+    let z : r .s ≡ 0 = ap (λ (a : Answer). a .s) (t .0) in
+    omega (arith, z)
+
+-- fields that are not refused say an event: 15 is the only number that refuses fields
+not-refused : (n : ℕ) (r : Answer) → r ≡ answer n 0 noChange → n ≡ 15 → r .refusal ≡ 0 → ⊥
+not-refused n r e fifteen z =
+    let k : r .refusal ≡ n = ap (λ (a : Answer). a .refusal) e in
+    omega (arith, k, fifteen, z)
+
+pub read-moving : (o : Outcome Event) (minimum : ℕ) (live : List Order) → GoodOrders live → (entry mid : List ℕ) (r : Answer)
+    → AppliedRead o minimum live entry mid r → ((n : ℕ) → o ≡ refused n → n ≡ 15) → r .refusal ≡ 0 → StaleLevel (lent (r .s) mid) (r .change) minimum
+read-moving (accepted e) minimum live good entry mid r t fifteen z = moving e minimum live good mid r t
+read-moving (refused n) minimum live good entry mid r t fifteen z = absurd (not-refused n r (t .0) (fifteen n refl) z)
+
+refused-stays : (n : ℕ) (live : List Order) (e : Event) → 0 < n → sentTo n live e ≡ live
+refused-stays zero live e h = absurd (omega arith)
+refused-stays (suc n) live e h = refl
+
+pub refused-sends : (o : Outcome Event) (minimum widest keeping : ℕ) (entry mid : List ℕ) (r : Answer) → Told o minimum entry mid r
+    → (live : List Order) → GoodOrders live → entry ≡ tableOf minimum live → 0 < r .refusal
+    → SendsRead o minimum widest keeping entry mid (record { refusal = r .refusal; keeps = keeping; guesses = 0; sums = 0 })
+refused-sends (accepted e) minimum widest keeping entry mid r told live good is h =
     record {
-      side = Buy;
-      work =
+      sends =
           record {
-            known = 0;
-            known-qualifies = inl refl;
-            start = 0;
-            start-qualifies = inl refl;
-            tried = tried-none minimum ks vs 0;
-            searched = false;
-            search = λ o c. refl;
+            refusal = λ live good is. told live good is .refusal;
+            table = λ live good is. stays-is e minimum live good mid r (told live good is) h;
           };
-      searched = refl;
+      keeps = λ row spread live good after is least law was.
+          was ∙ ap (λ (l : List Order). if ordersKeep row spread l then 1 else 0) (sym (refused-stays (r .refusal) live e h));
+      work = λ live good after is none. absurd (omega (arith, none, h));
+      none = λ l. (refl, refl);
     }
+refused-sends (refused n) minimum widest keeping entry mid r told live good is h =
+    let t = told live good is in
+    ((λ i. record { refusal = t .0 i .refusal; keeps = keeping; guesses = 0; sums = 0 }), t .1)
+
+pub taken-sends : (o : Outcome Event) (minimum widest keeping : ℕ) (entry mid : List ℕ) (r : Answer) → Told o minimum entry mid r
+    → ((n : ℕ) → o ≡ refused n → n ≡ 15) → (live : List Order) → GoodOrders live → entry ≡ tableOf minimum live → r .refusal ≡ 0 → 1 ≤ minimum
+    → (side : Side) → side ≡ sideAt (r .s) → (half : List ℕ) (q : Requoted)
+    → ((m : StaleLevel (lent (r .s) mid) (r .change) minimum) → Requotes side minimum (m .before) (m .after) half q)
+    → (keeps : ℕ) → keeps ≡ (if q .moves then keepsBy widest (putBack (r .s) mid half) else keeping)
+    → SendsRead o minimum widest keeping entry (putBack (r .s) mid half) (record { refusal = 0; keeps = keeps; guesses = q .guesses; sums = q .sums })
+taken-sends (accepted e) minimum widest keeping entry mid r told fifteen live good is none some side is-side half q moved keeps k =
+    record {
+      sends =
+          record {
+            refusal = λ live good is. sym none ∙ told live good is .refusal;
+            table = λ live good is.
+                sent-is e minimum live good mid r (told live good is) side half q moved ∙ ap (λ (n : ℕ). tableOf minimum (sentTo n live e)) none;
+          };
+      keeps = λ row spread live good after is least law was.
+          taken-keeps e minimum live good mid r (told live good is) side is-side half q moved none after row spread widest keeping keeps least law was k;
+      work = λ live good after is zero. taken-work e minimum live good mid r (told live good is) side is-side half q moved none after some;
+      none = λ h. absurd (omega (arith, h));
+    }
+taken-sends (refused n) minimum widest keeping entry mid r told fifteen live good is none some side is-side half q moved keeps k =
+    absurd (not-refused n r (told live good is .0) (fifteen n refl) none)

@@ -69,6 +69,12 @@ lessened-side s id volume o = go (hasId id o)
     go true = refl
     go false = refl
 
+pub same-is : (s t : Side) → same s t ≡ true → t ≡ s
+same-is Buy Buy h = refl
+same-is Buy Sell h = absurd (false≢true h)
+same-is Sell Buy h = absurd (false≢true h)
+same-is Sell Sell h = refl
+
 -- the event names a live order
 abbrev pub names : ℕ → Event → Type 0
 names id (Add t i side price volume) = ⊥

@@ -6,25 +6,20 @@ use mathlib.Core.Path.{_≡_, refl, sym, ap, _∙_, subst}
 use mathlib.Core.List.{List, [], _∷_, map}
 use mathlib.Core.Bool.{Bool, true, false, true≢false, false≢true, _||_}
 use lib.Dec.{ltb}
-use lib.IntN.{pos}
 use lib.ListN.{length, getD}
 use borrow.Author.Tests.{eqb-true, lt-ltb}
 use Rattle.rules.specs.declared.Side.{Side}
 use Rattle.rules.specs.declared.Side.the-variants.{Buy, Sell}
 use Rattle.rules.specs.declared.Order.{Order}
-use Rattle.rules.specs.Units.{contracts, steps}
 use Rattle.rules.specs.Lists.{if_then_else_, any}
 use Rattle.rules.specs.Orders.{hasId, isLive}
 use Rattle.rules.specs.Bounds.{Distinct}
 use Rattle.rules.proofs.Members.{or-false, getD-in}
 use Rattle.rules.proofs.Orders.{live-at}
-use Rattle.side.specs.Slots.{idsOf, seenFrom, seen}
-use Rattle.book.specs.Table.{ofSide, slotOf, slotsIn, slotIn, GoodOrders}
-use Rattle.book.specs.Internal.{sideAt, other}
+use Rattle.side.specs.Slots.{slotOf, idsOf, seenFrom, seen}
+use Rattle.book.specs.Table.{ofSide, slotsIn, slotIn, GoodOrders}
+use Rattle.book.specs.Internal.{sideAt, other, blankOrder}
 use Rattle.book.proofs.Sides.{other-unlive, live-sides, few-side, distinct-side}
-
-abbrev pub blankOrder : Order
-blankOrder = record { id = 0; side = Buy; price = steps (pos 0); volume = contracts 0 }
 
 -- ---- an id's place among orders
 

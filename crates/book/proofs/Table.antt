@@ -16,14 +16,14 @@ use Rattle.rules.specs.Quotes.{same}
 use Rattle.rules.proofs.Lists.{both}
 use Rattle.rules.proofs.Members.{length-filter}
 use Rattle.quote.specs.declared.Level.{Level}
-use Rattle.side.specs.Slots.{Slot, blankSlot, sideOf, keptIn, seen}
+use Rattle.side.specs.Slots.{Slot, blankSlot, slotOf, sideOf, keptIn, seen}
 use Rattle.side.specs.Internal.{Sized}
 use Rattle.side.proofs.Lists.{behind-at}
-use Rattle.side.proofs.Words.{words-length, count-is, key-is, sized, id-at, key-at, volume-at}
-use Rattle.book.specs.Table.{ofSide, slotOf, slotsIn, sideIn, tableOf, slotBy, slotIn, Held}
-use Rattle.book.specs.Internal.{sideAt, other, joined, Represents}
+use Rattle.side.proofs.Words.{words-length, count-is, key-is, sized, id-at, key-at}
+use Rattle.book.specs.Table.{ofSide, slotsIn, sideIn, tableOf, slotBy, slotIn, Held}
+use Rattle.book.specs.Internal.{sideAt, other, blankOrder, joined, Represents}
 use Rattle.book.proofs.Sides.{few-side, length-sides}
-use Rattle.book.proofs.Slots.{blankOrder, Has, slot-there}
+use Rattle.book.proofs.Slots.{Has, slot-there}
 
 -- ---- a slot by its place
 
@@ -122,6 +122,11 @@ module _ (table : List ℕ) (minimum : ℕ) (live : List Order) (represents : Re
         count-is (take (256 * n + 256 - 256 * n) (drop (256 * n) table)) (slotsIn (sideAt n) live) (keptIn minimum (slotsIn (sideAt n) live)) (few-slots (sideAt n)) part-is
         ∙ length-map (ofSide (sideAt n) live) (slotOf (sideAt n))
 
+    pub part-key : (k : ℕ) → k < 64
+        → getD (take (256 * n + 256 - 256 * n) (drop (256 * n) table)) (64 + k) 0 ≡ getD (slotsIn (sideAt n) live) k blankSlot .key
+    part-key k l =
+        key-at (take (256 * n + 256 - 256 * n) (drop (256 * n) table)) (slotsIn (sideAt n) live) (keptIn minimum (slotsIn (sideAt n) live)) (few-slots (sideAt n)) part-is k l
+
     -- what a side's words say
     side-count : getD table (256 * n + 192) 0 ≡ length (ofSide (sideAt n) live)
     side-count =
@@ -146,16 +151,6 @@ module _ (table : List ℕ) (minimum : ℕ) (live : List Order) (represents : Re
       side-id =
           at k (omega arith)
           ∙ id-at (sideIn minimum (sideAt n) live) (slotsIn (sideAt n) live) (keptIn minimum (slotsIn (sideAt n) live)) (few-slots (sideAt n)) refl k l
-
-      pub side-key : getD table (256 * n + (64 + k)) 0 ≡ getD (slotsIn (sideAt n) live) k blankSlot .key
-      side-key =
-          at (64 + k) (omega arith)
-          ∙ key-at (sideIn minimum (sideAt n) live) (slotsIn (sideAt n) live) (keptIn minimum (slotsIn (sideAt n) live)) (few-slots (sideAt n)) refl k l
-
-      pub side-volume : getD table (256 * n + (128 + k)) 0 ≡ getD (slotsIn (sideAt n) live) k blankSlot .volume
-      side-volume =
-          at (128 + k) (omega arith)
-          ∙ volume-at (sideIn minimum (sideAt n) live) (slotsIn (sideAt n) live) (keptIn minimum (slotsIn (sideAt n) live)) (few-slots (sideAt n)) refl k l
 
   pub all-count : getD table 192 0 + getD table 448 0 ≡ length live
   all-count = omega (arith, side-count 0 (omega arith), side-count 1 (omega arith), length-sides live)

@@ -1,21 +1,30 @@
 -- What the functions on the table promise to each other.
-use Prim.Native.Nat.{ℕ, zero, suc, _+_, _*_, _≤_, _<_}
+use Prim.Native.Nat.{ℕ, zero, suc, _+_, _*_, _/_, _%_, _≤_, _<_}
 use mathlib.Core.Path.{_≡_}
 use mathlib.Core.List.{List, _++_}
+use mathlib.Core.Bool.{false}
+use lib.Dec.{eqb}
+use lib.IntN.{pos}
 use lib.ListN.{length, getD}
 use Rattle.rules.specs.declared.Side.{Side}
 use Rattle.rules.specs.declared.Side.the-variants.{Buy, Sell}
+use Rattle.rules.specs.declared.Millis.{Millis}
+use Rattle.rules.specs.declared.Steps.{Steps}
+use Rattle.rules.specs.declared.Contracts.{Contracts}
 use Rattle.rules.specs.declared.Order.{Order}
 use Rattle.rules.specs.declared.Event.{Event}
-use Rattle.rules.specs.declared.Event.the-variants.{Add, Amend, Cancel, Deal, Tick}
+use Rattle.rules.specs.declared.Event.the-variants.{Add}
 use Rattle.rules.specs.Causes.{lowest, traderCauses}
-use Rattle.rules.specs.Lists.{if_then_else_}
+use Rattle.rules.specs.Lists.{if_then_else_, within}
+use Rattle.rules.specs.Answers.{Outcome, accepted, refused}
+use Rattle.rules.specs.Units.{steps, contracts}
+use Rattle.record.specs.declared.Fields.{Fields}
 use Rattle.quote.specs.Widest.{keysKeep}
 use Rattle.side.specs.Slots.{sideOf, keptIn, GoodSlots}
 use Rattle.side.specs.declared.Change.{Change}
 use Rattle.side.specs.Internal.{change, Changed, Grows}
 use Rattle.book.specs.declared.Answer.{Answer}
-use Rattle.book.specs.Table.{slotsIn, sideIn, tableOf, slotIn, sentTo, GoodOrders}
+use Rattle.book.specs.Table.{ofSide, slotsIn, sideIn, tableOf, slotIn, OfSide, sentTo, GoodOrders}
 
 -- a side by its number: buys 0, sells 1
 abbrev pub sideAt : ℕ → Side
@@ -30,13 +39,34 @@ pub record Numbers (side : Side) (s : ℕ) : Type 0 where
   pub is : sideAt s ≡ side
   pub small : s < 2
 
--- the id that an event names; a tick names none
-abbrev pub idOf : Event → ℕ
-idOf (Add t id side price volume) = id
-idOf (Amend t id price volume) = id
-idOf (Cancel t id) = id
-idOf (Deal t id volume) = id
-idOf (Tick t) = 0
+-- ---- orders
+
+abbrev pub blankOrder : Order
+blankOrder = record { id = 0; side = Buy; price = steps (pos 0); volume = contracts 0 }
+
+-- the live order in a slot
+abbrev pub orderIn : ℕ → List Order → Order
+orderIn slot live = getD (ofSide (sideAt (slot / 64)) live) (slot % 64) blankOrder
+
+-- an order with another price and volume
+abbrev pub orderWith : Order → Steps → Contracts → Order
+orderWith o price volume = record { id = o .id; side = o .side; price = price; volume = volume }
+
+-- the order that the fields of an add say
+abbrev pub orderBy : Fields → Order
+orderBy f = record { id = f .id; side = if eqb (f .kind) 1 then Buy else Sell; price = f .price; volume = f .volume }
+
+-- fields of another kind than an add's, an amendment's and a tick's
+pub record Lessens (f : Fields) : Type 0 where
+  pub no-add : within 1 2 (f .kind) ≡ false
+  pub no-amend : f .kind ≡ 3 → ⊥
+  pub no-tick : f .kind ≡ 6 → ⊥
+
+-- the event that adds an order
+abbrev pub addOf : Millis → Order → Event
+addOf t o = Add t (o .id) (o .side) (o .price) (o .volume)
+
+-- ---- the table
 
 -- the table of the words of a side, by its number, and of the other side
 abbrev pub joined : ℕ → List ℕ → List ℕ → List ℕ
@@ -83,8 +113,14 @@ noChange = change 0 0 0 0
 pub record Applied (e : Event) (minimum : ℕ) (live : List Order) (exit : List ℕ) (r : Answer) : Type 0 where
   pub number : r .s < 2
   pub refusal : r .refusal ≡ lowest (traderCauses live e)
+  pub side : r .refusal ≡ 0 → OfSide (sideAt (r .s)) live e
   pub table : exit ≡ appliedTo (r .s) minimum live (sentTo (r .refusal) live e)
   pub others : slotsIn (other (sideAt (r .s))) (sentTo (r .refusal) live e) ≡ slotsIn (other (sideAt (r .s))) live
   pub good : GoodSlots (slotsIn (sideAt (r .s)) (sentTo (r .refusal) live e))
   pub grown : Grows (r .change) (slotsIn (sideAt (r .s)) live) (slotsIn (sideAt (r .s)) (sentTo (r .refusal) live e))
   pub answers : Changed (r .change) (slotsIn (sideAt (r .s)) live) (slotsIn (sideAt (r .s)) (sentTo (r .refusal) live e))
+
+-- what the fields of a record answer and leave: those of an event what it does; others their refusal, and the table as it was
+abbrev pub AppliedRead : Outcome Event → ℕ → List Order → List ℕ → List ℕ → Answer → Type 0
+AppliedRead (accepted e) minimum live entry exit r = Applied e minimum live exit r
+AppliedRead (refused n) minimum live entry exit r = (r ≡ answer n 0 noChange) × (exit ≡ entry)

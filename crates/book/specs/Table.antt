@@ -9,21 +9,18 @@ use Rattle.rules.specs.declared.Side.{Side}
 use Rattle.rules.specs.declared.Side.the-variants.{Buy, Sell}
 use Rattle.rules.specs.declared.Order.{Order}
 use Rattle.rules.specs.declared.Event.{Event}
+use Rattle.rules.specs.declared.Event.the-variants.{Add, Amend, Cancel, Deal, Tick}
 use Rattle.rules.specs.Lists.{if_then_else_, filter}
 use Rattle.rules.specs.Units.{goodPrice, goodVolume}
-use Rattle.rules.specs.Orders.{apply}
+use Rattle.rules.specs.Orders.{hasId, apply}
 use Rattle.rules.specs.Quotes.{same}
 use Rattle.rules.specs.Bounds.{Distinct}
 use Rattle.rules.specs.Causes.{lowest, traderCauses}
-use Rattle.quote.specs.Keys.{keyIn}
-use Rattle.side.specs.Slots.{Slot, slot, sideOf, keptIn, seen}
+use Rattle.side.specs.Slots.{Slot, slotOf, sideOf, keptIn, seen}
 
 -- the orders of a side, in their order
 abbrev pub ofSide : Side → List Order → List Order
 ofSide side live = filter (λ (o : Order). same side (o .side)) live
-
-abbrev pub slotOf : Side → Order → Slot
-slotOf side o = slot (o .id) (keyIn side o) (o .volume .0)
 
 abbrev pub slotsIn : Side → List Order → List Slot
 slotsIn side live = map (slotOf side) (ofSide side live)
@@ -63,6 +60,18 @@ slotBy buys sells = if ltb 0 buys then buys - 1 else if ltb 0 sells then 63 + se
 
 abbrev pub slotIn : ℕ → List Order → ℕ
 slotIn id live = slotBy (seen id (slotsIn Buy live)) (seen id (slotsIn Sell live))
+
+-- the side of the order that an event names: an add's own, else that of the live order with the id. A tick names none, and the table is
+-- not asked
+abbrev pub Named : Side → List Order → ℕ → Type 0
+Named side live id = (o : Order) × List·Memᴰ o live × (hasId id o ≡ true) × (o .side ≡ side)
+
+abbrev pub OfSide : Side → List Order → Event → Type 0
+OfSide side live (Add t id own price volume) = own ≡ side
+OfSide side live (Amend t id price volume) = Named side live id
+OfSide side live (Cancel t id) = Named side live id
+OfSide side live (Deal t id volume) = Named side live id
+OfSide side live (Tick t) = ⊥
 
 -- the live orders after an event that the number refuses, or none where it is 0
 abbrev pub sentTo : ℕ → List Order → Event → List Order

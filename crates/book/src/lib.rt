@@ -10,27 +10,28 @@ ghost use Rattle.rules.specs.declared.Order.{Order};
 ghost use Rattle.rules.specs.declared.Millis.{Millis};
 ghost use Rattle.rules.specs.declared.Row.{Row};
 ghost use Rattle.rules.specs.declared.SpreadRule.{SpreadRule};
-ghost use Rattle.rules.specs.declared.Event.the-variants.{Add, Amend, Cancel, Deal};
-ghost use Rattle.rules.specs.Lists.{if_then_else_, any};
+ghost use Rattle.rules.specs.declared.Event.the-variants.{Amend, Cancel, Deal};
+ghost use Rattle.rules.specs.declared.Side.the-variants.{Buy, Sell};
+ghost use Rattle.rules.specs.Lists.{if_then_else_, within, any};
 ghost use Rattle.rules.specs.Orders.{hasId};
 ghost use Rattle.rules.specs.Units.{goodPrice, goodVolume};
 ghost use Rattle.rules.specs.Quotes.{same, best as bestQuote};
 ghost use Rattle.rules.specs.Kept.{ordersKeep};
 ghost use Rattle.quote.specs.Widest.{WidestFor};
 ghost use Rattle.book.specs.Table.{tableOf, slotBy, slotIn, GoodOrders, Held, Holding};
-ghost use Rattle.book.specs.Sending.{Sending};
-ghost use Rattle.book.specs.Internal.{Numbers, sideAt, idOf, Represents, Located, Placed, answer, noChange, Applied, keepsBy};
+ghost use Rattle.record.specs.Fields.{readFields};
+ghost use Rattle.book.specs.Sending.{SendsRead};
+ghost use Rattle.book.specs.Internal.{Numbers, sideAt, addOf, orderIn, orderWith, orderBy, Lessens, Represents, Located, Placed, answer, noChange, Applied, AppliedRead, keepsBy};
 use numbers::both;
+use record::Fields;
 use rules::Contracts;
-use rules::Event;
+use rules::Order;
 use rules::Quote;
 use rules::Side;
 use rules::Steps;
 use side::BEST;
 use side::COUNT;
 use side::Change;
-use side::KEYS;
-use side::VOLUMES;
 use side::WORDS;
 
 // The words of the table: the buys', then the sells'.
@@ -175,18 +176,13 @@ fn in_range(price: Steps, volume: Contracts) -> bool
 }
 
 // One more order, behind the others of its side: refused by 10, 12 or 13, in this order.
-fn add(
-    table: &mut [u32],
-    hints: &mut [u8],
-    slot: usize,
-    id: u32,
-    side: Side,
-    price: Steps,
-    volume: Contracts,
-) -> Answer
+fn add(table: &mut [u32], hints: &mut [u8], slot: usize, order: Order) -> Answer
     requires { ⌜ Located (now table) slot × (length (now hints) ≡ 2048) ⌝ }
-    ensures { λ r. ⌜ ((t : Millis) (minimum : ℕ) (live : List Order) → Represents (now (table .entry)) minimum live → slot ≡ slotIn id live → Applied (Add t id side price volume) minimum live (now (table .exit)) r) ⌝ }
+    ensures { λ r. ⌜ ((t : Millis) (minimum : ℕ) (live : List Order) → Represents (now (table .entry)) minimum live → slot ≡ slotIn (order .id) live → Applied (addOf t order) minimum live (now (table .exit)) r) ⌝ }
 {
+    let side = order.side;
+    let price = order.price;
+    let volume = order.volume;
     if slot < 128 {
         return refused(10);
     }
@@ -195,14 +191,35 @@ fn add(
             return refused(13);
         }
         let s = side_number(side);
-        note(hints, id, 64 * s + table[WORDS * s + COUNT] as usize);
-        let key = quote::key_of(side, price);
+        note(hints, order.id, 64 * s + table[WORDS * s + COUNT] as usize);
         return done(
             s,
-            side::add(&mut table[WORDS * s..WORDS * s + WORDS], id, key, volume),
+            side::add(&mut table[WORDS * s..WORDS * s + WORDS], order),
         );
     }
     refused(12)
+}
+
+// The order in a slot.
+fn order_in(table: &[u32], slot: usize) -> Order
+    requires { ⌜ Located (now table) slot × (slot < 128) ⌝ }
+    ensures { λ r. ⌜ ((id minimum : ℕ) (live : List Order) → Represents (now (table .entry)) minimum live → slot ≡ slotIn id live → r ≡ orderIn slot live) ⌝ }
+{
+    let s = slot / 64;
+    side::order_at(&table[WORDS * s..WORDS * s + WORDS], side_at(s), slot % 64)
+}
+
+// An order with another price and volume.
+fn renewed(order: Order, price: Steps, volume: Contracts) -> Order
+    ensures { λ r. ⌜ r ≡ orderWith order price volume ⌝ }
+{
+    let side = order.side;
+    Order {
+        id: order.id,
+        side,
+        price,
+        volume,
+    }
 }
 
 // Another price and volume for the order in a slot, which keeps its id, its side and its place: refused by 11 or 12.
@@ -214,15 +231,14 @@ fn amend(table: &mut [u32], slot: usize, price: Steps, volume: Contracts) -> Ans
         return refused(11);
     }
     if in_range(price, volume) {
+        let order = order_in(table, slot);
         let s = slot / 64;
-        let key = quote::key_of(side_at(s), price);
         return done(
             s,
-            side::amend(
+            side::put(
                 &mut table[WORDS * s..WORDS * s + WORDS],
                 slot % 64,
-                key,
-                volume,
+                renewed(order, price, volume),
             ),
         );
     }
@@ -239,7 +255,7 @@ fn cancel(table: &mut [u32], hints: &mut [u8], slot: usize) -> Answer
     }
     let s = slot / 64;
     let place = slot % 64;
-    let change = side::remove(&mut table[WORDS * s..WORDS * s + WORDS], place);
+    let change = side::remove(&mut table[WORDS * s..WORDS * s + WORDS], side_at(s), place);
     rehint(table, hints, s, place);
     done(s, change)
 }
@@ -253,9 +269,9 @@ fn deal(table: &mut [u32], hints: &mut [u8], slot: usize, volume: Contracts) -> 
         return refused(11);
     }
     if ranges::volume(volume) {
-        let s = slot / 64;
-        let place = slot % 64;
-        let held = table[WORDS * s + (VOLUMES + place)];
+        let order = order_in(table, slot);
+        let price = order.price;
+        let held = order.volume.0;
         let dealt = volume.0;
         if held < dealt {
             return refused(14);
@@ -263,76 +279,85 @@ fn deal(table: &mut [u32], hints: &mut [u8], slot: usize, volume: Contracts) -> 
         if held == dealt {
             return cancel(table, hints, slot);
         }
-        let key = table[WORDS * s + (KEYS + place)];
+        let s = slot / 64;
         return done(
             s,
-            side::amend(
+            side::put(
                 &mut table[WORDS * s..WORDS * s + WORDS],
-                place,
-                key,
-                Contracts(held - dealt),
+                slot % 64,
+                renewed(order, price, Contracts(held - dealt)),
             ),
         );
     }
     refused(12)
 }
 
-// The id that an event names; a tick names none.
-fn id_of(e: Event) -> u32
-    ensures { λ r. ⌜ r ≡ idOf e ⌝ }
+// ---- the fields of a record
+
+// Whether a kind adds an order.
+fn is_add(kind: u32) -> bool
+    ensures { λ r. ⌜ r ≡ within 1 2 kind ⌝ }
 {
-    match e {
-        Event::Add {
-            t: _,
-            id,
-            side: _,
-            price: _,
-            volume: _,
-        } => id,
-        Event::Amend {
-            t: _,
-            id,
-            price: _,
-            volume: _,
-        } => id,
-        Event::Cancel { t: _, id } => id,
-        Event::Deal {
-            t: _,
-            id,
-            volume: _,
-        } => id,
-        Event::Tick { t: _ } => 0,
+    (1 <= kind) & (kind <= 2)
+}
+
+// The side of a kind that adds an order.
+fn side_of(kind: u32) -> Side
+    ensures { λ r. ⌜ r ≡ (if eqb kind 1 then Buy else Sell) ⌝ }
+{
+    if kind == 1 {
+        return Side::Buy;
+    }
+    Side::Sell
+}
+
+// The order that the fields of an add say.
+fn order_of(f: Fields) -> Order
+    ensures { λ r. ⌜ r ≡ orderBy f ⌝ }
+{
+    let price = f.price;
+    let volume = f.volume;
+    Order {
+        id: f.id,
+        side: side_of(f.kind),
+        price,
+        volume,
     }
 }
 
-// The answer to an event, and the orders after it; the best level of its side is still that of before.
-fn changed(table: &mut [u32], hints: &mut [u8], e: Event) -> Answer
-    requires { ⌜ Held (now table) × (length (now hints) ≡ 2048) ⌝ }
-    ensures { λ r. ⌜ ((minimum : ℕ) (live : List Order) → Represents (now (table .entry)) minimum live → Applied e minimum live (now (table .exit)) r) ⌝ }
+// A cancel, a deal, or fields that say no event.
+fn lessened(table: &mut [u32], hints: &mut [u8], slot: usize, f: Fields) -> Answer
+    requires { ⌜ Located (now table) slot × (length (now hints) ≡ 2048) × Lessens f ⌝ }
+    ensures { λ r. ⌜ ((minimum : ℕ) (live : List Order) → Represents (now (table .entry)) minimum live → slot ≡ slotIn (f .id) live → AppliedRead (readFields f) minimum live (now (table .entry)) (now (table .exit)) r) ⌝ }
 {
-    let slot = find(table, hints, id_of(e));
-    match e {
-        Event::Add {
-            t: _,
-            id,
-            side,
-            price,
-            volume,
-        } => add(table, hints, slot, id, side, price, volume),
-        Event::Amend {
-            t: _,
-            id: _,
-            price,
-            volume,
-        } => amend(table, slot, price, volume),
-        Event::Cancel { t: _, id: _ } => cancel(table, hints, slot),
-        Event::Deal {
-            t: _,
-            id: _,
-            volume,
-        } => deal(table, hints, slot, volume),
-        Event::Tick { t: _ } => refused(0),
+    let kind = f.kind;
+    let volume = f.volume;
+    if record::is_good(f) {
+        if kind == 4 {
+            return cancel(table, hints, slot);
+        }
+        return deal(table, hints, slot, volume);
     }
+    refused(15)
+}
+
+// The answer to the fields of a record that is no tick, and the orders after it; the best level of its side is still that of before. The
+// kind is looked at once: what 15 refuses is looked for only where it is neither an add's nor an amendment's.
+fn changed(table: &mut [u32], hints: &mut [u8], f: Fields) -> Answer
+    requires { ⌜ Held (now table) × (length (now hints) ≡ 2048) × (f .kind ≡ 6 → ⊥) ⌝ }
+    ensures { λ r. ⌜ ((minimum : ℕ) (live : List Order) → Represents (now (table .entry)) minimum live → AppliedRead (readFields f) minimum live (now (table .entry)) (now (table .exit)) r) ⌝ }
+{
+    let kind = f.kind;
+    let price = f.price;
+    let volume = f.volume;
+    let slot = find(table, hints, f.id);
+    if kind == 3 {
+        return amend(table, slot, price, volume);
+    }
+    if is_add(kind) {
+        return add(table, hints, slot, order_of(f));
+    }
+    lessened(table, hints, slot, f)
 }
 
 // What an event comes to: the number of the trader's refusal, or 0; whether the live orders then keep the quote, 1 or 0; for how many
@@ -355,20 +380,21 @@ fn keeps_after(table: &[u32], widest: u32, keeping: u32, moves: bool) -> u32
     keeping
 }
 
-// An event: refused, or the orders and the best level of its side are those after it. `keeping` is whether the orders before it keep the
-// quote. Whatever the hints contain, the answer and the table are the same.
+// An event that is no tick, by the fields of its record: refused, or the orders and the best level of its side are those after it; fields
+// that say no event are refused by 15. `keeping` is whether the orders before it keep the quote. Whatever the hints contain, the answer
+// and the table are the same.
 pub fn send(
     table: &mut [u32],
     hints: &mut [u8],
-    e: Event,
+    f: Fields,
     minimum: Contracts,
     widest: u32,
     keeping: u32,
 ) -> Sent
-    requires { ⌜ Holding (now table) (now hints) (minimum .0) ⌝ }
-    ensures { λ r. ⌜ Sending e (minimum .0) widest keeping (now (table .entry)) (now (table .exit)) r ⌝ }
+    requires { ⌜ Holding (now table) (now hints) (minimum .0) × (f .kind ≡ 6 → ⊥) ⌝ }
+    ensures { λ r. ⌜ SendsRead (readFields f) (minimum .0) widest keeping (now (table .entry)) (now (table .exit)) r ⌝ }
 {
-    let answer = changed(table, hints, e);
+    let answer = changed(table, hints, f);
     let refusal = answer.refusal;
     if 0 < refusal {
         return Sent {
@@ -379,9 +405,10 @@ pub fn send(
         };
     }
     let s = answer.s;
+    let side = side_at(s);
     let requoted = level::requote(
         &mut table[WORDS * s..WORDS * s + WORDS],
-        side_at(s),
+        side,
         answer.change,
         minimum,
     );

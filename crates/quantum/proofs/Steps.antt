@@ -25,13 +25,13 @@ use Rattle.record.specs.declared.Fields.{Fields}
 use Rattle.record.specs.Fields.{fieldsFor, goodFields, eventBy, readFields}
 use Rattle.record.proofs.Reading.{time-by, tick-by, fields-say}
 use Rattle.book.specs.declared.Sent.{Sent}
-use Rattle.book.specs.Sending.{Sending}
+use Rattle.book.specs.Sending.{Sending, SendsRead}
 use Rattle.book.specs.Table.{tableOf, GoodOrders, Holding, Sends, sentTo}
 use Rattle.quantum.specs.declared.Duty.{Duty}
 use Rattle.quantum.specs.declared.Clock.{Clock}
 use Rattle.quantum.specs.declared.Stepped.{Stepped}
 use Rattle.quantum.specs.Represents.{tableAfter, taken, ReachedParts, Represents, Stepping, SteppingRead, ranOn}
-use Rattle.quantum.specs.Internal.{InTime, untimelyBy, tickedBy, SendsRead}
+use Rattle.quantum.specs.Internal.{InTime, untimelyBy, tickedBy}
 use Rattle.quantum.proofs.Represents.{good-orders, one, represents, keeps-is, minimum-is, widest-is, in-time, same-clock, same-table, next-clock, next-table, backwards, past-end}
 
 module _ {duty : Duty} {clock : Clock} where
@@ -162,7 +162,7 @@ module _ (duty : Duty) (clock : Clock) (t : Millis) (entry exit : List ℕ) (sen
   pub refused-read : (o : Outcome Event) → Timed o t → SendsRead o (duty .minimum .0) (duty .widest) (clock .keeps) entry exit sent → (r : Stepped)
       → 0 < sent .refusal → (r .clock ≡ clock) × (r .refusal ≡ sent .refusal) → SteppingRead duty clock o entry exit r
   refused-read (accepted e) timed sends r l h = refused-orders duty clock e t entry exit (sent .refusal) (timed e refl) i (sends .sends) r l h
-  refused-read (refused k) timed sends r l h = (h .0, h .1 ∙ sends .0, sends .1)
+  refused-read (refused k) timed sends r l h = (h .0, h .1 ∙ ap (λ (s : Sent). s .refusal) (sends .0), sends .1)
 
   pub taken-read : sent .refusal ≤ 0 → (o : Outcome Event) → Timed o t → ((k : ℕ) → o ≡ refused k → k ≡ 15)
       → SendsRead o (duty .minimum .0) (duty .widest) (clock .keeps) entry exit sent → (next : Clock) → next ≡ ranOn clock t (sent .keeps)
@@ -170,7 +170,7 @@ module _ (duty : Duty) (clock : Clock) (t : Millis) (entry exit : List ℕ) (sen
   taken-read l (accepted e) timed fifteen sends next g =
       taken-orders duty clock e t entry exit (sent .refusal) (timed e refl) i (sends .sends) next (sent .keeps) l g
       (taken-keeps duty clock e t entry exit (sent .refusal) (timed e refl) i (sends .sends) sent sends refl l)
-  taken-read l (refused k) timed fifteen sends next g = absurd (omega (arith, l, sends .0, fifteen k refl))
+  taken-read l (refused k) timed fifteen sends next g = absurd (omega (arith, l, ap (λ (s : Sent). s .refusal) (sends .0), fifteen k refl))
 
 -- a tick, and a time that is out of range
 module _ (duty : Duty) (clock : Clock) (f : Fields) (table : List ℕ) where

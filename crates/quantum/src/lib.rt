@@ -21,9 +21,8 @@ ghost use Rattle.rules.specs.Lapses.{lapsesBelow};
 ghost use Rattle.rules.specs.Causes.{goodSpreadRule};
 ghost use Rattle.rules.specs.Bounds.{EventBounds};
 ghost use Rattle.record.specs.Fields.{readFields};
-ghost use Rattle.book.specs.Table.{Holding};
 ghost use Rattle.quantum.specs.Represents.{widestFor, dutyOf, clockOf, quantumOf, Reached, Answered, ReachedParts, Stepping, SteppingRead, Onward, startingBy, ranOn};
-ghost use Rattle.quantum.specs.Internal.{InTime, untimelyBy, tickedBy, SendsRead};
+ghost use Rattle.quantum.specs.Internal.{InTime, untimelyBy, tickedBy};
 use record::Fields;
 use rules::Answer;
 use rules::Contracts;
@@ -201,37 +200,13 @@ fn ticked(clock: Clock, f: Fields) -> Stepped
     Stepped { clock, refusal: 15 }
 }
 
-// The trader's refusal, or 15, or 0, and then the orders and the best level of their side are those after the event, and `keeps` says
-// whether they keep the quote; `keeping` is whether those before it do.
-fn send_fields(
-    table: &mut [u32],
-    hints: &mut [u8],
-    f: Fields,
-    minimum: Contracts,
-    widest: u32,
-    keeping: u32,
-) -> book::Sent
-    requires { ⌜ Holding (now table) (now hints) (minimum .0) ⌝ }
-    ensures { λ r. ⌜ SendsRead (readFields f) (minimum .0) widest keeping (now (table .entry)) (now (table .exit)) r ⌝ }
-{
-    if record::is_good(f) {
-        return book::send(table, hints, record::event_of(f), minimum, widest, keeping);
-    }
-    book::Sent {
-        refusal: 15,
-        keeps: keeping,
-        guesses: 0,
-        sums: 0,
-    }
-}
-
-// The orders and the best quotes after an event in time, then the clock.
+// The orders and the best quotes after an event in time that is no tick, then the clock.
 fn taken(duty: Duty, clock: Clock, table: &mut [u32], hints: &mut [u8], f: Fields) -> Stepped
-    requires { ⌜ ReachedParts duty clock (now table) (now hints) × InTime duty clock (f .t) ⌝ }
+    requires { ⌜ ReachedParts duty clock (now table) (now hints) × InTime duty clock (f .t) × (f .kind ≡ 6 → ⊥) ⌝ }
     ensures { λ r. ⌜ SteppingRead duty clock (readFields f) (now (table .entry)) (now (table .exit)) r ⌝ }
 {
     let minimum = duty.minimum;
-    let sent = send_fields(table, hints, f, minimum, duty.widest, clock.keeps);
+    let sent = book::send(table, hints, f, minimum, duty.widest, clock.keeps);
     let refusal = sent.refusal;
     if 0 < refusal {
         return refused(clock, refusal);

@@ -3,6 +3,7 @@
 use Prim.Native.Nat.{ℕ, zero, suc, _+_, _≤_, _<_, max}
 use native.Mathlib.Omega.{arith}
 use mathlib.Core.Path.{_≡_, refl, sym, ap, _∙_, subst}
+use mathlib.Core.Logic.{_⊎_, inl, inr}
 use mathlib.Core.List.{List, [], _∷_, _++_, map, map-append, append-assoc, List·Memᴰ, List·Memᴰ·head, List·Memᴰ·tail, Memᴰ·append-left, Memᴰ·append-right}
 use mathlib.Core.Bool.{Bool, true, false, not, _&&_, _||_}
 use borrow.Author.Tests.{ltb-true, ltb-false, leb-true, leb-false, lt-ltb, le-ltb, le-leb, lt-leb}
@@ -24,9 +25,9 @@ use Rattle.rules.proofs.Counting.{count-stretch}
 use Rattle.quote.specs.declared.Searched.{Searched}
 use Rattle.quote.specs.Keys.{keyOf, priceAt, keyIn, quoteKey, quoteAt}
 use Rattle.quote.specs.Levels.{held, enough, greatest, bestKey, foundBy, triedBy, shortBy, depthFrom}
-use Rattle.quote.specs.Searches.{Finds}
+use Rattle.quote.specs.Searches.{ColumnsOf, MayStart, Finds}
 use Rattle.quote.proofs.Keys.{key-least, key-most, key-order, key-price, good-price, key-quote, quote-key, better-at}
-use Rattle.quote.proofs.Levels.{enough-blanks, bestKey-blanks}
+use Rattle.quote.proofs.Levels.{held-blanks, enough-blanks, bestKey-blanks}
 use Rattle.quote.proofs.Short.{short-all}
 
 -- orders of prices in their range, and all of one side
@@ -278,5 +279,20 @@ finds side ks vs start minimum r most e f b d =
       before = b ∙ short-all start minimum ks vs;
       depth = d;
       quote = λ orders c. e ∙ rw (c .keys, c .volumes) (found side orders (c .prices) (c .sided) (c .blanks) minimum start most);
-      sums = λ orders c. f ∙ rw (c .keys, c .volumes) (sums side orders (c .prices) (c .sided) (c .blanks) minimum start most);
+      sums = λ orders c q. f ∙ rw (c .keys, c .volumes) (sums side orders (c .prices) (c .sided) (c .blanks) minimum start most);
     }
+
+-- a price with enough at it or better may be started from, as its quote
+pub may-start : (side : Side) (minimum : ℕ) (orders : List Order) (ks vs : List ℕ) → ColumnsOf side orders ks vs → (start : ℕ) → start ≤ 2000000001
+    → (start ≡ 0) ⊎ (minimum ≤ held (leb start) ks vs) → MayStart side minimum orders (quoteAt side start)
+may-start side minimum orders ks vs c zero h q = tt
+may-start side minimum orders ks vs c (suc k) h (inl e) = absurd (omega (arith, e))
+may-start side minimum orders ks vs c (suc k) h (inr l) =
+    let p = priceAt side (suc k) in
+    let good = good-price side (suc k) (omega arith) h in
+    let same : depth side p orders ≡ held (leb (suc k)) ks vs =
+    depth-held side p good orders (c .prices) (c .sided)
+    ∙ ap (λ (n : ℕ). held (leb n) (map (keyIn side) orders) (map volumeOf orders)) (key-price side (suc k) (omega arith) h)
+    ∙ sym (held-blanks (map (keyIn side) orders) (map volumeOf orders) (length-map orders (keyIn side) ∙ sym (length-map orders volumeOf)) (c .blanks) (leb (suc k)))
+    ∙ (λ i. held (leb (suc k)) (sym (c .keys) i) (sym (c .volumes) i)) in
+    omega (arith, same, l)

@@ -85,7 +85,7 @@ key-order Sell (negsuc a) (negsuc b) h k = leb-by b a (1000000002 + b) (10000000
 
 -- ---- the price of a key
 
-price-key : (s : Side) (p : ℤ) → goodPrice p ≡ true → priceAt s (keyOf s p) ≡ p
+pub price-key : (s : Side) (p : ℤ) → goodPrice p ≡ true → priceAt s (keyOf s p) ≡ p
 unfolding keyOf priceAt
 price-key Buy (pos n) h = rw (le-leb 1000000001 (1000000001 + n) (omega arith)) (ap pos (omega arith))
 price-key Buy (negsuc n) h =

@@ -47,7 +47,7 @@ pub fn key_of(side: Side, price: Steps) -> u32
 }
 
 // The price of a key.
-fn price_at(side: Side, key: u32) -> Steps
+pub fn price_at(side: Side, key: u32) -> Steps
     requires { ⌜ key ≤ 2000000001 ⌝ }
     ensures { λ r. ⌜ r ≡ steps (priceAt side key) ⌝ }
 {

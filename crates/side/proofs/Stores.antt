@@ -1,16 +1,32 @@
 -- The stores that change a side's orders or its level. Assumes nothing.
 use Prim.Native.Nat.{ℕ, suc, _+_, _≤_, _<_}
-use mathlib.Core.Path.{_≡_, refl, ap, sym, _∙_}
+use mathlib.Core.Path.{_≡_, ap, sym, _∙_}
 use mathlib.Core.List.{List, [], _∷_, _++_, map, map-append}
 use native.Mathlib.Omega.{arith}
-use lib.Seq.{map-set-same}
 use lib.ListN.{length, take, drop, set, getD, length-map, length-set, length-append, length-take, length-drop}
+use mathlib.Core.Bool.{true}
+use Rattle.rules.specs.declared.Side.{Side}
+use Rattle.rules.specs.declared.Order.{Order}
+use Rattle.rules.specs.Units.{goodPrice}
 use Rattle.quote.specs.declared.Level.{Level}
-use Rattle.side.specs.Slots.{Slot, slot, blankSlot, idsOf, keysOf, volumesOf, column, header, sideOf}
-use Rattle.side.specs.Internal.{change, shifted}
+use Rattle.quote.specs.Keys.{keyIn}
+use Rattle.quote.proofs.Keys.{key-price, good-price}
+use Rattle.side.specs.Slots.{Slot, slot, blankSlot, orderOf, idsOf, keysOf, volumesOf, column, header, sideOf}
+use Rattle.side.specs.Internal.{Stands, change, slotAt, stored, shifted}
 use Rattle.side.proofs.Lists.{map-set, map-take, map-drop}
 use Rattle.side.proofs.Columns.{column-set, column-more, column-shifted, four, first-set, second-set, third-set, fourth-set, first-moved, second-moved, third-moved}
-use Rattle.side.proofs.Words.{field-length, count-is, key-at, volume-at}
+use Rattle.side.proofs.Words.{field-length, count-is, id-at, key-at, volume-at}
+
+-- ---- an order's words in the columns
+
+stored-in : (a b c d : List ℕ) → length a ≡ 64 → length b ≡ 64 → length c ≡ 64 → (place : ℕ) (s : Slot) → place < 64
+    → stored place s (four a b c d) ≡ four (set a place (s .id)) (set b place (s .key)) (set c place (s .volume)) d
+stored-in a b c d la lb lc place s h =
+    let ka : length (set a place (s .id)) ≡ 64 = length-set a place (s .id) ∙ la in
+    let kb : length (set b place (s .key)) ≡ 64 = length-set b place (s .key) ∙ lb in
+    ap (λ (w : List ℕ). set (set w (64 + place) (s .key)) (128 + place) (s .volume)) (first-set a b c d la lb lc place (s .id) h)
+    ∙ ap (λ (w : List ℕ). set w (128 + place) (s .volume)) (second-set (set a place (s .id)) b c d ka lb lc place (s .key) h)
+    ∙ third-set (set a place (s .id)) (set b place (s .key)) c d ka kb lc place (s .volume) h
 
 -- ---- one column of the orders
 
@@ -49,69 +65,74 @@ level-set slots old new =
     ∙ ap (λ (w : List ℕ). set w 3 (new .at)) (column-set one 2 (new .before) (omega arith))
     ∙ column-set two 3 (new .at) (omega arith)
 
--- ---- one more order
+-- ---- an order's words at a place, and one more
 
-module _ (slots : List Slot) (level : Level) (id key volume : ℕ) (room : length slots < 64) where
-  abbrev put : List ℕ → ℕ → List ℕ
-  put w n = set (set (set (set w n id) (64 + n) key) (128 + n) volume) 192 (n + 1)
-
-  put-is : put (sideOf slots level) (length slots) ≡ sideOf (slots ++ (slot id key volume ∷ [])) level
+module _ (slots : List Slot) (level : Level) (s : Slot) where
+  added-in : length slots < 64
+      → set (stored (length slots) s (sideOf slots level)) 192 (length slots + 1) ≡ sideOf (slots ++ (s ∷ [])) level
   unfolding sideOf
-  put-is =
+  added-in room =
       let all = wide slots (omega arith) in
       let n = length slots in
       let a = column (idsOf slots) in
       let b = column (keysOf slots) in
       let c = column (volumesOf slots) in
       let d = column (header slots level) in
-      let la : length (set a n id) ≡ 64 = length-set a n id ∙ all _ in
-      let lb : length (set b n key) ≡ 64 = length-set b n key ∙ all _ in
-      let lc : length (set c n volume) ≡ 64 = length-set c n volume ∙ all _ in
-      ap (λ (w : List ℕ). set (set (set w (64 + n) key) (128 + n) volume) 192 (n + 1)) (first-set a b c d (all _) (all _) (all _) n id room)
-      ∙ ap (λ (w : List ℕ). set (set w (128 + n) volume) 192 (n + 1)) (second-set (set a n id) b c d la (all _) (all _) n key room)
-      ∙ ap (λ (w : List ℕ). set w 192 (n + 1)) (third-set (set a n id) (set b n key) c d la lb (all _) n volume room)
-      ∙ fourth-set (set a n id) (set b n key) (set c n volume) d la lb lc 0 (n + 1)
+      let la : length (set a n (s .id)) ≡ 64 = length-set a n (s .id) ∙ all _ in
+      let lb : length (set b n (s .key)) ≡ 64 = length-set b n (s .key) ∙ all _ in
+      let lc : length (set c n (s .volume)) ≡ 64 = length-set c n (s .volume) ∙ all _ in
+      ap (λ (w : List ℕ). set w 192 (n + 1)) (stored-in a b c d (all _) (all _) (all _) n s room)
+      ∙ fourth-set (set a n (s .id)) (set b n (s .key)) (set c n (s .volume)) d la lb lc 0 (n + 1)
       ∙ (λ i. four
-      (field-more (λ (s : Slot). s .id) slots (slot id key volume) room i)
-      (field-more (λ (s : Slot). s .key) slots (slot id key volume) room i)
-      (field-more (λ (s : Slot). s .volume) slots (slot id key volume) room i)
-      (count-set slots (slots ++ (slot id key volume ∷ [])) level (n + 1) (sym (length-append slots (slot id key volume ∷ []))) i))
+      (field-more (λ (x : Slot). x .id) slots s room i)
+      (field-more (λ (x : Slot). x .key) slots s room i)
+      (field-more (λ (x : Slot). x .volume) slots s room i)
+      (count-set slots (slots ++ (s ∷ [])) level (n + 1) (sym (length-append slots (s ∷ []))) i))
 
-  pub added-is : (words : List ℕ) → words ≡ sideOf slots level
-      → put words (getD words 192 0) ≡ sideOf (slots ++ (slot id key volume ∷ [])) level
-  added-is words is = (λ i. put (is i) (count-is words slots level (omega arith) is i)) ∙ put-is
+  pub added-is : length slots < 64 → (words after : List ℕ) → words ≡ sideOf slots level → after ≡ stored (getD words 192 0) s words
+      → set after 192 (getD words 192 0 + 1) ≡ sideOf (slots ++ (s ∷ [])) level
+  added-is room words after is e =
+      ap (λ (w : List ℕ). set w 192 (getD words 192 0 + 1)) e
+      ∙ (λ i. set (stored (count-is words slots level (omega arith) is i) s (is i)) 192 (count-is words slots level (omega arith) is i + 1))
+      ∙ added-in room
 
--- ---- another key and volume
-
-module _ (slots : List Slot) (level : Level) (place key volume : ℕ) (few : length slots ≤ 64) (h : place < length slots) where
-  changed-is : set (set (sideOf slots level) (64 + place) key) (128 + place) volume
-      ≡ sideOf (set slots place (slot (getD slots place blankSlot .id) key volume)) level
+  changed-in : (place : ℕ) → length slots ≤ 64 → place < length slots → stored place s (sideOf slots level) ≡ sideOf (set slots place s) level
   unfolding sideOf
-  changed-is =
+  changed-in place few h =
       let all = wide slots few in
-      let s = slot (getD slots place blankSlot .id) key volume in
-      let a = column (idsOf slots) in
-      let b = column (keysOf slots) in
-      let c = column (volumesOf slots) in
-      let d = column (header slots level) in
-      let lb : length (set b place key) ≡ 64 = length-set b place key ∙ all _ in
-      ap (λ (w : List ℕ). set w (128 + place) volume) (second-set a b c d (all _) (all _) (all _) place key (omega arith))
-      ∙ third-set a (set b place key) c d (all _) lb (all _) place volume (omega arith)
+      stored-in (column (idsOf slots)) (column (keysOf slots)) (column (volumesOf slots)) (column (header slots level)) (all _) (all _) (all _) place s (omega arith)
       ∙ (λ i. four
-      (column (sym (map-set-same (λ (x : Slot). x .id) slots place s blankSlot refl) i))
+      (field-set (λ (x : Slot). x .id) slots place s h i)
       (field-set (λ (x : Slot). x .key) slots place s h i)
       (field-set (λ (x : Slot). x .volume) slots place s h i)
       (column (sym (length-set slots place s) i ∷ level .key ∷ level .before ∷ level .at ∷ [])))
 
-  pub amended-is : (words : List ℕ) → words ≡ sideOf slots level
-      → set (set words (64 + place) key) (128 + place) volume ≡ sideOf (set slots place (slot (getD slots place blankSlot .id) key volume)) level
-  amended-is words is = ap (λ (w : List ℕ). set (set w (64 + place) key) (128 + place) volume) is ∙ changed-is
+  pub put-is : (place : ℕ) → length slots ≤ 64 → place < length slots → (words after : List ℕ) → words ≡ sideOf slots level → after ≡ stored place s words
+      → after ≡ sideOf (set slots place s) level
+  put-is place few h words after is e = e ∙ ap (stored place s) is ∙ changed-in place few h
 
-  pub amended-answers : (words : List ℕ) → words ≡ sideOf slots level
-      → change (getD words (64 + place) 0) (getD words (128 + place) 0) key volume
-      ≡ change (getD slots place blankSlot .key) (getD slots place blankSlot .volume) key volume
-  amended-answers words is =
-      λ i. change (key-at words slots level few is place (omega arith) i) (volume-at words slots level few is place (omega arith) i) key volume
+-- ---- what stands at a place
+
+pub read-is : (slots : List Slot) (level : Level) (place : ℕ) → length slots ≤ 64 → place < 64 → (words : List ℕ) → words ≡ sideOf slots level
+    → slotAt place words ≡ getD slots place blankSlot
+read-is slots level place few h words is =
+    λ i. slot (id-at words slots level few is place h i) (key-at words slots level few is place h i) (volume-at words slots level few is place h i)
+
+module _ (place : ℕ) (words : List ℕ) (stands : Stands place words) (side : Side) (o : Order) (e : o ≡ orderOf side (slotAt place words)) where
+  pub read-good : goodPrice (o .price .0) ≡ true
+  read-good =
+      ap (λ (x : Order). goodPrice (x .price .0)) e ∙ good-price side (getD words (64 + place) 0) (stands .key-least) (stands .key-most)
+
+  read-key : keyIn (o .side) o ≡ getD words (64 + place) 0
+  read-key =
+      ap (λ (x : Order). keyIn (x .side) x) e ∙ key-price side (getD words (64 + place) 0) (stands .key-least) (stands .key-most)
+
+  -- its key and volume are what the side loses
+  pub read-change : (slots : List Slot) (level : Level) (old key volume : ℕ) → length slots ≤ 64 → words ≡ sideOf slots level → old ≡ keyIn (o .side) o
+      → change old (o .volume .0) key volume ≡ change (getD slots place blankSlot .key) (getD slots place blankSlot .volume) key volume
+  read-change slots level old key volume few is k =
+      let at = read-is slots level place few (stands .inside) words is in
+      (λ i. change ((k ∙ read-key) i) (e i .volume .0) key volume) ∙ (λ i. change (at i .key) (at i .volume) key volume)
 
 abbrev pub putKeys : List ℕ → List ℕ → List ℕ
 putKeys w keys = take 64 w ++ (keys ++ drop 64 (drop 64 w))
@@ -161,9 +182,9 @@ module _ (slots : List Slot) (level : Level) (place last : ℕ) (few : length sl
 -- ---- another level
 
 module _ (slots : List Slot) (old new : Level) (few : length slots ≤ 64) where
-  stored-in : set (set (set (sideOf slots old) 193 (new .key)) 194 (new .before)) 195 (new .at) ≡ sideOf slots new
+  level-in : set (set (set (sideOf slots old) 193 (new .key)) 194 (new .before)) 195 (new .at) ≡ sideOf slots new
   unfolding sideOf
-  stored-in =
+  level-in =
       let all = wide slots few in
       let a = column (idsOf slots) in
       let b = column (keysOf slots) in
@@ -177,4 +198,4 @@ module _ (slots : List Slot) (old new : Level) (few : length slots ≤ 64) where
 
   pub level-stored : (words : List ℕ) → words ≡ sideOf slots old
       → set (set (set words 193 (new .key)) 194 (new .before)) 195 (new .at) ≡ sideOf slots new
-  level-stored words is = ap (λ (w : List ℕ). set (set (set w 193 (new .key)) 194 (new .before)) 195 (new .at)) is ∙ stored-in
+  level-stored words is = ap (λ (w : List ℕ). set (set (set w 193 (new .key)) 194 (new .before)) 195 (new .at)) is ∙ level-in

@@ -5,12 +5,13 @@ use mathlib.Core.List.{List, [], _∷_, _++_}
 use mathlib.Core.Bool.{Bool, _&&_}
 use lib.Dec.{leb, ltb, eqb}
 use lib.ListN.{length, getD, take, drop, set}
-use Rattle.rules.specs.declared.Contracts.{Contracts}
+use Rattle.rules.specs.declared.Order.{Order}
 use Rattle.rules.specs.Lists.{if_then_else_}
 use Rattle.rules.specs.Units.{contracts}
 use Rattle.quote.specs.declared.Level.{Level}
+use Rattle.quote.specs.Keys.{keyIn}
 use Rattle.side.specs.declared.Change.{Change}
-use Rattle.side.specs.Slots.{Slot, slot, blankSlot, sideOf, heldIn, keptIn, GoodSlots}
+use Rattle.side.specs.Slots.{Slot, slot, blankSlot, slotOf, sideOf, heldIn, keptIn, GoodSlots}
 
 abbrev pub change : ℕ → ℕ → ℕ → ℕ → Change
 change old held key volume = record { old = old; held = contracts held; key = key; volume = contracts volume }
@@ -37,18 +38,25 @@ pub record Sized (words : List ℕ) : Type 0 where
   pub all : length words ≡ 256
   pub few : getD words 192 0 ≤ 64
 
--- an order more, behind the others
-pub record Added (id key : ℕ) (volume : Contracts) (entry exit : List ℕ) (r : Change) : Type 0 where
-  pub words : (slots : List Slot) (level : Level) → length slots < 64 → entry ≡ sideOf slots level
-      → exit ≡ sideOf (slots ++ (slot id key (volume .0) ∷ [])) level
-  pub answers : r ≡ change 0 0 key (volume .0)
+-- words of a side's size, with an order at the place
+pub record Stands (place : ℕ) (words : List ℕ) : Type 0 where
+  pub all : length words ≡ 256
+  pub inside : place < 64
+  pub key-least : 1 ≤ getD words (64 + place) 0
+  pub key-most : getD words (64 + place) 0 ≤ 2000000001
 
--- another key and volume in the place of an order's
-pub record Amended (place key : ℕ) (volume : Contracts) (entry exit : List ℕ) (r : Change) : Type 0 where
+-- an order more, behind the others
+pub record Added (order : Order) (entry exit : List ℕ) (r : Change) : Type 0 where
+  pub words : (slots : List Slot) (level : Level) → length slots < 64 → entry ≡ sideOf slots level
+      → exit ≡ sideOf (slots ++ (slotOf (order .side) order ∷ [])) level
+  pub answers : r ≡ change 0 0 (keyIn (order .side) order) (order .volume .0)
+
+-- an order in another's place
+pub record Put (place : ℕ) (order : Order) (entry exit : List ℕ) (r : Change) : Type 0 where
   pub words : (slots : List Slot) (level : Level) → length slots ≤ 64 → place < length slots → entry ≡ sideOf slots level
-      → exit ≡ sideOf (set slots place (slot (getD slots place blankSlot .id) key (volume .0))) level
+      → exit ≡ sideOf (set slots place (slotOf (order .side) order)) level
   pub answers : (slots : List Slot) (level : Level) → length slots ≤ 64 → place < length slots → entry ≡ sideOf slots level
-      → r ≡ change (getD slots place blankSlot .key) (getD slots place blankSlot .volume) key (volume .0)
+      → r ≡ change (getD slots place blankSlot .key) (getD slots place blankSlot .volume) (keyIn (order .side) order) (order .volume .0)
 
 -- without an order: those behind it move up
 pub record Removed (place : ℕ) (entry exit : List ℕ) (r : Change) : Type 0 where
@@ -56,6 +64,13 @@ pub record Removed (place : ℕ) (entry exit : List ℕ) (r : Change) : Type 0 w
       → exit ≡ sideOf (take place slots ++ drop (suc place) slots) level
   pub answers : (slots : List Slot) (level : Level) → length slots ≤ 64 → place < length slots → entry ≡ sideOf slots level
       → r ≡ change (getD slots place blankSlot .key) (getD slots place blankSlot .volume) 0 0
+
+-- the slot that the words have at a place, and the words with another there
+abbrev pub slotAt : ℕ → List ℕ → Slot
+slotAt place words = slot (getD words place 0) (getD words (64 + place) 0) (getD words (128 + place) 0)
+
+abbrev pub stored : ℕ → Slot → List ℕ → List ℕ
+stored place s words = set (set (set words place (s .id)) (64 + place) (s .key)) (128 + place) (s .volume)
 
 -- what stands behind a place of a column moves up to it, and the last one is 0
 abbrev pub shifted : List ℕ → ℕ → ℕ → List ℕ

@@ -6,8 +6,12 @@ use mathlib.Core.List.{List, [], _∷_, _++_, map, List·Memᴰ}
 use mathlib.Core.Bool.{Bool}
 use lib.Dec.{leb, eqb}
 use lib.ListN.{length, replicate}
+use Rattle.rules.specs.declared.Side.{Side}
+use Rattle.rules.specs.declared.Order.{Order}
 use Rattle.rules.specs.Lists.{if_then_else_}
+use Rattle.rules.specs.Units.{steps, contracts}
 use Rattle.quote.specs.declared.Level.{Level}
+use Rattle.quote.specs.Keys.{priceAt, keyIn}
 use Rattle.quote.specs.Levels.{held, levelAt, bestKey, levelOf}
 
 -- an order of a side: its id, the key of its price, its volume
@@ -21,6 +25,13 @@ slot id key volume = record { id = id; key = key; volume = volume }
 
 abbrev pub blankSlot : Slot
 blankSlot = slot 0 0 0
+
+-- what is stored of an order of a side, and the order that is stored
+abbrev pub slotOf : Side → Order → Slot
+slotOf side o = slot (o .id) (keyIn side o) (o .volume .0)
+
+abbrev pub orderOf : Side → Slot → Order
+orderOf side s = record { id = s .id; side = side; price = steps (priceAt side (s .key)); volume = contracts (s .volume) }
 
 abbrev pub idsOf : List Slot → List ℕ
 idsOf slots = map (λ (s : Slot). s .id) slots

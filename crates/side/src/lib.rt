@@ -1,14 +1,20 @@
-// The live orders of one side in 256 lent words (specs/Slots has their layout): found by id, added, changed, removed. The best level
-// stands among the words too, and is moved by the crate level. A key is a price turned so that the better one has the greater key; 0
-// is no price (crate quote).
+// The live orders of one side in 256 lent words (specs/Slots has their layout): found by id, read, added, put in another's place,
+// removed. An order is an `Order` wherever it is taken or handed back; the words are how it is stored. The best level stands among the
+// words too, and is moved by the crate level. A key is a price turned so that the better one has the greater key; 0 is no price (crate
+// quote).
 ghost use mathlib.Core.Path.{_≡_};
+ghost use mathlib.Core.Bool.{true};
 ghost use mathlib.Core.List.{List};
 ghost use Prim.Native.Nat.{_+_, _*_, _/_, _≤_, _<_};
 ghost use lib.ListN.{length, getD};
+ghost use Rattle.rules.specs.Units.{goodPrice};
 ghost use Rattle.quote.specs.declared.Level.{Level};
-ghost use Rattle.side.specs.Slots.{Slot, sideOf, seenFrom, seen};
-ghost use Rattle.side.specs.Internal.{Sized, Added, Amended, Removed, shifted};
+ghost use Rattle.quote.specs.Keys.{keyIn};
+ghost use Rattle.side.specs.Slots.{Slot, slotOf, orderOf, sideOf, seenFrom, seen};
+ghost use Rattle.side.specs.Internal.{Sized, Stands, Added, Put, Removed, slotAt, stored, shifted};
 use rules::Contracts;
+use rules::Order;
+use rules::Side;
 
 // What an event does to a side: an order that had `old` and `held` has `key` and `volume`, where none has 0 and 0.
 pub struct Change {
@@ -74,38 +80,71 @@ pub fn located(words: &[u32], id: u32) -> u32
     scan(&words[IDS..room(count)], id)
 }
 
+// The order at a place of a side: its price is that of its key.
+pub fn order_at(words: &[u32], side: Side, place: usize) -> Order
+    requires { ⌜ Stands place (now words) ⌝ }
+    ensures { λ r. ⌜ r ≡ orderOf side (slotAt place (now (words .entry))) ⌝ }
+{
+    Order {
+        id: words[place],
+        side,
+        price: quote::price_at(side, words[KEYS + place]),
+        volume: Contracts(words[VOLUMES + place]),
+    }
+}
+
+// The key of an order's price.
+fn key_in(order: Order) -> u32
+    requires { ⌜ goodPrice (order .price .0) ≡ true ⌝ }
+    ensures { λ r. ⌜ r ≡ keyIn (order .side) order ⌝ }
+{
+    let side = order.side;
+    let price = order.price;
+    quote::key_of(side, price)
+}
+
+// An order is written at a place.
+fn store(words: &mut [u32], place: usize, order: Order)
+    requires { ⌜ (length (now words) ≡ 256) × (place < 64) × (goodPrice (order .price .0) ≡ true) ⌝ }
+    ensures { λ r. ⌜ now (words .exit) ≡ stored place (slotOf (order .side) order) (now (words .entry)) ⌝ }
+{
+    let key = key_in(order);
+    words[place] = order.id;
+    words[KEYS + place] = key;
+    words[VOLUMES + place] = order.volume.0;
+}
+
 // An order more, behind the others: what its side gains, and loses nothing.
-pub fn add(words: &mut [u32], id: u32, key: u32, volume: Contracts) -> Change
-    requires { ⌜ (length (now words) ≡ 256) × (getD (now words) 192 0 < 64) ⌝ }
-    ensures { λ r. ⌜ Added id key volume (now (words .entry)) (now (words .exit)) r ⌝ }
+pub fn add(words: &mut [u32], order: Order) -> Change
+    requires { ⌜ (length (now words) ≡ 256) × (getD (now words) 192 0 < 64) × (goodPrice (order .price .0) ≡ true) ⌝ }
+    ensures { λ r. ⌜ Added order (now (words .entry)) (now (words .exit)) r ⌝ }
 {
     let count = words[COUNT];
-    let end = count as usize;
-    words[end] = id;
-    words[KEYS + end] = key;
-    words[VOLUMES + end] = volume.0;
+    let volume = order.volume;
+    store(words, count as usize, order);
     words[COUNT] = count + 1;
     Change {
         old: 0,
         held: Contracts(0),
-        key,
+        key: key_in(order),
         volume,
     }
 }
 
-// The order at a place has another key and volume; its id, and its place among the orders, stay.
-pub fn amend(words: &mut [u32], place: usize, key: u32, volume: Contracts) -> Change
-    requires { ⌜ (length (now words) ≡ 256) × (place < 64) ⌝ }
-    ensures { λ r. ⌜ Amended place key volume (now (words .entry)) (now (words .exit)) r ⌝ }
+// An order in the place of the one that stands there: what its side loses and gains.
+pub fn put(words: &mut [u32], place: usize, order: Order) -> Change
+    requires { ⌜ Stands place (now words) × (goodPrice (order .price .0) ≡ true) ⌝ }
+    ensures { λ r. ⌜ Put place order (now (words .entry)) (now (words .exit)) r ⌝ }
 {
-    let old = words[KEYS + place];
-    let held = words[VOLUMES + place];
-    words[KEYS + place] = key;
-    words[VOLUMES + place] = volume.0;
+    let side = order.side;
+    let volume = order.volume;
+    let before = order_at(words, side, place);
+    let lost = before.volume;
+    store(words, place, order);
     Change {
-        old,
-        held: Contracts(held),
-        key,
+        old: key_in(before),
+        held: lost,
+        key: key_in(order),
         volume,
     }
 }
@@ -125,20 +164,20 @@ fn shift(column: &mut [u32], place: usize, last: usize)
 }
 
 // The order at a place goes; those behind it move up, so that the orders stay in the order in which they were added.
-pub fn remove(words: &mut [u32], place: usize) -> Change
-    requires { ⌜ Sized (now words) × (place < getD (now words) 192 0) ⌝ }
+pub fn remove(words: &mut [u32], side: Side, place: usize) -> Change
+    requires { ⌜ Sized (now words) × (place < getD (now words) 192 0) × Stands place (now words) ⌝ }
     ensures { λ r. ⌜ Removed place (now (words .entry)) (now (words .exit)) r ⌝ }
 {
-    let old = words[KEYS + place];
-    let held = words[VOLUMES + place];
+    let order = order_at(words, side, place);
+    let held = order.volume;
     let rest = words[COUNT] - 1;
     shift(&mut words[IDS..KEYS], place, rest as usize);
     shift(&mut words[KEYS..VOLUMES], place, rest as usize);
     shift(&mut words[VOLUMES..COUNT], place, rest as usize);
     words[COUNT] = rest;
     Change {
-        old,
-        held: Contracts(held),
+        old: key_in(order),
+        held,
         key: 0,
         volume: Contracts(0),
     }

@@ -4,9 +4,9 @@ use native.Mathlib.Omega.{arith}
 use mathlib.Core.Path.{sym, _∙_, subst}
 use lib.ListN.{length, getD}
 use borrow.Author.Needs.{needs}
-use Rattle.rules.specs.declared.Event.the-variants.{Add}
 use Rattle.rules.specs.Units.{goodPrice, goodVolume}
 use Rattle.rules.proofs.Lists.{both}
+use Rattle.book.specs.Internal.{addOf}
 use Rattle.book.proofs.Table.{side-few, part-sized, part-room}
 use Rattle.book.proofs.Causes.{add-known, add-outside, add-full, add-passes}
 use Rattle.book.proofs.Applied.{refuses, applied-add}
@@ -18,9 +18,10 @@ refused-requires c κs = search needs
 
 returns : tie.Need-returns
 returns c = λ t minimum live represents at.
-    let a = c .before .before .before .before .args in
-    refuses (Add t (a .id) (a .side) (a .price) (a .volume)) minimum live (a .table .now) represents 9 (c .refused .result) (c .refused .ensures)
-    (add-known live (represents .good) (a .id) (a .slot) at t (a .side) (a .price) (a .volume) (c .before .if1 .taken))
+    let a = c .before .before .before .before .before .before .args in
+    let o = a .order in
+    refuses (addOf t o) minimum live (a .table .now) represents 9 (c .refused .result) (c .refused .ensures)
+    (add-known live (represents .good) (o .id) (a .slot) at t (o .side) (o .price) (o .volume) (c .before .if1 .taken))
 
 in-range-requires : tie.Need-in-range-requires
 in-range-requires c κs = search needs
@@ -36,9 +37,10 @@ same-length c = search needs
 
 returns-2 : tie.Need-returns-2
 returns-2 c = λ t minimum live represents at.
-    let a = c .before .before .before .before .before .before .before .before .before .args in
-    refuses (Add t (a .id) (a .side) (a .price) (a .volume)) minimum live (a .table .now) represents 12 (c .refused2 .result) (c .refused2 .ensures)
-    (add-full live (represents .good) (a .id) (a .slot) at t (a .side) (a .price) (a .volume) (c .before .before .before .before .before .before .if1 .left) (sym (c .before .before .before .before .before .in-range .ensures) ∙ c .before .before .before .before .if2 .taken)
+    let a = c .before .before .before .before .before .before .before .before .before .before .before .args in
+    let o = a .order in
+    refuses (addOf t o) minimum live (a .table .now) represents 12 (c .refused2 .result) (c .refused2 .ensures)
+    (add-full live (represents .good) (o .id) (a .slot) at t (o .side) (o .price) (o .volume) (c .before .before .before .before .before .before .if1 .left) (sym (c .before .before .before .before .before .in-range .ensures) ∙ c .before .before .before .before .if2 .taken)
     (subst (λ (n : ℕ). 64 ≤ n) (c .before .before .count .ensures minimum live (represents .good) (represents .is)) (c .before .if3 .taken)))
 
 side-number-requires : tie.Need-side-number-requires
@@ -64,18 +66,13 @@ behind : (start : tie.Start) (n : ℕ) → n < 2 → getD (start .args .table .n
 behind start n h = side-few (start .args .table .now) (start .pre .0 .minimum) (start .pre .0 .live) (start .pre .0 .represents) n h
 
 cast-note : tie.Need-cast-note
-cast-note c = record { fits = omega (arith, behind (c .before .before .before .before .before .before .before .before .before .before .before) (c .before .before .side-number .result) (c .before .before .side-number .ensures .small)) }
+cast-note c = record { fits = omega (arith, behind (c .before .before .before .before .before .before .before .before .before .before .before .before .before) (c .before .before .side-number .result) (c .before .before .side-number .ensures .small)) }
 
 add-note-2 : tie.Need-add-note-2
-add-note-2 c = record { fits = omega (arith, behind (c .before .before .before .before .before .before .before .before .before .before .before) (c .before .before .side-number .result) (c .before .before .side-number .ensures .small)) }
+add-note-2 c = record { fits = omega (arith, behind (c .before .before .before .before .before .before .before .before .before .before .before .before .before) (c .before .before .side-number .result) (c .before .before .side-number .ensures .small)) }
 
 note-requires : tie.Need-note-requires
-note-requires c κs = (c .before .before .before .before .before .before .before .before .before .before .before .pre .1, omega (arith, behind (c .before .before .before .before .before .before .before .before .before .before .before) (c .before .before .side-number .result) (c .before .before .side-number .ensures .small)))
-
-key-of-requires : tie.Need-key-of-requires
-key-of-requires c κs =
-    let a = c .before .before .before .before .before .before .before .before .before .before .before .before .before .before .args in
-    both (goodPrice (a .price .0)) (goodVolume (a .volume .0)) (sym (c .before .before .before .before .before .before .before .before .before .before .in-range .ensures) ∙ c .before .before .before .before .before .before .before .before .before .if2 .taken) .0
+note-requires c κs = (c .before .before .before .before .before .before .before .before .before .before .before .before .before .pre .1, omega (arith, behind (c .before .before .before .before .before .before .before .before .before .before .before .before .before) (c .before .before .side-number .result) (c .before .before .side-number .ensures .small)))
 
 mul-add : tie.Need-mul-add
 mul-add c = search needs
@@ -100,14 +97,18 @@ part-add-end c = search needs
 
 add-requires : tie.Need-add-requires
 add-requires c κs =
-    let start = c .before .before .before .before .before .before .before .before .before .before .before .before .before .before .before .before in
+    let start = c .before .before .before .before .before .before .before .before .before .before .before .before .before .before .before .before .before in
+    let o = start .args .order in
     let l = start .pre .0 in
     let table = start .args .table .now in
-    let n = c .before .before .before .before .before .before .before .side-number .result in
-    let small = c .before .before .before .before .before .before .before .side-number .ensures .small in
+    let n = c .before .before .before .before .before .before .side-number .result in
+    let small = c .before .before .before .before .before .before .side-number .ensures .small in
     let few : length (l .live) < 64 =
-    subst (λ (m : ℕ). m < 64) (c .before .before .before .before .before .before .before .before .before .count .ensures (l .minimum) (l .live) (l .represents .good) (l .represents .is)) (c .before .before .before .before .before .before .before .before .if3 .left) in
-    (part-sized table (l .minimum) (l .live) (l .represents) n small .all, part-room table (l .minimum) (l .live) (l .represents) n small few)
+    subst (λ (m : ℕ). m < 64) (c .before .before .before .before .before .before .before .before .count .ensures (l .minimum) (l .live) (l .represents .good) (l .represents .is)) (c .before .before .before .before .before .before .before .if3 .left) in (
+      part-sized table (l .minimum) (l .live) (l .represents) n small .all,
+      part-room table (l .minimum) (l .live) (l .represents) n small few,
+      both (goodPrice (o .price .0)) (goodVolume (o .volume .0)) (sym (c .before .before .before .before .before .before .before .before .before .before .before .in-range .ensures) ∙ c .before .before .before .before .before .before .before .before .before .before .if2 .taken) .0,
+    )
 
 done-requires : tie.Need-done-requires
 done-requires c κs = search needs
@@ -120,23 +121,24 @@ same-length-3 c = search needs
 
 returns-3 : tie.Need-returns-3
 returns-3 c = λ t minimum live represents at.
-    let a = c .before .before .before .before .before .before .before .before .before .before .before .before .before .before .before .before .before .before .before .before .args in
+    let a = c .before .before .before .before .before .before .before .before .before .before .before .before .before .before .before .before .before .before .before .before .before .args in
+    let o = a .order in
+    let number = c .before .before .before .before .before .before .before .before .before .before .side-number in
     let few : length live < 64 =
-    subst (λ (m : ℕ). m < 64) (c .before .before .before .before .before .before .before .before .before .before .before .before .before .count .ensures minimum live (represents .good) (represents .is)) (c .before .before .before .before .before .before .before .before .before .before .before .before .if3 .left) in
-    applied-add t minimum live (a .table .now) represents (a .id) (a .side) (a .price) (a .volume) (c .before .before .before .before .before .before .before .before .before .before .before .side-number .result) (c .before .before .before .before .before .key-of .result)
-    (c .before .before .before .add .last .0) (c .before .before .before .add .result) (c .done .result)
-    (add-passes live (represents .good) (a .id) (a .slot) at t (a .side) (a .price) (a .volume) (c .before .before .before .before .before .before .before .before .before .before .before .before .before .before .before .before .before .if1 .left)
-    (sym (c .before .before .before .before .before .before .before .before .before .before .before .before .before .before .before .before .in-range .ensures) ∙ c .before .before .before .before .before .before .before .before .before .before .before .before .before .before .before .if2 .taken) few)
-    (c .before .before .before .before .before .before .before .before .before .before .before .side-number .ensures) (c .before .before .before .before .before .key-of .ensures) (c .before .before .before .add .ensures) (c .done .ensures)
+    subst (λ (m : ℕ). m < 64) (c .before .before .before .before .before .before .before .before .before .before .before .before .count .ensures minimum live (represents .good) (represents .is)) (c .before .before .before .before .before .before .before .before .before .before .before .if3 .left) in
+    applied-add t minimum live (a .table .now) represents o (number .result) (c .before .before .before .add .last .0) (c .before .before .before .add .result) (c .done .result)
+    (add-passes live (represents .good) (o .id) (a .slot) at t (o .side) (o .price) (o .volume) (c .before .before .before .before .before .before .before .before .before .before .before .before .before .before .before .before .if1 .left) (sym (c .before .before .before .before .before .before .before .before .before .before .before .before .before .before .before .in-range .ensures) ∙ c .before .before .before .before .before .before .before .before .before .before .before .before .before .before .if2 .taken) few)
+    (number .ensures) (c .before .before .before .add .ensures) (c .done .ensures)
 
 refused-requires-3 : tie.Need-refused-requires-3
 refused-requires-3 c κs = search needs
 
 returns-4 : tie.Need-returns-4
 returns-4 c = λ t minimum live represents at.
-    let a = c .before .before .before .before .before .before .args in
-    refuses (Add t (a .id) (a .side) (a .price) (a .volume)) minimum live (a .table .now) represents 11 (c .refused3 .result) (c .refused3 .ensures)
-    (add-outside live (represents .good) (a .id) (a .slot) at t (a .side) (a .price) (a .volume) (c .before .before .before .if1 .left) (sym (c .before .before .in-range .ensures) ∙ c .before .if2 .left))
+    let a = c .before .before .before .before .before .before .before .before .args in
+    let o = a .order in
+    refuses (addOf t o) minimum live (a .table .now) represents 11 (c .refused3 .result) (c .refused3 .ensures)
+    (add-outside live (represents .good) (o .id) (a .slot) at t (o .side) (o .price) (o .volume) (c .before .before .before .if1 .left) (sym (c .before .before .in-range .ensures) ∙ c .before .if2 .left))
 
 pub add-spec : {M : Type 1} → statement M
 add-spec =
@@ -158,7 +160,6 @@ add-spec =
     cast-note
     add-note-2
     note-requires
-    key-of-requires
     mul-add
     mul-add-2
     add-add

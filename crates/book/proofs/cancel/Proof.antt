@@ -37,18 +37,24 @@ part-remove-start c = search needs
 part-remove-end : tie.Need-part-remove-end
 part-remove-end c = search needs
 
+side-at-requires : tie.Need-side-at-requires
+side-at-requires c κs = search needs
+
 remove-requires : tie.Need-remove-requires
 remove-requires c κs =
-    let a = c .before .before .before .before .args in
-    let l = c .before .before .before .before .pre .0 in
-    lent-removable (millis 0) (l .minimum) (l .live) (a .table .now) (l .represents) (l .id) (a .slot) (l .at) (c .before .if1 .left)
+    let start = c .before .before .before .before .before in
+    let a = start .args in
+    let l = start .pre .0 in
+    lent-removable (millis 0) (l .minimum) (l .live) (a .table .now) (l .represents) (l .id) (a .slot) (l .at) (c .before .before .if1 .left)
 
 rehint-requires : tie.Need-rehint-requires
 rehint-requires c κs =
-    let a = c .before .before .before .before .before .before .before .before .before .args in
-    let l = c .before .before .before .before .before .before .before .before .before .pre .0 in
-    placed (millis 0) (l .minimum) (l .live) (a .table .now) (l .represents) (l .id) (a .slot) (l .at) (c .before .before .before .before .before .before .if1 .left) (c .before .before .before .before .remove .last .0) (a .hints .now)
-    (c .before .before .before .before .remove .result) (c .before .before .before .before .before .before .before .before .before .pre .1) (c .before .before .before .before .remove .ensures)
+    let start = c .before .before .before .before .before .before .before .before .before .before in
+    let a = start .args in
+    let l = start .pre .0 in
+    let removed = c .before .before .before .before .remove in
+    placed (millis 0) (l .minimum) (l .live) (a .table .now) (l .represents) (l .id) (a .slot) (l .at) (c .before .before .before .before .before .before .before .if1 .left) (removed .last .0) (a .hints .now)
+    (removed .result) (start .pre .1) (removed .ensures)
 
 done-requires : tie.Need-done-requires
 done-requires c κs = search needs
@@ -61,9 +67,11 @@ same-length-2 c = search needs
 
 returns-2 : tie.Need-returns-2
 returns-2 c = λ t id minimum live represents at.
-    let a = c .before .before .before .before .before .before .before .before .before .before .before .before .before .args in
-    applied-cancel t minimum live (a .table .now) represents id (a .slot) at (c .before .before .before .before .before .before .before .before .before .before .if1 .left) (c .before .before .before .before .before .before .before .before .remove .last .0) (c .before .before .before .before .before .before .before .before .remove .result)
-    (c .done .result) (cancel-passes live (represents .good) id (a .slot) at t (c .before .before .before .before .before .before .before .before .before .before .if1 .left)) (c .before .before .before .before .before .before .before .before .remove .ensures) (c .done .ensures)
+    let a = c .before .before .before .before .before .before .before .before .before .before .before .before .before .before .args in
+    let there = c .before .before .before .before .before .before .before .before .before .before .before .if1 .left in
+    let removed = c .before .before .before .before .before .before .before .before .remove in
+    applied-cancel t minimum live (a .table .now) represents id (a .slot) at there (removed .last .0) (removed .result)
+    (c .done .result) (cancel-passes live (represents .good) id (a .slot) at t there) (removed .ensures) (c .done .ensures)
 
 pub cancel-spec : {M : Type 1} → statement M
 cancel-spec =
@@ -78,6 +86,7 @@ cancel-spec =
     sub-remove
     part-remove-start
     part-remove-end
+    side-at-requires
     remove-requires
     rehint-requires
     done-requires

@@ -1,74 +1,39 @@
--- `book::changed` meets its contract: each event by its own function. Assumes nothing.
-use Prim.Native.Nat.{ℕ}
+-- Each kind by its own function. Assumes nothing.
 use mathlib.Core.Path.{_≡_, sym, ap, _∙_, subst}
-use mathlib.Core.List.{List}
 use lib.ListN.{length}
 use borrow.Author.Needs.{needs}
 use Rattle.rules.specs.declared.Order.{Order}
 use Rattle.rules.specs.declared.Event.{Event}
+use Rattle.rules.specs.Answers.{Outcome}
 use Rattle.book.specs.Table.{slotIn}
-use Rattle.book.specs.Internal.{idOf, Represents, Located, Applied}
+use Rattle.book.specs.Internal.{addOf, Located, Applied, AppliedRead}
 use Rattle.book.proofs.Table.{held-represents, held-length}
-use Rattle.book.proofs.Applied.{idle}
+use Rattle.book.proofs.ByKind.{says-amend, says-add}
 use Rattle.book.proofs.changed.Statement.{statement}
 use Rattle.book.proofs.changed.Tie as tie
-
-id-of-requires : tie.Need-id-of-requires
-id-of-requires c κs = search needs
 
 find-requires : tie.Need-find-requires
 find-requires c κs = search needs
 
-enum-known-e : tie.Need-enum-known-e
-enum-known-e c = search needs
-
--- what was found for the event's id
-slot-is : (c : tie.After-find) (minimum : ℕ) (live : List Order) → Represents (c .before .before .before .before .before .before .args .table .now) minimum live
-    → c .find .result ≡ slotIn (idOf (c .before .before .before .before .before .before .args .e)) live
-slot-is c minimum live represents = c .find .ensures minimum live represents ∙ ap (λ (n : ℕ). slotIn n live) (c .before .id-of .ensures)
-
-located : (c : tie.After-find) → Located (c .before .before .before .before .before .before .args .table .now) (c .find .result)
+located : (c : tie.After-find) → Located (c .before .before .before .before .before .before .before .args .table .now) (c .find .result)
 located c =
-    let table = c .before .before .before .before .before .before .args .table .now in
-    let held = c .before .before .before .before .before .before .pre .0 in
+    let start = c .before .before .before .before .before .before .before in
+    let table = start .args .table .now in
+    let held = start .pre .0 in
     record {
-      id = idOf (c .before .before .before .before .before .before .args .e);
+      id = start .args .f .id;
       minimum = held .minimum;
       live = held .live;
       represents = held-represents table held;
       long = held-length table held;
-      at = slot-is c (held .minimum) (held .live) (held-represents table held);
+      at = c .find .ensures (held .minimum) (held .live) (held-represents table held);
     }
 
 hinted : (c : tie.After-find) → length (c .find .last .1 .0) ≡ 2048
-hinted c = c .find .kept .1 .0 ∙ c .before .before .before .before .before .before .pre .1
-
-add-requires : tie.Need-add-requires
-add-requires c κs = (located (c .before .before .before .before .before .before .before), hinted (c .before .before .before .before .before .before .before))
-
-enum-known-e-2 : tie.Need-enum-known-e-2
-enum-known-e-2 c = search needs
+hinted c = c .find .kept .1 .0 ∙ c .before .before .before .before .before .before .before .pre .1
 
 amend-requires : tie.Need-amend-requires
-amend-requires c κs = located (c .before .before .before .before .before .before)
-
-enum-told : tie.Need-enum-told
-enum-told c = search needs
-
-cancel-requires : tie.Need-cancel-requires
-cancel-requires c κs = (located (c .before .before .before .before .before .before), hinted (c .before .before .before .before .before .before))
-
-enum-known-e-3 : tie.Need-enum-known-e-3
-enum-known-e-3 c = search needs
-
-deal-requires : tie.Need-deal-requires
-deal-requires c κs = (located (c .before .before .before .before .before .before .before), hinted (c .before .before .before .before .before .before .before))
-
-enum-told-2 : tie.Need-enum-told-2
-enum-told-2 c = search needs
-
-refused-requires : tie.Need-refused-requires
-refused-requires c κs = search needs
+amend-requires c κs = located (c .before .before .before .before)
 
 same-length : tie.Need-same-length
 same-length c = search needs
@@ -78,9 +43,20 @@ same-length-2 c = search needs
 
 returns : tie.Need-returns
 returns c = λ minimum live represents.
-    let is = c .before .before .before .before .before .before .before .before .e .given .1 in
-    let found = slot-is (c .before .before .before .before .before .before .before .before .before .before .before .before) minimum live represents ∙ ap (λ (e : Event). slotIn (idOf e) live) is in
-    subst (λ (e : Event). Applied e minimum live (c .before .before .before .before .add .last .0) (c .before .before .before .before .add .result)) (sym is) (c .before .before .before .before .add .ensures _ minimum live represents found)
+    let start = c .before .before .before .before .before .before .before .before .before .before .before .before .before .before in
+    let f = start .args .f in
+    let r = c .before .before .amend in
+    subst (λ (o : Outcome Event). AppliedRead o minimum live (start .args .table .now) (r .last .0) (r .result)) (says-amend f (c .before .before .before .before .if1 .taken))
+    (r .ensures (f .t) (f .id) minimum live represents (c .before .before .before .before .before .before .before .find .ensures minimum live represents))
+
+is-add-requires : tie.Need-is-add-requires
+is-add-requires c κs = search needs
+
+order-of-requires : tie.Need-order-of-requires
+order-of-requires c κs = search needs
+
+add-requires : tie.Need-add-requires
+add-requires c κs = (located (c .before .before .before .before .before .before .before .before), hinted (c .before .before .before .before .before .before .before .before))
 
 same-length-3 : tie.Need-same-length-3
 same-length-3 c = search needs
@@ -90,9 +66,22 @@ same-length-4 c = search needs
 
 returns-2 : tie.Need-returns-2
 returns-2 c = λ minimum live represents.
-    let is = c .before .before .before .before .before .e2 .given .1 in
-    let found = slot-is (c .before .before .before .before .before .before .before .before .before) minimum live represents ∙ ap (λ (e : Event). slotIn (idOf e) live) is in
-    subst (λ (e : Event). Applied e minimum live (c .before .before .amend .last .0) (c .before .before .amend .result)) (sym is) (c .before .before .amend .ensures _ _ minimum live represents found)
+    let start = c .before .before .before .before .before .before .before .before .before .before .before .before .before .before .before .before .before .before .before .before in
+    let f = start .args .f in
+    let order = c .before .before .before .before .before .order-of in
+    let r = c .before .before .before .before .add in
+    let at = c .before .before .before .before .before .before .before .before .before .before .before .before .before .find .ensures minimum live represents ∙ ap (λ (o : Order). slotIn (o .id) live) (sym (order .ensures)) in
+    subst (λ (o : Outcome Event). AppliedRead o minimum live (start .args .table .now) (r .last .0) (r .result))
+    (says-add f (sym (c .before .before .before .before .before .before .before .before .before .is-add .ensures) ∙ c .before .before .before .before .before .before .before .before .if2 .taken))
+    (subst (λ (o : Order). Applied (addOf (f .t) o) minimum live (r .last .0) (r .result)) (order .ensures) (r .ensures (f .t) minimum live represents at))
+
+lessened-requires : tie.Need-lessened-requires
+lessened-requires c κs =
+    let start = c .before .before .before .before .before .before .before .before .before .before .before .before .before .before in (
+      located (c .before .before .before .before .before .before .before),
+      hinted (c .before .before .before .before .before .before .before),
+      record { no-add = sym (c .before .before .before .is-add .ensures) ∙ c .before .before .if2 .left; no-amend = c .before .before .before .before .if1 .left; no-tick = start .pre .2 },
+    )
 
 same-length-5 : tie.Need-same-length-5
 same-length-5 c = search needs
@@ -102,62 +91,24 @@ same-length-6 c = search needs
 
 returns-3 : tie.Need-returns-3
 returns-3 c = λ minimum live represents.
-    let is = c .before .before .before .before .before .before .before .enum-told .given .1 in
-    let found = slot-is (c .before .before .before .before .before .before .before .before .before .before .before) minimum live represents ∙ ap (λ (e : Event). slotIn (idOf e) live) is in
-    subst (λ (e : Event). Applied e minimum live (c .before .before .before .before .cancel .last .0) (c .before .before .before .before .cancel .result)) (sym is) (c .before .before .before .before .cancel .ensures _ _ minimum live represents found)
-
-same-length-7 : tie.Need-same-length-7
-same-length-7 c = search needs
-
-same-length-8 : tie.Need-same-length-8
-same-length-8 c = search needs
-
-returns-4 : tie.Need-returns-4
-returns-4 c = λ minimum live represents.
-    let is = c .before .before .before .before .before .before .before .before .e3 .given .1 in
-    let found = slot-is (c .before .before .before .before .before .before .before .before .before .before .before .before) minimum live represents ∙ ap (λ (e : Event). slotIn (idOf e) live) is in
-    subst (λ (e : Event). Applied e minimum live (c .before .before .before .before .deal .last .0) (c .before .before .before .before .deal .result)) (sym is) (c .before .before .before .before .deal .ensures _ _ minimum live represents found)
-
-same-length-9 : tie.Need-same-length-9
-same-length-9 c = search needs
-
-same-length-10 : tie.Need-same-length-10
-same-length-10 c = search needs
-
-returns-5 : tie.Need-returns-5
-returns-5 c = λ minimum live represents.
-    let table = c .before .before .before .before .before .before .before .before .before .before .before .args .table .now in
-    subst (λ (e : Event). Applied e minimum live table (c .refused .result)) (sym (c .before .enum-told2 .given .1))
-    (idle _ minimum live table represents (c .refused .result) (c .refused .ensures))
+    c .before .before .before .before .lessened .ensures minimum live represents (c .before .before .before .before .before .before .before .before .before .before .before .before .find .ensures minimum live represents)
 
 pub changed-spec : {M : Type 1} → statement M
 changed-spec =
     tie.close
     (tie.spec
-    id-of-requires
     find-requires
-    enum-known-e
-    add-requires
-    enum-known-e-2
     amend-requires
-    enum-told
-    cancel-requires
-    enum-known-e-3
-    deal-requires
-    enum-told-2
-    refused-requires
     same-length
     same-length-2
     returns
+    is-add-requires
+    order-of-requires
+    add-requires
     same-length-3
     same-length-4
     returns-2
+    lessened-requires
     same-length-5
     same-length-6
-    returns-3
-    same-length-7
-    same-length-8
-    returns-4
-    same-length-9
-    same-length-10
-    returns-5)
+    returns-3)

@@ -1,16 +1,20 @@
--- Each refusal by `refuses`; a deal of all is a cancel (`deal-cancels`), of a part an amendment (`applied-deal`). Assumes nothing.
-use Prim.Native.Nat.{ℕ, _≤_, _<_}
+-- Each refusal by `refuses`; a deal of all is a cancel (`deal-cancels`), of a part puts what is left (`applied-deal`). Assumes nothing.
+use Prim.Native.Nat.{ℕ, _-_, _≤_, _<_}
 use native.Mathlib.Nat.{le-refl}
 use native.Mathlib.Omega.{arith}
-use mathlib.Core.Path.{_≡_, refl, sym, _∙_, subst}
+use mathlib.Core.Path.{_≡_, refl, sym, ap, _∙_, subst}
 use mathlib.Core.Bool.{Bool, true, false}
 use lib.Dec.{ltb}
 use borrow.Author.Needs.{needs}
 use borrow.Author.Tests.{ltb-true, ltb-false}
+use Rattle.rules.specs.declared.Side.{Side}
+use Rattle.rules.specs.declared.Order.{Order}
 use Rattle.rules.specs.declared.Event.the-variants.{Cancel, Deal}
 use Rattle.rules.specs.Orders.{left}
+use Rattle.rules.specs.Units.{goodPrice, contracts, millis}
+use Rattle.book.specs.Internal.{orderWith}
 use Rattle.book.proofs.Causes.{known, cancel-passes, deal-unknown, deal-outside, deal-above, deal-passes}
-use Rattle.book.proofs.Applied.{refuses, same-turn, deal-cancels, its-left, applied-deal}
+use Rattle.book.proofs.Applied.{refuses, same-turn, deal-cancels, its-left, its-good, stands, applied-deal}
 use Rattle.book.proofs.deal.Statement.{statement}
 use Rattle.book.proofs.deal.Tie as tie
 
@@ -34,106 +38,108 @@ returns c = λ t id minimum live represents at.
 volume-requires : tie.Need-volume-requires
 volume-requires c κs = search needs
 
-mul-held : tie.Need-mul-held
-mul-held c = search needs
-
-add-held : tie.Need-add-held
-add-held c = search needs
-
-add-held-2 : tie.Need-add-held-2
-add-held-2 c = search needs
-
-mul-held-2 : tie.Need-mul-held-2
-mul-held-2 c = search needs
-
-slice-read-held : tie.Need-slice-read-held
-slice-read-held c = search needs
+order-in-requires : tie.Need-order-in-requires
+order-in-requires c κs = search needs
 
 refused-requires-2 : tie.Need-refused-requires-2
 refused-requires-2 c κs = search needs
 
+same-length : tie.Need-same-length
+same-length c = search needs
+
 returns-2 : tie.Need-returns-2
 returns-2 c = λ t id minimum live represents at.
-    let a = c .before .before .before .before .before .before .before .before .args in
-    let there = c .before .before .before .before .before .if1 .left in
+    let a = c .before .before .before .before .before .before .before .before .before .before .args in
+    let there = c .before .before .before .before .before .before .before .if1 .left in
+    let read = c .before .before .before .order-in in
     refuses (Deal t id (a .volume)) minimum live (a .table .now) represents 13 (c .refused2 .result) (c .refused2 .ensures)
-    (deal-above live (represents .good) id (a .slot) at t (a .volume) there (sym (c .before .before .before .before .volume .ensures) ∙ c .before .before .before .if2 .taken)
-    (subst (λ (m : ℕ). m < a .volume .0) (its-left t minimum live (a .table .now) represents id (a .slot) at there) (c .before .if3 .taken)))
+    (deal-above live (represents .good) id (a .slot) at t (a .volume) there (sym (c .before .before .before .before .before .before .volume .ensures) ∙ c .before .before .before .before .before .if2 .taken)
+    (subst (λ (m : ℕ). m < a .volume .0)
+    (its-left t minimum live (a .table .now) represents id (a .slot) at there (read .result) (read .ensures id minimum live represents at)) (c .before .if3 .taken)))
 
 cancel-requires : tie.Need-cancel-requires
 cancel-requires c κs = search needs
 
-same-length : tie.Need-same-length
-same-length c = search needs
-
 same-length-2 : tie.Need-same-length-2
 same-length-2 c = search needs
-
-returns-3 : tie.Need-returns-3
-returns-3 c = λ t id minimum live represents at.
-    let a = c .before .before .before .before .before .before .before .before .before .before .before .before .before .before .before .args in
-    let there = c .before .before .before .before .before .before .before .before .before .before .before .before .if1 .left in
-    let all : a .volume .0 ≡ left id live = sym (c .before .before .before .before .before .before .before .if4 .taken) ∙ its-left t minimum live (a .table .now) represents id (a .slot) at there in
-    same-turn (Cancel t id) (Deal t id (a .volume)) minimum live (c .before .before .before .before .cancel .last .0) (c .before .before .before .before .cancel .result)
-    (cancel-passes live (represents .good) id (a .slot) at t there)
-    (deal-passes live (represents .good) id (a .slot) at t (a .volume) there (sym (c .before .before .before .before .before .before .before .before .before .before .before .volume .ensures) ∙ c .before .before .before .before .before .before .before .before .before .before .if2 .taken)
-    (subst (λ (m : ℕ). m ≤ left id live) (sym all) (le-refl _)))
-    (deal-cancels live (represents .good) t id (a .volume) (known live (represents .good) id (a .slot) at t there) all)
-    (c .before .before .before .before .cancel .ensures t id minimum live represents at)
-
-mul-key : tie.Need-mul-key
-mul-key c = search needs
-
-add-key : tie.Need-add-key
-add-key c = search needs
-
-add-key-2 : tie.Need-add-key-2
-add-key-2 c = search needs
-
-mul-key-2 : tie.Need-mul-key-2
-mul-key-2 c = search needs
-
-slice-read-key : tie.Need-slice-read-key
-slice-read-key c = search needs
-
-mul-amend : tie.Need-mul-amend
-mul-amend c = search needs
-
-mul-amend-2 : tie.Need-mul-amend-2
-mul-amend-2 c = search needs
-
-add-amend : tie.Need-add-amend
-add-amend c = search needs
-
-mul-amend-3 : tie.Need-mul-amend-3
-mul-amend-3 c = search needs
-
-sub-amend : tie.Need-sub-amend
-sub-amend c = search needs
-
-part-amend-start : tie.Need-part-amend-start
-part-amend-start c = search needs
-
-part-amend-end : tie.Need-part-amend-end
-part-amend-end c = search needs
-
-amend-requires : tie.Need-amend-requires
-amend-requires c κs = search needs
-
-done-requires : tie.Need-done-requires
-done-requires c κs = search needs
 
 same-length-3 : tie.Need-same-length-3
 same-length-3 c = search needs
 
+returns-3 : tie.Need-returns-3
+returns-3 c = λ t id minimum live represents at.
+    let a = c .before .before .before .before .before .before .before .before .before .before .before .before .before .before .before .before .before .args in
+    let there = c .before .before .before .before .before .before .before .before .before .before .before .before .before .before .if1 .left in
+    let read = c .before .before .before .before .before .before .before .before .before .before .order-in in
+    let cancelled = c .before .before .before .before .cancel in
+    let all : a .volume .0 ≡ left id live =
+    sym (c .before .before .before .before .before .before .before .if4 .taken)
+    ∙ its-left t minimum live (a .table .now) represents id (a .slot) at there (read .result) (read .ensures id minimum live represents at) in
+    same-turn (Cancel t id) (Deal t id (a .volume)) minimum live (cancelled .last .0) (cancelled .result)
+    (cancel-passes live (represents .good) id (a .slot) at t there)
+    (deal-passes live (represents .good) id (a .slot) at t (a .volume) there (sym (c .before .before .before .before .before .before .before .before .before .before .before .before .before .volume .ensures) ∙ c .before .before .before .before .before .before .before .before .before .before .before .before .if2 .taken)
+    (subst (λ (m : ℕ). m ≤ left id live) (sym all) (le-refl _)))
+    (λ (s : Side) n. n)
+    (deal-cancels live (represents .good) t id (a .volume) (known live (represents .good) id (a .slot) at t there) all)
+    (cancelled .ensures t id minimum live represents at)
+
+mul-put : tie.Need-mul-put
+mul-put c = search needs
+
+mul-put-2 : tie.Need-mul-put-2
+mul-put-2 c = search needs
+
+add-put : tie.Need-add-put
+add-put c = search needs
+
+mul-put-3 : tie.Need-mul-put-3
+mul-put-3 c = search needs
+
+sub-put : tie.Need-sub-put
+sub-put c = search needs
+
+part-put-start : tie.Need-part-put-start
+part-put-start c = search needs
+
+part-put-end : tie.Need-part-put-end
+part-put-end c = search needs
+
+renewed-requires : tie.Need-renewed-requires
+renewed-requires c κs = search needs
+
+put-requires : tie.Need-put-requires
+put-requires c κs =
+    let start = c .before .before .before .before .before .before .before .before .before .before .before .before in
+    let a = start .args in
+    let l = start .pre .0 in
+    let there = c .before .before .before .before .before .before .before .before .before .if1 .left in
+    let read = c .before .before .before .before .before .order-in in (
+      stands (millis 0) (l .minimum) (l .live) (a .table .now) (l .represents) (l .id) (a .slot) (l .at) there,
+      ap (λ (o : Order). goodPrice (o .price .0)) (c .renewed .ensures)
+          ∙ its-good (millis 0) (l .minimum) (l .live) (a .table .now) (l .represents) (l .id) (a .slot) (l .at) there (read .result)
+          (read .ensures (l .id) (l .minimum) (l .live) (l .represents) (l .at)),
+    )
+
+done-requires : tie.Need-done-requires
+done-requires c κs = search needs
+
+same-length-4 : tie.Need-same-length-4
+same-length-4 c = search needs
+
 returns-4 : tie.Need-returns-4
 returns-4 c = λ t id minimum live represents at.
-    let a = c .before .before .before .before .before .before .before .before .before .before .before .before .before .before .args in
-    let there = c .before .before .before .before .before .before .before .before .before .before .before .if1 .left in
-    applied-deal t minimum live (a .table .now) represents id (a .slot) at there (a .volume) (c .before .before .before .amend .last .0) (c .before .before .before .amend .result) (c .done .result)
-    (deal-passes live (represents .good) id (a .slot) at t (a .volume) there (sym (c .before .before .before .before .before .before .before .before .before .before .volume .ensures) ∙ c .before .before .before .before .before .before .before .before .before .if2 .taken)
-    (subst (λ (m : ℕ). a .volume .0 ≤ m) (its-left t minimum live (a .table .now) represents id (a .slot) at there) (c .before .before .before .before .before .before .before .if3 .left)))
-    (less _ _ (c .before .before .before .before .before .before .before .if3 .left) (c .before .before .before .before .before .before .if4 .left)) (c .before .before .before .amend .ensures) (c .done .ensures)
+    let a = c .before .before .before .before .before .before .before .before .before .before .before .before .before .before .before .before .args in
+    let there = c .before .before .before .before .before .before .before .before .before .before .before .before .before .if1 .left in
+    let read = c .before .before .before .before .before .before .before .before .before .order-in in
+    let put = c .before .before .before .put in
+    let new = c .before .before .before .before .renewed in
+    let is = read .ensures id minimum live represents at in
+    let part = less _ _ (c .before .before .before .before .before .before .before .if3 .left) (c .before .before .before .before .before .before .if4 .left) in
+    applied-deal t minimum live (a .table .now) represents id (a .slot) at there (a .volume) (new .result) (put .last .0) (put .result) (c .done .result)
+    (deal-passes live (represents .good) id (a .slot) at t (a .volume) there (sym (c .before .before .before .before .before .before .before .before .before .before .before .before .volume .ensures) ∙ c .before .before .before .before .before .before .before .before .before .before .before .if2 .taken)
+    (subst (λ (m : ℕ). a .volume .0 ≤ m) (its-left t minimum live (a .table .now) represents id (a .slot) at there (read .result) is) (c .before .before .before .before .before .before .before .if3 .left)))
+    (subst (λ (o : Order). a .volume .0 < o .volume .0) is part)
+    (new .ensures ∙ ap (λ (o : Order). orderWith o (o .price) (contracts (o .volume .0 - a .volume .0))) is) (put .ensures) (c .done .ensures)
 
 refused-requires-3 : tie.Need-refused-requires-3
 refused-requires-3 c κs = search needs
@@ -151,32 +157,25 @@ deal-spec =
     refused-requires
     returns
     volume-requires
-    mul-held
-    add-held
-    add-held-2
-    mul-held-2
-    slice-read-held
+    order-in-requires
     refused-requires-2
+    same-length
     returns-2
     cancel-requires
-    same-length
     same-length-2
-    returns-3
-    mul-key
-    add-key
-    add-key-2
-    mul-key-2
-    slice-read-key
-    mul-amend
-    mul-amend-2
-    add-amend
-    mul-amend-3
-    sub-amend
-    part-amend-start
-    part-amend-end
-    amend-requires
-    done-requires
     same-length-3
+    returns-3
+    mul-put
+    mul-put-2
+    add-put
+    mul-put-3
+    sub-put
+    part-put-start
+    part-put-end
+    renewed-requires
+    put-requires
+    done-requires
+    same-length-4
     returns-4
     refused-requires-3
     returns-5)

@@ -1,26 +1,35 @@
 -- The orders by `changed`, the best level of their side by `requote`; both halves of the table are then those of the orders after the
 -- event, and whether these keep the quote follows from their best keys (Sendings). Assumes nothing.
-use Prim.Native.Nat.{ℕ, zero, suc, _+_, _-_, _*_, _<_}
+use Prim.Native.Nat.{_+_, _-_, _*_, _<_}
 use native.Mathlib.Omega.{arith}
-use mathlib.Core.Path.{_≡_, refl, sym, ap, _∙_}
-use mathlib.Core.List.{List}
+use mathlib.Core.Path.{_≡_, _∙_}
 use lib.ListN.{length}
 use borrow.Author.Needs.{needs}
 use borrow.Rule.Slice.PartMut.{same-len-mid}
-use Rattle.rules.specs.declared.Order.{Order}
-use Rattle.rules.specs.declared.Event.{Event}
-use Rattle.rules.specs.Lists.{if_then_else_}
-use Rattle.rules.specs.Kept.{ordersKeep}
-use Rattle.book.specs.Table.{tableOf, sentTo}
-use Rattle.book.specs.Internal.{Applied}
+use Rattle.record.specs.Fields.{readFields}
+use Rattle.record.proofs.Reading.{only-fifteen}
+use Rattle.book.specs.Internal.{AppliedRead}
 use Rattle.book.proofs.Table.{table-length}
-use Rattle.book.proofs.Sendings.{moving, sent-is, stays-is, taken-keeps, taken-work, no-work}
+use Rattle.book.proofs.Sendings.{read-number, read-moving, refused-sends, taken-sends}
 use Rattle.book.proofs.send.Statement.{statement}
 use Rattle.book.proofs.send.Tie as tie
 
-refused-stays : (n : ℕ) (live : List Order) (e : Event) → 0 < n → sentTo n live e ≡ live
-refused-stays zero live e h = absurd (omega arith)
-refused-stays (suc n) live e h = refl
+-- the orders' answer, for those that the caller has in hand
+turn : (c : tie.After-changed) → AppliedRead (readFields (c .before .before .before .before .before .args .f)) (c .before .before .before .before .before .args .minimum .0) (c .before .before .before .before .before .pre .0 .live) (c .before .before .before .before .before .args .table .now) (c .changed .last .0) (c .changed .result)
+turn c =
+    let h = c .before .before .before .before .before .pre .0 in
+    c .changed .ensures (c .before .before .before .before .before .args .minimum .0) (h .live) (record { good = h .good; is = h .is })
+
+small : (c : tie.After-changed) → c .changed .result .s < 2
+small c =
+    let start = c .before .before .before .before .before in
+    read-number (readFields (start .args .f)) (start .args .minimum .0) (start .pre .0 .live) (start .args .table .now) (c .changed .last .0) (c .changed .result) (turn c)
+
+long : (c : tie.After-changed) → length (c .changed .last .0) ≡ 512
+long c =
+    let start = c .before .before .before .before .before in
+    let h = start .pre .0 in
+    c .changed .kept .0 ∙ table-length (start .args .table .now) (start .args .minimum .0) (h .live) (record { good = h .good; is = h .is })
 
 changed-requires : tie.Need-changed-requires
 changed-requires c κs = search needs
@@ -33,40 +42,27 @@ same-length-2 c = search needs
 
 returns : tie.Need-returns
 returns c =
-    let a = c .before .before .before .before .before .before .before .before .before .before .args in
+    let start = c .before .before .before .before .before .before .before .before .before .before in
+    let a = start .args in
+    let h = start .pre .0 in
     let t = c .before .before .before .before .before .changed in
-    record {
-      sends =
-          record {
-            refusal = λ live good is. t .ensures (a .minimum .0) live (record { good = good; is = is }) .refusal;
-            table = λ live good is.
-                stays-is (a .e) (a .minimum .0) live good (t .last .0) (t .result) (t .ensures (a .minimum .0) live (record { good = good; is = is })) (c .if1 .taken);
-          };
-      keeps = λ row spread live good after is least law was.
-          was ∙ ap (λ (l : List Order). if ordersKeep row spread l then 1 else 0) (sym (refused-stays (t .result .refusal) live (a .e) (c .if1 .taken)));
-      work = λ live good after is. no-work (a .minimum .0) (sentTo (t .result .refusal) live (a .e));
-    }
+    refused-sends (readFields (a .f)) (a .minimum .0) (a .widest) (a .keeping) (a .table .now) (t .last .0) (t .result)
+    (λ live good is. t .ensures (a .minimum .0) live (record { good = good; is = is })) (h .live) (h .good) (h .is) (c .if1 .taken)
 
--- for the orders that the caller has in hand
-turn : (c : tie.After-changed) → Applied (c .before .before .before .before .before .args .e) (c .before .before .before .before .before .args .minimum .0) (c .before .before .before .before .before .pre .live) (c .changed .last .0) (c .changed .result)
-turn c = c .changed .ensures (c .before .before .before .before .before .args .minimum .0) (c .before .before .before .before .before .pre .live) (record { good = c .before .before .before .before .before .pre .good; is = c .before .before .before .before .before .pre .is })
-
-long : (c : tie.After-changed) → length (c .changed .last .0) ≡ 512
-long c =
-    let a = c .before .before .before .before .before .args in
-    c .changed .kept .0 ∙ table-length (a .table .now) (a .minimum .0) (c .before .before .before .before .before .pre .live) (record { good = c .before .before .before .before .before .pre .good; is = c .before .before .before .before .before .pre .is })
+side-at-requires : tie.Need-side-at-requires
+side-at-requires c κs = search needs
 
 mul-requote : tie.Need-mul-requote
-mul-requote c = record { fits = omega (arith, turn (c .before .before .before .before .before) .number) }
+mul-requote c = record { fits = omega (arith, small (c .before .before .before .before .before .before)) }
 
 mul-requote-2 : tie.Need-mul-requote-2
-mul-requote-2 c = record { fits = omega (arith, turn (c .before .before .before .before .before) .number) }
+mul-requote-2 c = record { fits = omega (arith, small (c .before .before .before .before .before .before)) }
 
 add-requote : tie.Need-add-requote
-add-requote c = record { fits = omega (arith, turn (c .before .before .before .before .before) .number) }
+add-requote c = record { fits = omega (arith, small (c .before .before .before .before .before .before)) }
 
 mul-requote-3 : tie.Need-mul-requote-3
-mul-requote-3 c = record { fits = omega (arith, turn (c .before .before .before .before .before) .number) }
+mul-requote-3 c = record { fits = omega (arith, small (c .before .before .before .before .before .before)) }
 
 sub-requote : tie.Need-sub-requote
 sub-requote c = search needs
@@ -75,15 +71,18 @@ part-requote-start : tie.Need-part-requote-start
 part-requote-start c = search needs
 
 part-requote-end : tie.Need-part-requote-end
-part-requote-end c = omega (arith, turn (c .before .before .before .before .before) .number, long (c .before .before .before .before .before))
-
-side-at-requires : tie.Need-side-at-requires
-side-at-requires c κs = search needs
+part-requote-end c = omega (arith, small (c .before .before .before .before .before .before), long (c .before .before .before .before .before .before))
 
 requote-requires : tie.Need-requote-requires
 requote-requires c κs =
-    let a = c .before .before .before .before .before .before .before .before .before .before .before .before .args in
-    (moving (a .e) (a .minimum .0) (c .before .before .before .before .before .before .before .before .before .before .before .before .pre .live) (c .before .before .before .before .before .before .before .before .before .before .before .before .pre .good) (c .before .before .before .before .before .before .before .changed .last .0) (c .before .before .before .before .before .before .before .changed .result) (turn (c .before .before .before .before .before .before .before)), c .before .before .before .before .before .before .before .before .before .before .before .before .pre .some)
+    let start = c .before .before .before .before .before .before .before .before .before .before .before .before in
+    let a = start .args in
+    let h = start .pre .0 in
+    let t = c .before .before .before .before .before .before .before .changed in
+    let none : t .result .refusal ≡ 0 = omega (arith, c .before .before .if1 .left) in (
+      read-moving (readFields (a .f)) (a .minimum .0) (h .live) (h .good) (a .table .now) (t .last .0) (t .result) (turn (c .before .before .before .before .before .before .before)) (only-fifteen (a .f)) none,
+      h .some,
+    )
 
 keeps-after-requires : tie.Need-keeps-after-requires
 keeps-after-requires c κs =
@@ -99,28 +98,16 @@ same-length-4 c = search needs
 
 returns-2 : tie.Need-returns-2
 returns-2 c =
-    let a = c .before .before .before .before .before .before .before .before .before .before .before .before .before .before .before .before .before .args in
+    let start = c .before .before .before .before .before .before .before .before .before .before .before .before .before .before .before .before .before in
+    let a = start .args in
+    let h = start .pre .0 in
     let t = c .before .before .before .before .before .before .before .before .before .before .before .before .changed in
     let q = c .before .before .before .before .requote in
-    let s = c .before .before .before .before .before .side-at in
+    let s = c .before .before .before .before .before .before .side-at in
     let none : t .result .refusal ≡ 0 = omega (arith, c .before .before .before .before .before .before .before .if1 .left) in
-    record {
-      sends =
-          record {
-            refusal = λ live good is. sym none ∙ t .ensures (a .minimum .0) live (record { good = good; is = is }) .refusal;
-            table = λ live good is.
-                sent-is (a .e) (a .minimum .0) live good (t .last .0) (t .result) (t .ensures (a .minimum .0) live (record { good = good; is = is }))
-                (s .result) (q .last .0) (q .result) (q .ensures)
-                ∙ ap (λ (n : ℕ). tableOf (a .minimum .0) (sentTo n live (a .e))) none;
-          };
-      keeps = λ row spread live good after is least law was.
-          taken-keeps (a .e) (a .minimum .0) live good (t .last .0) (t .result) (t .ensures (a .minimum .0) live (record { good = good; is = is }))
-          (s .result) (s .ensures) (q .last .0) (q .result) (q .ensures) none after row spread (a .widest) (a .keeping) (c .keeps-after .result) least law was
-          (c .keeps-after .ensures);
-      work = λ live good after is.
-          taken-work (a .e) (a .minimum .0) live good (t .last .0) (t .result) (t .ensures (a .minimum .0) live (record { good = good; is = is }))
-          (s .result) (s .ensures) (q .last .0) (q .result) (q .ensures) none after;
-    }
+    taken-sends (readFields (a .f)) (a .minimum .0) (a .widest) (a .keeping) (a .table .now) (t .last .0) (t .result)
+    (λ live good is. t .ensures (a .minimum .0) live (record { good = good; is = is })) (only-fifteen (a .f)) (h .live) (h .good) (h .is) none (h .some)
+    (s .result) (s .ensures) (q .last .0) (q .result) (q .ensures) (c .keeps-after .result) (c .keeps-after .ensures)
 
 pub send-spec : {M : Type 1} → statement M
 send-spec =
@@ -130,6 +117,7 @@ send-spec =
     same-length
     same-length-2
     returns
+    side-at-requires
     mul-requote
     mul-requote-2
     add-requote
@@ -137,7 +125,6 @@ send-spec =
     sub-requote
     part-requote-start
     part-requote-end
-    side-at-requires
     requote-requires
     keeps-after-requires
     same-length-3

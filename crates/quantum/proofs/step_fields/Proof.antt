@@ -25,7 +25,7 @@ returns c =
 taken-requires : tie.Need-taken-requires
 taken-requires c κs =
     let s = c .before .before .before .before .before .before .before .before in
-    (s .pre, timely (s .args .duty) (s .args .clock) (s .args .f .t) (sym (c .before .before .before .before .in-time .ensures) ∙ c .before .before .before .if1 .taken))
+    (s .pre, timely (s .args .duty) (s .args .clock) (s .args .f .t) (sym (c .before .before .before .before .in-time .ensures) ∙ c .before .before .before .if1 .taken), c .before .before .if2 .left)
 
 same-length : tie.Need-same-length
 same-length c = search needs

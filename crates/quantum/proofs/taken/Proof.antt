@@ -7,8 +7,10 @@ use Rattle.quantum.proofs.Steps.{holding, refused-read, taken-read}
 use Rattle.quantum.proofs.taken.Statement.{statement}
 use Rattle.quantum.proofs.taken.Tie as tie
 
-send-fields-requires : tie.Need-send-fields-requires
-send-fields-requires c κs = holding (c .before .before .before .before .before .pre .0)
+send-requires : tie.Need-send-requires
+send-requires c κs =
+    let s = c .before .before .before .before .before in
+    (holding (s .pre .0), s .pre .2)
 
 refused-requires : tie.Need-refused-requires
 refused-requires c κs = search needs
@@ -23,8 +25,8 @@ returns : tie.Need-returns
 returns c =
     let g = c .before .before .before .before .before .before in
     let s = g .before .before .before .before .before .before in
-    refused-read (s .args .duty) (s .args .clock) (s .args .f .t) (s .args .table .now) (g .send-fields .last .0) (g .send-fields .result) (s .pre .1) (readFields (s .args .f))
-    (timed (s .args .f)) (g .send-fields .ensures) (c .refused .result) (c .before .if1 .taken) (c .refused .ensures)
+    refused-read (s .args .duty) (s .args .clock) (s .args .f .t) (s .args .table .now) (g .send .last .0) (g .send .result) (s .pre .1) (readFields (s .args .f))
+    (timed (s .args .f)) (g .send .ensures) (c .refused .result) (c .before .if1 .taken) (c .refused .ensures)
 
 onward-requires : tie.Need-onward-requires
 onward-requires c κs =
@@ -43,14 +45,14 @@ returns-2 c =
     let f = c .before .before in
     let g = f .before .before .before .before .before in
     let s = g .before .before .before .before .before .before in
-    taken-read (s .args .duty) (s .args .clock) (s .args .f .t) (s .args .table .now) (g .send-fields .last .0) (g .send-fields .result) (s .pre .1) (f .if1 .left)
-    (readFields (s .args .f)) (timed (s .args .f)) (only-fifteen (s .args .f)) (g .send-fields .ensures) (c .onward .result) (c .onward .ensures)
+    taken-read (s .args .duty) (s .args .clock) (s .args .f .t) (s .args .table .now) (g .send .last .0) (g .send .result) (s .pre .1) (f .if1 .left)
+    (readFields (s .args .f)) (timed (s .args .f)) (only-fifteen (s .args .f)) (g .send .ensures) (c .onward .result) (c .onward .ensures)
 
 pub taken-spec : {M : Type 1} → statement M
 taken-spec =
     tie.close
     (tie.spec
-    send-fields-requires
+    send-requires
     refused-requires
     same-length
     same-length-2

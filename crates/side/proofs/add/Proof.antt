@@ -1,7 +1,8 @@
--- Four stores: the last one counts. Assumes nothing.
-use mathlib.Core.Path.{refl}
-use native.Mathlib.Omega.{arith}
-use lib.ListN.{length-set}
+-- The order is stored behind the others, and counted. Assumes nothing.
+use Prim.Native.Nat.{ℕ}
+use mathlib.Core.Path.{ap}
+use Rattle.side.specs.Slots.{slotOf}
+use Rattle.side.specs.Internal.{change}
 use Rattle.side.proofs.Stores.{added-is}
 use borrow.Author.Needs.{needs}
 use Rattle.side.proofs.add.Statement.{statement}
@@ -10,48 +11,31 @@ use Rattle.side.proofs.add.Tie as tie
 slice-read-count : tie.Need-slice-read-count
 slice-read-count c = search needs
 
-cast-end : tie.Need-cast-end
-cast-end c = search needs
+cast-store : tie.Need-cast-store
+cast-store c = search needs
 
-mul-words : tie.Need-mul-words
-mul-words c = search needs
-
-slice-write-words : tie.Need-slice-write-words
-slice-write-words c = search needs
+store-requires : tie.Need-store-requires
+store-requires c κs = search needs
 
 add-words : tie.Need-add-words
 add-words c = search needs
 
-mul-words-2 : tie.Need-mul-words-2
-mul-words-2 c = search needs
+slice-write-words : tie.Need-slice-write-words
+slice-write-words c = search needs
 
-slice-write-words-2 : tie.Need-slice-write-words-2
-slice-write-words-2 c = simp length-set (omega arith)
-
-add-words-2 : tie.Need-add-words-2
-add-words-2 c = search needs
-
-mul-words-3 : tie.Need-mul-words-3
-mul-words-3 c = search needs
-
-slice-write-words-3 : tie.Need-slice-write-words-3
-slice-write-words-3 c = simp length-set (omega arith)
-
-add-words-3 : tie.Need-add-words-3
-add-words-3 c = search needs
-
-slice-write-words-4 : tie.Need-slice-write-words-4
-slice-write-words-4 c = search needs
+key-in-requires : tie.Need-key-in-requires
+key-in-requires c κs = search needs
 
 same-length : tie.Need-same-length
 same-length c = search needs
 
 returns : tie.Need-returns
 returns c =
-    let a = c .before .args in
+    let a = c .before .before .before .before .before .before .before .before .args in
     record {
-      words = λ slots level h is. added-is slots level (a .id) (a .key) (a .volume .0) h (a .words .now) is;
-      answers = refl;
+      words = λ slots level h is.
+          added-is slots level (slotOf (a .order .side) (a .order)) h (a .words .now) (c .before .before .before .store .last .0) is (c .before .before .before .store .ensures);
+      answers = ap (λ (k : ℕ). change 0 0 k (a .order .volume .0)) (c .key-in .ensures);
     }
 
 pub add-spec : {M : Type 1} → statement M
@@ -59,16 +43,10 @@ add-spec =
     tie.close
     (tie.spec
     slice-read-count
-    cast-end
-    mul-words
-    slice-write-words
+    cast-store
+    store-requires
     add-words
-    mul-words-2
-    slice-write-words-2
-    add-words-2
-    mul-words-3
-    slice-write-words-3
-    add-words-3
-    slice-write-words-4
+    slice-write-words
+    key-in-requires
     same-length
     returns)

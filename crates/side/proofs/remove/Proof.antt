@@ -7,28 +7,13 @@ use lib.ListN.{getD, drop, length-set}
 use lib.Seq.{length-front}
 use borrow.Rule.Slice.PartMut.{same-len-mid}
 use Rattle.side.proofs.Words.{count-is}
-use Rattle.side.proofs.Stores.{amended-answers, putKeys, removed-is}
+use Rattle.side.proofs.Stores.{putKeys, removed-is, read-good, read-change}
 use borrow.Author.Needs.{needs}
 use Rattle.side.proofs.remove.Statement.{statement}
 use Rattle.side.proofs.remove.Tie as tie
 
-add-old : tie.Need-add-old
-add-old c = search needs
-
-mul-old : tie.Need-mul-old
-mul-old c = search needs
-
-slice-read-old : tie.Need-slice-read-old
-slice-read-old c = search needs
-
-add-held : tie.Need-add-held
-add-held c = search needs
-
-mul-held : tie.Need-mul-held
-mul-held c = search needs
-
-slice-read-held : tie.Need-slice-read-held
-slice-read-held c = search needs
+order-at-requires : tie.Need-order-at-requires
+order-at-requires c κs = search needs
 
 slice-read-rest : tie.Need-slice-read-rest
 slice-read-rest c = search needs
@@ -84,12 +69,18 @@ shift-requires-3 c κs = search needs
 slice-write-words : tie.Need-slice-write-words
 slice-write-words c = search needs
 
+key-in-requires : tie.Need-key-in-requires
+key-in-requires c κs =
+    let start = c .before .before .before .before .before .before .before .before .before .before .before .before .before .before .before .before .before in
+    let read = c .before .before .before .before .before .before .before .before .before .before .before .before .before .before .order-at in
+    read-good (start .args .place) (start .args .words .now) (start .pre .2) (start .args .side) (read .result) (read .ensures)
+
 same-length : tie.Need-same-length
 same-length c =
-    let w = c .before .before .before .before .before .before .before .before .before .before .before .before .before .before .before .before .args .words .now in
-    let ids = c .before .before .before .before .before .before .before .before .before .before .shift in
-    let keys = c .before .before .before .before .before .before .shift2 in
-    let volumes = c .before .before .shift3 in
+    let w = c .before .before .before .before .before .before .before .before .before .before .before .before .before .before .before .before .before .before .args .words .now in
+    let ids = c .before .before .before .before .before .before .before .before .before .before .before .shift in
+    let keys = c .before .before .before .before .before .before .before .shift2 in
+    let volumes = c .before .before .before .shift3 in
     let one = ids .last .0 ++ drop 64 w in
     let two = putKeys one (keys .last .0) in
     simp length-set
@@ -99,29 +90,27 @@ same-length c =
 
 returns : tie.Need-returns
 returns c =
-    let a = c .before .before .before .before .before .before .before .before .before .before .before .before .before .before .before .before .args in
+    let start = c .before .before .before .before .before .before .before .before .before .before .before .before .before .before .before .before .before .before in
+    let a = start .args in
     let w = a .words .now in
-    let ids = c .before .before .before .before .before .before .before .before .before .before .shift in
-    let keys = c .before .before .before .before .before .before .shift2 in
-    let volumes = c .before .before .shift3 in
+    let read = c .before .before .before .before .before .before .before .before .before .before .before .before .before .before .before .order-at in
+    let ids = c .before .before .before .before .before .before .before .before .before .before .before .shift in
+    let keys = c .before .before .before .before .before .before .before .shift2 in
+    let volumes = c .before .before .before .shift3 in
     record {
       words = λ slots level few h is.
           let n = count-is w slots level few is in
           removed-is slots level (a .place) (getD w 192 0 - 1) few (omega arith) (omega arith) w (ids .last .0) (keys .last .0) (volumes .last .0) is
           (ids .ensures) (keys .ensures) (volumes .ensures);
-      answers = λ slots level few h is. amended-answers slots level (a .place) 0 0 few h w is;
+      answers = λ slots level few h is.
+          read-change (a .place) w (start .pre .2) (a .side) (read .result) (read .ensures) slots level (c .key-in .result) 0 0 few is (c .key-in .ensures);
     }
 
 pub remove-spec : {M : Type 1} → statement M
 remove-spec =
     tie.close
     (tie.spec
-    add-old
-    mul-old
-    slice-read-old
-    add-held
-    mul-held
-    slice-read-held
+    order-at-requires
     slice-read-rest
     sub-rest
     sub-shift
@@ -140,5 +129,6 @@ remove-spec =
     cast-shift-3
     shift-requires-3
     slice-write-words
+    key-in-requires
     same-length
     returns)

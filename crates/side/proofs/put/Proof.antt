@@ -1,0 +1,53 @@
+-- What stands there is read, and another stored. Assumes nothing.
+use Prim.Native.Nat.{ℕ}
+use mathlib.Core.Path.{ap, _∙_}
+use Rattle.quote.specs.Keys.{keyIn}
+use Rattle.side.specs.Slots.{slotOf}
+use Rattle.side.specs.Internal.{change}
+use Rattle.side.proofs.Stores.{put-is, read-good, read-change}
+use borrow.Author.Needs.{needs}
+use Rattle.side.proofs.put.Statement.{statement}
+use Rattle.side.proofs.put.Tie as tie
+
+order-at-requires : tie.Need-order-at-requires
+order-at-requires c κs = search needs
+
+store-requires : tie.Need-store-requires
+store-requires c κs = search needs
+
+key-in-requires : tie.Need-key-in-requires
+key-in-requires c κs =
+    let start = c .before .before .before .before .before .before .before .before .before in
+    let read = c .before .before .before .before .before .order-at in
+    read-good (start .args .place) (start .args .words .now) (start .pre .0) (start .args .order .side) (read .result) (read .ensures)
+
+key-in-requires-2 : tie.Need-key-in-requires-2
+key-in-requires-2 c κs = search needs
+
+same-length : tie.Need-same-length
+same-length c = search needs
+
+returns : tie.Need-returns
+returns c =
+    let start = c .before .before .before .before .before .before .before .before .before .before .before in
+    let a = start .args in
+    let read = c .before .before .before .before .before .before .before .order-at in
+    let store = c .before .before .before .before .store in
+    record {
+      words = λ slots level few h is. put-is slots level (slotOf (a .order .side) (a .order)) (a .place) few h (a .words .now) (store .last .0) is (store .ensures);
+      answers = λ slots level few h is.
+          ap (λ (k : ℕ). change (c .before .key-in .result) (read .result .volume .0) k (a .order .volume .0)) (c .key-in2 .ensures)
+          ∙ read-change (a .place) (a .words .now) (start .pre .0) (a .order .side) (read .result) (read .ensures) slots level (c .before .key-in .result)
+          (keyIn (a .order .side) (a .order)) (a .order .volume .0) few is (c .before .key-in .ensures);
+    }
+
+pub put-spec : {M : Type 1} → statement M
+put-spec =
+    tie.close
+    (tie.spec
+    order-at-requires
+    store-requires
+    key-in-requires
+    key-in-requires-2
+    same-length
+    returns)
