@@ -11,7 +11,7 @@ use lib.ListN.{length, getD}
 use Rattle.rules.specs.Lists.{within}
 use Rattle.rules.specs.Rows.{goodLength}
 use Rattle.rules.specs.Answers.{Outcome, accepted, refused}
-use Rattle.rules.specs.Causes.{lowest}
+use Rattle.rules.specs.Causes.{firstNumber}
 use Rattle.rules.specs.Boards.{lengthIn, boardLength, goodQuantumOf, goodBoard, boardMet, judged}
 use Rattle.rules.proofs.Lists.{both}
 use Rattle.rules.proofs.Refusals.{within-parts}
@@ -56,7 +56,7 @@ pub record Bounds (l first second : ℕ) : Type 0 where
 -- by the test of the number of strikes
 module _ (first second : ℕ) (strikes : List (List ℕ)) (size : Bool) (s : size ≡ within 1 32 (length strikes)) where
   pub size-refused : not size ≡ true → refused 18 ≡ judged first second strikes
-  unfolding judged goodBoard lowest
+  unfolding judged goodBoard firstNumber
   size-refused e = simp (sym s ∙ not-true size e)
 
   pub size-bounds : not size ≡ false → (1 ≤ length strikes) × (length strikes ≤ 32)
@@ -75,7 +75,7 @@ module _ (first second : ℕ) (strikes : List (List ℕ)) (size : Bool) (s : siz
         (regroup (goodLength l) (every (goodQuantumOf l) strikes) (within 1 100 first) (within 1 100 second) ∙ sym g)
 
     pub numbers-refused : not good ≡ true → refused 18 ≡ judged first second strikes
-    unfolding judged lowest
+    unfolding judged firstNumber
     numbers-refused f = simp (good-is ∙ not-true good f)
 
     pub numbers-bounds : not good ≡ false → Bounds l first second
@@ -92,7 +92,7 @@ module _ (first second : ℕ) (strikes : List (List ℕ)) (size : Bool) (s : siz
 
     pub answered : not good ≡ false → (met t : Bool) → met ≡ sharesMet l first second strikes → met ≡ t
         → accepted t ≡ judged first second strikes
-    unfolding judged lowest boardMet
+    unfolding judged firstNumber boardMet
     answered f met t m h = rw (good-is ∙ not-false good f, length-is) (ap accepted (sym h ∙ m))
 
 same-verdict : (a b : Bool) → _≡_ {A = Outcome Bool} (accepted a) (accepted b) → a ≡ b

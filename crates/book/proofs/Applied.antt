@@ -16,7 +16,7 @@ use Rattle.rules.specs.declared.Event.the-variants.{Amend, Cancel, Deal}
 use Rattle.rules.specs.Orders.{isLive, left, apply}
 use Rattle.rules.specs.Units.{goodPrice, contracts}
 use Rattle.rules.specs.Quotes.{same}
-use Rattle.rules.specs.Causes.{lowest, traderCauses}
+use Rattle.rules.specs.Causes.{firstNumber, traderCauses}
 use Rattle.rules.proofs.Members.{length-filter, getD-in}
 use Rattle.rules.proofs.Orders.{cancel-at, deal-all}
 use Rattle.rules.proofs.Bounds.{volume-bounds}
@@ -37,7 +37,7 @@ use Rattle.book.proofs.Table.{joined-length, joined-at, half-length, pa
 use Rattle.book.proofs.Events.{good-slots, added, added-other, inside, its-side, its-price, its-volume, named, left-is, order-is, others-stay, amended, cancelled, dealt-some}
 
 module _ (e : Event) (minimum : ℕ) (live : List Order) (table : List ℕ) (represents : Represents table minimum live) where
-  pub refuses : (n : ℕ) (r : Answer) → r ≡ answer (suc n) 0 noChange → lowest (traderCauses live e) ≡ suc n → Applied e minimum live table r
+  pub refuses : (n : ℕ) (r : Answer) → r ≡ answer (suc n) 0 noChange → firstNumber (traderCauses live e) ≡ suc n → Applied e minimum live table r
   unfolding tableOf appliedTo
   refuses n r is h =
       subst (Applied e minimum live table) (sym is)
@@ -45,7 +45,7 @@ module _ (e : Event) (minimum : ℕ) (live : List Order) (table : List ℕ) (rep
 
   -- the side's slots are these, the other's those of before, and the words of the side are put into the table
   pub accepts : (n : ℕ) → n < 2 → (after : List Slot) (c : Change) (half : List ℕ) (r : Answer) → r ≡ answer 0 n c
-      → lowest (traderCauses live e) ≡ 0 → OfSide (sideAt n) live e → slotsIn (sideAt n) (apply live e) ≡ after
+      → firstNumber (traderCauses live e) ≡ 0 → OfSide (sideAt n) live e → slotsIn (sideAt n) (apply live e) ≡ after
       → slotsIn (other (sideAt n)) (apply live e) ≡ slotsIn (other (sideAt n)) live → GoodSlots after → Grows c (slotsIn (sideAt n) live) after
       → Changed c (slotsIn (sideAt n) live) after
       → half ≡ sideOf after (keptIn minimum (slotsIn (sideAt n) live))
@@ -71,8 +71,8 @@ module _ (e : Event) (minimum : ℕ) (live : List Order) (table : List ℕ) (rep
       })
 
 -- two accepted events that leave the same orders
-pub same-turn : (d e : Event) (minimum : ℕ) (live : List Order) (exit : List ℕ) (r : Answer) → lowest (traderCauses live d) ≡ 0
-    → lowest (traderCauses live e) ≡ 0 → ((side : Side) → OfSide side live d → OfSide side live e) → apply live d ≡ apply live e
+pub same-turn : (d e : Event) (minimum : ℕ) (live : List Order) (exit : List ℕ) (r : Answer) → firstNumber (traderCauses live d) ≡ 0
+    → firstNumber (traderCauses live e) ≡ 0 → ((side : Side) → OfSide side live d → OfSide side live e) → apply live d ≡ apply live e
     → Applied d minimum live exit r → Applied e minimum live exit r
 same-turn d e minimum live exit r h k own same t =
     record {
@@ -120,7 +120,7 @@ module _ (t : Millis) (minimum : ℕ) (live : List Order) (table : List ℕ) (re
   good-before n = good-slots (sideAt n) live (represents .good)
 
   -- one more
-  pub applied-add : (o : Order) (n : ℕ) (half : List ℕ) (c : Change) (r : Answer) → lowest (traderCauses live (addOf t o)) ≡ 0 → Numbers (o .side) n
+  pub applied-add : (o : Order) (n : ℕ) (half : List ℕ) (c : Change) (r : Answer) → firstNumber (traderCauses live (addOf t o)) ≡ 0 → Numbers (o .side) n
       → Added o (lent n table) half c → r ≡ answer 0 n c → Applied (addOf t o) minimum live (putBack n table half) r
   applied-add o n half c r h number made is =
       let p = trader-passes live (addOf t o) h in
@@ -193,7 +193,7 @@ module _ (t : Millis) (minimum : ℕ) (live : List Order) (table : List ℕ) (re
         ∙ order-is live (represents .good) (sideAt n) k id has-slot
 
     -- another order in its place
-    set-turn : (e : Event) → lowest (traderCauses live e) ≡ 0 → names id e → OfSide (sideAt n) live e → (new : Order) (half : List ℕ) (c : Change) (r : Answer)
+    set-turn : (e : Event) → firstNumber (traderCauses live e) ≡ 0 → names id e → OfSide (sideAt n) live e → (new : Order) (half : List ℕ) (c : Change) (r : Answer)
         → new .side ≡ sideAt n → goodPrice (new .price .0) ≡ true → new .volume .0 ≤ 1000000
         → slotsIn (sideAt n) (apply live e) ≡ set slots k (slotOf (sideAt n) new) → Put k new (lent n table) half c → r ≡ answer 0 n c
         → Applied e minimum live (putBack n table half) r
@@ -210,7 +210,7 @@ module _ (t : Millis) (minimum : ℕ) (live : List Order) (table : List ℕ) (re
 
     -- with another price and volume
     pub applied-amend : (price : Steps) (volume : Contracts) (new : Order) (half : List ℕ) (c : Change) (r : Answer)
-        → lowest (traderCauses live (Amend t id price volume)) ≡ 0 → new ≡ orderWith (orderIn at live) price volume
+        → firstNumber (traderCauses live (Amend t id price volume)) ≡ 0 → new ≡ orderWith (orderIn at live) price volume
         → Put k new (lent n table) half c → r ≡ answer 0 n c
         → Applied (Amend t id price volume) minimum live (putBack n table half) r
     applied-amend price volume new half c r h q made is =
@@ -224,7 +224,7 @@ module _ (t : Millis) (minimum : ℕ) (live : List Order) (table : List ℕ) (re
 
     -- with what is left
     pub applied-deal : (volume : Contracts) (new : Order) (half : List ℕ) (c : Change) (r : Answer)
-        → lowest (traderCauses live (Deal t id volume)) ≡ 0 → volume .0 < orderIn at live .volume .0
+        → firstNumber (traderCauses live (Deal t id volume)) ≡ 0 → volume .0 < orderIn at live .volume .0
         → new ≡ orderWith (orderIn at live) (orderIn at live .price) (contracts (orderIn at live .volume .0 - volume .0))
         → Put k new (lent n table) half c → r ≡ answer 0 n c → Applied (Deal t id volume) minimum live (putBack n table half) r
     applied-deal volume new half c r h some q made is =
@@ -239,7 +239,7 @@ module _ (t : Millis) (minimum : ℕ) (live : List Order) (table : List ℕ) (re
         made is
 
     -- without it
-    pub applied-cancel : (half : List ℕ) (c : Change) (r : Answer) → lowest (traderCauses live (Cancel t id)) ≡ 0 → Removed k (lent n table) half c
+    pub applied-cancel : (half : List ℕ) (c : Change) (r : Answer) → firstNumber (traderCauses live (Cancel t id)) ≡ 0 → Removed k (lent n table) half c
         → r ≡ answer 0 n c → Applied (Cancel t id) minimum live (putBack n table half) r
     applied-cancel half c r h made is =
         accepts (Cancel t id) minimum live table represents n small (take k slots ++ drop (suc k) slots) c half r is h

@@ -14,7 +14,7 @@ use Rattle.rules.specs.declared.Contracts.{Contracts}
 use Rattle.rules.specs.declared.Event.the-variants.{Add, Amend, Cancel, Deal}
 use Rattle.rules.specs.Units.{goodPrice, goodVolume}
 use Rattle.rules.specs.Orders.{isLive, left}
-use Rattle.rules.specs.Causes.{lowest, traderCauses}
+use Rattle.rules.specs.Causes.{firstNumber, traderCauses}
 use Rattle.rules.proofs.Refusals.{skip, stop, clear}
 use Rattle.book.specs.Table.{slotIn, GoodOrders}
 use Rattle.book.proofs.Slots.{slot-live}
@@ -33,43 +33,43 @@ module _ (live : List Order) (good : GoodOrders live) (id slot : ℕ) (at : slot
     abbrev fits : Bool
     fits = goodPrice (price .0) && goodVolume (volume .0)
 
-    pub add-known : slot < 128 → lowest (traderCauses live (Add t id side price volume)) ≡ 10
+    pub add-known : slot < 128 → firstNumber (traderCauses live (Add t id side price volume)) ≡ 10
     add-known h = stop _ _ (known h)
 
-    pub add-outside : 128 ≤ slot → fits ≡ false → lowest (traderCauses live (Add t id side price volume)) ≡ 12
+    pub add-outside : 128 ≤ slot → fits ≡ false → firstNumber (traderCauses live (Add t id side price volume)) ≡ 12
     add-outside h e = skip _ _ (unknown h) (stop _ _ (ap not e))
 
-    pub add-full : 128 ≤ slot → fits ≡ true → 64 ≤ length live → lowest (traderCauses live (Add t id side price volume)) ≡ 13
+    pub add-full : 128 ≤ slot → fits ≡ true → 64 ≤ length live → firstNumber (traderCauses live (Add t id side price volume)) ≡ 13
     add-full h e f = skip _ _ (unknown h) (skip _ _ (ap not e) (stop _ _ (le-leb 64 (length live) f)))
 
-    pub add-passes : 128 ≤ slot → fits ≡ true → length live < 64 → lowest (traderCauses live (Add t id side price volume)) ≡ 0
+    pub add-passes : 128 ≤ slot → fits ≡ true → length live < 64 → firstNumber (traderCauses live (Add t id side price volume)) ≡ 0
     add-passes h e f = skip _ _ (unknown h) (skip _ _ (ap not e) (skip _ _ (lt-leb 64 (length live) f) clear))
 
   module _ (price : Steps) (volume : Contracts) where
-    pub amend-unknown : 128 ≤ slot → lowest (traderCauses live (Amend t id price volume)) ≡ 11
+    pub amend-unknown : 128 ≤ slot → firstNumber (traderCauses live (Amend t id price volume)) ≡ 11
     amend-unknown h = stop _ _ (ap not (unknown h))
 
-    pub amend-outside : slot < 128 → (goodPrice (price .0) && goodVolume (volume .0)) ≡ false → lowest (traderCauses live (Amend t id price volume)) ≡ 12
+    pub amend-outside : slot < 128 → (goodPrice (price .0) && goodVolume (volume .0)) ≡ false → firstNumber (traderCauses live (Amend t id price volume)) ≡ 12
     amend-outside h e = skip _ _ (ap not (known h)) (stop _ _ (ap not e))
 
-    pub amend-passes : slot < 128 → (goodPrice (price .0) && goodVolume (volume .0)) ≡ true → lowest (traderCauses live (Amend t id price volume)) ≡ 0
+    pub amend-passes : slot < 128 → (goodPrice (price .0) && goodVolume (volume .0)) ≡ true → firstNumber (traderCauses live (Amend t id price volume)) ≡ 0
     amend-passes h e = skip _ _ (ap not (known h)) (skip _ _ (ap not e) clear)
 
-  pub cancel-unknown : 128 ≤ slot → lowest (traderCauses live (Cancel t id)) ≡ 11
+  pub cancel-unknown : 128 ≤ slot → firstNumber (traderCauses live (Cancel t id)) ≡ 11
   cancel-unknown h = stop _ _ (ap not (unknown h))
 
-  pub cancel-passes : slot < 128 → lowest (traderCauses live (Cancel t id)) ≡ 0
+  pub cancel-passes : slot < 128 → firstNumber (traderCauses live (Cancel t id)) ≡ 0
   cancel-passes h = skip _ _ (ap not (known h)) clear
 
   module _ (volume : Contracts) where
-    pub deal-unknown : 128 ≤ slot → lowest (traderCauses live (Deal t id volume)) ≡ 11
+    pub deal-unknown : 128 ≤ slot → firstNumber (traderCauses live (Deal t id volume)) ≡ 11
     deal-unknown h = stop _ _ (ap not (unknown h))
 
-    pub deal-outside : slot < 128 → goodVolume (volume .0) ≡ false → lowest (traderCauses live (Deal t id volume)) ≡ 12
+    pub deal-outside : slot < 128 → goodVolume (volume .0) ≡ false → firstNumber (traderCauses live (Deal t id volume)) ≡ 12
     deal-outside h e = skip _ _ (ap not (known h)) (stop _ _ (ap not e))
 
-    pub deal-above : slot < 128 → goodVolume (volume .0) ≡ true → left id live < volume .0 → lowest (traderCauses live (Deal t id volume)) ≡ 14
+    pub deal-above : slot < 128 → goodVolume (volume .0) ≡ true → left id live < volume .0 → firstNumber (traderCauses live (Deal t id volume)) ≡ 14
     deal-above h e l = skip _ _ (ap not (known h)) (skip _ _ (ap not e) (stop _ _ (lt-ltb (left id live) (volume .0) l)))
 
-    pub deal-passes : slot < 128 → goodVolume (volume .0) ≡ true → volume .0 ≤ left id live → lowest (traderCauses live (Deal t id volume)) ≡ 0
+    pub deal-passes : slot < 128 → goodVolume (volume .0) ≡ true → volume .0 ≤ left id live → firstNumber (traderCauses live (Deal t id volume)) ≡ 0
     deal-passes h e l = skip _ _ (ap not (known h)) (skip _ _ (ap not e) (skip _ _ (le-ltb (left id live) (volume .0) l) clear))

@@ -9,7 +9,7 @@ use Rattle.rules.specs.declared.Event.{Event}
 use Rattle.rules.specs.Lists.{if_then_else_}
 use Rattle.rules.specs.Orders.{apply, live}
 use Rattle.rules.specs.Answers.{Outcome, accepted}
-use Rattle.rules.specs.Causes.{lowest, traderCauses, eventCauses, eventRefusal}
+use Rattle.rules.specs.Causes.{firstNumber, traderCauses, eventCauses, eventRefusal}
 use Rattle.rules.specs.Search.{sumsOf}
 use Rattle.rules.specs.Bounds.{EventBounds}
 use Rattle.rules.proofs.Orders.{live-snoc}
@@ -36,7 +36,7 @@ good-live : (row : Row) (events : List Event) → EventBounds row events → Goo
 good-live row events b = record { few = b .few; distinct = b .distinct; prices = b .prices; volumes = b .volumes }
 
 -- an accepted event passes the trader's causes
-trader-accepts : (row : Row) (events : List Event) (e : Event) → eventRefusal row events e ≡ 0 → lowest (traderCauses (live events) e) ≡ 0
+trader-accepts : (row : Row) (events : List Event) (e : Event) → eventRefusal row events e ≡ 0 → firstNumber (traderCauses (live events) e) ≡ 0
 unfolding eventRefusal eventCauses
 trader-accepts row events e h = passed 8 _ _ (passed 7 _ _ h .1) .1
 

@@ -14,7 +14,7 @@ use Rattle.rules.specs.declared.Contracts.{Contracts}
 use Rattle.rules.specs.declared.Order.{Order}
 use Rattle.rules.specs.declared.Event.{Event}
 use Rattle.rules.specs.declared.Event.the-variants.{Add}
-use Rattle.rules.specs.Causes.{lowest, traderCauses}
+use Rattle.rules.specs.Causes.{firstNumber, traderCauses}
 use Rattle.rules.specs.Lists.{if_then_else_, within}
 use Rattle.rules.specs.Answers.{Outcome, accepted, refused}
 use Rattle.rules.specs.Units.{steps, contracts}
@@ -112,7 +112,7 @@ noChange = change 0 0 0 0
 -- what an event answers and leaves: the refusal, the table, and what changes on its side
 pub record Applied (e : Event) (minimum : ℕ) (live : List Order) (exit : List ℕ) (r : Answer) : Type 0 where
   pub number : r .s < 2
-  pub refusal : r .refusal ≡ lowest (traderCauses live e)
+  pub refusal : r .refusal ≡ firstNumber (traderCauses live e)
   pub side : r .refusal ≡ 0 → OfSide (sideAt (r .s)) live e
   pub table : exit ≡ appliedTo (r .s) minimum live (sentTo (r .refusal) live e)
   pub others : slotsIn (other (sideAt (r .s))) (sentTo (r .refusal) live e) ≡ slotsIn (other (sideAt (r .s))) live

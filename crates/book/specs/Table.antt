@@ -15,7 +15,7 @@ use Rattle.rules.specs.Units.{goodPrice, goodVolume}
 use Rattle.rules.specs.Orders.{hasId, apply}
 use Rattle.rules.specs.Quotes.{same}
 use Rattle.rules.specs.Bounds.{Distinct}
-use Rattle.rules.specs.Causes.{lowest, traderCauses}
+use Rattle.rules.specs.Causes.{firstNumber, traderCauses}
 use Rattle.side.specs.Slots.{Slot, slotOf, sideOf, keptIn, seen}
 
 -- the orders of a side, in their order
@@ -80,5 +80,5 @@ sentTo (suc n) live e = live
 
 -- what an event promises: for all live orders that the table stands for, the trader's refusal and the table after it
 pub record Sends (e : Event) (minimum : ℕ) (entry exit : List ℕ) (r : ℕ) : Type 0 where
-  pub refusal : (live : List Order) → GoodOrders live → entry ≡ tableOf minimum live → r ≡ lowest (traderCauses live e)
+  pub refusal : (live : List Order) → GoodOrders live → entry ≡ tableOf minimum live → r ≡ firstNumber (traderCauses live e)
   pub table : (live : List Order) → GoodOrders live → entry ≡ tableOf minimum live → exit ≡ tableOf minimum (sentTo r live e)

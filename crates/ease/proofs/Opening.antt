@@ -17,7 +17,7 @@ use Rattle.rules.specs.Rows.{rowOf, goodRowFor}
 use Rattle.rules.specs.Answers.{Outcome, accepted, refused}
 use Rattle.rules.specs.Cells.{placeOf}
 use Rattle.rules.specs.Calls.{Call, Open, Send, Close, Running, Quoting, Book}
-use Rattle.rules.specs.Causes.{lowest, causes, refusalOf, readRow}
+use Rattle.rules.specs.Causes.{firstNumber, causes, refusalOf, readRow}
 use Rattle.rules.specs.Changes.{noted, changed, closedCell, closed, following}
 use Rattle.rules.specs.Book.{step, run}
 use Rattle.rules.specs.Histories.{NoneRefused}
@@ -113,12 +113,12 @@ module _ (b : Book) (words : List ℕ) (day : ℕ) (opening : Opening) where
   same-refusal = go (readRow paper spread words) refl
     where
       go : (o : Outcome Row) → o ≡ readRow paper spread words → refusalOf paper b after ≡ refusalOf paper b before
-      go (accepted row) e = ap lowest (same-causes row e)
+      go (accepted row) e = ap firstNumber (same-causes row e)
       go (refused n) e = ap (λ (ws : List ℕ). refusalOf paper b (Open ws day opening)) (sym (not-eased spread words n e))
 
   -- an accepted open's words are read as a row
   was-accepted : refusalOf paper b before ≡ 0 → accepted (rowOf words) ≡ readRow paper spread words
-  unfolding readRow lowest
+  unfolding readRow firstNumber
   was-accepted h = let p = call-passes paper b before h in simp (eq-eqb (length words) 7 (p .seven), p .row-good)
 
   abbrev altered : Row

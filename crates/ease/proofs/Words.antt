@@ -13,7 +13,7 @@ use Rattle.rules.specs.Terms.{paper}
 use Rattle.rules.specs.Units.{contracts}
 use Rattle.rules.specs.Rows.{rowOf, goodRowFor}
 use Rattle.rules.specs.Answers.{Outcome, accepted, refused, outcomeBy}
-use Rattle.rules.specs.Causes.{cause, lowest, readRow}
+use Rattle.rules.specs.Causes.{cause, firstNumber, readRow}
 use Rattle.volatile.specs.declared.DayAnswer.{DayAnswer}
 use Rattle.volatile.specs.declared.DayAnswer.the-variants.{Inside, Outside, Refused}
 use Rattle.volatile.specs.Answers.{shownDay}
@@ -28,10 +28,10 @@ module _ (spread : SpreadRule) (words : List ℕ) where
 
   -- the answer by the two tests
   abbrev read-by : Bool → Bool → Outcome Row
-  read-by seven good = outcomeBy (lowest (cause 1 (not seven) ∷ cause 2 (not good) ∷ [])) (rowOf words)
+  read-by seven good = outcomeBy (firstNumber (cause 1 (not seven) ∷ cause 2 (not good) ∷ [])) (rowOf words)
 
   pub was-read : (row : Row) → accepted row ≡ readRow paper spread words → Read row
-  unfolding readRow lowest
+  unfolding readRow firstNumber
   was-read row e = go (eqb (length words) 7) (goodRowFor paper spread (rowOf words)) refl refl e
     where
       clash : (n : ℕ) → accepted row ≡ refused n → ⊥

@@ -3,7 +3,7 @@ use Prim.Native.Nat.{ℕ}
 use mathlib.Core.Path.{_≡_, refl, sym, ap}
 use mathlib.Core.Bool.{true, false, _||_}
 use Rattle.rules.specs.Answers.{Outcome, accepted, refused}
-use Rattle.rules.specs.Causes.{lowest}
+use Rattle.rules.specs.Causes.{firstNumber}
 use Rattle.rules.proofs.Answers.{not-refused}
 use Rattle.game.specs.declared.SafeAnswer.{SafeAnswer}
 use Rattle.game.specs.declared.SafeAnswer.the-variants.{Safe, AboveSixty}
@@ -12,11 +12,11 @@ use Rattle.game.specs.Answers.{isAbove, safeMinutes, shownSafe}
 
 module _ (m h k : ℕ) where
   pub refused-26 : (isAbove m || isAbove h || isAbove k) ≡ true → refused 26 ≡ safeMinutes m h k
-  unfolding safeMinutes lowest
+  unfolding safeMinutes firstNumber
   refused-26 e = simp e
 
   pub answered : (isAbove m || isAbove h || isAbove k) ≡ false → accepted (value m h k) ≡ safeMinutes m h k
-  unfolding safeMinutes lowest
+  unfolding safeMinutes firstNumber
   answered e = simp e
 
 same-minutes : (a b : ℕ) → _≡_ {A = Outcome ℕ} (accepted a) (accepted b) → a ≡ b

@@ -4,7 +4,7 @@ use mathlib.Core.List.{[], _∷_}
 use mathlib.Core.Bool.{Bool, _||_}
 use lib.Dec.{ltb}
 use Rattle.rules.specs.Answers.{Outcome, accepted, refused, outcomeBy}
-use Rattle.rules.specs.Causes.{cause, lowest}
+use Rattle.rules.specs.Causes.{cause, firstNumber}
 use Rattle.game.specs.declared.SafeAnswer.{SafeAnswer}
 use Rattle.game.specs.declared.SafeAnswer.the-variants.{Safe, AboveSixty}
 use Rattle.game.specs.Value.{value}
@@ -15,7 +15,7 @@ isAbove n = ltb 60 n
 
 -- the number that refuses the call, 0 where it is accepted
 abbrev pub safeRefusal : ℕ → ℕ → ℕ → ℕ
-safeRefusal m h k = lowest (cause 26 (isAbove m || isAbove h || isAbove k) ∷ [])
+safeRefusal m h k = firstNumber (cause 26 (isAbove m || isAbove h || isAbove k) ∷ [])
 
 -- G of m minutes, h doubles and k knocks, or 26
 unfoldable pub safeMinutes : ℕ → ℕ → ℕ → Outcome ℕ

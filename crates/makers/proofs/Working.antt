@@ -11,7 +11,7 @@ use lib.Seq.{take-append-le, drop-append-le, take-at, length-take-le}
 use borrow.Author.Tests.{ltb-false, le-ltb, leb-false, eq-eqb, ne-eqb, not-false}
 use Rattle.rules.specs.Lists.{if_then_else_, howMany}
 use Rattle.rules.specs.Answers.{outcomeBy}
-use Rattle.rules.specs.Causes.{cause, lowest}
+use Rattle.rules.specs.Causes.{cause, firstNumber}
 use Rattle.rules.proofs.Lists.{both}
 use Rattle.rules.proofs.Members.{or-false}
 use Rattle.rules.proofs.Refusals.{passed}
@@ -71,7 +71,7 @@ join-passes s m e =
     let f = passed 24 (leb (length (s .records)) (s .count)) [] (b .1) in
     record { right = right s (a .0); new = b .0; room = leb-false (length (s .records)) (s .count) (f .0) }
 
-other-passes : (s : Standing) (n : ℕ) → lowest (cause 23 (wrong s) ∷ cause 24 (not (present n (used s))) ∷ []) ≡ 0 → OtherPasses s n
+other-passes : (s : Standing) (n : ℕ) → firstNumber (cause 23 (wrong s) ∷ cause 24 (not (present n (used s))) ∷ []) ≡ 0 → OtherPasses s n
 other-passes s n e =
     let a = passed 22 (wrong s) (cause 24 (not (present n (used s))) ∷ []) e in
     let b = passed 23 (not (present n (used s))) [] (a .1) in
@@ -221,15 +221,15 @@ module _ (l : List Maker) (c : ℕ) (m : Maker) where
 -- ---- the plan
 
 -- the refusal by the tests is the lowest of the causes
-join-judged : (m : Maker) (bad there full : Bool) → judged (Join m) bad there full ≡ lowest (cause 23 bad ∷ cause 24 there ∷ cause 25 full ∷ [])
-unfolding judged lowest
+join-judged : (m : Maker) (bad there full : Bool) → judged (Join m) bad there full ≡ firstNumber (cause 23 bad ∷ cause 24 there ∷ cause 25 full ∷ [])
+unfolding judged firstNumber
 join-judged m true there full = refl
 join-judged m false true full = refl
 join-judged m false false true = refl
 join-judged m false false false = refl
 
-other-judged : (bad there : Bool) → (if bad then 23 else if there then 0 else 24) ≡ lowest (cause 23 bad ∷ cause 24 (not there) ∷ [])
-unfolding lowest
+other-judged : (bad there : Bool) → (if bad then 23 else if there then 0 else 24) ≡ firstNumber (cause 23 bad ∷ cause 24 (not there) ∷ [])
+unfolding firstNumber
 other-judged true there = refl
 other-judged false true = refl
 other-judged false false = refl

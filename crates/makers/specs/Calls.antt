@@ -7,7 +7,7 @@ use lib.Dec.{eqb, leb, ltb}
 use lib.ListN.{length, take, drop}
 use Rattle.rules.specs.Lists.{if_then_else_, filter}
 use Rattle.rules.specs.Answers.{Outcome, outcomeBy}
-use Rattle.rules.specs.Causes.{Cause, cause, lowest}
+use Rattle.rules.specs.Causes.{Cause, cause, firstNumber}
 use Rattle.makers.specs.declared.Maker.{Maker}
 use Rattle.makers.specs.declared.Asked.{Asked}
 use Rattle.makers.specs.declared.Answer.{Answer}
@@ -55,7 +55,7 @@ causes s (Leave n) = cause 23 (wrong s) ∷ cause 24 (not (present n (used s))) 
 
 -- "The lowest number is answered." 0 where the call is accepted
 unfoldable pub refusalOf : Standing → Call → ℕ
-refusalOf s call = lowest (causes s call)
+refusalOf s call = firstNumber (causes s call)
 
 -- ---- accepted
 

@@ -8,7 +8,7 @@ use mathlib.Core.Bool.{Bool, true, false, not}
 use lib.Dec.{eqb, leb}
 use lib.ListN.{length}
 use Rattle.rules.specs.Lists.{if_then_else_}
-use Rattle.rules.specs.Causes.{Cause, cause, lowest}
+use Rattle.rules.specs.Causes.{Cause, cause, firstNumber}
 use Rattle.makers.specs.declared.Maker.{Maker}
 use Rattle.makers.specs.Order.{sorted, once}
 use Rattle.makers.specs.Calls.{Standing, standing, used, Call, Join, Change, Leave, after, outcomesFrom}
@@ -43,7 +43,7 @@ rollCauses size roll (Change m) = cause 24 (not (isPresent (roll .rating (m .num
 rollCauses size roll (Leave n) = cause 24 (not (isPresent (roll .rating n))) ∷ []
 
 unfoldable pub rollRefusal : ℕ → Roll → Call → ℕ
-rollRefusal size roll call = lowest (rollCauses size roll call)
+rollRefusal size roll call = firstNumber (rollCauses size roll call)
 
 -- what an accepted call notes
 unfoldable pub rollChanged : Roll → Call → Roll

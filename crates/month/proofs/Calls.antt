@@ -32,7 +32,7 @@ use Rattle.rules.specs.Lapses.{lapses as lapsesOf, lapsesBelow, goodLapseLimit}
 use Rattle.rules.specs.Pay.{viewOf, allFailures, fee}
 use Rattle.rules.specs.Answers.{accepted, refused, outcomeBy, done, cell, report, numberOf, shownAnswer}
 use Rattle.rules.specs.Calls.{Open, Send, Close, Drop, Charge, Withdraw, Look, Running, Idle, Quoting, Book, isOpen}
-use Rattle.rules.specs.Causes.{Cause, lowest, rowCauses, readRow, goodCharges, sendCauses, goodSettlement, goodSpreadRule, eventRefusal, causes, refusalOf}
+use Rattle.rules.specs.Causes.{Cause, firstNumber, rowCauses, readRow, goodCharges, sendCauses, goodSettlement, goodSpreadRule, eventRefusal, causes, refusalOf}
 use Rattle.rules.specs.Changes.{following, noted, closed, closedCell, charged, changed}
 use Rattle.rules.specs.Replies.{timeIn, ordersIn, bidIn, askIn, keptIn, lapsesIn, reportOf}
 use Rattle.rules.specs.Calls as B
@@ -64,7 +64,7 @@ same-month m n p q r l c s t =
 pub open-unread : (m : Month) (words : List ℕ) (day : ℕ) (opening : Opening) (k : ℕ) → refused k ≡ readRow paper (opening .spread) words → Answered m (Open words day opening) m (refused k)
 unfolding readRow refusalOf causes
 open-unread m words day opening k e =
-    let (j, n, f) = refused-by (lowest (rowCauses paper (opening .spread) words)) k (rowOf words) e in
+    let (j, n, f) = refused-by (firstNumber (rowCauses paper (opening .spread) words)) k (rowOf words) e in
     subst (λ (x : ℕ). Answered m (Open words day opening) m (refused x)) (sym f)
     (stopped m (Open words day opening) j (λ b g is. first-stops (rowCauses paper (opening .spread) words) _ j n))
 
@@ -76,7 +76,7 @@ pub record ReadAs (spread : SpreadRule) (words : List ℕ) (row : Row) : Type 0 
 pub read-as : (spread : SpreadRule) (words : List ℕ) (row : Row) → accepted row ≡ readRow paper spread words → ReadAs spread words row
 unfolding readRow
 read-as spread words row e =
-    let (n, f) = accepted-by (lowest (rowCauses paper spread words)) row (rowOf words) e in
+    let (n, f) = accepted-by (firstNumber (rowCauses paper spread words)) row (rowOf words) e in
     let one = passed 0 _ _ n in
     let two = passed 1 _ _ (one .1) in
     record {
@@ -86,7 +86,7 @@ read-as spread words row e =
     }
 
 module _ (m : Month) (words : List ℕ) (row : Row) (day : ℕ) (opening : Opening) (read : ReadAs (opening .spread) words row) where
-  row-passes : (rest : List Cause) → lowest (rowCauses paper (opening .spread) words ++ rest) ≡ lowest rest
+  row-passes : (rest : List Cause) → firstNumber (rowCauses paper (opening .spread) words ++ rest) ≡ firstNumber rest
   row-passes rest =
       skip _ _ (ap not (eq-eqb _ _ (read .seven))) (skip _ _ (ap not (ap (goodRowFor paper (opening .spread)) (read .is) ∙ read .good)) refl)
 
@@ -156,7 +156,7 @@ module _ (m : Month) (words : List ℕ) (row : Row) (day : ℕ) (opening : Openi
 -- ---- events
 
 -- with none open
-pub idle-send : (r : Running) (e : Event) → isOpen r ≡ false → lowest (sendCauses r e) ≡ 7
+pub idle-send : (r : Running) (e : Event) → isOpen r ≡ false → firstNumber (sendCauses r e) ≡ 7
 idle-send Idle e h = stop _ _ refl
 idle-send (Quoting place row opening events) e h = let z : _≡_ {A = ℕ} 0 1 = cc in absurd (omega arith)
 
@@ -167,7 +167,7 @@ send-idle m e h = stopped m (Send e) 6 (λ b g is. idle-send (b .running) e (clo
 -- the book's refusal is the open quantum's
 pub send-refusal : (m : Month) (b : Book) (e : Event) (o : Opened m b) → refusalOf paper b (Send e) ≡ eventRefusal (o .row) (o .events) e
 unfolding refusalOf causes eventRefusal
-send-refusal m b e o = ap (λ (r : Running). lowest (sendCauses r e)) (o .running)
+send-refusal m b e o = ap (λ (r : Running). firstNumber (sendCauses r e)) (o .running)
 
 module _ (m : Month) (e : Event) (sent : Sent) (h : m .running ≡ true) (a : S.Answered (m .quantum) e sent) where
   pub send-refused : (f : Refusal) → sent .answer ≡ Refused f → Answered m (Send e) m (refused (numberOf f))

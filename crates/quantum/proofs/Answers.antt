@@ -14,7 +14,7 @@ use Rattle.rules.specs.declared.Refusal.{Refusal}
 use Rattle.rules.specs.declared.Answer.the-variants.{Accepted, Refused}
 use Rattle.rules.specs.Answers.{Outcome, Reply, refused, outcomeBy, done, numberOf}
 use Rattle.rules.specs.Orders.{live, applyAll}
-use Rattle.rules.specs.Causes.{Cause, cause, lowest, traderCauses, eventCauses, eventRefusal}
+use Rattle.rules.specs.Causes.{Cause, cause, firstNumber, traderCauses, eventCauses, eventRefusal}
 use Rattle.rules.specs.Bounds.{EventBounds}
 use Rattle.book.specs.Table.{tableOf, Held}
 use Rattle.quantum.specs.declared.Duty.{Duty}
@@ -29,16 +29,16 @@ use Rattle.quantum.proofs.Represents.{good-orders}
 abbrev Numbered : ℕ → Type 0
 Numbered n = 0 < n → (8 ≤ n) × (n ≤ 15)
 
-numbered-next : (n : ℕ) (b : Bool) (cs : List Cause) → 8 ≤ n → n ≤ 15 → Numbered (lowest cs) → Numbered (lowest (cause n b ∷ cs))
-unfolding lowest
+numbered-next : (n : ℕ) (b : Bool) (cs : List Cause) → 8 ≤ n → n ≤ 15 → Numbered (firstNumber cs) → Numbered (firstNumber (cause n b ∷ cs))
+unfolding firstNumber
 numbered-next n true cs l u k = λ h. (l, u)
 numbered-next n false cs l u k = k
 
-numbered-none : Numbered (lowest [])
-unfolding lowest
+numbered-none : Numbered (firstNumber [])
+unfolding firstNumber
 numbered-none = λ h. absurd (omega (arith, h))
 
-trader-numbered : (orders : List Order) (e : Event) → Numbered (lowest (traderCauses orders e))
+trader-numbered : (orders : List Order) (e : Event) → Numbered (firstNumber (traderCauses orders e))
 trader-numbered orders (Add t id side price volume) =
     numbered-next 10 _ _ (omega arith) (omega arith)
     (numbered-next 12 _ _ (omega arith) (omega arith) (numbered-next 13 _ _ (omega arith) (omega arith) numbered-none))

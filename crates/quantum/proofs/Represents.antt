@@ -21,7 +21,7 @@ use Rattle.rules.specs.Orders.{live, present, timeOf, apply}
 use Rattle.rules.specs.Kept.{ordersKeep, keptAt, keptBelow}
 use Rattle.rules.specs.Runs.{before}
 use Rattle.rules.specs.Lapses.{lapsesBelow, begins}
-use Rattle.rules.specs.Causes.{lowest, traderCauses, eventCauses, eventRefusal}
+use Rattle.rules.specs.Causes.{firstNumber, traderCauses, eventCauses, eventRefusal}
 use Rattle.rules.specs.Bounds.{EventBounds}
 use Rattle.rules.proofs.Orders.{live-snoc, present-snoc}
 use Rattle.rules.proofs.Kept.{kept-onward, kept-snoc, kept-le}
@@ -244,7 +244,7 @@ module _ (row : Row) (sp : SpreadRule) (es : List Event) (duty : Duty) (clock : 
         (skip _ _ (le-ltb (timeOf e) (present es) (omega (arith, time-is row sp es clock (s .clock-is))))
         (stop _ _ (lt-ltb (row .length .0) (timeOf e) (omega (arith, length-is)))))
 
-    pub in-time : InTime duty clock t → eventRefusal row es e ≡ lowest (traderCauses (live es) e)
+    pub in-time : InTime duty clock t → eventRefusal row es e ≡ firstNumber (traderCauses (live es) e)
     unfolding eventRefusal eventCauses
     in-time i =
         skip _ _ (le-ltb (timeOf e) (present es) (omega (arith, time-is row sp es clock (s .clock-is), f, i .onward)))

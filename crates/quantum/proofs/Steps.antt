@@ -17,7 +17,7 @@ use Rattle.rules.specs.Lists.{if_then_else_}
 use Rattle.rules.specs.Answers.{Outcome, accepted, refused}
 use Rattle.rules.specs.Orders.{live, apply, timeOf}
 use Rattle.rules.specs.Kept.{ordersKeep}
-use Rattle.rules.specs.Causes.{lowest, traderCauses, eventRefusal}
+use Rattle.rules.specs.Causes.{firstNumber, traderCauses, eventRefusal}
 use Rattle.rules.proofs.Lists.{both}
 use Rattle.rules.proofs.Orders.{live-snoc}
 use Rattle.rules.proofs.Bounds.{event-bounds-more}
@@ -65,8 +65,8 @@ refused-step duty clock e table r n h k =
 
 -- ---- a tick
 
-tick-causes : (orders : List Order) (t : Millis) → lowest (traderCauses orders (Tick t)) ≡ 0
-unfolding lowest
+tick-causes : (orders : List Order) (t : Millis) → firstNumber (traderCauses orders (Tick t)) ≡ 0
+unfolding firstNumber
 tick-causes orders t = refl
 
 tick-live : (orders : List Order) (t : Millis) → apply orders (Tick t) ≡ orders

@@ -24,7 +24,7 @@ use Rattle.rules.specs.Pay.{allFailures, fee}
 use Rattle.rules.specs.MessageCalls.{messageIn}
 use Rattle.rules.specs.MessageCalls as M
 use Rattle.rules.specs.Calls.{Call, Open, Close, counts, Running, Idle, Quoting, Book, freshBook, isOpen, amendOf}
-use Rattle.rules.specs.Causes.{cause, lowest, sendCauses, messageCauses, goodCharges, causes, refusalOf}
+use Rattle.rules.specs.Causes.{cause, firstNumber, sendCauses, messageCauses, goodCharges, causes, refusalOf}
 use Rattle.rules.specs.Changes.{noted, notedAll, closedCell, following, countAfter, changed}
 use Rattle.rules.specs.Book.{step, run, after}
 use Rattle.rules.specs.Histories.{refusalsFrom, NoneRefused}
@@ -336,9 +336,9 @@ module _ (terms : Terms) where
   one-same : (b d : Book) → b .running ≡ d .running → (c : Inside) → anywhere c ≡ true
       → refusalOf terms b (callOf c) ≡ refusalOf terms d (callOf c)
   unfolding refusalOf causes
-  one-same b d same (event e) h = ap (λ (r : Running). lowest (sendCauses r e)) same
-  one-same b d same (message start bytes) h = ap (λ (r : Running). lowest (messageCauses r (messageIn start bytes))) same
-  one-same b d same (ask a) h = ap (λ (r : Running). lowest (sendCauses r (amendOf a))) same
+  one-same b d same (event e) h = ap (λ (r : Running). firstNumber (sendCauses r e)) same
+  one-same b d same (message start bytes) h = ap (λ (r : Running). firstNumber (messageCauses r (messageIn start bytes))) same
+  one-same b d same (ask a) h = ap (λ (r : Running). firstNumber (sendCauses r (amendOf a))) same
   one-same b d same (commit a ticket) h = absurd (false≢true h)
   one-same b d same (look day expiry quantum) h = absurd (false≢true h)
   one-same b d same report h = refl
@@ -357,7 +357,7 @@ module _ (terms : Terms) where
       → refusalOf terms b (Close active passive) ≡ refusalOf terms d (Close active passive)
   unfolding refusalOf causes
   closed-same b d same active passive =
-      ap (λ (r : Running). lowest (cause 3 (not (goodCharges terms active passive)) ∷ cause 7 (not (isOpen r)) ∷ [])) same
+      ap (λ (r : Running). firstNumber (cause 3 (not (goodCharges terms active passive)) ∷ cause 7 (not (isOpen r)) ∷ [])) same
 
   inside-too : (b d : Book) (active passive : Kopecks) (inside : List Inside) → b .running ≡ d .running
       → All (λ (c : Inside). anywhere c ≡ true) inside → Accepted terms b (toEnd inside active passive) → Accepted terms d (toEnd inside active passive)

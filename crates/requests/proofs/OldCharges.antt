@@ -16,7 +16,7 @@ use Rattle.rules.specs.Cells.{goodCell, placeOf, cellAt}
 use Rattle.rules.specs.Pay.{met, weightMet, viewOf, cellFailed, failures, allFailures, earned, fee}
 use Rattle.rules.specs.Answers.{outcomeBy}
 use Rattle.rules.specs.Calls.{Call, Open, Send, Message, Ask, Commit, Close, Drop, Charge, Withdraw, Look, Report, chargesIn, mapRows, Book, freshBook, isOpen}
-use Rattle.rules.specs.Causes.{cause, lowest, goodCharges, causes, refusalOf}
+use Rattle.rules.specs.Causes.{cause, firstNumber, goodCharges, causes, refusalOf}
 use Rattle.rules.specs.Replies.{reportOf, replyOf}
 use Rattle.rules.specs.Book.{answerOf, stepBy, step, run, after}
 use Rattle.rules.specs.Histories.{refusalsFrom, answersFrom}
@@ -65,12 +65,12 @@ module _ (old : Terms) (most : ℕ) (more : old .most-charge ≤ most) where
   call-same b (Ask a) h = (refl, refl)
   call-same b (Commit a ticket) h = (refl, refl)
   call-same b (Close active passive) h =
-      (ap (λ (t : Bool). lowest (cause 3 (not t) ∷ cause 7 (not (isOpen (b .running))) ∷ [])) (charges-same active passive h), refl)
+      (ap (λ (t : Bool). firstNumber (cause 3 (not t) ∷ cause 7 (not (isOpen (b .running))) ∷ [])) (charges-same active passive h), refl)
   call-same b Drop h = (refl, refl)
   call-same b (Charge day expiry quantum active passive) h = (
     ap
         (λ (t : Bool).
-        lowest (cause 3 (not (goodCell day expiry quantum && t)) ∷ cause 5 (not (cellAt (b .cells) (placeOf day expiry quantum) .filled)) ∷ []))
+        firstNumber (cause 3 (not (goodCell day expiry quantum && t)) ∷ cause 5 (not (cellAt (b .cells) (placeOf day expiry quantum) .filled)) ∷ []))
         (charges-same active passive h),
     refl,
   )

@@ -32,7 +32,7 @@ use Rattle.rules.specs.Dates.{Moment, before, at, late}
 use Rattle.rules.specs.Messages as M
 use Rattle.rules.specs.MessageCalls.{messageIn, eventsAt, eventsOf}
 use Rattle.rules.specs.Calls.{Call, Open, Send, Message, Ask, Commit, Close, Drop, Charge, Withdraw, Look, Report, Running, Idle, Quoting, Book, freshBook, isOpen, amendOf}
-use Rattle.rules.specs.Causes.{Cause, cause, lowest, eventCauses, sendCauses, otherSideIn, causesInTurn, causesBy, callCauses, messageCauses, goodTicket, goodSettlement, goodSpreadRule, goodCharges, causes, refusalOf}
+use Rattle.rules.specs.Causes.{Cause, cause, firstNumber, eventCauses, sendCauses, otherSideIn, causesInTurn, causesBy, callCauses, messageCauses, goodTicket, goodSettlement, goodSpreadRule, goodCharges, causes, refusalOf}
 use Rattle.rules.specs.Changes.{noted, notedAll, closedCell, closed, charged, following, countAfter, changed}
 use Rattle.rules.specs.Replies.{timeIn, ordersIn, bidIn, askIn, keptIn, lapsesIn, previewOf, reportOf, replyOf}
 use Rattle.rules.specs.Book.{answerOf, stepBy, step, run, after}
@@ -309,7 +309,7 @@ module _ (most : ℕ) where
 -- the refusal of an open, by its tests
 abbrev openNumber : Bool → Bool → Bool → Bool → Bool → Bool → Bool → ℕ
 openNumber one two three four six seventeen eighteen =
-    lowest
+    firstNumber
     (
     cause 1 one ∷ cause 2 two ∷ cause 3 three ∷ cause 4 four ∷ cause 6 six ∷ cause 17 seventeen ∷ cause 18 eighteen ∷ []
     )
@@ -346,10 +346,10 @@ module _ (most : ℕ) where
 
   -- the refusal of a withdraw or a look
   cell-refused-same : (b : Book) (day expiry quantum : ℕ)
-      → lowest (cause 3 (not (goodCell day expiry quantum)) ∷ cause 5 (not (cellAt (map tenfoldCell (b .cells)) (placeOf day expiry quantum) .filled)) ∷ [])
-      ≡ lowest (cause 3 (not (goodCell day expiry quantum)) ∷ cause 5 (not (cellAt (b .cells) (placeOf day expiry quantum) .filled)) ∷ [])
+      → firstNumber (cause 3 (not (goodCell day expiry quantum)) ∷ cause 5 (not (cellAt (map tenfoldCell (b .cells)) (placeOf day expiry quantum) .filled)) ∷ [])
+      ≡ firstNumber (cause 3 (not (goodCell day expiry quantum)) ∷ cause 5 (not (cellAt (b .cells) (placeOf day expiry quantum) .filled)) ∷ [])
   cell-refused-same b day expiry quantum =
-      ap (λ (c : Cell). lowest (cause 3 (not (goodCell day expiry quantum)) ∷ cause 5 (not (c .filled)) ∷ []))
+      ap (λ (c : Cell). firstNumber (cause 3 (not (goodCell day expiry quantum)) ∷ cause 5 (not (c .filled)) ∷ []))
       (cell-at (b .cells) (placeOf day expiry quantum))
 
   opened-same : (b : Book) (words : List ℕ) (day : ℕ) (opening : Opening) → length words ≡ 7
@@ -381,35 +381,35 @@ module _ (most : ℕ) where
   call-same b (Send e) h =
       let r = noted-same (b .running) e in
       record {
-        number = ap lowest (sent-same (b .running) e);
+        number = ap firstNumber (sent-same (b .running) e);
         book = λ n i. record { running = r i; cells = map tenfoldCell (b .cells); count = following (b .count) };
         reply = refl;
       }
   call-same b (Message start bytes) h =
       let r = all-noted-same (b .running) (eventsOf start bytes) in
       record {
-        number = ap lowest (message-same (messageIn start bytes) (b .running));
+        number = ap firstNumber (message-same (messageIn start bytes) (b .running));
         book = λ n i. record { running = r i; cells = map tenfoldCell (b .cells); count = countAfter (length (eventsOf start bytes)) (b .count) };
         reply = refl;
       }
   call-same b (Ask a) h =
-      record { number = ap lowest (sent-same (b .running) (amendOf a)); book = λ n. refl; reply = ap asked (preview-same most b a) }
+      record { number = ap firstNumber (sent-same (b .running) (amendOf a)); book = λ n. refl; reply = ap asked (preview-same most b a) }
   call-same b (Commit a ticket) h =
       let r = noted-same (b .running) (amendOf a) in
       record {
-        number = ap (λ (cs : List Cause). lowest (cs ++ (cause 19 (not (goodTicket ticket a (b .count))) ∷ []))) (sent-same (b .running) (amendOf a));
+        number = ap (λ (cs : List Cause). firstNumber (cs ++ (cause 19 (not (goodTicket ticket a (b .count))) ∷ []))) (sent-same (b .running) (amendOf a));
         book = λ n i. record { running = r i; cells = map tenfoldCell (b .cells); count = following (b .count) };
         reply = refl;
       }
   call-same b (Close active passive) h =
       let cells = closed-same (b .running) active passive (b .cells) in
       record {
-        number = ap (λ (t : Bool). lowest (cause 3 (not (goodCharges (percents most) active passive)) ∷ cause 7 (not t) ∷ [])) (open-same (b .running));
+        number = ap (λ (t : Bool). firstNumber (cause 3 (not (goodCharges (percents most) active passive)) ∷ cause 7 (not t) ∷ [])) (open-same (b .running));
         book = λ n i. record { running = Idle; cells = cells i; count = following (b .count) };
         reply = refl;
       }
   call-same b Drop h =
-      record { number = ap (λ (t : Bool). lowest (cause 7 (not t) ∷ [])) (open-same (b .running)); book = λ n. refl; reply = refl }
+      record { number = ap (λ (t : Bool). firstNumber (cause 7 (not t) ∷ [])) (open-same (b .running)); book = λ n. refl; reply = refl }
   call-same b (Charge day expiry quantum active passive) h =
       let place = placeOf day expiry quantum in
       let old = cellAt (b .cells) place in
@@ -419,7 +419,7 @@ module _ (most : ℕ) where
         number =
             ap
             (λ (c : Cell).
-            lowest (cause 3 (not (goodCell day expiry quantum && goodCharges (percents most) active passive)) ∷ cause 5 (not (c .filled)) ∷ []))
+            firstNumber (cause 3 (not (goodCell day expiry quantum && goodCharges (percents most) active passive)) ∷ cause 5 (not (c .filled)) ∷ []))
             (cell-at (b .cells) place);
         book = λ n i. record { running = tenfoldRunning (b .running); cells = cells i; count = following (b .count) };
         reply = refl;

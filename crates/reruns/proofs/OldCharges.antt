@@ -9,7 +9,7 @@ use Rattle.rules.specs.Lists.{All}
 use Rattle.rules.specs.Terms.{paper}
 use Rattle.rules.specs.Answers.{Outcome, Reply, shownLooked, shownReport}
 use Rattle.rules.specs.Calls.{Call, Book}
-use Rattle.rules.specs.Causes.{lowest, causes, refusalOf}
+use Rattle.rules.specs.Causes.{firstNumber, causes, refusalOf}
 use Rattle.rules.specs.Replies.{reportOf}
 use Rattle.rules.specs.Book.{answerOf, after}
 use Rattle.rules.specs.Calls as B
@@ -31,7 +31,7 @@ pub limit-raised : (calls : List Call) → All (NotPast chargeBefore) calls → 
 limit-raised calls h = larger-charges (tenths chargeBefore) (paper .most-charge) (omega arith) calls h
 
 report-answer : (b : Book) → answerOf (tenths chargeBefore) b B.Report ≡ shownReport (reportOf (tenths chargeBefore) b)
-unfolding answerOf refusalOf causes lowest
+unfolding answerOf refusalOf causes firstNumber
 report-answer b = refl
 
 module _ (ws before behind : List ℕ) (ran : Ran) (promise : ListAnswers ws before behind ran) (room : length (callsOf ws) ≤ length before)

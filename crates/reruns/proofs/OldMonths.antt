@@ -8,7 +8,7 @@ use Rattle.rules.specs.Lists.{All}
 use Rattle.rules.specs.Terms.{paper}
 use Rattle.rules.specs.Answers.{Outcome, Reply, shownLooked, shownReport}
 use Rattle.rules.specs.Calls.{Call, freshBook}
-use Rattle.rules.specs.Causes.{lowest, causes, refusalOf}
+use Rattle.rules.specs.Causes.{firstNumber, causes, refusalOf}
 use Rattle.rules.specs.Replies.{reportOf}
 use Rattle.rules.specs.Book.{answerOf, after}
 use Rattle.rules.specs.Calls as B
@@ -34,7 +34,7 @@ length-map f [] = refl
 length-map f (x ∷ xs) = ap suc (length-map f xs)
 
 report-answer : (b : B.Book) → tenfoldAnswer (answerOf (percents chargeBefore) b B.Report) ≡ shownReport (reportOf (percents chargeBefore) b)
-unfolding answerOf refusalOf causes lowest
+unfolding answerOf refusalOf causes firstNumber
 report-answer b = refl
 
 module _ (ws before behind : List ℕ) (ran : Ran) (promise : ListAnswers ws before behind ran) (room : length (callsOf ws) ≤ length before)

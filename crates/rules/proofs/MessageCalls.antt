@@ -11,7 +11,7 @@ use Rattle.rules.specs.Dates.{Moment, before, at, late}
 use Rattle.rules.specs.Messages as M
 use Rattle.rules.specs.MessageCalls.{messageIn, eventsAt, eventsBy, eventsIn, eventsOf}
 use Rattle.rules.specs.Calls.{Send, Message, Running, Idle, Quoting, Book, isOpen}
-use Rattle.rules.specs.Causes.{lowest, eventCauses, sendCauses, otherSideIn, causesInTurn, callCauses, messageCauses, causes, refusalOf}
+use Rattle.rules.specs.Causes.{firstNumber, eventCauses, sendCauses, otherSideIn, causesInTurn, callCauses, messageCauses, causes, refusalOf}
 use Rattle.rules.specs.Changes.{notedAll, countAfter, changed}
 use Rattle.rules.specs.Book.{answerOf, step, stepBy}
 use Rattle.rules.proofs.Refusals.{skip, stop, passed, Numbered, first-stops, first-passes, send-numbered, step-accepted}
@@ -25,24 +25,24 @@ module _ (terms : Terms) (b : Book) (start bytes : List ℕ) where
   -- 20, or 21 of the reader
   pub unread : (n : ℕ) → messageIn start bytes ≡ refused n → refusalOf terms b (Message start bytes) ≡ n
   unfolding refusalOf causes
-  unread n h = ap (λ (read : Outcome (M.Message Moment)). lowest (messageCauses (b .running) read)) h ∙ stop n [] refl
+  unread n h = ap (λ (read : Outcome (M.Message Moment)). firstNumber (messageCauses (b .running) read)) h ∙ stop n [] refl
 
   module _ (m : M.Message Moment) (h : messageIn start bytes ≡ accepted m) where
-    as-read : refusalOf terms b (Message start bytes) ≡ lowest (messageCauses (b .running) (accepted m))
+    as-read : refusalOf terms b (Message start bytes) ≡ firstNumber (messageCauses (b .running) (accepted m))
     unfolding refusalOf causes
-    as-read = ap (λ (read : Outcome (M.Message Moment)). lowest (messageCauses (b .running) read)) h
+    as-read = ap (λ (read : Outcome (M.Message Moment)). firstNumber (messageCauses (b .running) read)) h
 
     pub wrong-side : otherSideIn (b .running) m ≡ true → refusalOf terms b (Message start bytes) ≡ 21
     wrong-side s = as-read ∙ stop 21 _ s
 
     module _ (s : otherSideIn (b .running) m ≡ false) (t : Moment) (time : M.timeOf m ≡ t) where
-      by-calls : refusalOf terms b (Message start bytes) ≡ lowest (callCauses (b .running) m t)
-      by-calls = as-read ∙ skip 21 _ s refl ∙ ap (λ (t : Moment). lowest (callCauses (b .running) m t)) time
+      by-calls : refusalOf terms b (Message start bytes) ≡ firstNumber (callCauses (b .running) m t)
+      by-calls = as-read ∙ skip 21 _ s refl ∙ ap (λ (t : Moment). firstNumber (callCauses (b .running) m t)) time
 
       pub none-open : isOpen (b .running) ≡ false → refusalOf terms b (Message start bytes) ≡ 7
       none-open k = by-calls ∙ go (b .running) k
         where
-          go : (r : Running) → isOpen r ≡ false → lowest (callCauses r m t) ≡ 7
+          go : (r : Running) → isOpen r ≡ false → firstNumber (callCauses r m t) ≡ 7
           go Idle k = stop 7 [] refl
           go (Quoting place row opening events) k = absurd (true≢false k)
 
@@ -50,14 +50,14 @@ module _ (terms : Terms) (b : Book) (start bytes : List ℕ) where
     pub early : otherSideIn (b .running) m ≡ false → M.timeOf m ≡ before → isOpen (b .running) ≡ true → refusalOf terms b (Message start bytes) ≡ 8
     early s time k = by-calls s before time ∙ go (b .running) k
       where
-        go : (r : Running) → isOpen r ≡ true → lowest (callCauses r m before) ≡ 8
+        go : (r : Running) → isOpen r ≡ true → firstNumber (callCauses r m before) ≡ 8
         go Idle k = absurd (false≢true k)
         go (Quoting place row opening events) k = stop 8 [] refl
 
     pub past : otherSideIn (b .running) m ≡ false → M.timeOf m ≡ late → isOpen (b .running) ≡ true → refusalOf terms b (Message start bytes) ≡ 9
     past s time k = by-calls s late time ∙ go (b .running) k
       where
-        go : (r : Running) → isOpen r ≡ true → lowest (callCauses r m late) ≡ 9
+        go : (r : Running) → isOpen r ≡ true → firstNumber (callCauses r m late) ≡ 9
         go Idle k = absurd (false≢true k)
         go (Quoting place row opening events) k = stop 9 [] refl
 
@@ -72,10 +72,10 @@ module _ (terms : Terms) (b : Book) (start bytes : List ℕ) where
         unfolding refusalOf causes causesInTurn
         one-refusal = by-calls s (at t) time ∙ go (b .running)
           where
-            go : (r : Running) → lowest (callCauses r m (at t)) ≡ lowest (sendCauses r e)
+            go : (r : Running) → firstNumber (callCauses r m (at t)) ≡ firstNumber (sendCauses r e)
             go Idle = refl
             go (Quoting place row opening events) =
-                ap (λ (es : List Event). lowest (causesInTurn row events es)) one ∙ ap lowest (append-nil (eventCauses row events e))
+                ap (λ (es : List Event). firstNumber (causesInTurn row events es)) one ∙ ap firstNumber (append-nil (eventCauses row events e))
 
         one-changed : changed b (Message start bytes) ≡ changed b (Send e)
         unfolding changed
@@ -101,10 +101,10 @@ module _ (terms : Terms) (b : Book) (start bytes : List ℕ) where
         unfolding refusalOf causes causesInTurn
         first-refused j k = by-calls s (at t) time ∙ go (b .running) k
           where
-            go : (r : Running) → lowest (sendCauses r first) ≡ suc j → lowest (callCauses r m (at t)) ≡ suc j
+            go : (r : Running) → firstNumber (sendCauses r first) ≡ suc j → firstNumber (callCauses r m (at t)) ≡ suc j
             go Idle k = k
             go (Quoting place row opening events) k =
-                ap (λ (es : List Event). lowest (causesInTurn row events es)) two ∙ first-stops (eventCauses row events first) _ j k
+                ap (λ (es : List Event). firstNumber (causesInTurn row events es)) two ∙ first-stops (eventCauses row events first) _ j k
 
         module _ (k : refusalOf terms b (Send first) ≡ 0) where
           pub second-refusal : refusalOf terms b (Message start bytes) ≡ refusalOf terms (step terms b (Send first)) (Send second)
@@ -114,13 +114,13 @@ module _ (terms : Terms) (b : Book) (start bytes : List ℕ) where
               ∙ go (b .running) k (send-numbered (b .running) first)
               ∙ ap (λ (d : Book). refusalOf terms d (Send second)) (sym (step-accepted terms b (Send first) k))
             where
-              go : (r : Running) → lowest (sendCauses r first) ≡ 0 → Numbered (sendCauses r first)
-                  → lowest (callCauses r m (at t)) ≡ lowest (sendCauses (notedAll r (first ∷ [])) second)
+              go : (r : Running) → firstNumber (sendCauses r first) ≡ 0 → Numbered (sendCauses r first)
+                  → firstNumber (callCauses r m (at t)) ≡ firstNumber (sendCauses (notedAll r (first ∷ [])) second)
               go Idle k n = absurd (true≢false (passed 6 true [] k .0))
               go (Quoting place row opening events) k n =
-                  ap (λ (es : List Event). lowest (causesInTurn row events es)) two
+                  ap (λ (es : List Event). firstNumber (causesInTurn row events es)) two
                   ∙ first-passes (eventCauses row events first) _ k n
-                  ∙ ap lowest (append-nil (eventCauses row (events ++ (first ∷ [])) second))
+                  ∙ ap firstNumber (append-nil (eventCauses row (events ++ (first ∷ [])) second))
 
           pub both-step : refusalOf terms (step terms b (Send first)) (Send second) ≡ 0
               → step terms b (Message start bytes) ≡ step terms (step terms b (Send first)) (Send second)

@@ -1,4 +1,4 @@
--- Laws of `lowest`; what an accepted event or call has passed, cause by cause, and that what has passed is accepted; the book's step and
+-- Laws of `firstNumber`; what an accepted event or call has passed, cause by cause, and that what has passed is accepted; the book's step and
 -- answer by the refusal. Assumes nothing.
 use Prim.Native.Nat.{ℕ, zero, suc, _≤_, _<_}
 use native.Mathlib.Omega.{arith}
@@ -30,7 +30,7 @@ use Rattle.rules.specs.Dates.{Moment, before, at, late}
 use Rattle.rules.specs.Messages as M
 use Rattle.rules.specs.MessageCalls.{messageIn, eventsAt, eventsBy, eventsIn}
 use Rattle.rules.specs.Calls.{Call, Open, Send, Message, Ask, Commit, Close, Drop, Charge, Withdraw, Look, Report, Running, Idle, Quoting, Book, isOpen, amendOf}
-use Rattle.rules.specs.Causes.{Cause, cause, lowest, traderCauses, eventCauses, eventRefusal, sendCauses, otherSideIn, causesInTurn, causesBy, callCauses, messageCauses, goodTicket, goodSettlement, goodSpreadRule, goodCharges, causes, refusalOf}
+use Rattle.rules.specs.Causes.{Cause, cause, firstNumber, traderCauses, eventCauses, eventRefusal, sendCauses, otherSideIn, causesInTurn, causesBy, callCauses, messageCauses, goodTicket, goodSettlement, goodSpreadRule, goodCharges, causes, refusalOf}
 use Rattle.rules.specs.Changes.{changed}
 use Rattle.rules.specs.Replies.{replyOf}
 use Rattle.rules.specs.Book.{answerOf, stepBy, step}
@@ -39,32 +39,32 @@ use Rattle.rules.proofs.Lists.{both, and}
 -- ---- the lowest number
 
 -- cause by cause: `skip _ _ e (skip _ _ f (stop _ _ g))` is a refusal by the third
-pub skip : (n : ℕ) {b : Bool} (cs : List Cause) {m : ℕ} → b ≡ false → lowest cs ≡ m → lowest (cause n b ∷ cs) ≡ m
-unfolding lowest
+pub skip : (n : ℕ) {b : Bool} (cs : List Cause) {m : ℕ} → b ≡ false → firstNumber cs ≡ m → firstNumber (cause n b ∷ cs) ≡ m
+unfolding firstNumber
 skip n cs e h = rw e h
 
-pub stop : (n : ℕ) {b : Bool} (cs : List Cause) → b ≡ true → lowest (cause n b ∷ cs) ≡ n
-unfolding lowest
+pub stop : (n : ℕ) {b : Bool} (cs : List Cause) → b ≡ true → firstNumber (cause n b ∷ cs) ≡ n
+unfolding firstNumber
 stop n cs e = rw e refl
 
-pub clear : lowest [] ≡ 0
-unfolding lowest
+pub clear : firstNumber [] ≡ 0
+unfolding firstNumber
 clear = refl
 
 -- no number: the first cause does not apply, nor do the others
-pub passed : (n : ℕ) (b : Bool) (cs : List Cause) → lowest (cause (suc n) b ∷ cs) ≡ 0 → (b ≡ false) × (lowest cs ≡ 0)
-unfolding lowest
+pub passed : (n : ℕ) (b : Bool) (cs : List Cause) → firstNumber (cause (suc n) b ∷ cs) ≡ 0 → (b ≡ false) × (firstNumber cs ≡ 0)
+unfolding firstNumber
 passed n true cs h = absurd (omega arith)
 passed n false cs h = (refl, h)
 
 -- two lists of causes, one behind the other: the first list's number, or the second's where it has none
-pub first-stops : (cs ds : List Cause) (j : ℕ) → lowest cs ≡ suc j → lowest (cs ++ ds) ≡ suc j
-unfolding lowest
+pub first-stops : (cs ds : List Cause) (j : ℕ) → firstNumber cs ≡ suc j → firstNumber (cs ++ ds) ≡ suc j
+unfolding firstNumber
 first-stops [] ds j e = absurd (omega arith)
 first-stops (c ∷ cs) ds j e = go (c .applies) e (first-stops cs ds j)
   where
-    go : (b : Bool) → (if b then c .number else lowest cs) ≡ suc j → (lowest cs ≡ suc j → lowest (cs ++ ds) ≡ suc j)
-        → (if b then c .number else lowest (cs ++ ds)) ≡ suc j
+    go : (b : Bool) → (if b then c .number else firstNumber cs) ≡ suc j → (firstNumber cs ≡ suc j → firstNumber (cs ++ ds) ≡ suc j)
+        → (if b then c .number else firstNumber (cs ++ ds)) ≡ suc j
     go true e r = e
     go false e r = r e
 
@@ -72,20 +72,20 @@ first-stops (c ∷ cs) ds j e = go (c .applies) e (first-stops cs ds j)
 abbrev pub Numbered : List Cause → Type 0
 Numbered cs = All (λ (c : Cause). c .number ≡ 0 → ⊥) cs
 
-pub first-passes : (cs ds : List Cause) → lowest cs ≡ 0 → Numbered cs → lowest (cs ++ ds) ≡ lowest ds
-unfolding lowest
+pub first-passes : (cs ds : List Cause) → firstNumber cs ≡ 0 → Numbered cs → firstNumber (cs ++ ds) ≡ firstNumber ds
+unfolding firstNumber
 first-passes [] ds e n = refl
 first-passes (c ∷ cs) ds e n = go (c .applies) e (λ h. first-passes cs ds h (n .1))
   where
-    go : (b : Bool) → (if b then c .number else lowest cs) ≡ 0 → (lowest cs ≡ 0 → lowest (cs ++ ds) ≡ lowest ds)
-        → (if b then c .number else lowest (cs ++ ds)) ≡ lowest ds
+    go : (b : Bool) → (if b then c .number else firstNumber cs) ≡ 0 → (firstNumber cs ≡ 0 → firstNumber (cs ++ ds) ≡ firstNumber ds)
+        → (if b then c .number else firstNumber (cs ++ ds)) ≡ firstNumber ds
     go true e r = absurd (n .0 e)
     go false e r = r e
 
-both-pass : (cs ds : List Cause) → Numbered cs → lowest (cs ++ ds) ≡ 0 → (lowest cs ≡ 0) × (lowest ds ≡ 0)
-both-pass cs ds n e = go (lowest cs) refl
+both-pass : (cs ds : List Cause) → Numbered cs → firstNumber (cs ++ ds) ≡ 0 → (firstNumber cs ≡ 0) × (firstNumber ds ≡ 0)
+both-pass cs ds n e = go (firstNumber cs) refl
   where
-    go : (k : ℕ) → lowest cs ≡ k → (lowest cs ≡ 0) × (lowest ds ≡ 0)
+    go : (k : ℕ) → firstNumber cs ≡ k → (firstNumber cs ≡ 0) × (firstNumber ds ≡ 0)
     go zero h = (h, sym (first-passes cs ds h n) ∙ e)
     go (suc j) h = absurd (omega (arith, first-stops cs ds j h, e))
 
@@ -131,7 +131,7 @@ TraderPasses orders (Cancel t id) = Cancellable orders id
 TraderPasses orders (Deal t id volume) = Dealable orders id volume
 TraderPasses orders (Tick t) = Unit
 
-pub trader-passes : (orders : List Order) (e : Event) → lowest (traderCauses orders e) ≡ 0 → TraderPasses orders e
+pub trader-passes : (orders : List Order) (e : Event) → firstNumber (traderCauses orders e) ≡ 0 → TraderPasses orders e
 trader-passes orders (Add t id side price volume) h =
     let a = passed 9 _ _ h in
     let b = passed 11 _ _ (a .1) in
@@ -155,7 +155,7 @@ trader-passes orders (Deal t id volume) h =
     }
 trader-passes orders (Tick t) h = tt
 
-passes-trader : (orders : List Order) (e : Event) → TraderPasses orders e → lowest (traderCauses orders e) ≡ 0
+passes-trader : (orders : List Order) (e : Event) → TraderPasses orders e → firstNumber (traderCauses orders e) ≡ 0
 passes-trader orders (Add t id side price volume) p =
     skip _ _ (p .fresh) (skip _ _ (both-not (p .price-good) (p .volume-good)) (skip _ _ (lt-leb 64 (length orders) (p .room)) clear))
 passes-trader orders (Amend t id price volume) p =
@@ -200,12 +200,12 @@ abbrev pub SendPasses : Running → Event → Type 0
 SendPasses Idle e = ⊥
 SendPasses (Quoting place row opening events) e = EventPasses row events e
 
-send-passes : (r : Running) (e : Event) → lowest (sendCauses r e) ≡ 0 → SendPasses r e
+send-passes : (r : Running) (e : Event) → firstNumber (sendCauses r e) ≡ 0 → SendPasses r e
 unfolding eventRefusal
 send-passes Idle e h = absurd (true≢false (passed 6 true [] h .0))
 send-passes (Quoting place row opening events) e h = event-passes row events e h
 
-passes-send : (r : Running) (e : Event) → SendPasses r e → lowest (sendCauses r e) ≡ 0
+passes-send : (r : Running) (e : Event) → SendPasses r e → firstNumber (sendCauses r e) ≡ 0
 unfolding eventRefusal
 passes-send Idle e p = absurd p
 passes-send (Quoting place row opening events) e p = passes-event row events e p
@@ -226,14 +226,14 @@ event-numbered : (row : Row) (events : List Event) (e : Event) → Numbered (eve
 unfolding eventCauses
 event-numbered row events e = (λ z. omega (arith, z), (λ z. omega (arith, z), trader-numbered (live events) e))
 
-pub in-turn : (row : Row) (events es : List Event) → lowest (causesInTurn row events es) ≡ 0 → InTurn row events es
+pub in-turn : (row : Row) (events es : List Event) → firstNumber (causesInTurn row events es) ≡ 0 → InTurn row events es
 unfolding causesInTurn eventRefusal
 in-turn row events [] h = tt
 in-turn row events (e ∷ es) h =
     let (a, b) = both-pass (eventCauses row events e) (causesInTurn row (events ++ (e ∷ [])) es) (event-numbered row events e) h in
     (event-passes row events e a, in-turn row (events ++ (e ∷ [])) es b)
 
-turn-in : (row : Row) (events es : List Event) → InTurn row events es → lowest (causesInTurn row events es) ≡ 0
+turn-in : (row : Row) (events es : List Event) → InTurn row events es → firstNumber (causesInTurn row events es) ≡ 0
 unfolding causesInTurn eventRefusal
 turn-in row events [] p = clear
 turn-in row events (e ∷ es) p =
@@ -251,25 +251,25 @@ abbrev pub MessagePasses : Running → Outcome (M.Message Moment) → Type 0
 MessagePasses r (refused n) = n ≡ 0
 MessagePasses r (accepted m) = (otherSideIn r m ≡ false) × CallsPass r m (M.timeOf m)
 
-calls-pass : (r : Running) (m : M.Message Moment) (t : Moment) → lowest (callCauses r m t) ≡ 0 → CallsPass r m t
+calls-pass : (r : Running) (m : M.Message Moment) (t : Moment) → firstNumber (callCauses r m t) ≡ 0 → CallsPass r m t
 calls-pass Idle m t h = absurd (true≢false (passed 6 true [] h .0))
 calls-pass (Quoting place row opening events) m before h = absurd (true≢false (passed 7 true [] h .0))
 calls-pass (Quoting place row opening events) m (at t) h = in-turn row events (eventsAt m t) h
 calls-pass (Quoting place row opening events) m late h = absurd (true≢false (passed 8 true [] h .0))
 
-pass-calls : (r : Running) (m : M.Message Moment) (t : Moment) → CallsPass r m t → lowest (callCauses r m t) ≡ 0
+pass-calls : (r : Running) (m : M.Message Moment) (t : Moment) → CallsPass r m t → firstNumber (callCauses r m t) ≡ 0
 pass-calls Idle m t p = absurd p
 pass-calls (Quoting place row opening events) m before p = absurd p
 pass-calls (Quoting place row opening events) m (at t) p = turn-in row events (eventsAt m t) p
 pass-calls (Quoting place row opening events) m late p = absurd p
 
-message-passes : (r : Running) (read : Outcome (M.Message Moment)) → lowest (messageCauses r read) ≡ 0 → MessagePasses r read
+message-passes : (r : Running) (read : Outcome (M.Message Moment)) → firstNumber (messageCauses r read) ≡ 0 → MessagePasses r read
 message-passes r (refused n) h = sym (stop n [] refl) ∙ h
 message-passes r (accepted m) h =
     let (s, p) = passed 20 (otherSideIn r m) (callCauses r m (M.timeOf m)) h in
     (s, calls-pass r m (M.timeOf m) p)
 
-passes-message : (r : Running) (read : Outcome (M.Message Moment)) → MessagePasses r read → lowest (messageCauses r read) ≡ 0
+passes-message : (r : Running) (read : Outcome (M.Message Moment)) → MessagePasses r read → firstNumber (messageCauses r read) ≡ 0
 passes-message r (refused n) p = stop n [] refl ∙ p
 passes-message r (accepted m) p = skip 21 (callCauses r m (M.timeOf m)) (p .0) (pass-calls r m (M.timeOf m) (p .1))
 
@@ -327,7 +327,7 @@ abbrev cellCauses : Book → ℕ → ℕ → ℕ → List Cause
 cellCauses b day expiry quantum =
     cause 3 (not (goodCell day expiry quantum)) ∷ cause 5 (not (cellAt (b .cells) (placeOf day expiry quantum) .filled)) ∷ []
 
-cell-passes : (b : Book) (day expiry quantum : ℕ) → lowest (cellCauses b day expiry quantum) ≡ 0 → CellPasses b day expiry quantum
+cell-passes : (b : Book) (day expiry quantum : ℕ) → firstNumber (cellCauses b day expiry quantum) ≡ 0 → CellPasses b day expiry quantum
 cell-passes b day expiry quantum h =
     let a3 = passed 2 _ _ h in
     let a5 = passed 4 _ _ (a3 .1) in
@@ -336,7 +336,7 @@ cell-passes b day expiry quantum h =
       filled = not-false (cellAt (b .cells) (placeOf day expiry quantum) .filled) (a5 .0);
     }
 
-passes-cell : (b : Book) (day expiry quantum : ℕ) → CellPasses b day expiry quantum → lowest (cellCauses b day expiry quantum) ≡ 0
+passes-cell : (b : Book) (day expiry quantum : ℕ) → CellPasses b day expiry quantum → firstNumber (cellCauses b day expiry quantum) ≡ 0
 passes-cell b day expiry quantum p = skip _ _ (ap not (p .cell-good)) (skip _ _ (ap not (p .filled)) clear)
 
 module _ (terms : Terms) where

@@ -7,7 +7,7 @@ use lib.ListN.{length, getD}
 use Rattle.rules.specs.Lists.{within, sum, any}
 use Rattle.rules.specs.Rows.{goodLength}
 use Rattle.rules.specs.Answers.{Outcome, outcomeBy}
-use Rattle.rules.specs.Causes.{cause, lowest}
+use Rattle.rules.specs.Causes.{cause, firstNumber}
 
 -- "closed quanta, one a strike": each a pair of K and L
 abbrev pub keptOf : List ℕ → ℕ
@@ -46,4 +46,4 @@ boardMet first second strikes =
 -- whether the board is met; "18, an empty or overlong board, unequal lengths, or a number outside the ranges above"
 unfoldable pub judged : ℕ → ℕ → List (List ℕ) → Outcome Bool
 judged first second strikes =
-    outcomeBy (lowest (cause 18 (not (goodBoard first second strikes)) ∷ [])) (boardMet first second strikes)
+    outcomeBy (firstNumber (cause 18 (not (goodBoard first second strikes)) ∷ [])) (boardMet first second strikes)

@@ -1,4 +1,4 @@
--- Document 01, "Refused calls": the causes of a refusal, each with its number, and the lowest that applies.
+-- Document 01, "Refused calls": the causes of a refusal, each with its number, and the first that applies.
 use Prim.Native.Nat.{ℕ}
 use mathlib.Core.List.{List, [], _∷_, _++_}
 use mathlib.Core.Bool.{Bool, true, false, not, _&&_}
@@ -37,11 +37,11 @@ pub record Cause : Type 0 where
 abbrev pub cause : ℕ → Bool → Cause
 cause n b = record { number = n; applies = b }
 
--- "If any applies, the call is refused by the lowest number": the first that applies of a list in the order of the numbers, 0 where
--- none does
-unfoldable pub lowest : List Cause → ℕ
-lowest [] = 0
-lowest (c ∷ cs) = let rest = lowest cs in if c .applies then c .number else rest
+-- "If any applies, the call is refused by the lowest number": the number of the first that applies, 0 where none does. Causes stand in the
+-- order of their numbers; a message's (document 02, W11) in the order in which it is judged, 20 and 21 before 7
+unfoldable pub firstNumber : List Cause → ℕ
+firstNumber [] = 0
+firstNumber (c ∷ cs) = let rest = firstNumber cs in if c .applies then c .number else rest
 
 -- what the trader can cause: 10 add with a live id; 11 amend, cancel or deal on an id not live; 12 price or volume outside its range;
 -- 13 add with 64 live; 14 deal above what is left of the order
@@ -67,7 +67,7 @@ eventCauses row events e =
 
 -- the number that refuses the event, 0 where it is accepted
 unfoldable pub eventRefusal : Row → List Event → Event → ℕ
-eventRefusal row events e = lowest (eventCauses row events e)
+eventRefusal row events e = firstNumber (eventCauses row events e)
 
 abbrev pub sendCauses : Running → Event → List Cause
 sendCauses Idle e = cause 7 true ∷ []
@@ -134,7 +134,7 @@ module _ (terms : Terms) where
 
   -- a row read from words: the row, or 1 or 2
   unfoldable pub readRow : SpreadRule → List ℕ → Outcome Row
-  readRow spread words = outcomeBy (lowest (rowCauses spread words)) (rowOf words)
+  readRow spread words = outcomeBy (firstNumber (rowCauses spread words)) (rowOf words)
 
   abbrev pub goodCharges : Kopecks → Kopecks → Bool
   goodCharges active passive = goodCharge terms (active .0) && goodCharge terms (passive .0)
@@ -170,4 +170,4 @@ module _ (terms : Terms) where
 
   -- the number that refuses the call, 0 where it is accepted
   unfoldable pub refusalOf : Book → Call → ℕ
-  refusalOf b c = lowest (causes b c)
+  refusalOf b c = firstNumber (causes b c)

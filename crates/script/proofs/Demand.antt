@@ -11,7 +11,7 @@ use Rattle.rules.specs.Lists.{if_then_else_}
 use Rattle.rules.specs.Terms.{paper}
 use Rattle.rules.specs.Answers.{shownReport}
 use Rattle.rules.specs.Calls.{Book}
-use Rattle.rules.specs.Causes.{lowest, causes, refusalOf}
+use Rattle.rules.specs.Causes.{firstNumber, causes, refusalOf}
 use Rattle.rules.specs.Replies.{reportOf}
 use Rattle.rules.specs.Book.{answerOf, after}
 use Rattle.rules.specs.Calls as B
@@ -25,7 +25,7 @@ use Rattle.script.specs.Demand.{ListAnswers, Shows, Afresh}
 
 -- a report is never refused
 report-answer : (b : Book) → answerOf paper b B.Report ≡ shownReport (reportOf paper b)
-unfolding answerOf refusalOf causes lowest
+unfolding answerOf refusalOf causes firstNumber
 report-answer b = refl
 
 shows : (b : Book) (r : Report) → r ≡ reportOf paper b → Shows b r

@@ -13,7 +13,7 @@ use Rattle.rules.specs.Lists.{if_then_else_}
 use Rattle.rules.specs.Terms.{paper}
 use Rattle.rules.specs.Answers.{Outcome, Reply, refused}
 use Rattle.rules.specs.Calls.{Book, Open}
-use Rattle.rules.specs.Causes.{lowest, causes, refusalOf}
+use Rattle.rules.specs.Causes.{firstNumber, causes, refusalOf}
 use Rattle.rules.specs.Book.{answerOf, step}
 use Rattle.rules.proofs.Bounds.{after-snoc}
 use Rattle.month.specs.declared.Month.{Month}
@@ -22,7 +22,7 @@ use Rattle.month.specs.Represents.{monthOf, Answered}
 module _ (day : ℕ) (opening : Opening) where
   module _ (b : Book) (ws : List ℕ) (h : length ws ≡ 7 → ⊥) where
     by-1 : refusalOf paper b (Open ws day opening) ≡ 1
-    unfolding refusalOf causes lowest
+    unfolding refusalOf causes firstNumber
     by-1 = rw (ne-eqb (length ws) 7 h) refl
 
     answer-is : answerOf paper b (Open ws day opening) ≡ refused 1

@@ -26,7 +26,7 @@ use Rattle.rules.specs.Pay.{met, weightBy, weight, cellWeight}
 use Rattle.rules.specs.Stretches.{Stretch, keptStretches}
 use Rattle.rules.specs.Answers.{Outcome, accepted, refused, outcomeBy}
 use Rattle.rules.specs.Calls.{Open, Send, Close, Quoting, Book, freshBook, isOpen}
-use Rattle.rules.specs.Causes.{Cause, lowest, cause, causes, eventRefusal, readRow, refusalOf}
+use Rattle.rules.specs.Causes.{Cause, firstNumber, cause, causes, eventRefusal, readRow, refusalOf}
 use Rattle.rules.specs.Changes.{closedCell, following, changed}
 use Rattle.rules.specs.Book.{step}
 use Rattle.rules.specs.Records.{readRecord}
@@ -140,7 +140,7 @@ module _ (most cell : ℕ) (row : Row) (sp : Steps) where
   -- ---- the end
 
   close-passes : (es : List Event) → refusalOf paper (bookWith cell row sp es) (Close (kopecks 0) (kopecks 0)) ≡ 0
-  unfolding refusalOf causes goodCharge lowest
+  unfolding refusalOf causes goodCharge firstNumber
   close-passes es = refl
 
   pub closed-cell : (es : List Event) → cell < 186
@@ -171,16 +171,16 @@ module _ (most cell : ℕ) (row : Row) (sp : Steps) where
 -- ---- the start
 
 -- the row's two causes, with others behind them
-first-refused : (a b : Bool) (rest : List Cause) (row : Row) (n : ℕ) → refused n ≡ outcomeBy (lowest (cause 1 (not a) ∷ cause 2 (not b) ∷ [])) row
-    → (m : ℕ) × (n ≡ suc m) × (lowest (cause 1 (not a) ∷ cause 2 (not b) ∷ rest) ≡ suc m)
-unfolding lowest
+first-refused : (a b : Bool) (rest : List Cause) (row : Row) (n : ℕ) → refused n ≡ outcomeBy (firstNumber (cause 1 (not a) ∷ cause 2 (not b) ∷ [])) row
+    → (m : ℕ) × (n ≡ suc m) × (firstNumber (cause 1 (not a) ∷ cause 2 (not b) ∷ rest) ≡ suc m)
+unfolding firstNumber
 first-refused false b rest row n e = (0, cc, refl)
 first-refused true false rest row n e = (1, cc, refl)
 first-refused true true rest row n e = let z : _≡_ {A = ℕ} 0 1 = cc in absurd (omega arith)
 
-first-accepted : (a b : Bool) (rest : List Cause) (row r : Row) → accepted r ≡ outcomeBy (lowest (cause 1 (not a) ∷ cause 2 (not b) ∷ [])) row
-    → (a ≡ true) × (b ≡ true) × (r ≡ row) × (lowest (cause 1 (not a) ∷ cause 2 (not b) ∷ rest) ≡ lowest rest)
-unfolding lowest
+first-accepted : (a b : Bool) (rest : List Cause) (row r : Row) → accepted r ≡ outcomeBy (firstNumber (cause 1 (not a) ∷ cause 2 (not b) ∷ [])) row
+    → (a ≡ true) × (b ≡ true) × (r ≡ row) × (firstNumber (cause 1 (not a) ∷ cause 2 (not b) ∷ rest) ≡ firstNumber rest)
+unfolding firstNumber
 first-accepted false b rest row r e = let z : _≡_ {A = ℕ} 0 1 = cc in absurd (omega arith)
 first-accepted true false rest row r e = let z : _≡_ {A = ℕ} 0 1 = cc in absurd (omega arith)
 first-accepted true true rest row r e = (refl, refl, cc, refl)

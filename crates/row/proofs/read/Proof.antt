@@ -11,21 +11,21 @@ use Rattle.rules.specs.declared.SpreadRule.{SpreadRule}
 use Rattle.rules.specs.Terms.{paper}
 use Rattle.rules.specs.Rows.{rowOf, goodRow, goodRowFor}
 use Rattle.rules.specs.Answers.{accepted, refused}
-use Rattle.rules.specs.Causes.{lowest, readRow}
+use Rattle.rules.specs.Causes.{firstNumber, readRow}
 use Rattle.row.proofs.read.Statement.{statement}
 use Rattle.row.proofs.read.Tie as tie
 
 module _ (spread : SpreadRule) (words : List ℕ) where
   refused-1 : (length words ≡ 7 → ⊥) → refused 1 ≡ readRow paper spread words
-  unfolding readRow lowest
+  unfolding readRow firstNumber
   refused-1 h = simp (ne-eqb (length words) 7 h)
 
   refused-2 : length words ≡ 7 → goodRowFor paper spread (rowOf words) ≡ false → refused 2 ≡ readRow paper spread words
-  unfolding readRow lowest
+  unfolding readRow firstNumber
   refused-2 h e = simp (eq-eqb (length words) 7 h, e)
 
   taken : length words ≡ 7 → goodRowFor paper spread (rowOf words) ≡ true → accepted (rowOf words) ≡ readRow paper spread words
-  unfolding readRow lowest
+  unfolding readRow firstNumber
   taken h e = simp (eq-eqb (length words) 7 h, e)
 
 returns : tie.Need-returns
