@@ -3,3 +3,4 @@ pub mod Fields
 pub mod CellNames
 pub mod Calls
 pub mod Asks
+pub mod Messages

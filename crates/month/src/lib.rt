@@ -14,11 +14,19 @@ ghost use Rattle.rules.specs.Answers.{shownAnswer, shownLooked, shownAsked, sho
 ghost use Rattle.rules.specs.Calls.{Idle};
 ghost use Rattle.rules.specs.Changes.{charged};
 ghost use Rattle.rules.specs.Book.{after};
-ghost use Rattle.rules.specs.Causes.{goodCharges};
+ghost use Rattle.rules.specs.Causes.{goodCharges, otherSideIn};
+ghost use Rattle.rules.specs.Bounds.{BookBounds};
+ghost use Rattle.rules.specs.Lists.{if_then_else_};
+ghost use Rattle.rules.specs.Dates.{Moment};
+ghost use Rattle.rules.specs.Messages.{newOrder, cancelOrder, replaceOrder};
+ghost use Rattle.rules.specs.declared.Refusal.the-variants.{NoQuantumOpen};
+ghost use Rattle.dates.specs.Answers.{shownElapsed};
 ghost use Rattle.rules.specs.Calls as B;
 ghost use Rattle.quantum.specs.Represents as Q;
 ghost use Rattle.month.specs.Represents.{monthOf, quantumIn, Reached, Answered};
-ghost use Rattle.month.specs.Internal.{withCell, withoutQuantum, counted, Previewed, namedIn};
+ghost use Rattle.month.specs.Internal.{withCell, withoutQuantum, counted, Previewed, namedIn, MessageAnswered, BothOrNeither};
+use dates::Elapsed;
+use fix::MessageRead;
 use numbers::both;
 use quantum::Quantum;
 use rules::Amendment;
@@ -429,14 +437,14 @@ impl Month {
         let cancelled = self.cancel(t, orig);
         let first = cancelled.answer;
         let between = cancelled.month;
-        if let Answer::Refused(r) = first {
-            return refused(self, r);
+        if let Answer::Refused(of_cancel) = first {
+            return refused(self, of_cancel);
         }
         let added = between.add(t, id, side, price, volume);
         let second = added.answer;
         match second {
             Answer::Accepted => added,
-            Answer::Refused(r) => refused(self, r),
+            Answer::Refused(of_add) => refused(self, of_add),
         }
     }
 
