@@ -59,19 +59,19 @@ side-long (x ∷ y ∷ v) h = by (eqb x 49) (eqb x 50)
     by false true = refl
     by false false = refl
 
-pub side-buy : (v : List ℕ) → length v ≡ 1 → getD v 0 0 ≡ 49 → some Buy ≡ sideIn v
+pub side-buy : (v : List ℕ) → length v ≡ 1 → getD v (length v - 1) 0 ≡ 49 → some Buy ≡ sideIn v
 unfolding sideIn sameBytes
 side-buy [] h e = absurd (omega arith)
 side-buy (x ∷ []) h e = rw (eq-eqb x 49 e) refl
 side-buy (x ∷ y ∷ v) h e = absurd (omega arith)
 
-pub side-sell : (v : List ℕ) → length v ≡ 1 → (getD v 0 0 ≡ 49 → ⊥) → getD v 0 0 ≡ 50 → some Sell ≡ sideIn v
+pub side-sell : (v : List ℕ) → length v ≡ 1 → (getD v (length v - 1) 0 ≡ 49 → ⊥) → getD v (length v - 1) 0 ≡ 50 → some Sell ≡ sideIn v
 unfolding sideIn sameBytes
 side-sell [] h n e = absurd (omega arith)
 side-sell (x ∷ []) h n e = rw (ne-eqb x 49 n, eq-eqb x 50 e) refl
 side-sell (x ∷ y ∷ v) h n e = absurd (omega arith)
 
-pub side-other : (v : List ℕ) → length v ≡ 1 → (getD v 0 0 ≡ 49 → ⊥) → (getD v 0 0 ≡ 50 → ⊥) → none ≡ sideIn v
+pub side-other : (v : List ℕ) → length v ≡ 1 → (getD v (length v - 1) 0 ≡ 49 → ⊥) → (getD v (length v - 1) 0 ≡ 50 → ⊥) → none ≡ sideIn v
 unfolding sideIn sameBytes
 side-other [] h n m = absurd (omega arith)
 side-other (x ∷ []) h n m = rw (ne-eqb x 49 n, ne-eqb x 50 m) refl

@@ -97,13 +97,15 @@ pub enum SideRead {
 fn side_in(v: &[u8]) -> SideRead
     ensures { λ r. ⌜ shownSide r ≡ sideIn (now (v .entry)) ⌝ }
 {
-    if v.len() != 1 {
+    let n = v.len();
+    if n != 1 {
         return SideRead::Not;
     }
-    if v[0] == 49 {
+    let last = v[n - 1];
+    if last == 49 {
         return SideRead::Is(Side::Buy);
     }
-    if v[0] == 50 {
+    if last == 50 {
         return SideRead::Is(Side::Sell);
     }
     SideRead::Not
@@ -255,10 +257,10 @@ fn read_body(b: &[u8], start: usize, end: usize, kind: u8) -> MessageRead
 pub fn read(bytes: &[u8]) -> MessageRead
     ensures { λ r. ⌜ shownMessage r ≡ readMessage (now (bytes .entry)) ⌝ }
 {
-    let Frame::Of { kind, start, end } = fields::frame_of(bytes) else {
-        return MessageRead::FrameWrong;
-    };
-    read_body(bytes, start, end, kind)
+    match fields::frame_of(bytes) {
+        Frame::Of { kind, start, end } => read_body(bytes, start, end, kind),
+        Frame::Wrong => MessageRead::FrameWrong,
+    }
 }
 
 // The time of a 60 from the quantum's start, both as bytes.

@@ -151,6 +151,7 @@ module _ (m : Message (List ℕ)) where
       subst (Writes m) (sym e)
       (record {
         shows = ap accepted (take-append-seam (messageBytes m) (replicate (114 - length (messageBytes m)) 0)) ∙ written-by (timeIn (timeOf m)) (messageBytes m) h;
+        long = omega (arith, length-append (messageBytes m) (replicate (114 - length (messageBytes m)) 0), length-replicate {A = ℕ} (114 - length (messageBytes m)) 0);
         most = most;
         zeros = drop-append-seam (messageBytes m) (replicate (114 - length (messageBytes m)) 0);
         nothing = λ q. absurd (true≢false q);
@@ -162,6 +163,7 @@ module _ (m : Message (List ℕ)) where
       subst (Writes m) (sym e)
       (record {
         shows = refused-by (timeIn (timeOf m)) (messageBytes m) h;
+        long = refl;
         most = omega arith;
         zeros = refl;
         nothing = λ q. refl;

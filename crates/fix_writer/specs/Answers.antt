@@ -3,7 +3,7 @@ use Prim.Native.Nat.{ℕ, _-_, _≤_}
 use mathlib.Core.Path.{_≡_}
 use mathlib.Core.Bool.{false}
 use mathlib.Core.List.{List}
-use lib.ListN.{take, drop, replicate}
+use lib.ListN.{length, take, drop, replicate}
 use Rattle.rules.specs.Lists.{if_then_else_}
 use Rattle.rules.specs.Answers.{Outcome, accepted, refused}
 use Rattle.rules.specs.Messages.{Message, writeMessage}
@@ -16,6 +16,7 @@ shownText t = if t .good then accepted (take (t .length) (t .bytes)) else refuse
 -- "answered by value, at most 114 bytes": those behind the length are 0, and where nothing is written all are
 pub record Writes (m : Message (List ℕ)) (t : MessageText) : Type 0 where
   pub shows : shownText t ≡ writeMessage m
+  pub long : length (t .bytes) ≡ 114
   pub most : t .length ≤ 114
   pub zeros : drop (t .length) (t .bytes) ≡ replicate (114 - t .length) 0
   pub nothing : t .good ≡ false → t .length ≡ 0

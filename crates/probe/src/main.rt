@@ -7,6 +7,7 @@ mod boards;
 mod days;
 mod eased;
 mod maker_calls;
+mod messages;
 mod safe;
 
 use console::field;
@@ -177,9 +178,9 @@ fn event_line(event: Event) {
     }
 }
 
-fn bytes_line(bytes: &[u8; 20]) {
+fn bytes_line(bytes: &[u8]) {
     text(b"bytes");
-    for i in 0..20 {
+    for i in 0..bytes.len() {
         text(b" ");
         console::hex(bytes[i]);
     }
@@ -228,6 +229,9 @@ fn run_case(input: &[u8]) -> bool {
     }
     if eased::is_kind(kind) {
         return eased::case(kind, input);
+    }
+    if messages::is_kind(kind) {
+        return messages::case(kind, input);
     }
     if kind == 7 {
         return maker_calls::standing_case(input);

@@ -10,19 +10,19 @@ frame-of-requires c κs = search needs
 enum-known-kind : tie.Need-enum-known-kind
 enum-known-kind c = search needs
 
+read-body-requires : tie.Need-read-body-requires
+read-body-requires c κs = a-frame (c .before .before .before .before .before .args .bytes .now) (c .before .before .before .frame-of .result) (c .before .kind .given .0 .0) (c .before .kind .given .0 .1 .0) (c .before .kind .given .0 .1 .1 .0) (c .before .before .before .frame-of .ensures) (c .before .kind .given .1)
+
 enum-told : tie.Need-enum-told
 enum-told c = search needs
 
 returns : tie.Need-returns
-returns c = no-frame (c .before .before .before .before .args .bytes .now) (c .before .before .frame-of .result) (c .before .before .frame-of .ensures) (c .enum-told .given .1)
-
-read-body-requires : tie.Need-read-body-requires
-read-body-requires c κs = a-frame (c .before .before .before .before .before .args .bytes .now) (c .before .before .before .frame-of .result) (c .before .kind .given .0 .0) (c .before .kind .given .0 .1 .0) (c .before .kind .given .0 .1 .1 .0) (c .before .before .before .frame-of .ensures) (c .before .kind .given .1)
+returns c = search needs
 
 returns-2 : tie.Need-returns-2
-returns-2 c = search needs
+returns-2 c = no-frame (c .before .before .before .before .args .bytes .now) (c .before .before .frame-of .result) (c .before .before .frame-of .ensures) (c .enum-told .given .1)
 
 pub read-spec : {M : Type 1} → statement M
 read-spec =
     tie.close
-    (tie.spec frame-of-requires enum-known-kind enum-told returns read-body-requires returns-2)
+    (tie.spec frame-of-requires enum-known-kind read-body-requires enum-told returns returns-2)

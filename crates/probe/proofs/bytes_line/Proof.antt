@@ -1,14 +1,16 @@
--- What is left of the 20 bytes falls. Assumes nothing.
+-- What is left of the bytes falls. Assumes nothing.
 use Prim.Native.Nat.{_-_, _≤_}
+use mathlib.Core.Path.{_≡_}
+use lib.ListN.{length}
 use borrow.Author.Needs.{needs}
 use Rattle.probe.proofs.bytes_line.Statement.{statement}
 use Rattle.probe.proofs.bytes_line.Tie as tie
 
 abbrev Inv-loop : tie.InvT-loop
-Inv-loop bytes i₀ t4 t5 i = i ≤ 20
+Inv-loop bytes i₀ t4 t5 i-end i = (i ≤ i-end) × (i-end ≡ length bytes)
 
 abbrev μ-loop : tie.MeasureT-loop
-μ-loop bytes i₀ t4 t5 i = 20 - i
+μ-loop bytes i₀ t4 t5 i-end i = i-end - i
 
 slice-aggregate-text : tie.Need-slice-aggregate-text Inv-loop μ-loop
 slice-aggregate-text c = search needs
@@ -25,8 +27,8 @@ slice-aggregate-text-2 c = search needs
 text-requires-2 : tie.Need-text-requires-2 Inv-loop μ-loop
 text-requires-2 c κs = search needs
 
-element-copy-out-hex : tie.Need-element-copy-out-hex Inv-loop μ-loop
-element-copy-out-hex c = search needs
+shared-slice-read-hex : tie.Need-shared-slice-read-hex Inv-loop μ-loop
+shared-slice-read-hex c = search needs
 
 hex-requires : tie.Need-hex-requires Inv-loop μ-loop
 hex-requires c κs = search needs
@@ -60,7 +62,7 @@ bytes-line-spec =
     loop-holds
     slice-aggregate-text-2
     text-requires-2
-    element-copy-out-hex
+    shared-slice-read-hex
     hex-requires
     add-i
     loop-less

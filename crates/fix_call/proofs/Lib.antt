@@ -1,0 +1,2 @@
+-- Laws about what the C call leaves.
+pub mod Leaving

@@ -1,0 +1,2 @@
+-- The words that the C call answers.
+pub mod Words
