@@ -1,6 +1,6 @@
 -- `dates::before_year` meets its contract. Assumes nothing.
 use Prim.Native.Nat.{_-_}
-use mathlib.Core.Path.{_≡_, refl, sym, ap, _∙_}
+use mathlib.Core.Path.{sym}
 use native.Mathlib.Omega.{arith}
 use Rattle.dates.proofs.Years.{counted, most-days}
 use borrow.Author.Needs.{needs}

@@ -1,6 +1,5 @@
 -- `dates::days` meets its contract. Assumes nothing.
-use Prim.Native.Nat.{ℕ, _+_, _-_}
-use mathlib.Core.Path.{_≡_, refl, sym, ap, _∙_}
+use Prim.Native.Nat.{_+_, _-_}
 use native.Mathlib.Omega.{arith}
 use Rattle.rules.specs.Dates.{daysBefore}
 use Rattle.dates.proofs.Ranges.{date-ranges}

@@ -1,6 +1,6 @@
 -- `dates::instant` meets its contract. Assumes nothing.
-use Prim.Native.Nat.{ℕ, _+_, _*_}
-use mathlib.Core.Path.{_≡_, refl, sym, ap, _∙_}
+use Prim.Native.Nat.{_+_, _*_}
+use mathlib.Core.Path.{_∙_}
 use Rattle.rules.specs.Dates.{instantOf}
 use borrow.Author.Needs.{needs}
 use Rattle.dates.proofs.instant.Statement.{statement}

@@ -1,5 +1,5 @@
 -- `dates::leap_day` meets its contract. Assumes nothing.
-use mathlib.Core.Path.{_≡_, refl, sym, ap, _∙_}
+use mathlib.Core.Path.{sym, _∙_}
 use native.Mathlib.Omega.{arith}
 use Rattle.dates.proofs.Months.{leap-by, common-by}
 use borrow.Author.Needs.{needs}

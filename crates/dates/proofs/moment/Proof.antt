@@ -1,7 +1,7 @@
 -- `dates::moment` meets its contract. Assumes nothing.
-use mathlib.Core.Path.{_≡_, refl, sym, ap, _∙_}
-use Rattle.rules.specs.Answers.{Outcome, accepted}
-use Rattle.rules.specs.Dates.{Moment, momentOf, momentBetween}
+use mathlib.Core.Path.{_∙_}
+use Rattle.rules.specs.Answers.{accepted}
+use Rattle.rules.specs.Dates.{momentOf, momentBetween}
 use borrow.Author.Needs.{needs}
 use Rattle.dates.proofs.moment.Statement.{statement}
 use Rattle.dates.proofs.moment.Tie as tie

@@ -1,5 +1,5 @@
 -- `dates::month_days` meets its contract. Assumes nothing.
-use mathlib.Core.Path.{_≡_, refl, sym, ap, _∙_}
+use mathlib.Core.Path.{sym, _∙_}
 use Rattle.dates.proofs.Months.{month-february, month-thirty, month-other}
 use borrow.Author.Needs.{needs}
 use Rattle.dates.proofs.month_days.Statement.{statement}

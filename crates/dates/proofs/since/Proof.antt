@@ -1,5 +1,5 @@
 -- `dates::since` meets its contract. Assumes nothing.
-use mathlib.Core.Path.{_≡_, refl, sym, ap, _∙_}
+use mathlib.Core.Path.{sym, ap, _∙_}
 use Rattle.dates.specs.Answers.{shownTime}
 use Rattle.dates.proofs.Reading.{timed, no-start, no-sixty, from-start}
 use borrow.Author.Needs.{needs}

@@ -1,5 +1,4 @@
 -- `dates::two_digits` meets its contract. Assumes nothing.
-use mathlib.Core.Path.{_≡_, refl, sym, ap, _∙_}
 use mathlib.Core.Bool.{_&&_}
 use borrow.Author.Needs.{needs}
 use Rattle.dates.proofs.two_digits.Statement.{statement}

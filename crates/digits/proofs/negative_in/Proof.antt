@@ -1,6 +1,6 @@
 -- `digits::negative_in` meets its contract. Assumes nothing.
 use mathlib.Core.Path.{ap, sym, _∙_}
-use Rattle.rules.specs.Digits.{inDigits, negative}
+use Rattle.rules.specs.Digits.{inDigits}
 use Rattle.digits.specs.Answers.{shownNumber}
 use Rattle.digits.proofs.Numbers.{negative-gone, negative-held, negative-above}
 use borrow.Author.Needs.{needs}

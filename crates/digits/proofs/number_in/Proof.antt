@@ -1,11 +1,10 @@
 -- `digits::number_in` meets its contract. The loop's invariant: the digits that are left decide whether all are, and make the whole number of what is read.
 -- Assumes nothing.
 use Prim.Native.Nat.{_-_, _≤_}
-use mathlib.Core.Path.{_≡_, refl, sym, ap, _∙_}
+use mathlib.Core.Path.{_≡_, refl, sym, _∙_}
 use mathlib.Core.Bool.{true}
 use borrow.Author.Needs.{needs}
 use borrow.Author.Tests.{not-true, not-false}
-use native.Mathlib.Omega.{arith}
 use lib.ListN.{length, drop}
 use Rattle.rules.specs.Digits.{allDigits, numberFrom}
 use Rattle.digits.specs.Answers.{capped}

@@ -1,6 +1,5 @@
 -- `digits::word_in` meets its contract. Assumes nothing.
 use mathlib.Core.Path.{ap, sym, _∙_}
-use native.Mathlib.Omega.{arith}
 use Rattle.rules.specs.Digits.{inDigits, wordIn}
 use Rattle.digits.specs.Answers.{shownNumber}
 use Rattle.digits.proofs.Numbers.{word-gone, word-held, word-above}

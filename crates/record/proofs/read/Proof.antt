@@ -15,7 +15,11 @@ returns-2 c = says (c .before .before .before .fields-of .result) (sym (c .befor
 returns-3 : tie.Need-returns-3
 returns-3 c = says-not (c .before .before .fields-of .result) (sym (c .before .is-good .ensures) ∙ c .if2 .left) ∙ c .before .before .fields-of .ensures .1
 
+-- named, as a must-fail edit makes it false
+fields-of-requires : tie.Need-fields-of-requires
+fields-of-requires c κs = search needs
+
 pub read-spec : {M : Type 1} → statement M
 read-spec =
     tie.close
-    (tie.spec returns (λ c κs. search needs) (λ c κs. search needs) (λ c κs. search needs) returns-2 returns-3)
+    (tie.spec returns fields-of-requires (λ c κs. search needs) (λ c κs. search needs) returns-2 returns-3)

@@ -1,14 +1,8 @@
 -- Five exchanges sort the orders and keep what they hold (`sorted`, `sorted-held`); `down` then finds the best key. Assumes nothing.
-use Prim.Native.Nat.{ℕ, _+_, _≤_, _<_}
-use native.Mathlib.Omega.{arith}
-use mathlib.Core.Path.{_≡_, sym, _∙_}
-use mathlib.Core.Bool.{Bool}
-use lib.ListN.{getD}
+use mathlib.Core.Path.{sym, _∙_}
 use borrow.Author.Needs.{needs}
-use Rattle.rules.specs.Lists.{if_then_else_}
-use Rattle.quote.specs.Levels.{held}
-use Rattle.small.specs.Internal.{heldAll, four}
-use Rattle.small.proofs.Orders.{one-packed, sorted, sorted-held, held-four, column-held}
+use Rattle.small.specs.Internal.{four}
+use Rattle.small.proofs.Orders.{sorted, sorted-held, column-held}
 use Rattle.small.proofs.Sums.{finds}
 use Rattle.small.proofs.best.Statement.{statement}
 use Rattle.small.proofs.best.Tie as tie

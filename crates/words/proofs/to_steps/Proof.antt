@@ -13,5 +13,9 @@ sub-t6 c = high-fits (c .before .args .w) (c .if1 .left)
 returns-2 : tie.Need-returns-2
 returns-2 c = high (c .before .args .w) (c .if1 .left)
 
+-- named, as a must-fail edit makes it false
+sub-d : tie.Need-sub-d
+sub-d c = search needs
+
 pub to-steps-spec : {M : Type 1} → statement M
-to-steps-spec = tie.close (tie.spec (λ c. search needs) returns (λ c. search needs) (λ c. search needs) sub-t6 returns-2)
+to-steps-spec = tie.close (tie.spec (λ c. search needs) returns sub-d (λ c. search needs) sub-t6 returns-2)
