@@ -7,12 +7,6 @@ use borrow.Author.Needs.{needs}
 use Rattle.console.proofs.price_at.Statement.{statement}
 use Rattle.console.proofs.price_at.Tie as tie
 
-word-at-requires : tie.Need-word-at-requires
-word-at-requires c κs = search needs
-
-to-steps-requires : tie.Need-to-steps-requires
-to-steps-requires c κs = search needs
-
 returns : tie.Need-returns
 returns c =
     let w = c .before .before .word-at in
@@ -20,4 +14,4 @@ returns c =
     read-is (w .result) _ (p .result .0) (omega arith) (ap (λ (s : Steps). s .0) (p .ensures)) (w .ensures)
 
 pub price-at-spec : {M : Type 1} → statement M
-price-at-spec = tie.close (tie.spec word-at-requires to-steps-requires returns)
+price-at-spec = tie.close (tie.spec (λ c κs. search needs) (λ c κs. search needs) returns)

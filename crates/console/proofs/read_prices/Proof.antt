@@ -25,28 +25,10 @@ abbrev μ-loop : tie.MeasureT-loop
 loop-holds : tie.Need-loop-holds Inv-loop μ-loop
 loop-holds c = (omega arith, refl, none-filled (due (c .before .args .bytes .now) (c .before .args .from)) (c .before .args .prices .now))
 
-mul-price-at : tie.Need-mul-price-at Inv-loop μ-loop
-mul-price-at c = search needs
-
-add-price-at : tie.Need-add-price-at Inv-loop μ-loop
-add-price-at c = search needs
-
-price-at-requires : tie.Need-price-at-requires Inv-loop μ-loop
-price-at-requires c κs = search needs
-
-mul-p : tie.Need-mul-p Inv-loop μ-loop
-mul-p c = search needs
-
 slice-set-from-p : tie.Need-slice-set-from-p Inv-loop μ-loop
 slice-set-from-p c =
     let l = c .before .before .loop in
     omega (arith, l .inv .1, ap length (l .inv .2) ∙ filled-length _ _ (l .i) (omega (arith, l .inv .0, l .inv .1)))
-
-add-i : tie.Need-add-i Inv-loop μ-loop
-add-i c = search needs
-
-loop-less : tie.Need-loop-less Inv-loop μ-loop
-loop-less c = search needs
 
 loop-again : tie.Need-loop-again Inv-loop μ-loop
 loop-again c =
@@ -75,13 +57,13 @@ read-prices-spec =
     Inv-loop
     μ-loop
     loop-holds
-    mul-price-at
-    add-price-at
-    price-at-requires
-    mul-p
+    (λ c. search needs)
+    (λ c. search needs)
+    (λ c κs. search needs)
+    (λ c. search needs)
     slice-set-from-p
-    add-i
-    loop-less
+    (λ c. search needs)
+    (λ c. search needs)
     loop-again
     same-length
     returns)
