@@ -14,8 +14,8 @@ use Rattle.rules.specs.Lists.{if_then_else_, filter, any}
 use Rattle.rules.specs.Orders.{hasId, isLive}
 use Rattle.rules.specs.Quotes.{same}
 use Rattle.quote.specs.declared.Level.{Level}
-use Rattle.side.specs.Slots.{Slot, idsOf, sideOf, keptIn, seenFrom, seen}
-use Rattle.book.specs.Table.{ofSide, slotOf, slotsIn}
+use Rattle.side.specs.Slots.{Slot, slotOf, idsOf, sideOf, keptIn, seenFrom, seen}
+use Rattle.book.specs.Table.{ofSide, slotsIn}
 use Rattle.book.specs.Internal.{sideAt, other, Numbers, Represents}
 use Rattle.book.proofs.Table.{few-slots, part-is}
 
