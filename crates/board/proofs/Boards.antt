@@ -8,18 +8,19 @@ use mathlib.Core.Bool.{Bool, true, false, true≢false, not, _&&_, and-true, and
 use borrow.Author.Tests.{le-leb, lt-leb, not-true, not-false}
 use lib.Dec.{leb, ltb, eqb}
 use lib.ListN.{length, getD}
-use Rattle.rules.specs.Lists.{within}
+use Rattle.rules.specs.Lists.{within, every}
 use Rattle.rules.specs.Rows.{goodLength}
 use Rattle.rules.specs.Answers.{Outcome, accepted, refused}
 use Rattle.rules.specs.Causes.{lowest}
-use Rattle.rules.specs.Boards.{lengthIn, boardLength, goodQuantumOf, goodBoard, boardMet, judged}
+use Rattle.rules.specs.Boards.{lengthIn, boardLength, goodQuantumOf, goodBoard, reaches, boardMet, judged}
 use Rattle.rules.proofs.Lists.{both}
 use Rattle.rules.proofs.Refusals.{within-parts}
 use Rattle.rules.proofs.Answers.{not-refused}
 use Rattle.board.specs.declared.BoardAnswer.{BoardAnswer}
 use Rattle.board.specs.declared.BoardAnswer.the-variants.{Met, Failed, Refused}
 use Rattle.board.specs.Answers.{shownBoard}
-use Rattle.board.specs.Internal.{every, numbersGood, sharesMet}
+use Rattle.board.specs.Internal.{numbersGood, sharesMet}
+use Rattle.board.proofs.Fronts.{every-is}
 
 -- ---- the number of strikes
 
@@ -71,7 +72,7 @@ module _ (first second : ℕ) (strikes : List (List ℕ)) (size : Bool) (s : siz
     good-is : goodBoard first second strikes ≡ good
     unfolding goodBoard
     good-is =
-        rw (length-is, sym s ∙ not-false size sized)
+        rw (length-is, sym s ∙ not-false size sized, ← every-is (goodQuantumOf l) strikes)
         (regroup (goodLength l) (every (goodQuantumOf l) strikes) (within 1 100 first) (within 1 100 second) ∙ sym g)
 
     pub numbers-refused : not good ≡ true → refused 18 ≡ judged first second strikes
@@ -93,7 +94,7 @@ module _ (first second : ℕ) (strikes : List (List ℕ)) (size : Bool) (s : siz
     pub answered : not good ≡ false → (met t : Bool) → met ≡ sharesMet l first second strikes → met ≡ t
         → accepted t ≡ judged first second strikes
     unfolding judged lowest boardMet
-    answered f met t m h = rw (good-is ∙ not-false good f, length-is) (ap accepted (sym h ∙ m))
+    answered f met t m h = rw (good-is ∙ not-false good f, length-is) (ap accepted (sym h ∙ m ∙ rw (every-is (reaches first l) strikes) refl))
 
 same-verdict : (a b : Bool) → _≡_ {A = Outcome Bool} (accepted a) (accepted b) → a ≡ b
 same-verdict a b e = cc

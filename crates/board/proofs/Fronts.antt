@@ -4,13 +4,27 @@ use native.Mathlib.Omega.{arith}
 use native.Mathlib.Numerals.{add-one}
 use mathlib.Core.Path.{_≡_, refl, sym, ap, _∙_}
 use mathlib.Core.List.{List, [], _∷_, _++_, map, map-append}
-use mathlib.Core.Bool.{Bool, true, false, not, _&&_, _||_}
+use mathlib.Core.Bool.{Bool, true, false, not, _&&_, _||_, and-assoc, and-true}
 use lib.ListN.{length, take, getD}
 use lib.Seq.{take-suc, take-length}
-use Rattle.rules.specs.Lists.{sum, any}
+use Rattle.rules.specs.Lists.{sum, any, every}
 use Rattle.rules.proofs.Lists.{sum-append}
-use Rattle.rules.proofs.Members.{any-append}
-use Rattle.board.specs.Internal.{every}
+
+module _ {A : Type 0} (p : A → Bool) where
+  every-snoc : (xs : List A) (y : A) → every p (xs ++ (y ∷ [])) ≡ every p xs && p y
+  unfolding every
+  every-snoc [] y = and-true (p y)
+  every-snoc (x ∷ xs) y = ap (λ (b : Bool). p x && b) (every-snoc xs y) ∙ sym (and-assoc (p x) (every p xs) (p y))
+
+  -- as the definition of a board says it: none fails
+  pub every-is : (xs : List A) → every p xs ≡ not (any (λ x. not (p x)) xs)
+  unfolding every any
+  every-is [] = refl
+  every-is (x ∷ xs) = go (p x) (every-is xs)
+    where
+      go : (b : Bool) → every p xs ≡ not (any (λ x. not (p x)) xs) → b && every p xs ≡ not (not b || any (λ x. not (p x)) xs)
+      go true e = e
+      go false e = refl
 
 module _ {A : Type 0} (xs : List A) (i : ℕ) (d : A) (h : i < length xs) where
   front : take (i + 1) xs ≡ take i xs ++ (getD xs i d ∷ [])
@@ -19,15 +33,7 @@ module _ {A : Type 0} (xs : List A) (i : ℕ) (d : A) (h : i < length xs) where
   -- one element more passes or does not
   pub every-next : (p : A → Bool) (b t r : Bool) → b ≡ every p (take i xs) → t ≡ p (getD xs i d) → r ≡ b && t
       → r ≡ every p (take (i + 1) xs)
-  unfolding any
-  every-next p b t r e f g =
-      g ∙ rw (e, f) (sym (ap (every p) front ∙ ap not (any-append (λ x. not (p x)) (take i xs) (getD xs i d ∷ []))
-      ∙ joined (any (λ x. not (p x)) (take i xs)) (p (getD xs i d))))
-    where
-      joined : (a u : Bool) → not (a || (not u || false)) ≡ not a && u
-      joined true u = refl
-      joined false true = refl
-      joined false false = refl
+  every-next p b t r e f g = g ∙ rw (e, f) (sym (ap (every p) front ∙ every-snoc p (take i xs) (getD xs i d)))
 
   pub sum-next : (f : A → ℕ) → sum (map f (take (i + 1) xs)) ≡ sum (map f (take i xs)) + f (getD xs i d)
   unfolding sum
@@ -39,7 +45,7 @@ module _ {A : Type 0} (xs : List A) (i : ℕ) (d : A) (h : i < length xs) where
 
 module _ {A : Type 0} (xs : List A) where
   pub every-none : (p : A → Bool) → true ≡ every p (take 0 xs)
-  unfolding any
+  unfolding every
   every-none p = refl
 
   pub sum-none : (f : A → ℕ) → 0 ≡ sum (map f (take 0 xs))

@@ -2,16 +2,12 @@
 -- `goodBoard` and `boardMet`.
 use Prim.Native.Nat.{ℕ, _*_}
 use mathlib.Core.List.{List, map}
-use mathlib.Core.Bool.{Bool, not, _&&_}
+use mathlib.Core.Bool.{Bool, _&&_}
 use lib.Dec.{leb}
 use lib.ListN.{length}
-use Rattle.rules.specs.Lists.{within, sum, any}
+use Rattle.rules.specs.Lists.{within, sum, every}
 use Rattle.rules.specs.Rows.{goodLength}
 use Rattle.rules.specs.Boards.{keptOf, goodQuantumOf, reaches}
-
--- "every strike": none fails
-abbrev pub every : {A : Type 0} → (A → Bool) → List A → Bool
-every p xs = not (any (λ x. not (p x)) xs)
 
 -- the length, each strike and both shares
 abbrev pub numbersGood : ℕ → ℕ → ℕ → List (List ℕ) → Bool

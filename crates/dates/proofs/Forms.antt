@@ -1,7 +1,7 @@
 -- The form of a time, place by place. Assumes nothing.
 use Prim.Native.Nat.{ℕ, zero, suc, _+_, _*_, _-_, _≤_, _<_}
 use mathlib.Core.Path.{_≡_, refl, sym, ap, _∙_}
-use mathlib.Core.Bool.{Bool, true, false, _&&_, and-assoc, and-true, true≢false}
+use mathlib.Core.Bool.{Bool, true, _&&_, and-assoc, and-true, true≢false}
 use mathlib.Core.List.{List, [], _∷_}
 use native.Mathlib.Nat.{add-assoc, add-zero}
 use native.Mathlib.Omega.{arith}
@@ -10,8 +10,8 @@ use lib.ListN.{length, getD, take, drop, length-take, length-drop}
 use lib.Seq.{getD-drop, getD-take}
 use Rattle.rules.specs.Digits.{isDigit, numberFrom}
 use Rattle.rules.specs.Dates.{form, fitsPlace, hasForm, part}
+use Rattle.rules.proofs.Lists.{both}
 use Rattle.dates.specs.Internal.{DigitsAt}
-use Rattle.dates.proofs.Ranges.{both}
 
 -- a list by its elements
 abbrev listOf : ℕ → (ℕ → ℕ) → List ℕ
@@ -80,7 +80,7 @@ module _ (v : List ℕ) (from n : ℕ) (d : DigitsAt v from n) where
   first-digit h = rw add-zero at (d .digits 0 h)
 
 -- the letters of the form stand for digits
-abbrev pub letters : List ℕ → Bool
+abbrev letters : List ℕ → Bool
 letters [] = true
 letters (p ∷ ps) = leb 65 p && letters ps
 

@@ -1,19 +1,16 @@
 -- The ranges that the tests of a date and of a time of day stand for. Assumes nothing.
 use Prim.Native.Nat.{ℕ, _≤_}
-use mathlib.Core.Path.{_≡_, refl, sym}
-use mathlib.Core.Bool.{Bool, true, false, _&&_, _||_, true≢false}
+use mathlib.Core.Path.{_≡_}
+use mathlib.Core.Bool.{Bool, true, false, _&&_, _||_}
 use native.Mathlib.Omega.{arith}
 use lib.Dec.{leb, eqb}
 use borrow.Author.Tests.{leb-true}
 use Rattle.rules.specs.declared.Timestamp.{Timestamp}
 use Rattle.rules.specs.Lists.{if_then_else_}
+use Rattle.rules.proofs.Lists.{both}
 use Rattle.rules.specs.Dates.{isLeap, monthDays, goodDate, goodClock}
 
-pub both : (a b : Bool) → a && b ≡ true → (a ≡ true) × (b ≡ true)
-both true b h = (refl, h)
-both false b h = absurd (true≢false (sym h))
-
-pub month-most : (y m : ℕ) → monthDays y m ≤ 31
+month-most : (y m : ℕ) → monthDays y m ≤ 31
 unfolding monthDays
 month-most y m = by (eqb m 2) (isLeap y) (eqb m 4 || eqb m 6 || eqb m 9 || eqb m 11)
   where

@@ -1,17 +1,16 @@
 -- What is read of a time, and what every time that was read keeps. Assumes nothing.
 use Prim.Native.Nat.{ℕ, _+_, _*_, _-_, _≤_, _<_}
 use mathlib.Core.Path.{_≡_, refl, sym, ap, _∙_}
-use mathlib.Core.Bool.{Bool, true, false, _&&_, true≢false}
-use mathlib.Core.List.{List, [], _∷_}
+use mathlib.Core.Bool.{Bool, true, false, _&&_}
+use mathlib.Core.List.{List}
 use mathlib.Core.Option.{Option, none, some}
 use native.Mathlib.Omega.{arith}
 use lib.ListN.{length, getD}
 use Rattle.rules.specs.declared.Timestamp.{Timestamp}
-use Rattle.rules.specs.Lists.{if_then_else_}
-use Rattle.rules.specs.Answers.{Outcome, accepted, refused}
-use Rattle.rules.specs.Dates.{form, hasForm, part, partsOf, goodDate, goodClock, timeIn, Moment, momentOf, momentFrom, since}
+use Rattle.rules.specs.Answers.{accepted, refused}
+use Rattle.rules.specs.Dates.{form, hasForm, part, partsOf, goodDate, goodClock, timeIn, momentOf, momentFrom, since}
+use Rattle.rules.proofs.Lists.{both}
 use Rattle.dates.specs.Times.{Timed}
-use Rattle.dates.proofs.Ranges.{both}
 use Rattle.dates.proofs.Forms.{form-length, digits-at, three-is, four-is}
 use Rattle.digits.proofs.Numbers.{digit-to}
 use Rattle.dates.specs.Internal.{DigitsAt}
@@ -28,11 +27,11 @@ module _ (v : List ℕ) where
       by true e = absurd (h (form-length form v e))
       by false e = refl
 
-  pub no-time : hasForm form v ≡ true → goodDate (partsOf v) && goodClock (partsOf v) ≡ false → none ≡ timeIn v
+  no-time : hasForm form v ≡ true → goodDate (partsOf v) && goodClock (partsOf v) ≡ false → none ≡ timeIn v
   unfolding timeIn
   no-time h k = rw (h, k) refl
 
-  pub a-time : hasForm form v ≡ true → goodDate (partsOf v) && goodClock (partsOf v) ≡ true → some (partsOf v) ≡ timeIn v
+  a-time : hasForm form v ≡ true → goodDate (partsOf v) && goodClock (partsOf v) ≡ true → some (partsOf v) ≡ timeIn v
   unfolding timeIn
   a-time h k = rw (h, k) refl
 

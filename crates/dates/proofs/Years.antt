@@ -8,7 +8,7 @@ use lib.Dec.{eqb}
 use Rattle.rules.specs.Lists.{if_then_else_}
 use Rattle.rules.specs.Dates.{isLeap, yearDays, daysOfYears}
 
-abbrev pub closedForm : ℕ → ℕ
+abbrev closedForm : ℕ → ℕ
 closedForm n = 365 * n + n / 4 - n / 100 + n / 400
 
 -- ---- the next year by each of the three divisors: its quotient is one more where it divides

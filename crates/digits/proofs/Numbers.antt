@@ -6,8 +6,8 @@ use mathlib.Core.List.{List, [], _∷_}
 use mathlib.Core.Option.{Option, none, some}
 use native.Mathlib.Numerals.{add-one}
 use native.Mathlib.Omega.{arith}
-use lib.Dec.{leb, ltb}
-use lib.IntN.{ℤ, pos, negsuc}
+use lib.Dec.{leb}
+use lib.IntN.{pos, negsuc}
 use lib.ListN.{length, getD, take, drop, drop-of-length-le}
 use lib.Seq.{drop-cons, take-length}
 use borrow.Author.Tests.{le-leb, lt-leb, le-ltb, lt-ltb, leb-true, leb-false, eq-eqb, ne-eqb}
@@ -47,7 +47,7 @@ module _ (n d : ℕ) (h : d ≤ 9) where
   more-by true e = more-small (leb-true n 1844674407370955160 e)
   more-by false e = more-large (leb-false n 1844674407370955160 e) (leb n 18446744073709551609) refl
 
-  pub more-capped : moreOf (capped n) d ≡ capped (n * 10 + d)
+  more-capped : moreOf (capped n) d ≡ capped (n * 10 + d)
   more-capped = more-by (leb n 1844674407370955160) refl
 
 pub capped-from : (n : ℕ) (l : List ℕ) → allDigits l ≡ true → cappedFrom (capped n) l ≡ capped (numberFrom n l)

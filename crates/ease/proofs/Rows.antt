@@ -2,7 +2,7 @@
 use Prim.Native.Nat.{ℕ, _+_, _*_, _/_, min, _≤_}
 use native.Mathlib.Omega.{arith}
 use mathlib.Core.Path.{_≡_, refl}
-use mathlib.Core.Bool.{Bool, true, false, _&&_}
+use mathlib.Core.Bool.{true, and-true}
 use borrow.Author.Tests.{le-leb, leb-true}
 use lib.Dec.{leb}
 use Rattle.rules.specs.declared.Row.{Row}
@@ -11,7 +11,7 @@ use Rattle.rules.specs.declared.SpreadRule.the-variants.{Settled, OfStrike}
 use Rattle.rules.specs.Lists.{within}
 use Rattle.rules.specs.Terms.{Terms}
 use Rattle.rules.specs.Rows.{goodExpiry, goodQuantum, goodLength, goodRow, asRead, goodRowFor}
-use Rattle.volatile.proofs.Periods.{and-true}
+use Rattle.rules.proofs.Lists.{both}
 use Rattle.ease.specs.Easing.{mostA, mostB, halved, easedRow}
 
 record Good (terms : Terms) (row : Row) : Type 0 where
@@ -27,12 +27,12 @@ module _ (terms : Terms) (row : Row) where
   apart : goodRow terms row ≡ true → Good terms row
   unfolding goodRow
   apart h =
-      let share = and-true _ _ h in
-      let b = and-true _ _ (share .0) in
-      let a = and-true _ _ (b .0) in
-      let minimum = and-true _ _ (a .0) in
-      let length = and-true _ _ (minimum .0) in
-      let expiry = and-true _ _ (length .0) in
+      let share = both _ _ h in
+      let b = both _ _ (share .0) in
+      let a = both _ _ (b .0) in
+      let minimum = both _ _ (a .0) in
+      let length = both _ _ (minimum .0) in
+      let expiry = both _ _ (length .0) in
       record {
         expiry = expiry .0;
         quantum = expiry .1;
@@ -50,7 +50,7 @@ module _ (terms : Terms) (row : Row) where
 -- half of 1 to 100,000, rounded up, is again 1 to 100,000
 half-within : (m : ℕ) → within 1 100000 m ≡ true → within 1 100000 (halved m) ≡ true
 half-within m h =
-    let t = and-true (leb 1 m) (leb m 100000) h in
+    let t = both (leb 1 m) (leb m 100000) h in
     let low : 1 ≤ m = leb-true 1 m (t .0) in
     let high : m ≤ 100000 = leb-true m 100000 (t .1) in
     rw (le-leb 1 ((m + 1) / 2) (omega arith)) (le-leb ((m + 1) / 2) 100000 (omega arith))
@@ -94,18 +94,10 @@ module _ (terms : Terms) (row : Row) (good : goodRow terms row ≡ true) (n : �
   unfolding goodRow
   a-limit =
       let g = apart terms row good in
-      simp (g .expiry, g .quantum, g .length, g .minimum, g .b, g .share) (both-true (leb n mostA))
-    where
-      both-true : (t : Bool) → (t && true && true) ≡ t
-      both-true true = refl
-      both-true false = refl
+      simp (g .expiry, g .quantum, g .length, g .minimum, g .b, g .share, and-true)
 
   pub b-limit : goodRow terms (withAB row (row .a) n) ≡ leb n mostB
   unfolding goodRow
   b-limit =
       let g = apart terms row good in
-      simp (g .expiry, g .quantum, g .length, g .minimum, g .a, g .share) (one-true (leb n mostB))
-    where
-      one-true : (t : Bool) → (t && true) ≡ t
-      one-true true = refl
-      one-true false = refl
+      simp (g .expiry, g .quantum, g .length, g .minimum, g .a, g .share, and-true)

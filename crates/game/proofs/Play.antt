@@ -2,12 +2,13 @@
 use Prim.Native.Nat.{ℕ, zero, suc, _+_, _≤_, _<_}
 use mathlib.Core.Path.{_≡_, refl, ap}
 use mathlib.Core.List.{[], _∷_}
-use mathlib.Core.Bool.{Bool, true, false, _&&_}
+use mathlib.Core.Bool.{Bool, true, false}
 use native.Mathlib.Omega.{arith}
 use borrow.Author.Tests.{ltb-true, leb-true}
 use lib.Dec.{ltb}
 use lib.ListN.{length}
 use Rattle.rules.specs.Lists.{if_then_else_, sum, howMany}
+use Rattle.rules.proofs.Lists.{both}
 use Rattle.game.specs.Play.{Volume, single, double, knocksFor, Minute, History, doubles, knocks, unvoided, Maker, Taker, quote, isVoided, next, play}
 
 abbrev pub minute : Volume → Bool → Minute
@@ -55,10 +56,6 @@ module _ (past : History) where
 pub different : single ≡ double → ⊥
 different e = let z : _≡_ {A = ℕ} 0 1 = cc in omega arith
 
-pub both-true : (a b : Bool) → (a && b) ≡ true → b ≡ true
-both-true true b e = e
-both-true false b e = cc
-
 -- ---- the stocks
 
 module _ (h : ℕ) (past : History) where
@@ -82,7 +79,7 @@ module _ (k : ℕ) (past : History) (fits : knocks past ≤ k) (v : Volume) wher
 
   voided-fits : (chosen : Bool) → knocks (minute v (isVoided k past v chosen) ∷ past) ≤ k
   voided-fits chosen =
-      spent-fits (isVoided k past v chosen) (λ e. leb-true (knocks past + knocksFor v) k (both-true chosen _ e))
+      spent-fits (isVoided k past v chosen) (λ e. leb-true (knocks past + knocksFor v) k (both chosen _ e .1))
 
 -- ---- a play of n minutes
 

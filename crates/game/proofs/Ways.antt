@@ -6,9 +6,10 @@ use native.Mathlib.Omega.{arith}
 use borrow.Author.Tests.{ltb-false, leb-true, leb-false, le-leb, lt-leb}
 use lib.Dec.{leb, ltb}
 use Rattle.rules.specs.Lists.{if_then_else_}
+use Rattle.rules.proofs.Lists.{both}
 use Rattle.game.specs.Play.{Volume, single, double, knocksFor, History, doubles, knocks, quote, isVoided}
 use Rattle.game.specs.Ways.{doublesFirst, keptBack, singlesFirst}
-use Rattle.game.proofs.Play.{different, both-true}
+use Rattle.game.proofs.Play.{different}
 
 -- ---- the maker
 
@@ -46,7 +47,7 @@ taker-allowed m h k past v =
 module _ (k : ℕ) (past : History) (v : Volume) where
   -- whatever he chooses, the knocks for a voided minute are there
   pub voided-paid : (chosen b : Bool) → isVoided k past v chosen ≡ b → (if b then knocksFor v else 0) ≤ k - knocks past
-  voided-paid chosen true e = omega (arith, leb-true (knocks past + knocksFor v) k (both-true chosen _ e))
+  voided-paid chosen true e = omega (arith, leb-true (knocks past + knocksFor v) k (both chosen _ e .1))
   voided-paid chosen false e = omega arith
 
 -- a test of a sum with knocks spent is that of the rest with what is left

@@ -7,16 +7,16 @@ use native.Mathlib.Omega.{arith}
 use native.Mathlib.Nat.{mod-lt, min-eq-left}
 use mathlib.Core.Path.{_≡_, refl, sym, ap, _∙_}
 use mathlib.Core.List.{List, [], _∷_, _++_, List·Memᴰ}
-use mathlib.Core.Bool.{Bool, true, false, not, _&&_, _||_}
+use mathlib.Core.Bool.{Bool, true, false, not, _&&_, _||_, and-false, or-true, or-false}
 use lib.Dec.{eqb, ltb}
 use lib.ListN.{length, take, getD, set, length-set, length-replicate, getD-replicate}
 use lib.Seq.{take-suc, getD-set-same, getD-set-other}
 use borrow.Author.Tests.{eq-eqb, ne-eqb, eqb-true, eqb-false, ltb-false}
-use Rattle.rules.specs.Lists.{if_then_else_, any}
+use Rattle.rules.specs.Lists.{if_then_else_, any, every}
 use Rattle.rules.proofs.Lists.{both}
 use Rattle.rules.proofs.Members.{any-append, any-none, none-any}
 use Rattle.makers.specs.declared.Maker.{Maker}
-use Rattle.makers.specs.Order.{above, every, sorted, isOf, present, once}
+use Rattle.makers.specs.Order.{above, sorted, isOf, present, once}
 use Rattle.makers.specs.Calls.{standing, wrong}
 use Rattle.makers.specs.Internal.{none, seenIn, marksIn, backTo, isBehind, checkOf, checkedIn}
 use Rattle.makers.proofs.Order.{above-trans, and-swap, every-in, in-every, every-append, sorted-more, once-more}
@@ -45,21 +45,13 @@ module _ (k : ℕ) (some : 0 < k) (l : List Maker) where
       inside : slot < length (marksIn k l n)
       inside = rw (marks-long n) (mod-lt (getD l n none .number) some)
 
-      or-true : (a : Bool) → true ≡ (a || true)
-      or-true true = refl
-      or-true false = refl
-
-      or-no : (a : Bool) → a ≡ (a || false)
-      or-no true = refl
-      or-no false = refl
-
       go : (b : Bool) → leaves number (getD l n none) ≡ b → getD (marksIn k l n) (number % k) false ≡ any (leaves number) (take n l)
           → getD (set (marksIn k l n) slot true) (number % k) false ≡ (any (leaves number) (take n l) || (b || false))
       go true e q =
           ap (λ (j : ℕ). getD (set (marksIn k l n) slot true) j false) (sym (eqb-true slot (number % k) e))
-          ∙ getD-set-same (marksIn k l n) slot true false inside ∙ or-true (any (leaves number) (take n l))
+          ∙ getD-set-same (marksIn k l n) slot true false inside ∙ sym (or-true (any (leaves number) (take n l)))
       go false e q =
-          getD-set-other (marksIn k l n) slot (number % k) true false (λ p. eqb-false slot (number % k) e (sym p)) ∙ q ∙ or-no (any (leaves number) (take n l))
+          getD-set-other (marksIn k l n) slot (number % k) true false (λ p. eqb-false slot (number % k) e (sym p)) ∙ q ∙ sym (or-false (any (leaves number) (take n l)))
 
   -- where no record before has left the mark, none is of the maker
   unmarked : (n number : ℕ) → any (leaves number) (take n l) ≡ false → present number (take n l) ≡ false
@@ -87,10 +79,6 @@ behind-all xs x m e = every-append (λ r. above r m) xs (x ∷ []) ∙ go (above
   where
     before : every (λ r. above r x) xs ≡ true
     before = both (sorted xs) (every (λ r. above r x) xs) (sym (sorted-more xs x) ∙ e) .1
-
-    and-false : (a : Bool) → a && (false && true) ≡ false
-    and-false true = refl
-    and-false false = refl
 
     go : (b : Bool) → above x m ≡ b → every (λ r. above r m) xs && (b && true) ≡ b
     go true q = rw (in-every (λ r. above r m) xs (λ r h. above-trans r x m (every-in (λ r. above r x) h before) q)) refl

@@ -5,14 +5,14 @@ use native.Mathlib.Omega.{arith}
 use mathlib.Core.Path.{_≡_, refl, sym, ap, _∙_}
 use mathlib.Core.Logic.{_⊎_, inl, inr}
 use mathlib.Core.List.{List, [], _∷_, _++_, List·Memᴰ, List·Memᴰ·head, List·Memᴰ·tail}
-use mathlib.Core.Bool.{Bool, true, false, not, _&&_, _||_}
+use mathlib.Core.Bool.{Bool, true, false, not, _&&_, _||_, and-assoc, and-true, or-false}
 use lib.Dec.{eqb, ltb}
 use borrow.Author.Tests.{ltb-true, ltb-false, lt-ltb, eqb-true, eqb-false, eq-eqb, ne-eqb, not-true}
-use Rattle.rules.specs.Lists.{if_then_else_, any, filter}
+use Rattle.rules.specs.Lists.{if_then_else_, any, filter, every}
 use Rattle.rules.proofs.Lists.{both, and, kept-in}
 use Rattle.rules.proofs.Members.{any-append, any-filter}
 use Rattle.makers.specs.declared.Maker.{Maker}
-use Rattle.makers.specs.Order.{above, every, sorted, isOf, present, once}
+use Rattle.makers.specs.Order.{above, sorted, isOf, present, once}
 
 -- ---- two records
 
@@ -67,10 +67,6 @@ above-total a b n e = go (eqb (a .rating) (b .rating)) refl e
 
 -- ---- every
 
-and-assoc : (a b c : Bool) → (a && b) && c ≡ a && (b && c)
-and-assoc true b c = refl
-and-assoc false b c = refl
-
 module _ {A : Type 0} where
   pub every-in : (p : A → Bool) {x : A} {xs : List A} → List·Memᴰ x xs → every p xs ≡ true → p x ≡ true
   unfolding every
@@ -124,10 +120,6 @@ and-swap true true false d = refl
 and-swap true false false d = refl
 and-swap false b c d = refl
 
-and-true : (a : Bool) → a && true ≡ a
-and-true true = refl
-and-true false = refl
-
 pub sorted-more : (xs : List Maker) (m : Maker) → sorted (xs ++ (m ∷ [])) ≡ sorted xs && every (λ r. above r m) xs
 unfolding sorted every
 sorted-more [] m = refl
@@ -147,15 +139,11 @@ not-or : (a b : Bool) → not (a || b) ≡ not a && not b
 not-or true b = refl
 not-or false b = refl
 
-or-false-right : (a : Bool) → (a || false) ≡ a
-or-false-right true = refl
-or-false-right false = refl
-
 pub once-more : (xs : List Maker) (m : Maker) → once (xs ++ (m ∷ [])) ≡ once xs && not (present (m .number) xs)
 unfolding once any
 once-more [] m = refl
 once-more (x ∷ xs) m =
-    rw (any-append (isOf (x .number)) xs (m ∷ []), once-more xs m, or-false-right (isOf (x .number) m), not-or (present (x .number) xs) (isOf (x .number) m), not-or (isOf (m .number) x) (present (m .number) xs), eqb-swap (m .number) (x .number))
+    rw (any-append (isOf (x .number)) xs (m ∷ []), once-more xs m, or-false (isOf (x .number) m), not-or (present (x .number) xs) (isOf (x .number) m), not-or (isOf (m .number) x) (present (m .number) xs), eqb-swap (m .number) (x .number))
     (and-swap (not (present (x .number) xs)) (not (isOf (m .number) x)) (once xs) (not (present (m .number) xs)))
 
 -- what is kept of a sorted list is sorted, of one with each maker once has each once

@@ -1,5 +1,5 @@
 -- A record at its place: by how many stand above it, and what `placed` and `without` leave of members, order and length. Assumes nothing.
-use Prim.Native.Nat.{ℕ, suc, _+_, _-_, _≤_, zero-le}
+use Prim.Native.Nat.{ℕ, suc, _+_, _≤_, zero-le}
 use native.Mathlib.Omega.{arith}
 use native.Mathlib.Numerals.{one-add}
 use mathlib.Core.Path.{_≡_, refl, sym, ap, subst, _∙_}
@@ -9,11 +9,11 @@ use mathlib.Core.Bool.{Bool, true, false, true≢false, not, _&&_, _||_}
 use lib.ListN.{length, take, drop}
 use lib.Seq.{take-append-le, drop-append-le, take-at, drop-at}
 use borrow.Author.Tests.{eqb-true, eqb-false, ne-eqb, not-true}
-use Rattle.rules.specs.Lists.{if_then_else_, any, filter, howMany}
+use Rattle.rules.specs.Lists.{if_then_else_, any, filter, howMany, every}
 use Rattle.rules.proofs.Lists.{kept-in, in-kept}
 use Rattle.rules.proofs.Members.{any-none, none-any, or-false, filter-all}
 use Rattle.makers.specs.declared.Maker.{Maker}
-use Rattle.makers.specs.Order.{above, every, sorted, isOf, present, once}
+use Rattle.makers.specs.Order.{above, sorted, isOf, present, once}
 use Rattle.makers.specs.Calls.{placed, without}
 use Rattle.makers.specs.Internal.{inserted}
 use Rattle.makers.proofs.Order.{above-trans, above-total, Sorted, sorted-parts, sorted-cons, Once, once-parts, once-cons, sorted-filter, once-filter}

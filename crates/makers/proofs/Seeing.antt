@@ -1,5 +1,5 @@
 -- What a look through the first records finds, in the words of the standing. Assumes nothing.
-use Prim.Native.Nat.{ℕ, zero, suc, _+_, _-_, _≤_, _<_, zero-le}
+use Prim.Native.Nat.{ℕ, zero, suc, _+_, _≤_, _<_, zero-le}
 use native.Mathlib.Omega.{arith}
 use mathlib.Core.Path.{_≡_, refl, sym, ap, subst, _∙_}
 use mathlib.Core.List.{List, [], _∷_, _++_, append-assoc}
@@ -7,12 +7,12 @@ use mathlib.Core.Bool.{Bool, true, false, true≢false, not, _&&_, _||_}
 use lib.ListN.{length, take, drop, getD, length-append, drop-of-length-le}
 use lib.Seq.{take-suc, take-at, take-append-le, drop-append-le, length-take-le}
 use borrow.Author.Tests.{eqb-true, not-true}
-use Rattle.rules.specs.Lists.{if_then_else_, any, filter, howMany}
+use Rattle.rules.specs.Lists.{if_then_else_, any, filter, howMany, every}
 use Rattle.rules.proofs.Lists.{both, filter-append, filter-one}
 use Rattle.rules.proofs.Members.{any-append}
 use Rattle.makers.specs.declared.Maker.{Maker}
 use Rattle.makers.specs.declared.Seen.{Seen}
-use Rattle.makers.specs.Order.{above, every, isOf, present, once}
+use Rattle.makers.specs.Order.{above, isOf, present, once}
 use Rattle.makers.specs.Calls.{without}
 use Rattle.makers.specs.Internal.{none, lookOf, seenIn, removed}
 use Rattle.makers.proofs.Order.{once-more}

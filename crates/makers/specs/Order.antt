@@ -3,7 +3,7 @@ use Prim.Native.Nat.{ℕ}
 use mathlib.Core.List.{List, [], _∷_}
 use mathlib.Core.Bool.{Bool, true, not, _&&_}
 use lib.Dec.{eqb, ltb}
-use Rattle.rules.specs.Lists.{if_then_else_, any}
+use Rattle.rules.specs.Lists.{if_then_else_, any, every}
 use Rattle.makers.specs.declared.Maker.{Maker}
 
 abbrev pub maker : ℕ → ℕ → Maker
@@ -12,11 +12,6 @@ maker n r = record { number = n; rating = r }
 -- the record a stands above the record b: the greater rating, with equal ratings the lower number
 unfoldable pub above : Maker → Maker → Bool
 above a b = if eqb (a .rating) (b .rating) then ltb (a .number) (b .number) else ltb (b .rating) (a .rating)
-
--- whether all of them pass
-unfoldable pub every : {A : Type 0} → (A → Bool) → List A → Bool
-every p [] = true
-every p (x ∷ xs) = p x && every p xs
 
 -- each record stands above all that come after it
 unfoldable pub sorted : List Maker → Bool

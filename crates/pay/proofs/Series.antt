@@ -27,7 +27,7 @@ module _ {A : Type 0} where
   howMany-snoc p [] x = omega arith
   howMany-snoc p (y ∷ ys) x = omega (arith, howMany-snoc p ys x)
 
-  pub howMany-next : (p : A → Bool) (f : ℕ → A) (n count more : ℕ) → count ≡ howMany p (map f (below n))
+  howMany-next : (p : A → Bool) (f : ℕ → A) (n count more : ℕ) → count ≡ howMany p (map f (below n))
       → more ≡ (if p (f n) then 1 else 0) → count + more ≡ howMany p (map f (below (n + 1)))
   unfolding below
   howMany-next p f n count more e k = rw (add-one, map-append, howMany-snoc, ← e, ← k) refl
@@ -55,7 +55,7 @@ module _ {A : Type 0} where
 -- ---- the failure count of a series
 
 -- the cell of the series that stands d days after the first
-abbrev pub dayCell : List Cell → ℕ → ℕ → ℕ → Cell
+abbrev dayCell : List Cell → ℕ → ℕ → ℕ → Cell
 dayCell cells expiry quantum d = cellAt cells (placeOf (d + 1) expiry quantum)
 
 abbrev pub failedBefore : List Cell → ℕ → ℕ → ℕ → ℕ

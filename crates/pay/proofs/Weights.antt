@@ -36,7 +36,7 @@ power-least : (x : ℕ) → 1 ≤ x → 1 ≤ x ^ 5
 power-least x h = one-le-pow 5 x h
 
 -- n⁵ / d⁵ is at most 1 where n is at most d
-pub ratio-most : (n d : ℕ) → n ≤ d → (10000 * n ^ 5) / d ^ 5 ≤ 10000
+ratio-most : (n d : ℕ) → n ≤ d → (10000 * n ^ 5) / d ^ 5 ≤ 10000
 ratio-most n d h =
     div-le-of-le-mul (d ^ 5) (omega (arith, mul-le-mul-left 10000 (pow-le-pow-left h 5), mul-comm (d ^ 5) 10000))
 
@@ -70,7 +70,7 @@ module _ {f share n d : ℕ} (h : Powers f share n d) where
   pub weightMet-low : 10000 + (10000 * n) / d ≡ weightMet paper f share
   weightMet-low = rw (weightMet-is f share, lt-leb 800 f (h .low), h .n-is, h .d-is) refl
 
-pub weightMet-most : (f share : ℕ) → share ≤ 799 → weightMet paper f share ≤ 20000
+weightMet-most : (f share : ℕ) → share ≤ 799 → weightMet paper f share ≤ 20000
 weightMet-most f share h = rw (weightMet-is f share) (go (leb 800 f) refl)
   where
     go : (b : Bool) → leb 800 f ≡ b

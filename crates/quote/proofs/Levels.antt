@@ -170,7 +170,7 @@ module _ (minimum : ℕ) (ks vs : List ℕ) where
       (λ k m. let r = kept-in (enough minimum ks vs) ks m in h k (r .0) (leb-true minimum (held (leb k) ks vs) (r .1)))
 
   -- with fewer than `minimum` at better keys, no better key has enough
-  pub best-most : (k : ℕ) → held (ltb k) ks vs < minimum → bestKey minimum ks vs ≤ k
+  best-most : (k : ℕ) → held (ltb k) ks vs < minimum → bestKey minimum ks vs ≤ k
   best-most k few = best-under k (λ x m h. go x h (leb x k) refl)
     where
       go : (x : ℕ) → minimum ≤ held (leb x) ks vs → (b : Bool) → leb x k ≡ b → x ≤ k
@@ -185,7 +185,7 @@ module _ (minimum : ℕ) (ks vs : List ℕ) where
           ))
 
   -- with enough at it besides, a key is there that has enough
-  pub best-there : (k : ℕ) → held (ltb k) ks vs < minimum → minimum ≤ held (leb k) ks vs → k ≤ bestKey minimum ks vs
+  best-there : (k : ℕ) → held (ltb k) ks vs < minimum → minimum ≤ held (leb k) ks vs → k ≤ bestKey minimum ks vs
   best-there k few h = go (held-some (ltb k) (leb k) ks vs (omega (arith, few, h)))
     where
       go : ((x : ℕ) × List·Memᴰ x ks × (leb k x ≡ true) × (ltb k x ≡ false)) → k ≤ bestKey minimum ks vs

@@ -4,8 +4,9 @@ use mathlib.Core.List.{[], _∷_}
 use mathlib.Core.Bool.{true, false}
 use lib.IntN.{pos, negsuc}
 use Rattle.rules.specs.Lists.{any}
+use Rattle.numbers.specs.Greatest.{greatestUpTo}
 use Rattle.sigma.specs.Changes.{changeOf, changes, previous, badPrices}
-use Rattle.sigma.specs.Sigmas.{largest, rootOf, squaresOf, sigmaOf, sigmas}
+use Rattle.sigma.specs.Sigmas.{rootOf, squaresOf, sigmaOf, sigmas}
 
 -- R rounded toward zero, either way: 1/3 up and down, from a price and from its negative
 thirds : changes (pos 3 ∷ pos 4 ∷ pos 3 ∷ negsuc 2 ∷ negsuc 3 ∷ negsuc 2 ∷ [])
@@ -38,9 +39,9 @@ zero-before = refl
 
 -- sigma of 10, 20, 30: S is 60, the squares are 900, 0 and 900, and 18 × 10² is 1,800; of 10, 20, 29 it is 9
 ten : sigmas (pos 10 ∷ pos 20 ∷ pos 30 ∷ []) ≡ 10 ∷ []
-unfolding sigmas sigmaOf squaresOf rootOf largest
+unfolding sigmas sigmaOf squaresOf rootOf greatestUpTo
 ten = refl
 
 nine : sigmas (pos 10 ∷ pos 20 ∷ pos 29 ∷ []) ≡ 9 ∷ []
-unfolding sigmas sigmaOf squaresOf rootOf largest
+unfolding sigmas sigmaOf squaresOf rootOf greatestUpTo
 nine = refl

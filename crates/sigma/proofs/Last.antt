@@ -77,10 +77,6 @@ module _ (p q r s : ℤ) where
   abbrev answer : Bool → SigmaAnswer
   answer b = if b then Absent else Of (sigmaOf (changeOf p q) (changeOf q r) (changeOf r s))
 
-  or-true : (b : Bool) → (b || true) ≡ true
-  or-true true = refl
-  or-true false = refl
-
   by-is : (first second third : Change) → first ≡ changeShown p q → second ≡ changeShown q r → third ≡ changeShown r s
       → sigmaBy first second third ≡ answer (bad p q || (bad q r || bad r s))
   unfolding sigmaBy bad

@@ -1,23 +1,19 @@
 -- Document 02, W12: sigma, from three R.
-use Prim.Native.Nat.{ℕ, zero, suc, _+_, _-_, _*_}
+use Prim.Native.Nat.{ℕ, _+_, _-_, _*_}
 use mathlib.Core.List.{List, [], _∷_}
-use mathlib.Core.Bool.{Bool, _||_}
+use mathlib.Core.Bool.{_||_}
 use lib.Dec.{leb, ltb}
 use lib.IntN.{ℤ, pos, natAbs, _+ℤ_, _-ℤ_, _*ℤ_}
 use lib.ListN.{length, getD, drop}
 use Rattle.rules.specs.Lists.{if_then_else_}
+use Rattle.numbers.specs.Greatest.{greatestUpTo}
 use Rattle.sigma.specs.declared.SigmaAnswer.{SigmaAnswer}
 use Rattle.sigma.specs.declared.SigmaAnswer.the-variants.{Absent, Of}
 use Rattle.sigma.specs.Changes.{changes, badPrices}
 
--- the largest whole number up to n that passes; 0 where none from 1 on does
-unfoldable pub largest : (ℕ → Bool) → ℕ → ℕ
-largest p zero = 0
-largest p (suc n) = let smaller = largest p n in if p (suc n) then suc n else smaller
-
 -- "the largest whole number with 18 × sigma² at most the sum": it is no larger than the sum
 unfoldable pub rootOf : ℕ → ℕ
-rootOf total = largest (λ (n : ℕ). leb (18 * (n * n)) total) total
+rootOf total = greatestUpTo (λ (n : ℕ). leb (18 * (n * n)) total) total
 
 abbrev pub square : ℤ → ℕ
 square z = natAbs (z *ℤ z)

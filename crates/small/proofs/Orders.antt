@@ -1,11 +1,11 @@
 -- Orders as one number: by their key first; five exchanges sort four of them, and change no sum. Assumes nothing.
-use Prim.Native.Nat.{ℕ, zero, suc, _+_, _*_, _≤_, _<_, _/_, _%_, min, max}
+use Prim.Native.Nat.{ℕ, zero, suc, _+_, _*_, _≤_, _<_, min, max}
 use native.Mathlib.Omega.{arith}
 use mathlib.Core.Path.{_≡_, refl, sym, ap, _∙_}
 use mathlib.Core.Bool.{Bool, true, false}
 use mathlib.Core.List.{List, [], _∷_}
-use borrow.Author.Tests.{leb-true, leb-false, ltb-true, ltb-false, le-leb, le-ltb}
-use lib.Dec.{leb, ltb, eqb}
+use borrow.Author.Tests.{leb-true, leb-false}
+use lib.Dec.{leb}
 use lib.ListN.{length, getD}
 use Rattle.rules.specs.Lists.{if_then_else_, sum}
 use Rattle.quote.specs.Levels.{held, Columns}
@@ -13,13 +13,13 @@ use Rattle.small.specs.Internal.{keyIn, volumeIn, heldOne, heldAll, four
 
 -- ---- one order
 
-pub key-packed : (k v : ℕ) → v < 4294967296 → keyIn (4294967296 * k + v) ≡ k
+key-packed : (k v : ℕ) → v < 4294967296 → keyIn (4294967296 * k + v) ≡ k
 key-packed k v h = omega (arith, h)
 
-pub volume-packed : (k v : ℕ) → v < 4294967296 → volumeIn (4294967296 * k + v) ≡ v
+volume-packed : (k v : ℕ) → v < 4294967296 → volumeIn (4294967296 * k + v) ≡ v
 volume-packed k v h = omega (arith, h)
 
-pub one-packed : (t : ℕ → Bool) (x k v : ℕ) → x ≡ 4294967296 * k + v → v < 4294967296 → heldOne t x ≡ (if t k then v else 0)
+one-packed : (t : ℕ → Bool) (x k v : ℕ) → x ≡ 4294967296 * k + v → v < 4294967296 → heldOne t x ≡ (if t k then v else 0)
 one-packed t x k v e h =
     let key : keyIn x ≡ k = ap keyIn e ∙ key-packed k v h in
     let volume : volumeIn x ≡ v = ap volumeIn e ∙ volume-packed k v h in
@@ -43,7 +43,7 @@ module _ (t : ℕ → Bool) (x : ℕ) where
 -- ---- exchanges
 
 -- two orders exchanged: whatever is added up of both stays
-pub exchanged : (f : ℕ → ℕ) (a b more less : ℕ) → more ≡ max a b → less ≡ min a b → f more + f less ≡ f a + f b
+exchanged : (f : ℕ → ℕ) (a b more less : ℕ) → more ≡ max a b → less ≡ min a b → f more + f less ≡ f a + f b
 exchanged f a b more less p q = go (leb a b) refl
   where
     go : (t : Bool) → leb a b ≡ t → f more + f less ≡ f a + f b
@@ -114,7 +114,7 @@ module _ (a b c d p q r s u v first second third last : ℕ) (ep : p ≡ max a b
 
 -- ---- columns of four
 
-pub held-four : (t : ℕ → Bool) (ks vs : List ℕ) → length ks ≡ 4 → length vs ≡ 4
+held-four : (t : ℕ → Bool) (ks vs : List ℕ) → length ks ≡ 4 → length vs ≡ 4
     → held t ks vs
     ≡ (if t (getD ks 0 0) then getD vs 0 0 else 0)
     + ((if t (getD ks 1 0) then getD vs 1 0 else 0)

@@ -1,6 +1,6 @@
 -- Sums made from the best order down, one order after the other, until they are enough: where they stop is the best key, and each keeps
 -- W3's rule. Assumes nothing.
-use Prim.Native.Nat.{ℕ, zero, suc, _+_, _≤_, _<_, _/_, _%_}
+use Prim.Native.Nat.{ℕ, zero, suc, _+_, _≤_, _<_}
 use native.Mathlib.Omega.{arith}
 use mathlib.Core.Path.{_≡_, refl, sym, ap, _∙_, subst, fun-ext}
 use mathlib.Core.Bool.{Bool, true, false, _&&_, _||_}
@@ -11,7 +11,7 @@ use lib.Dec.{leb, ltb, eqb}
 use lib.ListN.{length}
 use Rattle.rules.specs.Lists.{if_then_else_}
 use Rattle.quote.specs.declared.Level.{Level}
-use Rattle.quote.specs.Levels.{held, levelAt, bestKey, isBest}
+use Rattle.quote.specs.Levels.{held, levelAt, isBest}
 use Rattle.quote.proofs.Levels.{best-level}
 use Rattle.quote.specs.Tries.{Try, made, Sound, inTurn, foundWith, foundAfter}
 use Rattle.small.specs.Internal.{keyIn, volumeIn, heldOne, heldAll, levelIn, four, Descending, Down}
@@ -39,7 +39,7 @@ sums minimum depth (x ∷ xs) =
     if adds minimum depth x then made (keyIn x) (next minimum depth x) ∷ sums minimum (next minimum depth x) xs
     else sums minimum (next minimum depth x) xs
 
-pub sums-number : (minimum depth x : ℕ) (xs : List ℕ)
+sums-number : (minimum depth x : ℕ) (xs : List ℕ)
     → length (sums minimum depth (x ∷ xs)) ≡ (if adds minimum depth x then 1 else 0) + length (sums minimum (next minimum depth x) xs)
 sums-number minimum depth x xs = go (adds minimum depth x)
   where
@@ -142,7 +142,7 @@ module _ (minimum : ℕ) (all : (ℕ → Bool) → ℕ) where
         ∙ ap (λ (n : ℕ). made (keyIn x) n ∷ sums minimum n xs) (next-is passed depth bound x xs p)
         ∙ ap (λ (l : List Try). made (keyIn x) (depth + volumeIn x) ∷ l) (sums-none minimum (depth + volumeIn x) xs h)
 
-    pub ends-here : Ends depth (x ∷ xs)
+    ends-here : Ends depth (x ∷ xs)
     unfolding inTurn foundAfter
     ends-here =
         record {
@@ -189,7 +189,7 @@ module _ (minimum : ℕ) (all : (ℕ → Bool) → ℕ) where
     leads true = ap (λ (f : ℕ). foundAfter minimum f (sums minimum (depth + volumeIn x) xs)) short
     leads false = refl
 
-    pub ends-later : Ends depth (x ∷ xs)
+    ends-later : Ends depth (x ∷ xs)
     ends-later =
         record {
           few = subst (λ (y : ℕ). all (ltb (keyIn y)) < minimum) (sym goes-on) (rest .few);
@@ -243,7 +243,7 @@ is-best minimum k xs few (inr h) =
     go false = refl
 
 -- nothing passed yet: the sums of all the orders, the best one first
-pub ends-all : (minimum bound : ℕ) (xs : List ℕ) → 1 ≤ minimum → Behind bound xs → Ends minimum (λ t. heldAll t xs) 0 xs
+ends-all : (minimum bound : ℕ) (xs : List ℕ) → 1 ≤ minimum → Behind bound xs → Ends minimum (λ t. heldAll t xs) 0 xs
 ends-all minimum bound xs some b =
     ends minimum (λ t. heldAll t xs) (λ t. 0) 0 bound xs
     (record { whole = λ t. omega arith; most = λ t. omega arith; low = λ k l. refl; few = some; behind = b })

@@ -1,5 +1,4 @@
 -- Laws about a strike's spread limit. Rounding is also for the crates above.
-pub mod Greatest
 pub mod Squares
 pub mod Rounding
 -- the limit on examples

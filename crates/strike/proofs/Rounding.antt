@@ -10,8 +10,8 @@ use lib.IntN.{ℤ, pos, negsuc}
 use lib.Signed.{leZ}
 use Rattle.rules.specs.declared.Strike.{Strike}
 use Rattle.rules.specs.Strikes.{goodStrike, squareOf, halfBelow, strikeWithin, Rounded}
+use Rattle.numbers.proofs.Greatest.{greatest-law}
 use Rattle.strike.specs.Widest.{roundedOf, widestOfStrike}
-use Rattle.strike.proofs.Greatest.{greatest-law}
 use Rattle.strike.proofs.Squares.{square-is, square-le, beyond, strike-bounds, square-most}
 
 -- at most the greater of two: at most one of them
@@ -47,7 +47,7 @@ module _ (s : Strike) where
       let squares = square-le (2 * i - 1) (2 * j - 1) (omega arith) in
       passes i (omega (arith, squares, under j e))
 
-  pub rounded-law : (d : ℕ) → leb d (roundedOf s) ≡ halfBelow s d
+  rounded-law : (d : ℕ) → leb d (roundedOf s) ≡ halfBelow s d
   unfolding roundedOf
   rounded-law d =
       greatest-law (halfBelow s) (s .a * s .difference * s .days) (passes 0 (omega arith)) down
@@ -72,11 +72,6 @@ module _ (s : Strike) where
       let most : roundedOf s < suc n = leb-false (suc n) (roundedOf s) (rounded-law (suc n) ∙ fails (suc n) h) in
       omega arith
 
-  -- the limit is the greater of the two
-  pub widest-greater : widestOfStrike s ≡ max (roundedOf s) (s .b)
-  unfolding widestOfStrike
-  widest-greater = refl
-
   -- the limit by any n between the squares
   pub widest-is : (q n r : ℕ) → q ≡ 4 * squareOf s → (2 * n - 1) ^ 2 * 36500 ≤ q → q < (2 * n + 1) ^ 2 * 36500 → r ≡ max n (s .b)
       → r ≡ widestOfStrike s
@@ -91,7 +86,7 @@ module _ (s : Strike) where
   strike-law (negsuc d) = refl
 
   -- with the four numbers in their ranges, the product is rounded to at most 2,000,000, and b is at most 1,000,000
-  pub rounded-most : goodStrike s ≡ true → roundedOf s ≤ 2000000
+  rounded-most : goodStrike s ≡ true → roundedOf s ≤ 2000000
   rounded-most e =
       let square : 4 * squareOf s ≤ 584000000000000000 = rw (square-is (s .a * s .difference)) (omega (arith, square-most s e)) in
       let most : roundedOf s < 2000001 =

@@ -1,15 +1,9 @@
 -- The spread limit of a strike as one number, fixed at open, with which D is compared. `strike-law` in proofs/Rounding shows that the D up to
 -- it are those within the limit.
-use Prim.Native.Nat.{ℕ, zero, suc, _*_, max}
-use mathlib.Core.Bool.{Bool}
+use Prim.Native.Nat.{ℕ, _*_, max}
 use Rattle.rules.specs.declared.Strike.{Strike}
-use Rattle.rules.specs.Lists.{if_then_else_}
 use Rattle.rules.specs.Strikes.{halfBelow}
-
--- the greatest whole number up to n that passes; 0 where none from 1 on does
-unfoldable pub greatestUpTo : (ℕ → Bool) → ℕ → ℕ
-greatestUpTo p zero = 0
-greatestUpTo p (suc n) = let smaller = greatestUpTo p n in if p (suc n) then suc n else smaller
+use Rattle.numbers.specs.Greatest.{greatestUpTo}
 
 -- "a × |premium difference| × root of (days / 365)", "rounded to the nearest step, half upwards": the greatest D that, less half a step, is
 -- at most that product. None above a × difference × days is, whatever the four numbers (proofs/Squares, `beyond`).

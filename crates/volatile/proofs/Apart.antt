@@ -5,36 +5,31 @@ use native.Mathlib.Omega.{arith}
 use mathlib.Core.Path.{_≡_, refl, sym, _∙_}
 use mathlib.Core.List.{List, [], _∷_, _++_}
 use mathlib.Core.Bool.{Bool, true, false, true≢false, not}
-use borrow.Author.Tests.{leb-true, leb-false}
+use borrow.Author.Tests.{leb-true, leb-false, not-true}
 use lib.Dec.{leb}
-use Rattle.rules.specs.Lists.{any}
+use Rattle.rules.specs.Lists.{any, All}
+use Rattle.rules.proofs.Lists.{both}
 use Rattle.rules.proofs.Members.{or-false}
 use Rattle.volatile.specs.Periods.{Period, isIn, sigmaOn, periodFrom, periods}
-use Rattle.volatile.proofs.Periods.{and-true, in-period, Begun, begins, periods-same, periods-more, periods-begun}
+use Rattle.volatile.proofs.Periods.{all-append, in-period, Begun, begins, periods-same, periods-more, periods-begun}
 
 -- every one of them is over before day d
 abbrev Over : ℕ → List Period → Type 0
-Over d [] = Unit {0}
-Over d (p ∷ ps) = (p .last < d) × Over d ps
+Over d = All (λ (p : Period). p .last < d)
 
 -- every one of them begins after a day that comes after `last`
 abbrev pub After : ℕ → List Period → Type 0
-After last [] = Unit {0}
-After last (p ∷ ps) = (suc last < p .first) × After last ps
+After last = All (λ (p : Period). suc last < p .first)
 
 abbrev pub Apart : List Period → Type 0
 Apart [] = Unit {0}
 Apart (p ∷ ps) = After (p .last) ps × Apart ps
 
-after-snoc : (last : ℕ) (ps : List Period) (q : Period) → After last ps → suc last < q .first → After last (ps ++ (q ∷ []))
-after-snoc last [] q a h = (h, tt)
-after-snoc last (p ∷ ps) q a h = (a .0, after-snoc last ps q (a .1) h)
-
 apart-snoc : (d : ℕ) (ps : List Period) (q : Period) → Apart ps → Over d ps → d < q .first → Apart (ps ++ (q ∷ []))
 apart-snoc d [] q a o h = (tt, tt)
 apart-snoc d (p ∷ ps) q a o h =
     let l = o .0 in
-    (after-snoc (p .last) ps q (a .0) (omega arith), apart-snoc d ps q (a .1) (o .1) h)
+    (all-append _ ps (q ∷ []) (a .0) (omega arith, tt), apart-snoc d ps q (a .1) (o .1) h)
 
 -- begun by day d, and none holds it
 none-holds : (d : ℕ) (ps : List Period) → Begun d ps → any (isIn d) ps ≡ false → Over d ps
@@ -48,10 +43,6 @@ none-holds d (p ∷ ps) b e =
     ended true t h = absurd (true≢false (sym (in-period p d (b .0) (leb-true d (p .last) t)) ∙ h))
     ended false t h = leb-false d (p .last) t
 
-not-true : (b : Bool) → not b ≡ true → b ≡ false
-not-true true e = absurd (true≢false (sym e))
-not-true false e = refl
-
 module _ (sigmas : List ℕ) (threshold : ℕ) where
   none-apart : Apart (periods sigmas threshold 0)
   unfolding periods
@@ -62,7 +53,7 @@ module _ (sigmas : List ℕ) (threshold : ℕ) where
   periods-apart (suc d) = go (begins sigmas threshold d) refl (periods-apart d)
     where
       out : begins sigmas threshold d ≡ true → any (isIn d) (periods sigmas threshold d) ≡ false
-      out e = not-true _ (and-true (leb threshold (sigmaOn sigmas d)) (not (any (isIn d) (periods sigmas threshold d))) e .1)
+      out e = not-true _ (both (leb threshold (sigmaOn sigmas d)) (not (any (isIn d) (periods sigmas threshold d))) e .1)
 
       go : (b : Bool) → begins sigmas threshold d ≡ b → Apart (periods sigmas threshold d) → Apart (periods sigmas threshold (suc d))
       go true e a =

@@ -4,11 +4,11 @@ use native.Mathlib.Omega.{arith}
 use mathlib.Core.Path.{_≡_, refl, sym, ap, _∙_}
 use mathlib.Core.Logic.{_⊎_, inl, inr}
 use mathlib.Core.List.{List, [], _∷_, _++_, append-nil}
-use mathlib.Core.Bool.{Bool, true, false, true≢false, not, _&&_, _||_}
+use mathlib.Core.Bool.{Bool, true, false, true≢false, not, _&&_, _||_, and-true, and-false, or-false as or-none}
 use borrow.Author.Tests.{le-leb, lt-leb, leb-true, leb-false}
 use lib.Dec.{leb, ltb}
 use lib.ListN.{length}
-use Rattle.rules.specs.Lists.{if_then_else_, any}
+use Rattle.rules.specs.Lists.{if_then_else_, any, All}
 use Rattle.rules.proofs.Members.{any-append, or-false}
 use Rattle.sigma.proofs.Differences.{lt-or-ge}
 use Rattle.volatile.specs.Periods.{Period, firstFrom, isIn, isEarly, sigmaOn, average, lastDay, periodFrom, periods}
@@ -83,12 +83,6 @@ module _ (sigmas : List ℕ) (first : ℕ) where
           absurd (true≢false (sym h ∙ ap endsOn same ∙ e a))
       go (inr h) (inr k) = absurd (omega (arith, from-le endsOn (suc first) (length sigmas - suc first)))
 
--- ---- a test of two halves
-
-pub and-true : (a b : Bool) → (a && b) ≡ true → (a ≡ true) × (b ≡ true)
-and-true true b e = (refl, e)
-and-true false b e = absurd (true≢false (sym e))
-
 -- "That last day still counts"
 module _ (p : Period) where
   pub in-period : (day : ℕ) → p .first ≤ day → day ≤ p .last → isIn day p ≡ true
@@ -104,16 +98,15 @@ module _ (p : Period) where
 -- ---- periods that have begun, and are over, stay over
 
 abbrev pub Begun : ℕ → List Period → Type 0
-Begun d [] = Unit {0}
-Begun d (p ∷ ps) = (p .first ≤ d) × Begun d ps
+Begun d = All (λ (p : Period). p .first ≤ d)
 
 begun-later : (d : ℕ) (ps : List Period) → Begun d ps → Begun (suc d) ps
 begun-later d [] b = tt
 begun-later d (p ∷ ps) b = (omega (arith, b .0), begun-later d ps (b .1))
 
-begun-append : (d : ℕ) (ps qs : List Period) → Begun d ps → Begun d qs → Begun d (ps ++ qs)
-begun-append d [] qs b c = c
-begun-append d (p ∷ ps) qs b c = (b .0, begun-append d ps qs (b .1) c)
+pub all-append : {A : Type 0} (P : A → Type 0) (xs ys : List A) → All P xs → All P ys → All P (xs ++ ys)
+all-append P [] ys b c = c
+all-append P (x ∷ xs) ys b c = (b .0, all-append P xs ys (b .1) c)
 
 begun-front : (d : ℕ) (ps qs : List Period) → Begun d (ps ++ qs) → Begun d ps
 begun-front d [] qs b = tt
@@ -135,11 +128,7 @@ over d (p ∷ ps) b e =
 
 pub any-snoc : {A : Type 0} (p : A → Bool) (xs : List A) (y : A) → any p (xs ++ (y ∷ [])) ≡ (any p xs || p y)
 unfolding any
-any-snoc p xs y = any-append p xs (y ∷ []) ∙ ap (λ (b : Bool). any p xs || b) (or-last (p y))
-  where
-    or-last : (b : Bool) → (b || false) ≡ b
-    or-last true = refl
-    or-last false = refl
+any-snoc p xs y = any-append p xs (y ∷ []) ∙ ap (λ (b : Bool). any p xs || b) (or-none (p y))
 
 -- ---- from a day to the next
 
@@ -175,7 +164,7 @@ module _ (sigmas : List ℕ) (threshold : ℕ) where
       go : (b : Bool) → begins d ≡ b → Begun (suc d) (periods sigmas threshold d) → Begun (suc d) (periods sigmas threshold (suc d))
       go true e h =
           rw (periods-more d e)
-          (begun-append (suc d) (periods sigmas threshold d) (periodFrom sigmas (suc d) ∷ []) h (omega arith, tt))
+          (all-append _ (periods sigmas threshold d) (periodFrom sigmas (suc d) ∷ []) h (omega arith, tt))
       go false e h = rw (periods-same d e) h
 
   -- a period that began early stays among them
@@ -209,11 +198,7 @@ module _ (sigmas : List ℕ) (threshold : ℕ) where
   -- ---- a day outside
 
   out-begins : (d : ℕ) → any (isIn d) (periods sigmas threshold d) ≡ false → begins d ≡ leb threshold (sigmaOn sigmas d)
-  out-begins d h = rw h (and-right (leb threshold (sigmaOn sigmas d)))
-    where
-      and-right : (b : Bool) → (b && true) ≡ b
-      and-right true = refl
-      and-right false = refl
+  out-begins d h = rw h (and-true (leb threshold (sigmaOn sigmas d)))
 
   module _ (d : ℕ) (out : any (isIn d) (periods sigmas threshold d) ≡ false) where
     -- its sigma is below the threshold
@@ -251,11 +236,7 @@ module _ (sigmas : List ℕ) (threshold : ℕ) where
 
   module _ (d first : ℕ) (current : Current d first) (has : d < length sigmas) where
     inside-same : periods sigmas threshold (suc d) ≡ periods sigmas threshold d
-    inside-same = periods-same d (rw (current-in current) (and-no (leb threshold (sigmaOn sigmas d))))
-      where
-        and-no : (b : Bool) → (b && false) ≡ false
-        and-no true = refl
-        and-no false = refl
+    inside-same = periods-same d (rw (current-in current) (and-false (leb threshold (sigmaOn sigmas d))))
 
     pub inside-early : any isEarly (periods sigmas threshold (suc d)) ≡ any isEarly (periods sigmas threshold d)
     inside-early = ap (any isEarly) inside-same

@@ -8,11 +8,12 @@ use borrow.Author.Tests.{ltb-true, ltb-false, lt-ltb}
 use lib.Dec.{leb, ltb}
 use lib.ListN.{length}
 use Rattle.rules.specs.Lists.{any}
+use Rattle.rules.proofs.Lists.{both}
 use Rattle.volatile.specs.declared.Phase.{Phase}
 use Rattle.volatile.specs.Periods.{isIn, isEarly, sigmaOn, average, periods}
 use Rattle.volatile.specs.Internal.{phase, ends, phaseAfter, early}
 use Rattle.volatile.proofs.Steps as steps
-use Rattle.volatile.proofs.Periods.{and-true, Current, current-in, stays-out, stays-early, begins-after, begins-early, inside-early, ends-after, goes-on-after, none-yet-early, none-yet-in}
+use Rattle.volatile.proofs.Periods.{Current, current-in, stays-out, stays-early, begins-after, begins-early, inside-early, ends-after, goes-on-after, none-yet-early, none-yet-in}
 
 and-second : (a b : Bool) → (a && b) ≡ false → a ≡ true → b ≡ false
 and-second true b e h = e
@@ -49,7 +50,7 @@ module _ (sigmas : List ℕ) (threshold : ℕ) where
 
     ended : p .inside ≡ true → ends p d sigma ≡ true → Phased (suc d) (phase false (p .first) (p .average))
     ended h e =
-        let t = and-true (ltb (p .first) d) (leb sigma (p .average)) e in
+        let t = both (ltb (p .first) d) (leb sigma (p .average)) e in
         record {
           is =
               sym

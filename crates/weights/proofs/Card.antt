@@ -3,7 +3,7 @@ use Prim.Native.Nat.{ℕ, _≤_, min}
 use native.Mathlib.Nat.{one-mul}
 use native.Mathlib.Omega.{arith}
 use mathlib.Core.Path.{_≡_, refl, sym, ap, _∙_}
-use mathlib.Core.Bool.{Bool, true, false, _||_}
+use mathlib.Core.Bool.{Bool, true, false, or-false}
 use borrow.Author.Tests.{leb-true, leb-false, le-leb, eqb-true, ne-eqb}
 use lib.Dec.{eqb, leb}
 use Rattle.rules.specs.Lists.{any}
@@ -24,11 +24,7 @@ module _ (share : ℕ) where
 
   pub has-others : (share ≡ 600 → ⊥) → (share ≡ 700 → ⊥) → eqb share 750 ≡ onCard share
   unfolding onCard any
-  has-others h k = rw (ne-eqb share 600 h, ne-eqb share 700 k) (last (eqb share 750))
-    where
-      last : (b : Bool) → b ≡ (b || false)
-      last true = refl
-      last false = refl
+  has-others h k = rw (ne-eqb share 600 h, ne-eqb share 700 k) (sym (or-false (eqb share 750)))
 
   pub is-750 : onCard share ≡ true → (share ≡ 600 → ⊥) → (share ≡ 700 → ⊥) → share ≡ 750
   is-750 e h k = eqb-true share 750 (has-others h k ∙ e)

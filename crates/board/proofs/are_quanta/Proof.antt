@@ -5,7 +5,7 @@ use mathlib.Core.Path.{_≡_, ap, _∙_}
 use mathlib.Core.List.{[]}
 use lib.ListN.{length, take}
 use Rattle.rules.specs.Boards.{goodQuantumOf}
-use Rattle.board.specs.Internal.{every}
+use Rattle.rules.specs.Lists.{every}
 use Rattle.board.proofs.Fronts.{every-next, every-none, whole}
 use Rattle.board.proofs.are_quanta.Statement.{statement}
 use Rattle.board.proofs.are_quanta.Tie as tie
@@ -21,15 +21,6 @@ loop-holds c = (omega arith, every-none (c .args .strikes .now) (goodQuantumOf (
 
 is-quantum-requires : tie.Need-is-quantum-requires Inv-loop μ-loop
 is-quantum-requires c κs = (omega arith, omega arith)
-
-both-requires : tie.Need-both-requires Inv-loop μ-loop
-both-requires c κs = tt
-
-add-i : tie.Need-add-i Inv-loop μ-loop
-add-i c = omega arith
-
-loop-less : tie.Need-loop-less Inv-loop μ-loop
-loop-less c = omega arith
 
 loop-again : tie.Need-loop-again Inv-loop μ-loop
 loop-again c =
@@ -54,8 +45,8 @@ are-quanta-spec =
     μ-loop
     loop-holds
     is-quantum-requires
-    both-requires
-    add-i
-    loop-less
+    (λ c κs. tt)
+    (λ c. omega arith)
+    (λ c. omega arith)
     loop-again
     returns)

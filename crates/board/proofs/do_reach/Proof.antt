@@ -5,7 +5,7 @@ use mathlib.Core.Path.{_≡_, ap, _∙_}
 use mathlib.Core.List.{[]}
 use lib.ListN.{length, take}
 use Rattle.rules.specs.Boards.{reaches}
-use Rattle.board.specs.Internal.{every}
+use Rattle.rules.specs.Lists.{every}
 use Rattle.board.proofs.Fronts.{every-next, every-none, whole}
 use Rattle.board.proofs.do_reach.Statement.{statement}
 use Rattle.board.proofs.do_reach.Tie as tie
@@ -21,15 +21,6 @@ loop-holds c = (omega arith, every-none (c .args .strikes .now) (reaches (c .arg
 
 does-reach-requires : tie.Need-does-reach-requires Inv-loop μ-loop
 does-reach-requires c κs = (omega arith, omega arith, omega arith, omega arith)
-
-both-requires : tie.Need-both-requires Inv-loop μ-loop
-both-requires c κs = tt
-
-add-i : tie.Need-add-i Inv-loop μ-loop
-add-i c = omega arith
-
-loop-less : tie.Need-loop-less Inv-loop μ-loop
-loop-less c = omega arith
 
 loop-again : tie.Need-loop-again Inv-loop μ-loop
 loop-again c =
@@ -54,8 +45,8 @@ do-reach-spec =
     μ-loop
     loop-holds
     does-reach-requires
-    both-requires
-    add-i
-    loop-less
+    (λ c κs. tt)
+    (λ c. omega arith)
+    (λ c. omega arith)
     loop-again
     returns)

@@ -8,22 +8,13 @@ use borrow.Author.Needs.{needs}
 use Rattle.board.proofs.does_reach.Statement.{statement}
 use Rattle.board.proofs.does_reach.Tie as tie
 
-kept-at-requires : tie.Need-kept-at-requires
-kept-at-requires c κs = search needs
-
 mul-result : tie.Need-mul-result
 mul-result c =
     let a = c .before .args in
     omega (arith, share-most (a .first) (a .l) (omega arith) (omega arith))
 
-cast-result : tie.Need-cast-result
-cast-result c = search needs
-
-mul-result-2 : tie.Need-mul-result-2
-mul-result-2 c = search needs
-
 returns : tie.Need-returns
 returns c = ap (λ (k : ℕ). leb (c .before .args .first * c .before .args .l) (100 * k)) (c .kept-at .ensures)
 
 pub does-reach-spec : {M : Type 1} → statement M
-does-reach-spec = tie.close (tie.spec kept-at-requires mul-result cast-result mul-result-2 returns)
+does-reach-spec = tie.close (tie.spec (λ c κs. search needs) mul-result (λ c. search needs) (λ c. search needs) returns)

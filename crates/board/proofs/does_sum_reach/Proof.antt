@@ -9,9 +9,6 @@ use borrow.Author.Needs.{needs}
 use Rattle.board.proofs.does_sum_reach.Statement.{statement}
 use Rattle.board.proofs.does_sum_reach.Tie as tie
 
-kept-sum-requires : tie.Need-kept-sum-requires
-kept-sum-requires c κs = search needs
-
 mul-result : tie.Need-mul-result
 mul-result c =
     let a = c .before .args in
@@ -22,9 +19,6 @@ mul-result-2 c =
     let a = c .before .args in
     omega (arith, shares-most (a .second) (a .l) (length (a .strikes .now)) (omega arith) (omega arith) (omega arith))
 
-mul-result-3 : tie.Need-mul-result-3
-mul-result-3 c = search needs
-
 returns : tie.Need-returns
 returns c =
     let a = c .before .args in
@@ -32,4 +26,4 @@ returns c =
 
 pub does-sum-reach-spec : {M : Type 1} → statement M
 does-sum-reach-spec =
-    tie.close (tie.spec kept-sum-requires mul-result mul-result-2 mul-result-3 returns)
+    tie.close (tie.spec (λ c κs. search needs) mul-result mul-result-2 (λ c. search needs) returns)

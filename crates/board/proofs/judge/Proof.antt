@@ -6,9 +6,6 @@ use borrow.Author.Needs.{needs}
 use Rattle.board.proofs.judge.Statement.{statement}
 use Rattle.board.proofs.judge.Tie as tie
 
-is-size-requires : tie.Need-is-size-requires
-is-size-requires c κs = search needs
-
 returns : tie.Need-returns
 returns c =
     let a = c .before .before .args in
@@ -76,7 +73,7 @@ pub judge-spec : {M : Type 1} → statement M
 judge-spec =
     tie.close
     (tie.spec
-    is-size-requires
+    (λ c κs. search needs)
     returns
     length-at-requires
     are-good-requires

@@ -22,18 +22,6 @@ loop-holds c = (omega arith, sum-none (c .args .strikes .now) keptOf, omega arit
 kept-at-requires : tie.Need-kept-at-requires Inv-loop μ-loop
 kept-at-requires c κs = (omega arith, omega arith)
 
-wide-requires : tie.Need-wide-requires Inv-loop μ-loop
-wide-requires c κs = tt
-
-add-total : tie.Need-add-total Inv-loop μ-loop
-add-total c = omega arith
-
-add-i : tie.Need-add-i Inv-loop μ-loop
-add-i c = omega arith
-
-loop-less : tie.Need-loop-less Inv-loop μ-loop
-loop-less c = omega arith
-
 loop-again : tie.Need-loop-again Inv-loop μ-loop
 loop-again c =
     let l = c .before .before .before .loop in
@@ -61,9 +49,9 @@ kept-sum-spec =
     μ-loop
     loop-holds
     kept-at-requires
-    wide-requires
-    add-total
-    add-i
-    loop-less
+    (λ c κs. tt)
+    (λ c. omega arith)
+    (λ c. omega arith)
+    (λ c. omega arith)
     loop-again
     returns)

@@ -6,39 +6,6 @@ use borrow.Author.Needs.{needs}
 use Rattle.dates.proofs.before_month.Statement.{statement}
 use Rattle.dates.proofs.before_month.Tie as tie
 
-leap-day-requires : tie.Need-leap-day-requires
-leap-day-requires c κs = search needs
-
-add-result : tie.Need-add-result
-add-result c = search needs
-
-add-result-2 : tie.Need-add-result-2
-add-result-2 c = search needs
-
-add-result-3 : tie.Need-add-result-3
-add-result-3 c = search needs
-
-add-result-4 : tie.Need-add-result-4
-add-result-4 c = search needs
-
-add-result-5 : tie.Need-add-result-5
-add-result-5 c = search needs
-
-add-result-6 : tie.Need-add-result-6
-add-result-6 c = search needs
-
-add-result-7 : tie.Need-add-result-7
-add-result-7 c = search needs
-
-add-result-8 : tie.Need-add-result-8
-add-result-8 c = search needs
-
-add-result-9 : tie.Need-add-result-9
-add-result-9 c = search needs
-
-add-result-10 : tie.Need-add-result-10
-add-result-10 c = search needs
-
 returns : tie.Need-returns
 returns c = month-is (c .before .before .args .y) (c .before .before .args .m) 0 0 (c .match .keys1) (table (c .before .before .args .y) (c .before .leap-day .result) (c .before .leap-day .ensures .0) .january) (omega (arith, c .before .leap-day .ensures .1))
 
@@ -81,17 +48,17 @@ pub before-month-spec : {M : Type 1} → statement M
 before-month-spec =
     tie.close
     (tie.spec
-    leap-day-requires
-    add-result
-    add-result-2
-    add-result-3
-    add-result-4
-    add-result-5
-    add-result-6
-    add-result-7
-    add-result-8
-    add-result-9
-    add-result-10
+    (λ c κs. search needs)
+    (λ c. search needs)
+    (λ c. search needs)
+    (λ c. search needs)
+    (λ c. search needs)
+    (λ c. search needs)
+    (λ c. search needs)
+    (λ c. search needs)
+    (λ c. search needs)
+    (λ c. search needs)
+    (λ c. search needs)
     returns
     returns-2
     returns-3

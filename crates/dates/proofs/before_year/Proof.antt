@@ -1,29 +1,22 @@
 -- `dates::before_year` meets its contract. Assumes nothing.
 use Prim.Native.Nat.{_-_}
-use mathlib.Core.Path.{_≡_, refl, sym, ap, _∙_}
+use mathlib.Core.Path.{sym}
 use native.Mathlib.Omega.{arith}
 use Rattle.dates.proofs.Years.{counted, most-days}
 use borrow.Author.Needs.{needs}
 use Rattle.dates.proofs.before_year.Statement.{statement}
 use Rattle.dates.proofs.before_year.Tie as tie
 
-sub-n : tie.Need-sub-n
-sub-n c = search needs
-
-mul-result : tie.Need-mul-result
-mul-result c = search needs
-
-add-result : tie.Need-add-result
-add-result c = search needs
-
-sub-result : tie.Need-sub-result
-sub-result c = search needs
-
-add-result-2 : tie.Need-add-result-2
-add-result-2 c = search needs
-
 returns : tie.Need-returns
 returns c = (sym (counted (c .args .y - 1)), most-days (c .args .y - 1) (omega (arith, c .pre)))
 
 pub before-year-spec : {M : Type 1} → statement M
-before-year-spec = tie.close (tie.spec sub-n mul-result add-result sub-result add-result-2 returns)
+before-year-spec =
+    tie.close
+    (tie.spec
+    (λ c. search needs)
+    (λ c. search needs)
+    (λ c. search needs)
+    (λ c. search needs)
+    (λ c. search needs)
+    returns)

@@ -1,5 +1,4 @@
 -- `dates::between` meets its contract. Assumes nothing.
-use mathlib.Core.Path.{_≡_, refl, sym, ap, _∙_}
 use borrow.Author.Tests.{lt-ltb, le-ltb}
 use borrow.Author.Needs.{needs}
 use Rattle.dates.proofs.between.Statement.{statement}
@@ -8,9 +7,6 @@ use Rattle.dates.proofs.between.Tie as tie
 returns : tie.Need-returns
 returns c = simp (lt-ltb _ _ (c .if1 .taken))
 
-cast-t5 : tie.Need-cast-t5
-cast-t5 c = search needs
-
 returns-2 : tie.Need-returns-2
 returns-2 c = simp (le-ltb _ _ (c .before .if1 .left), lt-ltb _ _ (c .if2 .taken))
 
@@ -18,4 +14,4 @@ returns-3 : tie.Need-returns-3
 returns-3 c = simp (le-ltb _ _ (c .before .if1 .left), le-ltb _ _ (c .if2 .left))
 
 pub between-spec : {M : Type 1} → statement M
-between-spec = tie.close (tie.spec returns cast-t5 returns-2 returns-3)
+between-spec = tie.close (tie.spec returns (λ c. search needs) returns-2 returns-3)

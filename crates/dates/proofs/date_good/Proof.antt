@@ -1,6 +1,6 @@
 -- `dates::date_good` meets its contract. Assumes nothing.
 use Prim.Native.Nat.{ℕ}
-use mathlib.Core.Path.{_≡_, refl, sym, ap, _∙_}
+use mathlib.Core.Path.{ap}
 use mathlib.Core.Bool.{_&&_}
 use lib.Dec.{leb}
 use Rattle.rules.specs.Dates.{goodDate}
@@ -8,12 +8,9 @@ use borrow.Author.Needs.{needs}
 use Rattle.dates.proofs.date_good.Statement.{statement}
 use Rattle.dates.proofs.date_good.Tie as tie
 
-month-days-requires : tie.Need-month-days-requires
-month-days-requires c κs = search needs
-
 returns : tie.Need-returns
 unfolding goodDate
 returns c = ap (λ (d : ℕ). leb 1 (c .before .args .s .year) && (leb 1 (c .before .args .s .month) && leb (c .before .args .s .month) 12) && (leb 1 (c .before .args .s .day) && leb (c .before .args .s .day) d)) (c .month-days .ensures)
 
 pub date-good-spec : {M : Type 1} → statement M
-date-good-spec = tie.close (tie.spec month-days-requires returns)
+date-good-spec = tie.close (tie.spec (λ c κs. search needs) returns)

@@ -1,6 +1,5 @@
 -- `dates::days` meets its contract. Assumes nothing.
-use Prim.Native.Nat.{ℕ, _+_, _-_}
-use mathlib.Core.Path.{_≡_, refl, sym, ap, _∙_}
+use Prim.Native.Nat.{_+_, _-_}
 use native.Mathlib.Omega.{arith}
 use Rattle.rules.specs.Dates.{daysBefore}
 use Rattle.dates.proofs.Ranges.{date-ranges}
@@ -13,9 +12,6 @@ before-year-requires c κs = (date-ranges (c .args .s) (c .pre .date) .year, c .
 
 before-month-requires : tie.Need-before-month-requires
 before-month-requires c κs = (date-ranges (c .before .args .s) (c .before .pre .date) .month, date-ranges (c .before .args .s) (c .before .pre .date) .months)
-
-add-result : tie.Need-add-result
-add-result c = search needs
 
 sub-result : tie.Need-sub-result
 sub-result c = date-ranges (c .before .before .args .s) (c .before .before .pre .date) .day
@@ -33,7 +29,7 @@ days-spec =
     (tie.spec
     before-year-requires
     before-month-requires
-    add-result
+    (λ c. search needs)
     sub-result
     add-result-2
     returns)

@@ -1,12 +1,9 @@
 -- `dates::february` meets its contract. Assumes nothing.
-use mathlib.Core.Path.{_≡_, refl, sym, ap, _∙_}
+use mathlib.Core.Path.{sym, _∙_}
 use Rattle.dates.proofs.Months.{leap-by, common-by}
 use borrow.Author.Needs.{needs}
 use Rattle.dates.proofs.february.Statement.{statement}
 use Rattle.dates.proofs.february.Tie as tie
-
-leap-requires : tie.Need-leap-requires
-leap-requires c κs = search needs
 
 returns : tie.Need-returns
 returns c = leap-by (c .before .before .args .y) 0 29 28 (sym (c .before .leap .ensures) ∙ c .if1 .taken)
@@ -15,4 +12,4 @@ returns-2 : tie.Need-returns-2
 returns-2 c = common-by (c .before .before .args .y) 0 29 28 (sym (c .before .leap .ensures) ∙ c .if1 .left)
 
 pub february-spec : {M : Type 1} → statement M
-february-spec = tie.close (tie.spec leap-requires returns returns-2)
+february-spec = tie.close (tie.spec (λ c κs. search needs) returns returns-2)

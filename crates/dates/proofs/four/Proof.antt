@@ -1,6 +1,6 @@
 -- `dates::four` meets its contract. Assumes nothing.
-use Prim.Native.Nat.{ℕ, _+_, _*_}
-use mathlib.Core.Path.{_≡_, refl, sym, ap, _∙_}
+use Prim.Native.Nat.{_+_, _*_}
+use mathlib.Core.Path.{sym, _∙_}
 use native.Mathlib.Omega.{arith}
 use Rattle.dates.proofs.Forms.{front, later, two-is, four-is}
 use borrow.Author.Needs.{needs}
@@ -10,20 +10,11 @@ use Rattle.dates.proofs.four.Tie as tie
 two-requires : tie.Need-two-requires
 two-requires c κs = front (c .before .args .v .now) (c .before .args .at) 4 (c .before .pre) 2 (omega arith)
 
-mul-result : tie.Need-mul-result
-mul-result c = search needs
-
-add-two : tie.Need-add-two
-add-two c = search needs
-
 two-requires-2 : tie.Need-two-requires-2
 two-requires-2 c κs = later (c .before .before .args .v .now) (c .before .before .args .at) 4 (c .before .before .pre) 2 2 (omega arith)
-
-add-result : tie.Need-add-result
-add-result c = search needs
 
 returns : tie.Need-returns
 returns c = (λ i. (c .before .two .ensures .0 ∙ two-is (c .before .before .before .args .v .now) (c .before .before .before .args .at) (omega (arith, c .before .before .before .pre .inside))) i * 100 + (c .two2 .ensures .0 ∙ two-is (c .before .before .before .args .v .now) ((c .before .before .before .args .at) + 2) (omega (arith, c .before .before .before .pre .inside))) i) ∙ sym (four-is (c .before .before .before .args .v .now) (c .before .before .before .args .at) (c .before .before .before .pre .inside))
 
 pub four-spec : {M : Type 1} → statement M
-four-spec = tie.close (tie.spec two-requires mul-result add-two two-requires-2 add-result returns)
+four-spec = tie.close (tie.spec two-requires (λ c. search needs) (λ c. search needs) two-requires-2 (λ c. search needs) returns)

@@ -1,5 +1,5 @@
 -- `dates::in_day` meets its contract. Assumes nothing.
-use mathlib.Core.Path.{_≡_, refl, sym, ap, _∙_}
+use mathlib.Core.Path.{refl}
 use native.Mathlib.Omega.{arith}
 use Rattle.dates.proofs.Ranges.{clock-ranges}
 use Rattle.dates.proofs.in_day.Statement.{statement}

@@ -1,13 +1,10 @@
 -- `dates::leap_day` meets its contract. Assumes nothing.
-use mathlib.Core.Path.{_≡_, refl, sym, ap, _∙_}
+use mathlib.Core.Path.{sym, _∙_}
 use native.Mathlib.Omega.{arith}
 use Rattle.dates.proofs.Months.{leap-by, common-by}
 use borrow.Author.Needs.{needs}
 use Rattle.dates.proofs.leap_day.Statement.{statement}
 use Rattle.dates.proofs.leap_day.Tie as tie
-
-leap-requires : tie.Need-leap-requires
-leap-requires c κs = search needs
 
 returns : tie.Need-returns
 returns c = (leap-by (c .before .before .args .y) 0 1 0 (sym (c .before .leap .ensures) ∙ c .if1 .taken), omega arith)
@@ -16,4 +13,4 @@ returns-2 : tie.Need-returns-2
 returns-2 c = (common-by (c .before .before .args .y) 0 1 0 (sym (c .before .leap .ensures) ∙ c .if1 .left), omega arith)
 
 pub leap-day-spec : {M : Type 1} → statement M
-leap-day-spec = tie.close (tie.spec leap-requires returns returns-2)
+leap-day-spec = tie.close (tie.spec (λ c κs. search needs) returns returns-2)

@@ -1,23 +1,14 @@
 -- `dates::moment` meets its contract. Assumes nothing.
-use mathlib.Core.Path.{_≡_, refl, sym, ap, _∙_}
-use Rattle.rules.specs.Answers.{Outcome, accepted}
-use Rattle.rules.specs.Dates.{Moment, momentOf, momentBetween}
+use mathlib.Core.Path.{_∙_}
+use Rattle.rules.specs.Answers.{accepted}
+use Rattle.rules.specs.Dates.{momentOf, momentBetween}
 use borrow.Author.Needs.{needs}
 use Rattle.dates.proofs.moment.Statement.{statement}
 use Rattle.dates.proofs.moment.Tie as tie
-
-instant-requires : tie.Need-instant-requires
-instant-requires c κs = search needs
-
-instant-requires-2 : tie.Need-instant-requires-2
-instant-requires-2 c κs = search needs
-
-between-requires : tie.Need-between-requires
-between-requires c κs = search needs
 
 returns : tie.Need-returns
 unfolding momentOf
 returns c = c .between .ensures ∙ (λ i. accepted (momentBetween (c .before .before .instant .ensures i) (c .before .instant2 .ensures i)))
 
 pub moment-spec : {M : Type 1} → statement M
-moment-spec = tie.close (tie.spec instant-requires instant-requires-2 between-requires returns)
+moment-spec = tie.close (tie.spec (λ c κs. search needs) (λ c κs. search needs) (λ c κs. search needs) returns)

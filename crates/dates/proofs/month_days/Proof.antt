@@ -1,18 +1,12 @@
 -- `dates::month_days` meets its contract. Assumes nothing.
-use mathlib.Core.Path.{_≡_, refl, sym, ap, _∙_}
+use mathlib.Core.Path.{sym, _∙_}
 use Rattle.dates.proofs.Months.{month-february, month-thirty, month-other}
 use borrow.Author.Needs.{needs}
 use Rattle.dates.proofs.month_days.Statement.{statement}
 use Rattle.dates.proofs.month_days.Tie as tie
 
-february-requires : tie.Need-february-requires
-february-requires c κs = search needs
-
 returns : tie.Need-returns
 returns c = c .february .ensures ∙ month-february (c .before .before .args .y) (c .before .before .args .m) (c .before .if1 .taken)
-
-of-thirty-requires : tie.Need-of-thirty-requires
-of-thirty-requires c κs = search needs
 
 returns-2 : tie.Need-returns-2
 returns-2 c = month-thirty (c .before .before .before .args .y) (c .before .before .before .args .m) (c .before .before .if1 .left) (sym (c .before .of-thirty .ensures) ∙ c .if2 .taken)
@@ -22,4 +16,4 @@ returns-3 c = month-other (c .before .before .before .args .y) (c .before .befor
 
 pub month-days-spec : {M : Type 1} → statement M
 month-days-spec =
-    tie.close (tie.spec february-requires returns of-thirty-requires returns-2 returns-3)
+    tie.close (tie.spec (λ c κs. search needs) returns (λ c κs. search needs) returns-2 returns-3)

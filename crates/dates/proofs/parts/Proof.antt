@@ -1,7 +1,6 @@
 -- `dates::parts` meets its contract. Assumes nothing.
-use mathlib.Core.Path.{_≡_, refl, sym, ap, _∙_}
+use mathlib.Core.Path.{refl}
 use native.Mathlib.Omega.{arith}
-use Rattle.rules.specs.declared.Timestamp.{Timestamp}
 use Rattle.rules.specs.Dates.{partsOf}
 use Rattle.dates.proofs.Forms.{digits-at}
 use Rattle.dates.proofs.parts.Statement.{statement}

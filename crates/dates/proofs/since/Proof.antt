@@ -1,31 +1,13 @@
 -- `dates::since` meets its contract. Assumes nothing.
-use mathlib.Core.Path.{_≡_, refl, sym, ap, _∙_}
+use mathlib.Core.Path.{sym, ap, _∙_}
 use Rattle.dates.specs.Answers.{shownTime}
 use Rattle.dates.proofs.Reading.{timed, no-start, no-sixty, from-start}
 use borrow.Author.Needs.{needs}
 use Rattle.dates.proofs.since.Statement.{statement}
 use Rattle.dates.proofs.since.Tie as tie
 
-time-in-requires : tie.Need-time-in-requires
-time-in-requires c κs = search needs
-
-enum-known-from : tie.Need-enum-known-from
-enum-known-from c = search needs
-
-enum-told : tie.Need-enum-told
-enum-told c = search needs
-
 returns : tie.Need-returns
 returns c = no-start (c .before .before .before .before .before .args .start .now) (c .before .before .before .before .before .args .sixty .now) (sym (ap shownTime (c .enum-told .given .1)) ∙ c .before .before .time-in .ensures)
-
-time-in-requires-2 : tie.Need-time-in-requires-2
-time-in-requires-2 c κs = search needs
-
-enum-known-to : tie.Need-enum-known-to
-enum-known-to c = search needs
-
-enum-told-2 : tie.Need-enum-told-2
-enum-told-2 c = search needs
 
 returns-2 : tie.Need-returns-2
 returns-2 c = no-sixty (c .before .before .before .before .before .before .before .before .before .args .start .now) (c .before .before .before .before .before .before .before .before .before .args .sixty .now) (sym (ap shownTime (c .enum-told2 .given .1)) ∙ c .before .before .time-in2 .ensures)
@@ -40,13 +22,13 @@ pub since-spec : {M : Type 1} → statement M
 since-spec =
     tie.close
     (tie.spec
-    time-in-requires
-    enum-known-from
-    enum-told
+    (λ c κs. search needs)
+    (λ c. search needs)
+    (λ c. search needs)
     returns
-    time-in-requires-2
-    enum-known-to
-    enum-told-2
+    (λ c κs. search needs)
+    (λ c. search needs)
+    (λ c. search needs)
     returns-2
     moment-requires
     returns-3)

@@ -1,6 +1,6 @@
 -- `dates::three` meets its contract. Assumes nothing.
-use Prim.Native.Nat.{ℕ, _+_, _*_}
-use mathlib.Core.Path.{_≡_, refl, sym, ap, _∙_}
+use Prim.Native.Nat.{_+_, _*_}
+use mathlib.Core.Path.{sym, _∙_}
 use native.Mathlib.Omega.{arith}
 use Rattle.dates.proofs.Forms.{front, two-is, three-is}
 use borrow.Author.Needs.{needs}
@@ -10,20 +10,8 @@ use Rattle.dates.proofs.three.Tie as tie
 two-requires : tie.Need-two-requires
 two-requires c κs = front (c .before .args .v .now) (c .before .args .at) 3 (c .before .pre) 2 (omega arith)
 
-mul-result : tie.Need-mul-result
-mul-result c = search needs
-
-add-digit : tie.Need-add-digit
-add-digit c = search needs
-
-shared-slice-read-digit : tie.Need-shared-slice-read-digit
-shared-slice-read-digit c = search needs
-
 digit-requires : tie.Need-digit-requires
 digit-requires c κs = c .before .before .before .pre .digits 2 (omega arith)
-
-add-result : tie.Need-add-result
-add-result c = search needs
 
 returns : tie.Need-returns
 returns c = (λ i. (c .before .before .two .ensures .0 ∙ two-is (c .before .before .before .before .args .v .now) (c .before .before .before .before .args .at) (omega (arith, c .before .before .before .before .pre .inside))) i * 10 + c .digit .ensures .0 i) ∙ sym (three-is (c .before .before .before .before .args .v .now) (c .before .before .before .before .args .at) (c .before .before .before .before .pre .inside))
@@ -33,9 +21,9 @@ three-spec =
     tie.close
     (tie.spec
     two-requires
-    mul-result
-    add-digit
-    shared-slice-read-digit
+    (λ c. search needs)
+    (λ c. search needs)
+    (λ c. search needs)
     digit-requires
-    add-result
+    (λ c. search needs)
     returns)

@@ -10,12 +10,6 @@ use borrow.Author.Needs.{needs}
 use Rattle.digits.proofs.minus.Statement.{statement}
 use Rattle.digits.proofs.minus.Tie as tie
 
-sub-t3 : tie.Need-sub-t3
-sub-t3 c = search needs
-
-cast-t4 : tie.Need-cast-t4
-cast-t4 c = search needs
-
 sub-t5 : tie.Need-sub-t5
 sub-t5 c = below-fits (c .before .args .n - 1) (omega (arith, c .before .pre))
 
@@ -26,4 +20,4 @@ returns-2 : tie.Need-returns-2
 returns-2 c = ap (λ (z : ℤ). some z) (below (c .before .args .n - 1) (omega (arith, c .before .pre))) ∙ minus (c .before .args .n) (search needs) (c .before .pre)
 
 pub minus-spec : {M : Type 1} → statement M
-minus-spec = tie.close (tie.spec sub-t3 cast-t4 sub-t5 returns returns-2)
+minus-spec = tie.close (tie.spec (λ c. search needs) (λ c. search needs) sub-t5 returns returns-2)

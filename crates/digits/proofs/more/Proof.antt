@@ -4,12 +4,6 @@ use borrow.Author.Tests.{le-leb, lt-leb}
 use Rattle.digits.proofs.more.Statement.{statement}
 use Rattle.digits.proofs.more.Tie as tie
 
-mul-result : tie.Need-mul-result
-mul-result c = search needs
-
-add-result : tie.Need-add-result
-add-result c = search needs
-
 returns : tie.Need-returns
 returns c = simp (le-leb _ _ (c .if1 .taken))
 
@@ -17,4 +11,4 @@ returns-2 : tie.Need-returns-2
 returns-2 c = simp (lt-leb _ _ (c .if1 .left))
 
 pub more-spec : {M : Type 1} → statement M
-more-spec = tie.close (tie.spec mul-result add-result returns returns-2)
+more-spec = tie.close (tie.spec (λ c. search needs) (λ c. search needs) returns returns-2)

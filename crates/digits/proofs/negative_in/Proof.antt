@@ -1,26 +1,14 @@
 -- `digits::negative_in` meets its contract. Assumes nothing.
 use mathlib.Core.Path.{ap, sym, _∙_}
-use Rattle.rules.specs.Digits.{inDigits, negative}
+use Rattle.rules.specs.Digits.{inDigits}
 use Rattle.digits.specs.Answers.{shownNumber}
 use Rattle.digits.proofs.Numbers.{negative-gone, negative-held, negative-above}
 use borrow.Author.Needs.{needs}
 use Rattle.digits.proofs.negative_in.Statement.{statement}
 use Rattle.digits.proofs.negative_in.Tie as tie
 
-number-in-requires : tie.Need-number-in-requires
-number-in-requires c κs = search needs
-
-enum-known-n : tie.Need-enum-known-n
-enum-known-n c = search needs
-
-enum-told : tie.Need-enum-told
-enum-told c = search needs
-
 returns : tie.Need-returns
 returns c = negative-gone (inDigits (c .before .before .before .before .args .v .now)) (sym (ap shownNumber (c .enum-told .given .1)) ∙ c .before .before .number-in .ensures)
-
-minus-requires : tie.Need-minus-requires
-minus-requires c κs = search needs
 
 returns-2 : tie.Need-returns-2
 returns-2 c = c .minus .ensures ∙ negative-held (inDigits (c .before .before .before .before .before .before .before .args .v .now)) (c .before .before .before .n .given .0 .0) (sym (ap shownNumber (c .before .before .before .n .given .1)) ∙ c .before .before .before .before .before .number-in .ensures) (c .before .if1 .taken)
@@ -31,4 +19,4 @@ returns-3 c = negative-above (inDigits (c .before .before .before .before .befor
 pub negative-in-spec : {M : Type 1} → statement M
 negative-in-spec =
     tie.close
-    (tie.spec number-in-requires enum-known-n enum-told returns minus-requires returns-2 returns-3)
+    (tie.spec (λ c κs. search needs) (λ c. search needs) (λ c. search needs) returns (λ c κs. search needs) returns-2 returns-3)

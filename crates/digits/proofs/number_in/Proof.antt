@@ -1,11 +1,10 @@
 -- `digits::number_in` meets its contract. The loop's invariant: the digits that are left decide whether all are, and make the whole number of what is read.
 -- Assumes nothing.
 use Prim.Native.Nat.{_-_, _≤_}
-use mathlib.Core.Path.{_≡_, refl, sym, ap, _∙_}
+use mathlib.Core.Path.{_≡_, refl, sym, _∙_}
 use mathlib.Core.Bool.{true}
 use borrow.Author.Needs.{needs}
 use borrow.Author.Tests.{not-true, not-false}
-use native.Mathlib.Omega.{arith}
 use lib.ListN.{length, drop}
 use Rattle.rules.specs.Digits.{allDigits, numberFrom}
 use Rattle.digits.specs.Answers.{capped}
@@ -26,12 +25,6 @@ returns c = nothing (c .before .before .args .v .now) (c .if1 .taken)
 loop-holds : tie.Need-loop-holds Inv-loop μ-loop
 loop-holds c = (search needs, refl, λ h. capped-from 0 _ h)
 
-shared-slice-read-b : tie.Need-shared-slice-read-b Inv-loop μ-loop
-shared-slice-read-b c = search needs
-
-is-digit-requires : tie.Need-is-digit-requires Inv-loop μ-loop
-is-digit-requires c κs = search needs
-
 returns-2 : tie.Need-returns-2 Inv-loop μ-loop
 returns-2 c =
     let at-loop = c .before .before .before .before in
@@ -41,15 +34,6 @@ returns-2 c =
 
 value-requires : tie.Need-value-requires Inv-loop μ-loop
 value-requires c κs = sym (c .before .is-digit .ensures) ∙ not-false (c .before .is-digit .result) (c .if2 .left)
-
-more-requires : tie.Need-more-requires Inv-loop μ-loop
-more-requires c κs = search needs
-
-add-i : tie.Need-add-i Inv-loop μ-loop
-add-i c = search needs
-
-loop-less : tie.Need-loop-less Inv-loop μ-loop
-loop-less c = search needs
 
 loop-again : tie.Need-loop-again Inv-loop μ-loop
 loop-again c =
@@ -80,12 +64,12 @@ number-in-spec =
     μ-loop
     returns
     loop-holds
-    shared-slice-read-b
-    is-digit-requires
+    (λ c. search needs)
+    (λ c κs. search needs)
     returns-2
     value-requires
-    more-requires
-    add-i
-    loop-less
+    (λ c κs. search needs)
+    (λ c. search needs)
+    (λ c. search needs)
     loop-again
     returns-3)

@@ -11,20 +11,8 @@ use borrow.Author.Needs.{needs}
 use Rattle.digits.proofs.positive_in.Statement.{statement}
 use Rattle.digits.proofs.positive_in.Tie as tie
 
-number-in-requires : tie.Need-number-in-requires
-number-in-requires c κs = search needs
-
-enum-known-n : tie.Need-enum-known-n
-enum-known-n c = search needs
-
-enum-told : tie.Need-enum-told
-enum-told c = search needs
-
 returns : tie.Need-returns
 returns c = positive-gone (inDigits (c .before .before .before .before .args .v .now)) (sym (ap shownNumber (c .enum-told .given .1)) ∙ c .before .before .number-in .ensures)
-
-cast-t5 : tie.Need-cast-t5
-cast-t5 c = search needs
 
 returns-2 : tie.Need-returns-2
 returns-2 c = ap (λ (z : ℤ). some z) (low (c .before .before .n .given .0 .0) (omega (arith, c .if1 .taken))) ∙ positive-held (inDigits (c .before .before .before .before .before .before .args .v .now)) (c .before .before .n .given .0 .0) (sym (ap shownNumber (c .before .before .n .given .1)) ∙ c .before .before .before .before .number-in .ensures) (c .if1 .taken)
@@ -35,4 +23,4 @@ returns-3 c = positive-above (inDigits (c .before .before .before .before .befor
 pub positive-in-spec : {M : Type 1} → statement M
 positive-in-spec =
     tie.close
-    (tie.spec number-in-requires enum-known-n enum-told returns cast-t5 returns-2 returns-3)
+    (tie.spec (λ c κs. search needs) (λ c. search needs) (λ c. search needs) returns (λ c. search needs) returns-2 returns-3)

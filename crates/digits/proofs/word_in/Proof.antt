@@ -1,6 +1,5 @@
 -- `digits::word_in` meets its contract. Assumes nothing.
 use mathlib.Core.Path.{ap, sym, _∙_}
-use native.Mathlib.Omega.{arith}
 use Rattle.rules.specs.Digits.{inDigits, wordIn}
 use Rattle.digits.specs.Answers.{shownNumber}
 use Rattle.digits.proofs.Numbers.{word-gone, word-held, word-above}
@@ -8,21 +7,9 @@ use borrow.Author.Needs.{needs}
 use Rattle.digits.proofs.word_in.Statement.{statement}
 use Rattle.digits.proofs.word_in.Tie as tie
 
-number-in-requires : tie.Need-number-in-requires
-number-in-requires c κs = search needs
-
-enum-known-n : tie.Need-enum-known-n
-enum-known-n c = search needs
-
-enum-told : tie.Need-enum-told
-enum-told c = search needs
-
 returns : tie.Need-returns
 unfolding wordIn
 returns c = word-gone (inDigits (c .before .before .before .before .args .v .now)) (sym (ap shownNumber (c .enum-told .given .1)) ∙ c .before .before .number-in .ensures)
-
-cast-t5 : tie.Need-cast-t5
-cast-t5 c = search needs
 
 returns-2 : tie.Need-returns-2
 unfolding wordIn
@@ -35,4 +22,4 @@ returns-3 c = word-above (inDigits (c .before .before .before .before .before .b
 pub word-in-spec : {M : Type 1} → statement M
 word-in-spec =
     tie.close
-    (tie.spec number-in-requires enum-known-n enum-told returns cast-t5 returns-2 returns-3)
+    (tie.spec (λ c κs. search needs) (λ c. search needs) (λ c. search needs) returns (λ c. search needs) returns-2 returns-3)

@@ -6,15 +6,6 @@ use borrow.Author.Needs.{needs}
 use Rattle.ease.proofs.double.Statement.{statement}
 use Rattle.ease.proofs.double.Tie as tie
 
-enum-told : tie.Need-enum-told
-enum-told c = search needs
-
-twice-requires : tie.Need-twice-requires
-twice-requires c κs = search needs
-
-enum-told-2 : tie.Need-enum-told-2
-enum-told-2 c = search needs
-
 returns : tie.Need-returns
 returns c =
     let a = c .before .before .before .args in
@@ -24,4 +15,4 @@ returns-2 : tie.Need-returns-2
 returns-2 c = search needs
 
 pub double-spec : {M : Type 1} → statement M
-double-spec = tie.close (tie.spec enum-told twice-requires enum-told-2 returns returns-2)
+double-spec = tie.close (tie.spec (λ c. search needs) (λ c κs. search needs) (λ c. search needs) returns returns-2)

@@ -5,18 +5,6 @@ use borrow.Author.Needs.{needs}
 use Rattle.ease.proofs.ease_if_inside.Statement.{statement}
 use Rattle.ease.proofs.ease_if_inside.Tie as tie
 
-inside-requires : tie.Need-inside-requires
-inside-requires c κs = search needs
-
-is-inside-requires : tie.Need-is-inside-requires
-is-inside-requires c κs = search needs
-
-ease-requires : tie.Need-ease-requires
-ease-requires c κs = search needs
-
-same-length : tie.Need-same-length
-same-length c = search needs
-
 returns : tie.Need-returns
 returns c =
     let s = c .before .before .before .before .before .before .before .before .args in
@@ -35,4 +23,4 @@ returns-2 c =
 pub ease-if-inside-spec : {M : Type 1} → statement M
 ease-if-inside-spec =
     tie.close
-    (tie.spec inside-requires is-inside-requires ease-requires same-length returns returns-2)
+    (tie.spec (λ c κs. search needs) (λ c κs. search needs) (λ c κs. search needs) (λ c. search needs) returns returns-2)

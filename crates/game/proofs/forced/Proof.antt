@@ -11,24 +11,6 @@ by-steps : (m h k d v r : ℕ) → d ≡ min h m → v ≡ min k (m - d) → r �
 unfolding closed
 by-steps m h k d v r e f g = g ∙ simp (f, e) (sym (value-closed m h k))
 
-min-requires : tie.Need-min-requires
-min-requires c κs = search needs
-
-sub-s : tie.Need-sub-s
-sub-s c = search needs
-
-min-requires-2 : tie.Need-min-requires-2
-min-requires-2 c κs = search needs
-
-sub-q : tie.Need-sub-q
-sub-q c = search needs
-
-sub-less : tie.Need-sub-less
-sub-less c = search needs
-
-less-requires : tie.Need-less-requires
-less-requires c κs = search needs
-
 returns : tie.Need-returns
 returns c =
     let a = c .before .before .before .args in
@@ -40,4 +22,11 @@ returns c =
 pub forced-spec : {M : Type 1} → statement M
 forced-spec =
     tie.close
-    (tie.spec min-requires sub-s min-requires-2 sub-q sub-less less-requires returns)
+    (tie.spec
+    (λ c κs. search needs)
+    (λ c. search needs)
+    (λ c κs. search needs)
+    (λ c. search needs)
+    (λ c. search needs)
+    (λ c κs. search needs)
+    returns)

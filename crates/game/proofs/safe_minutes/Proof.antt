@@ -6,16 +6,10 @@ use Rattle.game.proofs.Answers.{refused-26, answered}
 use Rattle.game.proofs.safe_minutes.Statement.{statement}
 use Rattle.game.proofs.safe_minutes.Tie as tie
 
-any-above-requires : tie.Need-any-above-requires
-any-above-requires c κs = search needs
-
 returns : tie.Need-returns
 returns c =
     let a = c .before .before .args in
     refused-26 (a .m) (a .h) (a .k) (sym (c .before .any-above .ensures) ∙ c .if1 .taken)
-
-forced-requires : tie.Need-forced-requires
-forced-requires c κs = search needs
 
 returns-2 : tie.Need-returns-2
 returns-2 c =
@@ -24,4 +18,4 @@ returns-2 c =
     ∙ answered (a .m) (a .h) (a .k) (sym (c .before .before .any-above .ensures) ∙ c .before .if1 .left)
 
 pub safe-minutes-spec : {M : Type 1} → statement M
-safe-minutes-spec = tie.close (tie.spec any-above-requires returns forced-requires returns-2)
+safe-minutes-spec = tie.close (tie.spec (λ c κs. search needs) returns (λ c κs. search needs) returns-2)

@@ -9,15 +9,6 @@ use Rattle.makers.specs.Internal.{isBehind, checkOf}
 use Rattle.makers.proofs.check.Statement.{statement}
 use Rattle.makers.proofs.check.Tie as tie
 
-is-behind-requires : tie.Need-is-behind-requires
-is-behind-requires c κs = search needs
-
-both-requires : tie.Need-both-requires
-both-requires c κs = search needs
-
-both-requires-2 : tie.Need-both-requires-2
-both-requires-2 c κs = search needs
-
 put-together : (s : Checked) (i : ℕ) (r : Maker) (twice behind one all : Bool) → behind ≡ isBehind i (s .last) r → one ≡ behind && not twice → all ≡ s .good && one
     → _≡_ {A = Checked} (record { good = all; last = r }) (checkOf s i r twice)
 unfolding checkOf
@@ -27,4 +18,4 @@ returns : tie.Need-returns
 returns c = put-together _ _ _ _ _ _ _ (c .before .before .is-behind .ensures) (c .before .both .ensures) (c .both2 .ensures)
 
 pub check-spec : {M : Type 1} → statement M
-check-spec = tie.close (tie.spec is-behind-requires both-requires both-requires-2 returns)
+check-spec = tie.close (tie.spec (λ c κs. search needs) (λ c κs. search needs) (λ c κs. search needs) returns)

@@ -14,12 +14,6 @@ use Rattle.makers.proofs.Deciding.{join-room, other-there}
 use Rattle.makers.proofs.decide.Statement.{statement}
 use Rattle.makers.proofs.decide.Tie as tie
 
-is-full-requires : tie.Need-is-full-requires
-is-full-requires c κs = search needs
-
-judge-requires : tie.Need-judge-requires
-judge-requires c κs = search needs
-
 same-refusal : (a : Asked) (r : ℕ) (bad there f f′ : Bool) → r ≡ judged (callOf a) bad there f → f ≡ f′ → r ≡ judged (callOf a) bad there f′
 same-refusal a r bad there f f′ e q = cc
 
@@ -54,4 +48,4 @@ returns-2 c =
     c .moves .ensures ∙ rw (eq-eqb _ 0 (sym r ∙ c .before .if1 .left)) refl
 
 pub decide-spec : {M : Type 1} → statement M
-decide-spec = tie.close (tie.spec is-full-requires judge-requires returns moves-requires returns-2)
+decide-spec = tie.close (tie.spec (λ c κs. search needs) (λ c κs. search needs) returns moves-requires returns-2)

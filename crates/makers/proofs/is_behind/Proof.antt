@@ -7,11 +7,8 @@ use Rattle.makers.proofs.is_behind.Tie as tie
 returns : tie.Need-returns
 returns c = simp (eq-eqb _ _ (c .if1 .taken))
 
-is-above-requires : tie.Need-is-above-requires
-is-above-requires c κs = search needs
-
 returns-2 : tie.Need-returns-2
 returns-2 c = simp (ne-eqb _ _ (c .before .if1 .left), c .is-above .ensures)
 
 pub is-behind-spec : {M : Type 1} → statement M
-is-behind-spec = tie.close (tie.spec returns is-above-requires returns-2)
+is-behind-spec = tie.close (tie.spec returns (λ c κs. search needs) returns-2)

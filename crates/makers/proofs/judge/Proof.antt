@@ -11,9 +11,6 @@ use Rattle.makers.proofs.judge.Tie as tie
 returns : tie.Need-returns
 returns c = rw (c .if1 .taken) (sym (wrong-judged _ _ _))
 
-judge-present-requires : tie.Need-judge-present-requires
-judge-present-requires c κs = search needs
-
 returns-2 : tie.Need-returns-2
 returns-2 c =
     let a = c .before .before .before .before .args in
@@ -33,4 +30,4 @@ returns-5 c = simp (c .before .before .before .before .if1 .left, eq-eqb _ _ (c 
 
 pub judge-spec : {M : Type 1} → statement M
 judge-spec =
-    tie.close (tie.spec returns judge-present-requires returns-2 returns-3 returns-4 returns-5)
+    tie.close (tie.spec returns (λ c κs. search needs) returns-2 returns-3 returns-4 returns-5)

@@ -9,12 +9,6 @@ returns : tie.Need-returns
 unfolding lookOf
 returns c = simp (eq-eqb _ _ (c .if1 .taken))
 
-is-above-requires : tie.Need-is-above-requires
-is-above-requires c κs = search needs
-
-add-t7 : tie.Need-add-t7
-add-t7 c = search needs
-
 returns-2 : tie.Need-returns-2
 unfolding lookOf
 returns-2 c = simp (ne-eqb _ _ (c .before .before .before .if1 .left), ← c .before .before .is-above .ensures, c .before .if2 .taken)
@@ -24,4 +18,4 @@ unfolding lookOf
 returns-3 c = simp (ne-eqb _ _ (c .before .before .if1 .left), ← c .before .is-above .ensures, c .if2 .left)
 
 pub look-at-spec : {M : Type 1} → statement M
-look-at-spec = tie.close (tie.spec returns is-above-requires add-t7 returns-2 returns-3)
+look-at-spec = tie.close (tie.spec returns (λ c κs. search needs) (λ c. search needs) returns-2 returns-3)

@@ -4,15 +4,6 @@ use borrow.Author.Needs.{needs}
 use Rattle.makers.proofs.look_back.Statement.{statement}
 use Rattle.makers.proofs.look_back.Tie as tie
 
-cast-slot : tie.Need-cast-slot
-cast-slot c = search needs
-
-element-copy-out-met : tie.Need-element-copy-out-met
-element-copy-out-met c = search needs
-
-element-write-marks : tie.Need-element-write-marks
-element-write-marks c = search needs
-
 returns : tie.Need-returns
 returns c = (rw (c .if1 .taken) refl, refl)
 
@@ -21,4 +12,4 @@ returns-2 c = (rw (c .if1 .left) refl, refl)
 
 pub look-back-spec : {M : Type 1} → statement M
 look-back-spec =
-    tie.close (tie.spec cast-slot element-copy-out-met element-write-marks returns returns-2)
+    tie.close (tie.spec (λ c. search needs) (λ c. search needs) (λ c. search needs) returns returns-2)

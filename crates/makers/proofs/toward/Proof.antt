@@ -4,17 +4,11 @@ use borrow.Author.Tests.{lt-ltb, le-ltb}
 use Rattle.makers.proofs.toward.Statement.{statement}
 use Rattle.makers.proofs.toward.Tie as tie
 
-add-result : tie.Need-add-result
-add-result c = search needs
-
 returns : tie.Need-returns
 returns c = simp (lt-ltb _ _ (c .if1 .taken))
-
-sub-result : tie.Need-sub-result
-sub-result c = search needs
 
 returns-2 : tie.Need-returns-2
 returns-2 c = simp (le-ltb _ _ (c .if1 .left))
 
 pub toward-spec : {M : Type 1} → statement M
-toward-spec = tie.close (tie.spec add-result returns sub-result returns-2)
+toward-spec = tie.close (tie.spec (λ c. search needs) returns (λ c. search needs) returns-2)

@@ -28,9 +28,6 @@ add-charges c = let b = bounds c in omega arith
 weight-requires : tie.Need-weight-requires
 weight-requires c κs = bounds c
 
-cast-result : tie.Need-cast-result
-cast-result c = search needs
-
 abbrev cell : tie.After-weight → Cell
 cell c = c .before .before .before .before .before .before .args .cell
 
@@ -60,7 +57,7 @@ earned-spec =
     mul-charges-2
     add-charges
     weight-requires
-    cast-result
+    (λ c. search needs)
     mul-result
     returns
     returns-2)

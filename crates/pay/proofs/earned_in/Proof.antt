@@ -30,27 +30,12 @@ loop-holds : tie.Need-loop-holds Inv-loop μ-loop
 unfolding sum
 loop-holds c = search needs
 
-mul-earned : tie.Need-mul-earned Inv-loop μ-loop
-mul-earned c = omega arith
-
-array-copy-out-earned : tie.Need-array-copy-out-earned Inv-loop μ-loop
-array-copy-out-earned c = search needs
-
 earned-requires : tie.Need-earned-requires Inv-loop μ-loop
 earned-requires c κs =
     let a = c .before .before .before in
     let i = c .before .before .loop .i in
     let n : length (a .args .t1) ≡ 186 = long a in
     a .pre (getD (a .args .t1) i blankCell) (getD-in (a .args .t1) i blankCell (omega arith))
-
-add-total : tie.Need-add-total Inv-loop μ-loop
-add-total c = omega arith
-
-add-i : tie.Need-add-i Inv-loop μ-loop
-add-i c = omega arith
-
-loop-less : tie.Need-loop-less Inv-loop μ-loop
-loop-less c = omega arith
 
 loop-again : tie.Need-loop-again Inv-loop μ-loop
 loop-again c =
@@ -74,11 +59,11 @@ earned-in-spec =
     Inv-loop
     μ-loop
     loop-holds
-    mul-earned
-    array-copy-out-earned
+    (λ c. omega arith)
+    (λ c. search needs)
     earned-requires
-    add-total
-    add-i
-    loop-less
+    (λ c. omega arith)
+    (λ c. omega arith)
+    (λ c. omega arith)
     loop-again
     returns)

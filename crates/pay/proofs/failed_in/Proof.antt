@@ -17,42 +17,9 @@ Inv-loop expiry quantum cells first count₀ day₀ count day =
 abbrev μ-loop : tie.MeasureT-loop
 μ-loop expiry quantum cells first count₀ day₀ count day = 31 - day
 
-sub-first : tie.Need-sub-first Inv-loop μ-loop
-sub-first c = omega arith
-
-mul-first : tie.Need-mul-first Inv-loop μ-loop
-mul-first c = omega arith
-
-add-first : tie.Need-add-first Inv-loop μ-loop
-add-first c = omega arith
-
 loop-holds : tie.Need-loop-holds Inv-loop μ-loop
 unfolding below howMany
 loop-holds c = search needs
-
-mul-tally : tie.Need-mul-tally Inv-loop μ-loop
-mul-tally c = omega arith
-
-add-tally : tie.Need-add-tally Inv-loop μ-loop
-add-tally c = omega arith
-
-mul-tally-2 : tie.Need-mul-tally-2 Inv-loop μ-loop
-mul-tally-2 c = omega arith
-
-array-copy-out-tally : tie.Need-array-copy-out-tally Inv-loop μ-loop
-array-copy-out-tally c = omega arith
-
-tally-requires : tie.Need-tally-requires Inv-loop μ-loop
-tally-requires c κs = search needs
-
-add-count : tie.Need-add-count Inv-loop μ-loop
-add-count c = omega arith
-
-add-day : tie.Need-add-day Inv-loop μ-loop
-add-day c = omega arith
-
-loop-less : tie.Need-loop-less Inv-loop μ-loop
-loop-less c = omega arith
 
 loop-again : tie.Need-loop-again Inv-loop μ-loop
 loop-again c =
@@ -76,17 +43,17 @@ failed-in-spec =
     (tie.spec
     Inv-loop
     μ-loop
-    sub-first
-    mul-first
-    add-first
+    (λ c. omega arith)
+    (λ c. omega arith)
+    (λ c. omega arith)
     loop-holds
-    mul-tally
-    add-tally
-    mul-tally-2
-    array-copy-out-tally
-    tally-requires
-    add-count
-    add-day
-    loop-less
+    (λ c. omega arith)
+    (λ c. omega arith)
+    (λ c. omega arith)
+    (λ c. omega arith)
+    (λ c κs. search needs)
+    (λ c. omega arith)
+    (λ c. omega arith)
+    (λ c. omega arith)
     loop-again
     returns)

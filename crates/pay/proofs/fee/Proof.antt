@@ -8,23 +8,11 @@ use borrow.Author.Needs.{needs}
 use Rattle.pay.proofs.fee.Statement.{statement}
 use Rattle.pay.proofs.fee.Tie as tie
 
-failures-requires : tie.Need-failures-requires
-failures-requires c κs = search needs
-
-too-many-requires : tie.Need-too-many-requires
-too-many-requires c κs = search needs
-
 returns : tie.Need-returns
 returns c =
     let a = c .before .before .before .args in
     let f = c .before .before .failures in
     ap kopecks (fee-none (a .cells) (f .result) (f .ensures) (sym (c .before .too-many .ensures) ∙ c .if1 .taken))
-
-earned-in-requires : tie.Need-earned-in-requires
-earned-in-requires c κs = search needs
-
-capped-requires : tie.Need-capped-requires
-capped-requires c κs = search needs
 
 returns-2 : tie.Need-returns-2
 returns-2 c =
@@ -38,9 +26,9 @@ pub fee-spec : {M : Type 1} → statement M
 fee-spec =
     tie.close
     (tie.spec
-    failures-requires
-    too-many-requires
+    (λ c κs. search needs)
+    (λ c κs. search needs)
     returns
-    earned-in-requires
-    capped-requires
+    (λ c κs. search needs)
+    (λ c κs. search needs)
     returns-2)

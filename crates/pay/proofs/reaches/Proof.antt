@@ -7,23 +7,14 @@ use Rattle.pay.proofs.Weights.{product-fits}
 use Rattle.pay.proofs.reaches.Statement.{statement}
 use Rattle.pay.proofs.reaches.Tie as tie
 
-cast-l : tie.Need-cast-l
-cast-l c = search needs
-
-cast-k : tie.Need-cast-k
-cast-k c = search needs
-
 mul-needed : tie.Need-mul-needed
 mul-needed c =
     let a = c .before .before .args in
     omega (arith, product-fits (a .share) (a .length .0) (omega arith) (omega arith))
-
-mul-held : tie.Need-mul-held
-mul-held c = search needs
 
 returns : tie.Need-returns
 unfolding met
 returns c = refl
 
 pub reaches-spec : {M : Type 1} → statement M
-reaches-spec = tie.close (tie.spec cast-l cast-k mul-needed mul-held returns)
+reaches-spec = tie.close (tie.spec (λ c. search needs) (λ c. search needs) mul-needed (λ c. search needs) returns)

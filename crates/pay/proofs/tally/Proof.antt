@@ -10,9 +10,6 @@ returns : tie.Need-returns
 unfolding cellFailed
 returns c = (simp (not-true (c .before .args .cell .filled) (c .if1 .taken)), omega arith)
 
-met-requires : tie.Need-met-requires
-met-requires c κs = search needs
-
 returns-2 : tie.Need-returns-2
 unfolding cellFailed
 returns-2 c = (simp (not-false (c .before .before .before .args .cell .filled) (c .before .before .if1 .left), ← c .before .met .ensures, c .if2 .taken), omega arith)
@@ -22,4 +19,4 @@ unfolding cellFailed
 returns-3 c = (simp (not-false (c .before .before .before .args .cell .filled) (c .before .before .if1 .left), ← c .before .met .ensures, c .if2 .left), omega arith)
 
 pub tally-spec : {M : Type 1} → statement M
-tally-spec = tie.close (tie.spec returns met-requires returns-2 returns-3)
+tally-spec = tie.close (tie.spec returns (λ c κs. search needs) returns-2 returns-3)

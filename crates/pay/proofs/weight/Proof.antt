@@ -8,12 +8,6 @@ use Rattle.pay.proofs.Weights.{weight-within, weight-past}
 use Rattle.pay.proofs.weight.Statement.{statement}
 use Rattle.pay.proofs.weight.Tie as tie
 
-within-lapse-limit-requires : tie.Need-within-lapse-limit-requires
-within-lapse-limit-requires c κs = search needs
-
-weight-of-requires : tie.Need-weight-of-requires
-weight-of-requires c κs = search needs
-
 returns : tie.Need-returns
 unfolding weight
 returns c =
@@ -31,4 +25,4 @@ returns-2 c =
     (sym (w .within-lapse-limit .ensures) ∙ c .if1 .left)
 
 pub weight-spec : {M : Type 1} → statement M
-weight-spec = tie.close (tie.spec within-lapse-limit-requires weight-of-requires returns returns-2)
+weight-spec = tie.close (tie.spec (λ c κs. search needs) (λ c κs. search needs) returns returns-2)

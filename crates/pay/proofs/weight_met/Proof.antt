@@ -8,18 +8,6 @@ use Rattle.pay.proofs.weight_met.Tie as tie
 returns : tie.Need-returns
 returns c = weightMet-high (c .before .args .f) (c .before .args .share) (c .if1 .taken)
 
-sub-n : tie.Need-sub-n
-sub-n c = search needs
-
-sub-d : tie.Need-sub-d
-sub-d c = search needs
-
-fifth-requires : tie.Need-fifth-requires
-fifth-requires c κs = search needs
-
-fifth-requires-2 : tie.Need-fifth-requires-2
-fifth-requires-2 c κs = search needs
-
 powers : (c : tie.After-fifth2)
     → Powers (c .before .before .before .args .f) (c .before .before .before .args .share) (c .before .fifth .result) (c .fifth2 .result)
 powers c =
@@ -50,10 +38,10 @@ weight-met-spec =
     tie.close
     (tie.spec
     returns
-    sub-n
-    sub-d
-    fifth-requires
-    fifth-requires-2
+    (λ c. search needs)
+    (λ c. search needs)
+    (λ c κs. search needs)
+    (λ c κs. search needs)
     mul-result
     div-result
     cast-result

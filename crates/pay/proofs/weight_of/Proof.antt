@@ -11,12 +11,6 @@ use borrow.Author.Needs.{needs}
 use Rattle.pay.proofs.weight_of.Statement.{statement}
 use Rattle.pay.proofs.weight_of.Tie as tie
 
-thousandths-requires : tie.Need-thousandths-requires
-thousandths-requires c κs = search needs
-
-has-requires : tie.Need-has-requires
-has-requires c κs = search needs
-
 look-up-requires : tie.Need-look-up-requires
 look-up-requires c κs = sym (c .before .has .ensures) ∙ c .if1 .taken
 
@@ -26,9 +20,6 @@ returns c =
     let a = t .before in
     c .look-up .ensures ∙ ap (λ (f : ℕ). weightAt paper f (a .args .share)) (t .thousandths .ensures)
     ∙ sym (weight-by-f (a .args .kept .0) (a .args .length .0) (a .args .share) (a .pre .0))
-
-reaches-requires : tie.Need-reaches-requires
-reaches-requires c κs = search needs
 
 weight-met-requires : tie.Need-weight-met-requires
 weight-met-requires c κs =
@@ -57,11 +48,11 @@ pub weight-of-spec : {M : Type 1} → statement M
 weight-of-spec =
     tie.close
     (tie.spec
-    thousandths-requires
-    has-requires
+    (λ c κs. search needs)
+    (λ c κs. search needs)
     look-up-requires
     returns
-    reaches-requires
+    (λ c κs. search needs)
     weight-met-requires
     returns-2
     returns-3)

@@ -1,5 +1,5 @@
 -- The loop's invariant: what was added up is held at the key in the part of the columns that was passed. Assumes nothing.
-use Prim.Native.Nat.{_+_, _-_, _≤_}
+use Prim.Native.Nat.{_-_, _≤_}
 use native.Mathlib.Omega.{arith}
 use mathlib.Core.Path.{_≡_, refl}
 use lib.Dec.{eqb}
@@ -19,21 +19,6 @@ loop-holds : tie.Need-loop-holds Inv-loop μ-loop
 unfolding held
 loop-holds c = (omega arith, refl)
 
-mul-volume-where : tie.Need-mul-volume-where Inv-loop μ-loop
-mul-volume-where c = omega arith
-
-shared-slice-read-volume-where : tie.Need-shared-slice-read-volume-where Inv-loop μ-loop
-shared-slice-read-volume-where c = omega arith
-
-mul-volume-where-2 : tie.Need-mul-volume-where-2 Inv-loop μ-loop
-mul-volume-where-2 c = omega arith
-
-shared-slice-read-volume-where-2 : tie.Need-shared-slice-read-volume-where-2 Inv-loop μ-loop
-shared-slice-read-volume-where-2 c = omega arith
-
-volume-where-requires : tie.Need-volume-where-requires Inv-loop μ-loop
-volume-where-requires c κs = tt
-
 add-at : tie.Need-add-at Inv-loop μ-loop
 add-at c =
     let u = c .before .before .before .before in
@@ -43,12 +28,6 @@ add-at c =
       held-fits (eqb (b .args .key)) (u .loop .i) (b .args .keys .now) (b .args .volumes .now) (u .loop .at) (c .volume-where .result) (omega arith) (b .pre .even) (u .loop .inv .1) (c .volume-where .ensures),
       b .pre .small,
     )
-
-add-i : tie.Need-add-i Inv-loop μ-loop
-add-i c = omega arith
-
-loop-less : tie.Need-loop-less Inv-loop μ-loop
-loop-less c = omega arith
 
 loop-again : tie.Need-loop-again Inv-loop μ-loop
 loop-again c =
@@ -70,13 +49,13 @@ held-at-spec =
     Inv-loop
     μ-loop
     loop-holds
-    mul-volume-where
-    shared-slice-read-volume-where
-    mul-volume-where-2
-    shared-slice-read-volume-where-2
-    volume-where-requires
+    (λ c. omega arith)
+    (λ c. omega arith)
+    (λ c. omega arith)
+    (λ c. omega arith)
+    (λ c κs. tt)
     add-at
-    add-i
-    loop-less
+    (λ c. omega arith)
+    (λ c. omega arith)
     loop-again
     returns)

@@ -5,12 +5,9 @@ use Rattle.quote.specs.Levels.{isBest}
 use Rattle.quote.proofs.is_best.Statement.{statement}
 use Rattle.quote.proofs.is_best.Tie as tie
 
-add-result : tie.Need-add-result
-add-result c = search needs
-
 returns : tie.Need-returns
 unfolding isBest
 returns c = refl
 
 pub is-best-spec : {M : Type 1} → statement M
-is-best-spec = tie.close (tie.spec add-result returns)
+is-best-spec = tie.close (tie.spec (λ c. search needs) returns)

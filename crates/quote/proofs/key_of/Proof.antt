@@ -18,9 +18,6 @@ bid p = pos 1000000001 +ℤ p
 abbrev ask : ℤ → ℤ
 ask p = pos 1000000001 -ℤ p
 
-enum-told : tie.Need-enum-told
-enum-told c = search needs
-
 add-result : tie.Need-add-result
 add-result c =
     let s = c .before .before .before .before in
@@ -34,9 +31,6 @@ cast-result c =
     let p = s .args .price .0 in
     let h : SFits w32 p = search needs in
     key-unsigned bid p (keyOf Buy p) h (key-sum p (s .pre)) (key-most Buy p (s .pre))
-
-enum-told-2 : tie.Need-enum-told-2
-enum-told-2 c = search needs
 
 sub-result : tie.Need-sub-result
 sub-result c =
@@ -70,10 +64,10 @@ pub key-of-spec : {M : Type 1} → statement M
 key-of-spec =
     tie.close
     (tie.spec
-    enum-told
+    (λ c. search needs)
     add-result
     cast-result
-    enum-told-2
+    (λ c. search needs)
     sub-result
     cast-result-2
     returns

@@ -12,18 +12,9 @@ as-number : (b : Bool) → boolByte b ≡ (if b then 1 else 0)
 as-number true = refl
 as-number false = refl
 
-add-both : tie.Need-add-both
-add-both c = search needs
-
-add-result : tie.Need-add-result
-add-result c = search needs
-
-cast-result : tie.Need-cast-result
-cast-result c = search needs
-
 returns : tie.Need-returns
 unfolding keysKeep
 returns c = as-number (keysKeep (c .args .widest) (c .args .bid) (c .args .ask))
 
 pub keys-keep-spec : {M : Type 1} → statement M
-keys-keep-spec = tie.close (tie.spec add-both add-result cast-result returns)
+keys-keep-spec = tie.close (tie.spec (λ c. search needs) (λ c. search needs) (λ c. search needs) returns)

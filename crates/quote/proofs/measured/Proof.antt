@@ -23,21 +23,6 @@ loop-holds : tie.Need-loop-holds Inv-loop μ-loop
 unfolding held
 loop-holds c = (omega arith, refl, refl)
 
-mul-k : tie.Need-mul-k Inv-loop μ-loop
-mul-k c = omega arith
-
-shared-slice-read-k : tie.Need-shared-slice-read-k Inv-loop μ-loop
-shared-slice-read-k c = omega arith
-
-mul-v : tie.Need-mul-v Inv-loop μ-loop
-mul-v c = omega arith
-
-shared-slice-read-v : tie.Need-shared-slice-read-v Inv-loop μ-loop
-shared-slice-read-v c = omega arith
-
-volume-where-requires : tie.Need-volume-where-requires Inv-loop μ-loop
-volume-where-requires c κs = tt
-
 -- the turn of the loop at which a need arises
 abbrev Turn : Type 0
 Turn = tie.At-loop Inv-loop μ-loop
@@ -64,9 +49,6 @@ add-before c =
     small u (ltb (u .before .before .before .args .key)) h (c .volume-where .result) (omega arith) (u .loop .inv .1) (c .volume-where .ensures) in
     omega arith
 
-volume-where-requires-2 : tie.Need-volume-where-requires-2 Inv-loop μ-loop
-volume-where-requires-2 c κs = tt
-
 add-at : tie.Need-add-at Inv-loop μ-loop
 add-at c =
     let u = c .before .before .before .before .before in
@@ -74,12 +56,6 @@ add-at c =
     let fits : h + c .volume-where2 .result ≤ 64000000 =
     small u (eqb (u .before .before .before .args .key)) h (c .volume-where2 .result) (omega arith) (u .loop .inv .2) (c .volume-where2 .ensures) in
     omega arith
-
-add-i : tie.Need-add-i Inv-loop μ-loop
-add-i c = omega arith
-
-loop-less : tie.Need-loop-less Inv-loop μ-loop
-loop-less c = omega arith
 
 loop-again : tie.Need-loop-again Inv-loop μ-loop
 loop-again c =
@@ -111,15 +87,15 @@ measured-spec =
     Inv-loop
     μ-loop
     loop-holds
-    mul-k
-    shared-slice-read-k
-    mul-v
-    shared-slice-read-v
-    volume-where-requires
+    (λ c. omega arith)
+    (λ c. omega arith)
+    (λ c. omega arith)
+    (λ c. omega arith)
+    (λ c κs. tt)
     add-before
-    volume-where-requires-2
+    (λ c κs. tt)
     add-at
-    add-i
-    loop-less
+    (λ c. omega arith)
+    (λ c. omega arith)
     loop-again
     returns)

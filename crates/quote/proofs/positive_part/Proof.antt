@@ -7,9 +7,6 @@ use Rattle.quote.proofs.Widths.{read-natural, read-positive, no-positiv
 use Rattle.quote.proofs.positive_part.Statement.{statement}
 use Rattle.quote.proofs.positive_part.Tie as tie
 
-not-negative-requires : tie.Need-not-negative-requires
-not-negative-requires c κs = search needs
-
 cast-result : tie.Need-cast-result
 cast-result c =
     let z = c .before .before .before .before .args .p .0 in
@@ -26,4 +23,4 @@ returns-2 : tie.Need-returns-2
 returns-2 c = no-positive (c .before .before .args .p .0) (sym (c .before .not-negative .ensures) ∙ c .if1 .left)
 
 pub positive-part-spec : {M : Type 1} → statement M
-positive-part-spec = tie.close (tie.spec not-negative-requires cast-result returns returns-2)
+positive-part-spec = tie.close (tie.spec (λ c κs. search needs) cast-result returns returns-2)

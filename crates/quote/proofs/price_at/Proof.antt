@@ -8,20 +8,8 @@ use Rattle.quote.proofs.Widths.{bid-signed, ask-signed, bid-is, ask-is}
 use Rattle.quote.proofs.price_at.Statement.{statement}
 use Rattle.quote.proofs.price_at.Tie as tie
 
-enum-told : tie.Need-enum-told
-enum-told c = search needs
-
-cast-t4 : tie.Need-cast-t4
-cast-t4 c = search needs
-
 sub-t5 : tie.Need-sub-t5
 sub-t5 c = bid-signed (c .before .before .args .key) (c .before .before .pre)
-
-enum-told-2 : tie.Need-enum-told-2
-enum-told-2 c = search needs
-
-cast-t6 : tie.Need-cast-t6
-cast-t6 c = search needs
 
 sub-t7 : tie.Need-sub-t7
 sub-t7 c = ask-signed (c .before .before .args .key) (c .before .before .pre)
@@ -38,4 +26,4 @@ returns-2 c =
 
 pub price-at-spec : {M : Type 1} → statement M
 price-at-spec =
-    tie.close (tie.spec enum-told cast-t4 sub-t5 enum-told-2 cast-t6 sub-t7 returns returns-2)
+    tie.close (tie.spec (λ c. search needs) (λ c. search needs) sub-t5 (λ c. search needs) (λ c. search needs) sub-t7 returns returns-2)

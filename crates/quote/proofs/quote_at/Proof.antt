@@ -17,13 +17,10 @@ there side (suc k) h = refl
 returns : tie.Need-returns
 returns c = search needs
 
-price-at-requires : tie.Need-price-at-requires
-price-at-requires c κs = search needs
-
 returns-2 : tie.Need-returns-2
 returns-2 c =
     let a = c .before .before .args in
     ap At (c .price-at .ensures) ∙ there (a .side) (a .key) (c .before .if1 .left)
 
 pub quote-at-spec : {M : Type 1} → statement M
-quote-at-spec = tie.close (tie.spec returns price-at-requires returns-2)
+quote-at-spec = tie.close (tie.spec returns (λ c κs. search needs) returns-2)

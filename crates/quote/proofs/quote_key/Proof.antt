@@ -5,12 +5,6 @@ use Rattle.quote.specs.Keys.{quoteKey}
 use Rattle.quote.proofs.quote_key.Statement.{statement}
 use Rattle.quote.proofs.quote_key.Tie as tie
 
-enum-told : tie.Need-enum-told
-enum-told c = search needs
-
-enum-known-quote : tie.Need-enum-known-quote
-enum-known-quote c = search needs
-
 key-of-requires : tie.Need-key-of-requires
 key-of-requires c κs =
     let q = c .before .quote .given in
@@ -25,4 +19,4 @@ returns-2 c =
     c .key-of .ensures ∙ ap (quoteKey (s .args .side)) (sym (c .before .before .quote .given .1))
 
 pub quote-key-spec : {M : Type 1} → statement M
-quote-key-spec = tie.close (tie.spec enum-told enum-known-quote key-of-requires returns returns-2)
+quote-key-spec = tie.close (tie.spec (λ c. search needs) (λ c. search needs) key-of-requires returns returns-2)

@@ -6,7 +6,7 @@ use mathlib.Core.Path.{_≡_, refl, sym, ap, _∙_}
 use mathlib.Core.List.{List}
 use mathlib.Core.Bool.{Bool, true, false}
 use borrow.Author.Tests.{le-leb, lt-leb, le-ltb, lt-ltb}
-use lib.Dec.{leb, ltb}
+use lib.Dec.{leb}
 use lib.ListN.{length, getD, take}
 use Rattle.rules.specs.Lists.{count, filter}
 use Rattle.quote.specs.Keys.{quoteAt}
@@ -133,39 +133,21 @@ candidates-holds : tie.Need-candidates-holds Inv-volumes μ-volumes Inv-candidat
 unfolding greatest filter triedBy count
 candidates-holds c = (omega arith, omega (arith, c .before .before .pre .start-most), omega arith, omega arith, refl, refl, sym (depth-start (c .before .before .args .start) (c .before .before .args .keys .now) (c .before .before .args .volumes .now)))
 
-quote-at-requires : tie.Need-quote-at-requires Inv-volumes μ-volumes Inv-candidates μ-candidates
-quote-at-requires c κs = omega arith
-
-mul-key : tie.Need-mul-key Inv-volumes μ-volumes Inv-candidates μ-candidates
-mul-key c = omega arith
-
 shared-slice-read-key :
     tie.Need-shared-slice-read-key Inv-volumes μ-volumes Inv-candidates μ-candidates
 shared-slice-read-key c = omega arith
-
-add-i : tie.Need-add-i Inv-volumes μ-volumes Inv-candidates μ-candidates
-add-i c = omega arith
 
 volumes-holds : tie.Need-volumes-holds Inv-volumes μ-volumes Inv-candidates μ-candidates
 unfolding L.held
 volumes-holds c = (omega arith, refl)
 
-mul-volume-where : tie.Need-mul-volume-where Inv-volumes μ-volumes Inv-candidates μ-candidates
-mul-volume-where c = omega arith
-
 shared-slice-read-volume-where :
     tie.Need-shared-slice-read-volume-where Inv-volumes μ-volumes Inv-candidates μ-candidates
 shared-slice-read-volume-where c = omega arith
 
-mul-volume-where-2 : tie.Need-mul-volume-where-2 Inv-volumes μ-volumes Inv-candidates μ-candidates
-mul-volume-where-2 c = omega arith
-
 shared-slice-read-volume-where-2 :
     tie.Need-shared-slice-read-volume-where-2 Inv-volumes μ-volumes Inv-candidates μ-candidates
 shared-slice-read-volume-where-2 c = omega (arith, even (outer (c .before .before .before)))
-
-volume-where-requires : tie.Need-volume-where-requires Inv-volumes μ-volumes Inv-candidates μ-candidates
-volume-where-requires c κs = tt
 
 add-held : tie.Need-add-held Inv-volumes μ-volumes Inv-candidates μ-candidates
 add-held c =
@@ -178,12 +160,6 @@ add-held c =
       u .before .before .before .pre .columns .small,
     )
 
-add-j : tie.Need-add-j Inv-volumes μ-volumes Inv-candidates μ-candidates
-add-j c = omega arith
-
-volumes-less : tie.Need-volumes-less Inv-volumes μ-volumes Inv-candidates μ-candidates
-volumes-less c = omega arith
-
 volumes-again : tie.Need-volumes-again Inv-volumes μ-volumes Inv-candidates μ-candidates
 volumes-again c =
     let v = c .before .before .before .before in
@@ -193,9 +169,6 @@ volumes-again c =
 
 add-sums : tie.Need-add-sums Inv-volumes μ-volumes Inv-candidates μ-candidates
 add-sums c = omega (arith, outer (c .before) .before .before .before .pre .few)
-
-candidates-less : tie.Need-candidates-less Inv-volumes μ-volumes Inv-candidates μ-candidates
-candidates-less c = omega arith
 
 candidates-again : tie.Need-candidates-again Inv-volumes μ-volumes Inv-candidates μ-candidates
 candidates-again c =
@@ -212,12 +185,6 @@ candidates-again c =
       whole w ∙ sym (depth-found (u .before .before .before .args .start) (candidate u) (keysOf u) (volumesOf u) (omega (arith, u .candidates .inv .3))),
     )
 
-max-requires : tie.Need-max-requires Inv-volumes μ-volumes Inv-candidates μ-candidates
-max-requires c κs = tt
-
-candidates-less-2 : tie.Need-candidates-less-2 Inv-volumes μ-volumes Inv-candidates μ-candidates
-candidates-less-2 c = omega arith
-
 candidates-again-2 : tie.Need-candidates-again-2 Inv-volumes μ-volumes Inv-candidates μ-candidates
 candidates-again-2 c =
     let w = c .before .before in
@@ -225,9 +192,6 @@ candidates-again-2 c =
     let e = judged w false (lt-leb (minimumOf u) (w .before .volumes .held) (omega arith)) in
     let next = few u (omega arith) (omega arith) e (w .before .volumes .held) (c .max .result) (whole w) (c .max .ensures) in
     (omega arith, omega arith, omega arith, next .0, next .1, next .2, u .candidates .inv .6)
-
-candidates-less-3 : tie.Need-candidates-less-3 Inv-volumes μ-volumes Inv-candidates μ-candidates
-candidates-less-3 c = omega arith
 
 candidates-again-3 : tie.Need-candidates-again-3 Inv-volumes μ-volumes Inv-candidates μ-candidates
 candidates-again-3 c =
@@ -258,26 +222,26 @@ search-spec =
     Inv-candidates
     μ-candidates
     candidates-holds
-    quote-at-requires
-    mul-key
+    (λ c κs. omega arith)
+    (λ c. omega arith)
     shared-slice-read-key
-    add-i
+    (λ c. omega arith)
     volumes-holds
-    mul-volume-where
+    (λ c. omega arith)
     shared-slice-read-volume-where
-    mul-volume-where-2
+    (λ c. omega arith)
     shared-slice-read-volume-where-2
-    volume-where-requires
+    (λ c κs. tt)
     add-held
-    add-j
-    volumes-less
+    (λ c. omega arith)
+    (λ c. omega arith)
     volumes-again
     add-sums
-    candidates-less
+    (λ c. omega arith)
     candidates-again
-    max-requires
-    candidates-less-2
+    (λ c κs. tt)
+    (λ c. omega arith)
     candidates-again-2
-    candidates-less-3
+    (λ c. omega arith)
     candidates-again-3
     returns)

@@ -18,9 +18,6 @@ at-most : (b : Bool) (v : ℕ) → boolByte b * v ≤ v
 at-most true v = omega arith
 at-most false v = omega arith
 
-cast-result : tie.Need-cast-result
-cast-result c = search needs
-
 mul-result : tie.Need-mul-result
 mul-result c = omega (arith, at-most (c .args .counts) (c .args .volume))
 
@@ -28,4 +25,4 @@ returns : tie.Need-returns
 returns c = counted (c .args .counts) (c .args .volume)
 
 pub volume-where-spec : {M : Type 1} → statement M
-volume-where-spec = tie.close (tie.spec cast-result mul-result returns)
+volume-where-spec = tie.close (tie.spec (λ c. search needs) mul-result returns)

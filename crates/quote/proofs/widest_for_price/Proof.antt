@@ -7,12 +7,6 @@ use Rattle.quote.specs.Widest.{widestOf}
 use Rattle.quote.proofs.widest_for_price.Statement.{statement}
 use Rattle.quote.proofs.widest_for_price.Tie as tie
 
-positive-part-requires : tie.Need-positive-part-requires
-positive-part-requires c κs = search needs
-
-cast-part : tie.Need-cast-part
-cast-part c = search needs
-
 mul-part : tie.Need-mul-part
 mul-part c = record { fits = omega (arith, c .positive-part .ok, mul-le-mul-right (c .positive-part .result) (c .before .pre)) }
 
@@ -29,4 +23,4 @@ returns-2 c = rw (← c .before .positive-part .ensures) (omega arith)
 
 pub widest-for-price-spec : {M : Type 1} → statement M
 widest-for-price-spec =
-    tie.close (tie.spec positive-part-requires cast-part mul-part cast-part-2 returns returns-2)
+    tie.close (tie.spec (λ c κs. search needs) (λ c. search needs) mul-part cast-part-2 returns returns-2)

@@ -4,10 +4,6 @@ use borrow.Author.Needs.{needs}
 use Rattle.ranges.proofs.lapse_limit.Statement.{statement}
 use Rattle.ranges.proofs.lapse_limit.Tie as tie
 
--- src/lib.rt:67:8
-at-most-requires : tie.Need-at-most-requires
-at-most-requires c κs = search needs
-
 -- src/lib.rt:68:9
 returns : tie.Need-returns
 unfolding goodLapseLimit
@@ -19,4 +15,4 @@ unfolding goodLapseLimit
 returns-2 c = simp (← c .before .at-most .ensures, c .if1 .left)
 
 pub lapse-limit-spec : {M : Type 1} → statement M
-lapse-limit-spec = tie.close (tie.spec at-most-requires returns returns-2)
+lapse-limit-spec = tie.close (tie.spec (λ c κs. search needs) returns returns-2)

@@ -5,19 +5,10 @@ use borrow.Author.Needs.{needs}
 use Rattle.ranges.proofs.price.Statement.{statement}
 use Rattle.ranges.proofs.price.Tie as tie
 
-price-at-most-requires : tie.Need-price-at-most-requires
-price-at-most-requires c κs = search needs
-
-price-at-most-requires-2 : tie.Need-price-at-most-requires-2
-price-at-most-requires-2 c κs = search needs
-
-both-requires : tie.Need-both-requires
-both-requires c κs = search needs
-
 returns : tie.Need-returns
 unfolding goodPrice
 returns c = c .both .ensures ∙ simp (c .before .before .price-at-most .ensures, c .before .price-at-most2 .ensures)
 
 pub price-spec : {M : Type 1} → statement M
 price-spec =
-    tie.close (tie.spec price-at-most-requires price-at-most-requires-2 both-requires returns)
+    tie.close (tie.spec (λ c κs. search needs) (λ c κs. search needs) (λ c κs. search needs) returns)

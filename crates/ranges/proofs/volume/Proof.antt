@@ -4,12 +4,9 @@ use borrow.Author.Needs.{needs}
 use Rattle.ranges.proofs.volume.Statement.{statement}
 use Rattle.ranges.proofs.volume.Tie as tie
 
-between-requires : tie.Need-between-requires
-between-requires c κs = search needs
-
 returns : tie.Need-returns
 unfolding goodVolume
 returns c = c .between .ensures
 
 pub volume-spec : {M : Type 1} → statement M
-volume-spec = tie.close (tie.spec between-requires returns)
+volume-spec = tie.close (tie.spec (λ c κs. search needs) returns)

@@ -6,39 +6,6 @@ use Rattle.record.proofs.Writing.{add-fields}
 use Rattle.record.proofs.event_fields.Statement.{statement}
 use Rattle.record.proofs.event_fields.Tie as tie
 
-enum-known-event : tie.Need-enum-known-event
-enum-known-event c = search needs
-
-add-kind-requires : tie.Need-add-kind-requires
-add-kind-requires c κs = search needs
-
-made-requires : tie.Need-made-requires
-made-requires c κs = search needs
-
-enum-known-event-2 : tie.Need-enum-known-event-2
-enum-known-event-2 c = search needs
-
-made-requires-2 : tie.Need-made-requires-2
-made-requires-2 c κs = search needs
-
-enum-known-event-3 : tie.Need-enum-known-event-3
-enum-known-event-3 c = search needs
-
-made-requires-3 : tie.Need-made-requires-3
-made-requires-3 c κs = search needs
-
-enum-known-event-4 : tie.Need-enum-known-event-4
-enum-known-event-4 c = search needs
-
-made-requires-4 : tie.Need-made-requires-4
-made-requires-4 c κs = search needs
-
-enum-known-event-5 : tie.Need-enum-known-event-5
-enum-known-event-5 c = search needs
-
-made-requires-5 : tie.Need-made-requires-5
-made-requires-5 c κs = search needs
-
 returns : tie.Need-returns
 returns c = add-fields (c .before .before .before .event .given .1) (c .before .add-kind .ensures) (c .made .ensures)
 
@@ -58,17 +25,17 @@ pub event-fields-spec : {M : Type 1} → statement M
 event-fields-spec =
     tie.close
     (tie.spec
-    enum-known-event
-    add-kind-requires
-    made-requires
-    enum-known-event-2
-    made-requires-2
-    enum-known-event-3
-    made-requires-3
-    enum-known-event-4
-    made-requires-4
-    enum-known-event-5
-    made-requires-5
+    (λ c. search needs)
+    (λ c κs. search needs)
+    (λ c κs. search needs)
+    (λ c. search needs)
+    (λ c κs. search needs)
+    (λ c. search needs)
+    (λ c κs. search needs)
+    (λ c. search needs)
+    (λ c κs. search needs)
+    (λ c. search needs)
+    (λ c κs. search needs)
     returns
     returns-2
     returns-3

@@ -4,14 +4,8 @@ use Rattle.record.proofs.Reading.{buy-of, sell-of, amend-of, cancel-of,
 use Rattle.record.proofs.event_of.Statement.{statement}
 use Rattle.record.proofs.event_of.Tie as tie
 
-added-requires : tie.Need-added-requires
-added-requires c κs = search needs
-
 returns : tie.Need-returns
 returns c = buy-of (c .before .before .before .before .before .args .f) (c .added .ensures) (c .before .if1 .taken)
-
-added-requires-2 : tie.Need-added-requires-2
-added-requires-2 c κs = search needs
 
 returns-2 : tie.Need-returns-2
 returns-2 c = sell-of (c .before .before .before .before .before .before .args .f) (c .added2 .ensures) (c .before .if2 .taken)
@@ -32,9 +26,9 @@ pub event-of-spec : {M : Type 1} → statement M
 event-of-spec =
     tie.close
     (tie.spec
-    added-requires
+    (λ c κs. search needs)
     returns
-    added-requires-2
+    (λ c κs. search needs)
     returns-2
     returns-3
     returns-4

@@ -12,24 +12,6 @@ use Rattle.record.proofs.Reading.{fields-are, fields-read}
 use Rattle.record.proofs.fields_of.Statement.{statement}
 use Rattle.record.proofs.fields_of.Tie as tie
 
-word-at-requires : tie.Need-word-at-requires
-word-at-requires c κs = search needs
-
-word-at-requires-2 : tie.Need-word-at-requires-2
-word-at-requires-2 c κs = search needs
-
-word-at-requires-3 : tie.Need-word-at-requires-3
-word-at-requires-3 c κs = search needs
-
-word-at-requires-4 : tie.Need-word-at-requires-4
-word-at-requires-4 c κs = search needs
-
-to-steps-requires : tie.Need-to-steps-requires
-to-steps-requires c κs = search needs
-
-word-at-requires-5 : tie.Need-word-at-requires-5
-word-at-requires-5 c κs = search needs
-
 returns : tie.Need-returns
 returns c =
     let bytes = now (c .before .before .before .before .before .before .before .args .bytes) in
@@ -43,10 +25,10 @@ pub fields-of-spec : {M : Type 1} → statement M
 fields-of-spec =
     tie.close
     (tie.spec
-    word-at-requires
-    word-at-requires-2
-    word-at-requires-3
-    word-at-requires-4
-    to-steps-requires
-    word-at-requires-5
+    (λ c κs. search needs)
+    (λ c κs. search needs)
+    (λ c κs. search needs)
+    (λ c κs. search needs)
+    (λ c κs. search needs)
+    (λ c κs. search needs)
     returns)

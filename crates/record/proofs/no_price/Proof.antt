@@ -5,11 +5,8 @@ use lib.Dec.{eqb}
 use Rattle.record.proofs.no_price.Statement.{statement}
 use Rattle.record.proofs.no_price.Tie as tie
 
-from-steps-requires : tie.Need-from-steps-requires
-from-steps-requires c κs = search needs
-
 returns : tie.Need-returns
 returns c = ap (λ w. eqb w 0) (c .from-steps .ensures)
 
 pub no-price-spec : {M : Type 1} → statement M
-no-price-spec = tie.close (tie.spec from-steps-requires returns)
+no-price-spec = tie.close (tie.spec (λ c κs. search needs) returns)

@@ -8,14 +8,8 @@ use Rattle.record.proofs.Writing.{written}
 use Rattle.record.proofs.write.Statement.{statement}
 use Rattle.record.proofs.write.Tie as tie
 
-event-fields-requires : tie.Need-event-fields-requires
-event-fields-requires c κs = search needs
-
-field-bytes-requires : tie.Need-field-bytes-requires
-field-bytes-requires c κs = search needs
-
 returns : tie.Need-returns
 returns c = c .field-bytes .ensures ∙ ap (λ (f : Fields). fieldBytes (lowKind f)) (c .before .event-fields .ensures) ∙ written (c .before .before .args .event)
 
 pub write-spec : {M : Type 1} → statement M
-write-spec = tie.close (tie.spec event-fields-requires field-bytes-requires returns)
+write-spec = tie.close (tie.spec (λ c κs. search needs) (λ c κs. search needs) returns)

@@ -6,12 +6,6 @@ use borrow.Author.Needs.{needs}
 use Rattle.row.proofs.as_read.Statement.{statement}
 use Rattle.row.proofs.as_read.Tie as tie
 
-enum-told : tie.Need-enum-told
-enum-told c = search needs
-
-enum-told-2 : tie.Need-enum-told-2
-enum-told-2 c = search needs
-
 returns : tie.Need-returns
 returns c = search needs
 
@@ -19,4 +13,4 @@ returns-2 : tie.Need-returns-2
 returns-2 c = sym (ap (λ (s : SpreadRule). asRead s (c .before .before .args .row)) (c .enum-told2 .given .1))
 
 pub as-read-spec : {M : Type 1} → statement M
-as-read-spec = tie.close (tie.spec enum-told enum-told-2 returns returns-2)
+as-read-spec = tie.close (tie.spec (λ c. search needs) (λ c. search needs) returns returns-2)

@@ -8,9 +8,6 @@ use Rattle.row.proofs.Starts.{start-usual, start-holiday, start-other}
 use Rattle.row.proofs.choose.Statement.{statement}
 use Rattle.row.proofs.choose.Tie as tie
 
-first-requires : tie.Need-first-requires
-first-requires c κs = search needs
-
 returns : tie.Need-returns
 returns c =
     let a = c .before .before .before .before .args in
@@ -18,12 +15,6 @@ returns c =
       c .first .ensures .0 ∙ sym (chosen-usual (a .expiry) (a .quantum) (a .usual .now) (a .holiday .now) e),
       c .first .ensures .1 ∙ sym (start-usual (a .expiry) (a .quantum) (a .usual .ptr) (a .usual .now) (a .holiday .ptr) (a .holiday .now) e),
     )
-
-first-requires-2 : tie.Need-first-requires-2
-first-requires-2 c κs = search needs
-
-first-requires-3 : tie.Need-first-requires-3
-first-requires-3 c κs = search needs
 
 returns-2 : tie.Need-returns-2
 returns-2 c =
@@ -48,4 +39,4 @@ returns-3 c =
 pub choose-spec : {M : Type 1} → statement M
 choose-spec =
     tie.close
-    (tie.spec first-requires returns first-requires-2 first-requires-3 returns-2 returns-3)
+    (tie.spec (λ c κs. search needs) returns (λ c κs. search needs) (λ c κs. search needs) returns-2 returns-3)

@@ -31,12 +31,6 @@ returns c =
       passes = λ l. sym (c .before .is-for .ensures) ∙ c .if1 .taken;
     }
 
-add-k : tie.Need-add-k Inv-loop μ-loop
-add-k c = search needs
-
-loop-less : tie.Need-loop-less Inv-loop μ-loop
-loop-less c = omega arith
-
 loop-again : tie.Need-loop-again Inv-loop μ-loop
 loop-again c = (
   omega arith,
@@ -60,7 +54,7 @@ find-spec =
     loop-holds
     is-for-requires
     returns
-    add-k
-    loop-less
+    (λ c. search needs)
+    (λ c. omega arith)
     loop-again
     returns-2)

@@ -29,27 +29,6 @@ module _ (expiry quantum : ℕ) (table : List ℕ) (k : ℕ) (found : Found expi
   empty : (p : Place) → length table / 7 ≤ k → _≡_ {A = Place} (p .0, 0 + p .1) (startIn expiry quantum p table)
   empty p l = ap (λ (n : ℕ). (p .0, 7 * n * 4 + p .1)) (sym (at-none expiry quantum table (λ j m. found .none-before j (omega arith))))
 
-find-requires : tie.Need-find-requires
-find-requires c κs = search needs
-
-mul-from : tie.Need-mul-from
-mul-from c = search needs
-
-add-to : tie.Need-add-to
-add-to c = search needs
-
-mul-result : tie.Need-mul-result
-mul-result c = search needs
-
-sub-result : tie.Need-sub-result
-sub-result c = search needs
-
-part-result-start : tie.Need-part-result-start
-part-result-start c = search needs
-
-part-result-end : tie.Need-part-result-end
-part-result-end c = search needs
-
 returns : tie.Need-returns
 returns c =
     let a = c .before .before .before .before .args in
@@ -57,15 +36,6 @@ returns c =
       there (a .expiry) (a .quantum) (a .table .now) (k .result) (k .ensures) (omega arith),
       starts (a .expiry) (a .quantum) (a .table .now) (k .result) (k .ensures) (a .table .ptr) (omega arith),
     )
-
-sub-result-2 : tie.Need-sub-result-2
-sub-result-2 c = search needs
-
-part-result-start-2 : tie.Need-part-result-start-2
-part-result-start-2 c = search needs
-
-part-result-end-2 : tie.Need-part-result-end-2
-part-result-end-2 c = search needs
 
 returns-2 : tie.Need-returns-2
 returns-2 c =
@@ -79,15 +49,15 @@ pub first-spec : {M : Type 1} → statement M
 first-spec =
     tie.close
     (tie.spec
-    find-requires
-    mul-from
-    add-to
-    mul-result
-    sub-result
-    part-result-start
-    part-result-end
+    (λ c κs. search needs)
+    (λ c. search needs)
+    (λ c. search needs)
+    (λ c. search needs)
+    (λ c. search needs)
+    (λ c. search needs)
+    (λ c. search needs)
     returns
-    sub-result-2
-    part-result-start-2
-    part-result-end-2
+    (λ c. search needs)
+    (λ c. search needs)
+    (λ c. search needs)
     returns-2)

@@ -21,27 +21,6 @@ compared : (expiry quantum : ℕ) (table : List ℕ) (k : ℕ)
 compared expiry quantum table k =
     simp (word table k 0 (7 * k) (omega arith) (omega arith), word table k 1 (7 * k + 1) (omega arith) (omega arith))
 
-mul-at : tie.Need-mul-at
-mul-at c = search needs
-
-mul-both : tie.Need-mul-both
-mul-both c = search needs
-
-shared-slice-read-both : tie.Need-shared-slice-read-both
-shared-slice-read-both c = search needs
-
-add-both : tie.Need-add-both
-add-both c = search needs
-
-mul-both-2 : tie.Need-mul-both-2
-mul-both-2 c = search needs
-
-shared-slice-read-both-2 : tie.Need-shared-slice-read-both-2
-shared-slice-read-both-2 c = search needs
-
-both-requires : tie.Need-both-requires
-both-requires c κs = search needs
-
 returns : tie.Need-returns
 returns c =
     let a = c .before .before .before .before .args in
@@ -51,11 +30,11 @@ pub is-for-spec : {M : Type 1} → statement M
 is-for-spec =
     tie.close
     (tie.spec
-    mul-at
-    mul-both
-    shared-slice-read-both
-    add-both
-    mul-both-2
-    shared-slice-read-both-2
-    both-requires
+    (λ c. search needs)
+    (λ c. search needs)
+    (λ c. search needs)
+    (λ c. search needs)
+    (λ c. search needs)
+    (λ c. search needs)
+    (λ c κs. search needs)
     returns)

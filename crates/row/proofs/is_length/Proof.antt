@@ -4,14 +4,8 @@ use borrow.Author.Needs.{needs}
 use Rattle.row.proofs.is_length.Statement.{statement}
 use Rattle.row.proofs.is_length.Tie as tie
 
-between-requires : tie.Need-between-requires
-between-requires c κs = search needs
-
-both-requires : tie.Need-both-requires
-both-requires c κs = search needs
-
 returns : tie.Need-returns
 returns c = c .both .ensures ∙ simp (c .before .between .ensures)
 
 pub is-length-spec : {M : Type 1} → statement M
-is-length-spec = tie.close (tie.spec between-requires both-requires returns)
+is-length-spec = tie.close (tie.spec (λ c κs. search needs) (λ c κs. search needs) returns)

@@ -6,7 +6,6 @@ use mathlib.Core.Bool.{Bool, true, false}
 use borrow.Author.Tests.{eq-eqb, ne-eqb}
 use borrow.Author.Needs.{needs}
 use lib.ListN.{length}
-use Rattle.rules.specs.declared.Row.{Row}
 use Rattle.rules.specs.declared.SpreadRule.{SpreadRule}
 use Rattle.rules.specs.Terms.{paper}
 use Rattle.rules.specs.Rows.{rowOf, goodRow, goodRowFor}
@@ -31,33 +30,6 @@ module _ (spread : SpreadRule) (words : List ℕ) where
 returns : tie.Need-returns
 returns c = refused-1 (c .before .before .args .spread) (c .before .before .args .words .now) (c .if1 .taken)
 
-shared-slice-read-t8 : tie.Need-shared-slice-read-t8
-shared-slice-read-t8 c = search needs
-
-shared-slice-read-t10 : tie.Need-shared-slice-read-t10
-shared-slice-read-t10 c = search needs
-
-shared-slice-read-t12 : tie.Need-shared-slice-read-t12
-shared-slice-read-t12 c = search needs
-
-shared-slice-read-t15 : tie.Need-shared-slice-read-t15
-shared-slice-read-t15 c = search needs
-
-shared-slice-read-t18 : tie.Need-shared-slice-read-t18
-shared-slice-read-t18 c = search needs
-
-shared-slice-read-t20 : tie.Need-shared-slice-read-t20
-shared-slice-read-t20 c = search needs
-
-shared-slice-read-t22 : tie.Need-shared-slice-read-t22
-shared-slice-read-t22 c = search needs
-
-as-read-requires : tie.Need-as-read-requires
-as-read-requires c κs = search needs
-
-is-good-requires : tie.Need-is-good-requires
-is-good-requires c κs = search needs
-
 -- the test, as the definition has it
 tested : (k : tie.After-is-good) → let a = k .before .before .before .before .before .before .before .before .before .before .before .args in
     (t : Bool) → k .is-good .result ≡ t → goodRowFor paper (a .spread) (rowOf (a .words .now)) ≡ t
@@ -81,14 +53,14 @@ read-spec =
     tie.close
     (tie.spec
     returns
-    shared-slice-read-t8
-    shared-slice-read-t10
-    shared-slice-read-t12
-    shared-slice-read-t15
-    shared-slice-read-t18
-    shared-slice-read-t20
-    shared-slice-read-t22
-    as-read-requires
-    is-good-requires
+    (λ c. search needs)
+    (λ c. search needs)
+    (λ c. search needs)
+    (λ c. search needs)
+    (λ c. search needs)
+    (λ c. search needs)
+    (λ c. search needs)
+    (λ c κs. search needs)
+    (λ c κs. search needs)
     returns-2
     returns-3)

@@ -4,11 +4,8 @@ use borrow.Author.Needs.{needs}
 use Rattle.session.proofs.begin.Statement.{statement}
 use Rattle.session.proofs.begin.Tie as tie
 
-started-requires : tie.Need-started-requires
-started-requires c κs = search needs
-
 returns : tie.Need-returns
 returns c = λ row sp. begins row sp (c .started .result) (c .started .ensures row sp)
 
 pub begin-spec : {M : Type 1} → statement M
-begin-spec = tie.close (tie.spec started-requires returns)
+begin-spec = tie.close (tie.spec (λ c κs. search needs) returns)

@@ -7,11 +7,8 @@ use Rattle.session.proofs.begun.Tie as tie
 returns : tie.Need-returns
 returns c = let a = c .before .args in begun-last (a .marks) (a .from .0) (a .reaches) (c .if1 .taken)
 
-add-t5 : tie.Need-add-t5
-add-t5 c = search needs
-
 returns-2 : tie.Need-returns-2
 returns-2 c = let a = c .before .before .args in begun-new (a .marks) (a .from .0) (a .reaches) (c .before .if1 .left)
 
 pub begun-spec : {M : Type 1} → statement M
-begun-spec = tie.close (tie.spec returns add-t5 returns-2)
+begun-spec = tie.close (tie.spec returns (λ c. search needs) returns-2)

@@ -28,9 +28,6 @@ weight-of-requires c κs =
     let b = row-bounds paper (s .args .row) (s .pre .good) in
     (omega (arith, b .length-least), b .share-most)
 
-same-length : tie.Need-same-length
-same-length c = search needs
-
 returns : tie.Need-returns
 returns c = λ sp es base g is h.
     let w = c .before .before .before in
@@ -45,4 +42,4 @@ returns c = λ sp es base g is h.
 
 pub finish-spec : {M : Type 1} → statement M
 finish-spec =
-    tie.close (tie.spec onward-requires grow-requires weight-of-requires same-length returns)
+    tie.close (tie.spec onward-requires grow-requires weight-of-requires (λ c. search needs) returns)

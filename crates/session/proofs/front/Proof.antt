@@ -8,12 +8,6 @@ use borrow.Author.Needs.{needs}
 use Rattle.session.proofs.front.Statement.{statement}
 use Rattle.session.proofs.front.Tie as tie
 
-run-requires : tie.Need-run-requires
-run-requires c κs = search needs
-
-filled-requires : tie.Need-filled-requires
-filled-requires c κs = search needs
-
 slice-aggregate-result : tie.Need-slice-aggregate-result
 slice-aggregate-result c =
     let r = c .before .before .before .before in
@@ -30,4 +24,4 @@ returns c =
     )
 
 pub front-spec : {M : Type 1} → statement M
-front-spec = tie.close (tie.spec run-requires filled-requires slice-aggregate-result returns)
+front-spec = tie.close (tie.spec (λ c κs. search needs) (λ c κs. search needs) slice-aggregate-result returns)

@@ -11,9 +11,6 @@ returns c = λ p base is j f h.
     let s = c .before .before .before .before in
     grows-still p (s .args .from .0) (s .args .to .0) (s .args .marks) is base (s .args .buffer .now) h (omega arith)
 
-begun-requires : tie.Need-begun-requires
-begun-requires c κs = search needs
-
 sub-n : tie.Need-sub-n
 sub-n c =
     let g = c .before in
@@ -21,9 +18,6 @@ sub-n c =
     let q = s .pre in
     let b = begun-bounds (s .args .marks) (s .args .from .0) (s .args .reaches) (g .begun .result) (g .begun .ensures) (q .started) (q .few) (q .some) in
     b .0
-
-cast-put : tie.Need-cast-put
-cast-put c = search needs
 
 sub-put : tie.Need-sub-put
 sub-put c =
@@ -40,9 +34,6 @@ put-requires c κs =
     let q = s .pre in
     let b = begun-bounds (s .args .marks) (s .args .from .0) (s .args .reaches) (g .begun .result) (g .begun .ensures) (q .started) (q .few) (q .some) in
     omega (arith, b .1)
-
-same-length : tie.Need-same-length
-same-length c = search needs
 
 returns-2 : tie.Need-returns-2
 returns-2 c = λ p base is j f h.
@@ -62,11 +53,11 @@ grow-spec =
     tie.close
     (tie.spec
     returns
-    begun-requires
+    (λ c κs. search needs)
     sub-n
-    cast-put
+    (λ c. search needs)
     sub-put
     put-requires
-    same-length
+    (λ c. search needs)
     returns-2
     returns-3)

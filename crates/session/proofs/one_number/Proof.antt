@@ -4,30 +4,6 @@ use borrow.Author.Needs.{needs}
 use Rattle.session.proofs.one_number.Statement.{statement}
 use Rattle.session.proofs.one_number.Tie as tie
 
-enum-known-answer : tie.Need-enum-known-answer
-enum-known-answer c = search needs
-
-cast-result : tie.Need-cast-result
-cast-result c = search needs
-
-enum-known-answer-2 : tie.Need-enum-known-answer-2
-enum-known-answer-2 c = search needs
-
-number-requires : tie.Need-number-requires
-number-requires c κs = search needs
-
-cast-result-2 : tie.Need-cast-result-2
-cast-result-2 c = search needs
-
-mul-result : tie.Need-mul-result
-mul-result c = search needs
-
-cast-result-3 : tie.Need-cast-result-3
-cast-result-3 c = search needs
-
-add-result : tie.Need-add-result
-add-result c = search needs
-
 returns : tie.Need-returns
 returns c = search needs
 
@@ -38,13 +14,13 @@ pub one-number-spec : {M : Type 1} → statement M
 one-number-spec =
     tie.close
     (tie.spec
-    enum-known-answer
-    cast-result
-    enum-known-answer-2
-    number-requires
-    cast-result-2
-    mul-result
-    cast-result-3
-    add-result
+    (λ c. search needs)
+    (λ c. search needs)
+    (λ c. search needs)
+    (λ c κs. search needs)
+    (λ c. search needs)
+    (λ c. search needs)
+    (λ c. search needs)
+    (λ c. search needs)
     returns
     returns-2)

@@ -6,27 +6,12 @@ use borrow.Author.Needs.{needs}
 use Rattle.session.proofs.pass.Statement.{statement}
 use Rattle.session.proofs.pass.Tie as tie
 
-read-requires : tie.Need-read-requires
-read-requires c κs = search needs
-
-enum-known-read : tie.Need-enum-known-read
-enum-known-read c = search needs
-
-enum-known-read-2 : tie.Need-enum-known-read-2
-enum-known-read-2 c = search needs
-
-price-requires : tie.Need-price-requires
-price-requires c κs = search needs
-
 run-records-requires : tie.Need-run-records-requires
 run-records-requires c κs =
     let t = c .before .before .before .before in
     let r = t .before .before in
     let s = r .before .before .before .before in
     (s .pre, opens-good (s .args .most) (s .args .row .now) (s .args .sp) (s .args .records .now) _ (ap shownRow (sym (t .read3 .given .1)) ∙ r .read .ensures) (sym (c .before .before .price .ensures) ∙ c .before .if1 .taken))
-
-same-length : tie.Need-same-length
-same-length c = search needs
 
 returns : tie.Need-returns
 returns c =
@@ -54,12 +39,12 @@ pub pass-spec : {M : Type 1} → statement M
 pass-spec =
     tie.close
     (tie.spec
-    read-requires
-    enum-known-read
-    enum-known-read-2
-    price-requires
+    (λ c κs. search needs)
+    (λ c. search needs)
+    (λ c. search needs)
+    (λ c κs. search needs)
     run-records-requires
-    same-length
+    (λ c. search needs)
     returns
     returns-2
     returns-3)

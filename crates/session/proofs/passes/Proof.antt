@@ -7,21 +7,6 @@ use borrow.Author.Needs.{needs}
 use Rattle.session.proofs.passes.Statement.{statement}
 use Rattle.session.proofs.passes.Tie as tie
 
-pass-requires : tie.Need-pass-requires
-pass-requires c κs = search needs
-
-enum-told : tie.Need-enum-told
-enum-told c = search needs
-
-enum-told-2 : tie.Need-enum-told-2
-enum-told-2 c = search needs
-
-filled-requires : tie.Need-filled-requires
-filled-requires c κs = search needs
-
-same-length : tie.Need-same-length
-same-length c = search needs
-
 returns : tie.Need-returns
 returns c =
     let t = c .before .before in
@@ -29,23 +14,11 @@ returns c =
     let s = p .before .before .before .before .before .before in
     ends-short (session paper (s .args .most) (s .args .row .now) (s .args .sp) (s .args .records .now)) _ _ (p .pass .result) (p .pass .ensures) (s .args .buffer .now) _ _ _ (t .enum-told2 .given .1) (omega (arith, c .before .filled .ensures))
 
-pass-requires-2 : tie.Need-pass-requires-2
-pass-requires-2 c κs = search needs
-
-same-length-2 : tie.Need-same-length-2
-same-length-2 c = search needs
-
 returns-2 : tie.Need-returns-2
 returns-2 c =
     let p = c .before .before .before .before in
     let s = p .before .before .before .before .before .before in
     ends-refused (session paper (s .args .most) (s .args .row .now) (s .args .sp) (s .args .records .now)) _ _ (p .pass .result) (p .pass .ensures) (s .args .buffer .now) _ _ (c .enum-told .given .1)
-
-same-length-3 : tie.Need-same-length-3
-same-length-3 c = search needs
-
-same-length-4 : tie.Need-same-length-4
-same-length-4 c = search needs
 
 returns-3 : tie.Need-returns-3
 returns-3 c =
@@ -60,15 +33,15 @@ pub passes-spec : {M : Type 1} → statement M
 passes-spec =
     tie.close
     (tie.spec
-    pass-requires
-    enum-told
-    enum-told-2
-    filled-requires
-    same-length
+    (λ c κs. search needs)
+    (λ c. search needs)
+    (λ c. search needs)
+    (λ c κs. search needs)
+    (λ c. search needs)
     returns
-    pass-requires-2
-    same-length-2
+    (λ c κs. search needs)
+    (λ c. search needs)
     returns-2
-    same-length-3
-    same-length-4
+    (λ c. search needs)
+    (λ c. search needs)
     returns-3)

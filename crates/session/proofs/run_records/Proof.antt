@@ -26,18 +26,6 @@ duty-of-requires : tie.Need-duty-of-requires Inv-loop μ-loop
 unfolding goodRowFor
 duty-of-requires c κs = (c .before .before .pre .1, refl)
 
-empty-requires : tie.Need-empty-requires Inv-loop μ-loop
-empty-requires c κs = tt
-
-begin-requires : tie.Need-begin-requires Inv-loop μ-loop
-begin-requires c κs = tt
-
-length-requires : tie.Need-length-requires Inv-loop μ-loop
-length-requires c κs = tt
-
-min-length-requires : tie.Need-min-length-requires Inv-loop μ-loop
-min-length-requires c κs = tt
-
 mul-full : tie.Need-mul-full Inv-loop μ-loop
 mul-full c = record { fits = omega (arith, c .min-length .ensures, c .before .length .ensures, c .before .before .before .before .before .before .before .pre .0) }
 
@@ -63,9 +51,6 @@ add-step c =
     let l = c .before in
     let s = l .before .before .before .before .before .before .before .before in
     record { fits = omega (arith, turn-small (l .loop .inv .0), s .pre .0) }
-
-sub-step : tie.Need-sub-step Inv-loop μ-loop
-sub-step c = omega arith
 
 part-step-start : tie.Need-part-step-start Inv-loop μ-loop
 part-step-start c =
@@ -111,9 +96,6 @@ place-of-requires c κs =
     let s = l .before .before .before .before .before .before .before .before in
     omega (arith, turn-small (l .loop .inv .0), s .pre .0)
 
-same-length : tie.Need-same-length Inv-loop μ-loop
-same-length c = search needs
-
 returns : tie.Need-returns Inv-loop μ-loop
 returns c =
     let l = c .before .before .before .before .before .before .before .before .before .before .before .before .before in
@@ -157,9 +139,6 @@ place-of-requires-2 c κs =
     let s = l .before .before .before .before .before .before .before .before in
     omega (arith, turn-small (l .loop .inv .0), s .pre .0)
 
-same-length-2 : tie.Need-same-length-2 Inv-loop μ-loop
-same-length-2 c = search needs
-
 returns-2 : tie.Need-returns-2 Inv-loop μ-loop
 returns-2 c =
     let l = c .before .before .before in
@@ -178,9 +157,6 @@ finish-requires c κs =
     let g = l .loop .inv .4 (s .args .sp) (d .ensures) in
     loop-at-end (s .args .most) (s .args .row) (s .args .sp) (s .args .records .now) (s .args .buffer .now) (l .loop .progress) (l .loop .at) (l .loop .at / 20 + 1) (l .loop .table) (l .loop .buffer) g (s .pre .1)
 
-same-length-3 : tie.Need-same-length-3 Inv-loop μ-loop
-same-length-3 c = search needs
-
 returns-3 : tie.Need-returns-3 Inv-loop μ-loop
 returns-3 c =
     let l = c .before .before .before .before .before .before in
@@ -198,14 +174,14 @@ run-records-spec =
     Inv-loop
     μ-loop
     duty-of-requires
-    empty-requires
-    begin-requires
-    length-requires
-    min-length-requires
+    (λ c κs. tt)
+    (λ c κs. tt)
+    (λ c κs. tt)
+    (λ c κs. tt)
     mul-full
     loop-holds
     add-step
-    sub-step
+    (λ c. omega arith)
     part-step-start
     part-step-end
     slice-aggregate-step
@@ -213,14 +189,14 @@ run-records-spec =
     step-requires
     refusal-of-requires
     place-of-requires
-    same-length
+    (λ c. search needs)
     returns
     add-at
     loop-less
     loop-again
     place-of-requires-2
-    same-length-2
+    (λ c. search needs)
     returns-2
     finish-requires
-    same-length-3
+    (λ c. search needs)
     returns-3)

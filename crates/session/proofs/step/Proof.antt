@@ -6,19 +6,10 @@ use Rattle.rules.specs.Records.{readRecord}
 use Rattle.session.proofs.step.Statement.{statement}
 use Rattle.session.proofs.step.Tie as tie
 
-fields-of-requires : tie.Need-fields-of-requires
-fields-of-requires c κs = search needs
-
 step-fields-requires : tie.Need-step-fields-requires
 step-fields-requires c κs =
     let s = c .before .before .before .before .before .before .before .before .before in
     reached-parts (s .args .progress) (s .args .duty) (s .args .table .now) (s .args .hints .now) (s .pre .0)
-
-same-length : tie.Need-same-length
-same-length c = search needs
-
-same-length-2 : tie.Need-same-length-2
-same-length-2 c = search needs
 
 returns : tie.Need-returns
 returns c =
@@ -36,15 +27,6 @@ grow-requires c κs =
     bounds-taken (s .args .progress) (s .args .duty) (s .args .table .now) (g .step-fields .last .1 .1 .0) (g .step-fields .result) (f .result) (g .step-fields .ensures)
     (c .before .before .before .before .before .if1 .left) (s .args .hints .now) (s .pre .0)
 
-same-length-3 : tie.Need-same-length-3
-same-length-3 c = search needs
-
-same-length-4 : tie.Need-same-length-4
-same-length-4 c = search needs
-
-same-length-5 : tie.Need-same-length-5
-same-length-5 c = search needs
-
 returns-2 : tie.Need-returns-2
 returns-2 c =
     let w = c .before .before in
@@ -58,13 +40,13 @@ pub step-spec : {M : Type 1} → statement M
 step-spec =
     tie.close
     (tie.spec
-    fields-of-requires
+    (λ c κs. search needs)
     step-fields-requires
-    same-length
-    same-length-2
+    (λ c. search needs)
+    (λ c. search needs)
     returns
     grow-requires
-    same-length-3
-    same-length-4
-    same-length-5
+    (λ c. search needs)
+    (λ c. search needs)
+    (λ c. search needs)
     returns-2)

@@ -5,9 +5,6 @@ use borrow.Author.Needs.{needs}
 use Rattle.sigma.proofs.gap.Statement.{statement}
 use Rattle.sigma.proofs.gap.Tie as tie
 
-sub-result : tie.Need-sub-result
-sub-result c = search needs
-
 returns : tie.Need-returns
 returns c = (abs-lt (c .before .args .a) (c .before .args .b) (c .if1 .taken), omega arith)
 
@@ -15,4 +12,4 @@ returns-2 : tie.Need-returns-2
 returns-2 c = (abs-ge (c .before .args .a) (c .before .args .b) (c .if1 .left), omega arith)
 
 pub gap-spec : {M : Type 1} → statement M
-gap-spec = tie.close (tie.spec sub-result returns returns-2)
+gap-spec = tie.close (tie.spec (λ c. search needs) returns returns-2)

@@ -9,36 +9,6 @@ use Rattle.sigma.proofs.last_sigma.Tie as tie
 returns : tie.Need-returns
 returns c = too-few (c .before .args .prices .now) (c .if1 .taken)
 
-price-word-requires : tie.Need-price-word-requires
-price-word-requires c κs = search needs
-
-sub-price-word : tie.Need-sub-price-word
-sub-price-word c = search needs
-
-price-word-requires-2 : tie.Need-price-word-requires-2
-price-word-requires-2 c κs = search needs
-
-sub-price-word-2 : tie.Need-sub-price-word-2
-sub-price-word-2 c = search needs
-
-price-word-requires-3 : tie.Need-price-word-requires-3
-price-word-requires-3 c κs = search needs
-
-sub-price-word-3 : tie.Need-sub-price-word-3
-sub-price-word-3 c = search needs
-
-price-word-requires-4 : tie.Need-price-word-requires-4
-price-word-requires-4 c κs = search needs
-
-change-of-requires : tie.Need-change-of-requires
-change-of-requires c κs = search needs
-
-change-of-requires-2 : tie.Need-change-of-requires-2
-change-of-requires-2 c κs = search needs
-
-change-of-requires-3 : tie.Need-change-of-requires-3
-change-of-requires-3 c κs = search needs
-
 sigma-by-requires : tie.Need-sigma-by-requires
 sigma-by-requires c κs = (
   usable _ _ (c .before .before .change-of .result) (c .before .before .change-of .ensures),
@@ -63,15 +33,15 @@ last-sigma-spec =
     tie.close
     (tie.spec
     returns
-    price-word-requires
-    sub-price-word
-    price-word-requires-2
-    sub-price-word-2
-    price-word-requires-3
-    sub-price-word-3
-    price-word-requires-4
-    change-of-requires
-    change-of-requires-2
-    change-of-requires-3
+    (λ c κs. search needs)
+    (λ c. search needs)
+    (λ c κs. search needs)
+    (λ c. search needs)
+    (λ c κs. search needs)
+    (λ c. search needs)
+    (λ c κs. search needs)
+    (λ c κs. search needs)
+    (λ c κs. search needs)
+    (λ c κs. search needs)
     sigma-by-requires
     returns-2)

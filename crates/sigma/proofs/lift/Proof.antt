@@ -5,17 +5,11 @@ use borrow.Author.Needs.{needs}
 use Rattle.sigma.proofs.lift.Statement.{statement}
 use Rattle.sigma.proofs.lift.Tie as tie
 
-add-result : tie.Need-add-result
-add-result c = search needs
-
 returns : tie.Need-returns
 returns c = (lift-low (c .before .args .w) (c .if1 .taken), omega arith)
-
-sub-result : tie.Need-sub-result
-sub-result c = search needs
 
 returns-2 : tie.Need-returns-2
 returns-2 c = (lift-high (c .before .args .w) (c .if1 .left) (c .before .fits .w .fits), omega arith)
 
 pub lift-spec : {M : Type 1} → statement M
-lift-spec = tie.close (tie.spec add-result returns sub-result returns-2)
+lift-spec = tie.close (tie.spec (λ c. search needs) returns (λ c. search needs) returns-2)

@@ -8,11 +8,8 @@ use Rattle.sigma.proofs.magnitude.Tie as tie
 returns : tie.Need-returns
 returns c = (magnitude-low (c .before .args .w) (c .if1 .taken), omega arith)
 
-sub-result : tie.Need-sub-result
-sub-result c = search needs
-
 returns-2 : tie.Need-returns-2
 returns-2 c = (magnitude-high (c .before .args .w) (c .if1 .left) (c .before .fits .w .fits), omega arith)
 
 pub magnitude-spec : {M : Type 1} → statement M
-magnitude-spec = tie.close (tie.spec returns sub-result returns-2)
+magnitude-spec = tie.close (tie.spec returns (λ c. search needs) returns-2)

@@ -4,30 +4,6 @@ use borrow.Author.Needs.{needs}
 use Rattle.sigma.proofs.sigma.Statement.{statement}
 use Rattle.sigma.proofs.sigma.Tie as tie
 
-add-sum : tie.Need-add-sum
-add-sum c = search needs
-
-add-sum-2 : tie.Need-add-sum-2
-add-sum-2 c = search needs
-
-square-requires : tie.Need-square-requires
-square-requires c κs = search needs
-
-square-requires-2 : tie.Need-square-requires-2
-square-requires-2 c κs = search needs
-
-add-root : tie.Need-add-root
-add-root c = search needs
-
-square-requires-3 : tie.Need-square-requires-3
-square-requires-3 c κs = search needs
-
-add-root-2 : tie.Need-add-root-2
-add-root-2 c = search needs
-
-root-requires : tie.Need-root-requires
-root-requires c κs = search needs
-
 returns : tie.Need-returns
 returns c =
     let a = c .before .before .before .before .args in
@@ -42,12 +18,12 @@ pub sigma-spec : {M : Type 1} → statement M
 sigma-spec =
     tie.close
     (tie.spec
-    add-sum
-    add-sum-2
-    square-requires
-    square-requires-2
-    add-root
-    square-requires-3
-    add-root-2
-    root-requires
+    (λ c. search needs)
+    (λ c. search needs)
+    (λ c κs. search needs)
+    (λ c κs. search needs)
+    (λ c. search needs)
+    (λ c κs. search needs)
+    (λ c. search needs)
+    (λ c κs. search needs)
     returns)

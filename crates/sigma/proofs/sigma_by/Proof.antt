@@ -4,31 +4,13 @@ use borrow.Author.Needs.{needs}
 use Rattle.sigma.proofs.sigma_by.Statement.{statement}
 use Rattle.sigma.proofs.sigma_by.Tie as tie
 
-enum-known-first : tie.Need-enum-known-first
-enum-known-first c = search needs
-
-enum-told : tie.Need-enum-told
-enum-told c = search needs
-
 returns : tie.Need-returns
 returns c = let a = c .before .before .args in by-first (a .first) (a .second) (a .third) (c .enum-told .given .1)
-
-enum-known-second : tie.Need-enum-known-second
-enum-known-second c = search needs
-
-enum-told-2 : tie.Need-enum-told-2
-enum-told-2 c = search needs
 
 returns-2 : tie.Need-returns-2
 returns-2 c =
     let a = c .before .before .before .before .before .args in
     by-second (a .first) (a .second) (a .third) (c .before .before .before .first .given .1) (c .enum-told2 .given .1)
-
-enum-known-third : tie.Need-enum-known-third
-enum-known-third c = search needs
-
-enum-told-3 : tie.Need-enum-told-3
-enum-told-3 c = search needs
 
 returns-3 : tie.Need-returns-3
 returns-3 c =
@@ -55,14 +37,14 @@ pub sigma-by-spec : {M : Type 1} → statement M
 sigma-by-spec =
     tie.close
     (tie.spec
-    enum-known-first
-    enum-told
+    (λ c. search needs)
+    (λ c. search needs)
     returns
-    enum-known-second
-    enum-told-2
+    (λ c. search needs)
+    (λ c. search needs)
     returns-2
-    enum-known-third
-    enum-told-3
+    (λ c. search needs)
+    (λ c. search needs)
     returns-3
     sigma-requires
     returns-4)

@@ -7,12 +7,6 @@ use borrow.Author.Needs.{needs}
 use Rattle.sigma.proofs.square.Statement.{statement}
 use Rattle.sigma.proofs.square.Tie as tie
 
-mul-gap : tie.Need-mul-gap
-mul-gap c = search needs
-
-gap-requires : tie.Need-gap-requires
-gap-requires c κs = search needs
-
 mul-result : tie.Need-mul-result
 mul-result c = omega (arith, square-small (c .gap .result) 6000000 (omega arith))
 
@@ -23,4 +17,4 @@ returns c = (
 )
 
 pub square-spec : {M : Type 1} → statement M
-square-spec = tie.close (tie.spec mul-gap gap-requires mul-result returns)
+square-spec = tie.close (tie.spec (λ c. search needs) (λ c κs. search needs) mul-result returns)

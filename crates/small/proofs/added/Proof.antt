@@ -12,16 +12,10 @@ as-number : (b : Bool) → boolByte b ≡ (if b then 1 else 0)
 as-number true = refl
 as-number false = refl
 
-cast-result : tie.Need-cast-result
-cast-result c = search needs
-
-cast-result-2 : tie.Need-cast-result-2
-cast-result-2 c = search needs
-
 returns : tie.Need-returns
 returns c =
     let a = c .before .args in
     as-number (ltb (a .depth) (a .minimum .0) && ltb 0 (a .order))
 
 pub added-spec : {M : Type 1} → statement M
-added-spec = tie.close (tie.spec cast-result cast-result-2 returns)
+added-spec = tie.close (tie.spec (λ c. search needs) (λ c. search needs) returns)

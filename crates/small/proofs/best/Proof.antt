@@ -1,83 +1,11 @@
 -- Five exchanges sort the orders and keep what they hold (`sorted`, `sorted-held`); `down` then finds the best key. Assumes nothing.
-use Prim.Native.Nat.{ℕ, _+_, _≤_, _<_}
-use native.Mathlib.Omega.{arith}
-use mathlib.Core.Path.{_≡_, sym, _∙_}
-use mathlib.Core.Bool.{Bool}
-use lib.ListN.{getD}
+use mathlib.Core.Path.{sym, _∙_}
 use borrow.Author.Needs.{needs}
-use Rattle.rules.specs.Lists.{if_then_else_}
-use Rattle.quote.specs.Levels.{held}
-use Rattle.small.specs.Internal.{heldAll, four}
-use Rattle.small.proofs.Orders.{one-packed, sorted, sorted-held, held-four, column-held}
+use Rattle.small.specs.Internal.{four}
+use Rattle.small.proofs.Orders.{sorted, sorted-held, column-held}
 use Rattle.small.proofs.Sums.{finds}
 use Rattle.small.proofs.best.Statement.{statement}
 use Rattle.small.proofs.best.Tie as tie
-
-shared-slice-read-packed : tie.Need-shared-slice-read-packed
-shared-slice-read-packed c = search needs
-
-shared-slice-read-packed-2 : tie.Need-shared-slice-read-packed-2
-shared-slice-read-packed-2 c = search needs
-
-packed-requires : tie.Need-packed-requires
-packed-requires c κs = search needs
-
-shared-slice-read-packed-3 : tie.Need-shared-slice-read-packed-3
-shared-slice-read-packed-3 c = search needs
-
-shared-slice-read-packed-4 : tie.Need-shared-slice-read-packed-4
-shared-slice-read-packed-4 c = search needs
-
-packed-requires-2 : tie.Need-packed-requires-2
-packed-requires-2 c κs = search needs
-
-shared-slice-read-packed-5 : tie.Need-shared-slice-read-packed-5
-shared-slice-read-packed-5 c = search needs
-
-shared-slice-read-packed-6 : tie.Need-shared-slice-read-packed-6
-shared-slice-read-packed-6 c = search needs
-
-packed-requires-3 : tie.Need-packed-requires-3
-packed-requires-3 c κs = search needs
-
-shared-slice-read-packed-7 : tie.Need-shared-slice-read-packed-7
-shared-slice-read-packed-7 c = search needs
-
-shared-slice-read-packed-8 : tie.Need-shared-slice-read-packed-8
-shared-slice-read-packed-8 c = search needs
-
-packed-requires-4 : tie.Need-packed-requires-4
-packed-requires-4 c κs = search needs
-
-better-requires : tie.Need-better-requires
-better-requires c κs = search needs
-
-worse-requires : tie.Need-worse-requires
-worse-requires c κs = search needs
-
-better-requires-2 : tie.Need-better-requires-2
-better-requires-2 c κs = search needs
-
-worse-requires-2 : tie.Need-worse-requires-2
-worse-requires-2 c κs = search needs
-
-worse-requires-3 : tie.Need-worse-requires-3
-worse-requires-3 c κs = search needs
-
-better-requires-3 : tie.Need-better-requires-3
-better-requires-3 c κs = search needs
-
-better-requires-4 : tie.Need-better-requires-4
-better-requires-4 c κs = search needs
-
-better-requires-5 : tie.Need-better-requires-5
-better-requires-5 c κs = search needs
-
-worse-requires-4 : tie.Need-worse-requires-4
-worse-requires-4 c κs = search needs
-
-worse-requires-5 : tie.Need-worse-requires-5
-worse-requires-5 c κs = search needs
 
 down-requires : tie.Need-down-requires
 down-requires c κs =
@@ -129,27 +57,27 @@ pub best-spec : {M : Type 1} → statement M
 best-spec =
     tie.close
     (tie.spec
-    shared-slice-read-packed
-    shared-slice-read-packed-2
-    packed-requires
-    shared-slice-read-packed-3
-    shared-slice-read-packed-4
-    packed-requires-2
-    shared-slice-read-packed-5
-    shared-slice-read-packed-6
-    packed-requires-3
-    shared-slice-read-packed-7
-    shared-slice-read-packed-8
-    packed-requires-4
-    better-requires
-    worse-requires
-    better-requires-2
-    worse-requires-2
-    worse-requires-3
-    better-requires-3
-    better-requires-4
-    better-requires-5
-    worse-requires-4
-    worse-requires-5
+    (λ c. search needs)
+    (λ c. search needs)
+    (λ c κs. search needs)
+    (λ c. search needs)
+    (λ c. search needs)
+    (λ c κs. search needs)
+    (λ c. search needs)
+    (λ c. search needs)
+    (λ c κs. search needs)
+    (λ c. search needs)
+    (λ c. search needs)
+    (λ c κs. search needs)
+    (λ c κs. search needs)
+    (λ c κs. search needs)
+    (λ c κs. search needs)
+    (λ c κs. search needs)
+    (λ c κs. search needs)
+    (λ c κs. search needs)
+    (λ c κs. search needs)
+    (λ c κs. search needs)
+    (λ c κs. search needs)
+    (λ c κs. search needs)
     down-requires
     returns)

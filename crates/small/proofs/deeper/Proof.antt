@@ -8,12 +8,6 @@ use Rattle.rules.specs.Lists.{if_then_else_}
 use Rattle.small.proofs.deeper.Statement.{statement}
 use Rattle.small.proofs.deeper.Tie as tie
 
-cast-if1 : tie.Need-cast-if1
-cast-if1 c = search needs
-
-add-result : tie.Need-add-result
-add-result c = search needs
-
 returns : tie.Need-returns
 returns c =
     let a = c .before .before .args in
@@ -25,4 +19,4 @@ returns-2 c =
     ap (λ (b : Bool). if b then a .depth + a .order % 4294967296 else a .depth) (sym (le-ltb (a .depth) (a .minimum .0) (c .if1 .left)))
 
 pub deeper-spec : {M : Type 1} → statement M
-deeper-spec = tie.close (tie.spec cast-if1 add-result returns returns-2)
+deeper-spec = tie.close (tie.spec (λ c. search needs) (λ c. search needs) returns returns-2)

@@ -1,7 +1,7 @@
 -- The depth from the best order down: where it is first enough is the best key, by `down-is`. Assumes nothing.
 use Prim.Native.Nat.{ℕ, _≤_}
 use native.Mathlib.Omega.{arith}
-use mathlib.Core.Path.{_≡_, ap}
+use mathlib.Core.Path.{_≡_}
 use mathlib.Core.Bool.{Bool, true, false}
 use borrow.Author.Needs.{needs}
 use Rattle.rules.specs.Lists.{if_then_else_}
@@ -13,50 +13,11 @@ at-most-one : (n : ℕ) (b : Bool) → n ≡ (if b then 1 else 0) → n ≤ 1
 at-most-one n true e = omega (arith, e)
 at-most-one n false e = omega (arith, e)
 
-cast-m : tie.Need-cast-m
-cast-m c = search needs
-
-deeper-requires : tie.Need-deeper-requires
-deeper-requires c κs = search needs
-
-deeper-requires-2 : tie.Need-deeper-requires-2
-deeper-requires-2 c κs = search needs
-
-deeper-requires-3 : tie.Need-deeper-requires-3
-deeper-requires-3 c κs = search needs
-
-deeper-requires-4 : tie.Need-deeper-requires-4
-deeper-requires-4 c κs = search needs
-
-order-where-requires : tie.Need-order-where-requires
-order-where-requires c κs = search needs
-
-order-where-requires-2 : tie.Need-order-where-requires-2
-order-where-requires-2 c κs = search needs
-
-order-where-requires-3 : tie.Need-order-where-requires-3
-order-where-requires-3 c κs = search needs
-
-order-where-requires-4 : tie.Need-order-where-requires-4
-order-where-requires-4 c κs = search needs
-
-cast-t17 : tie.Need-cast-t17
-cast-t17 c = search needs
-
-added-requires : tie.Need-added-requires
-added-requires c κs = search needs
-
-added-requires-2 : tie.Need-added-requires-2
-added-requires-2 c κs = search needs
-
 add-t20 : tie.Need-add-t20
 add-t20 c =
     let h1 : c .before .added .result ≤ 1 = at-most-one (c .before .added .result) (adds (c .before .before .before .before .before .before .before .before .before .before .before .args .minimum .0) 0 (c .before .before .before .before .before .before .before .before .before .before .before .args .first)) (c .before .added .ensures) in
     let h2 : c .added2 .result ≤ 1 = at-most-one (c .added2 .result) (adds (c .before .before .before .before .before .before .before .before .before .before .before .args .minimum .0) (c .before .before .before .before .before .before .before .before .before .deeper .result) (c .before .before .before .before .before .before .before .before .before .before .before .args .second)) (c .added2 .ensures) in
     omega (arith, h1, h2)
-
-added-requires-3 : tie.Need-added-requires-3
-added-requires-3 c κs = search needs
 
 add-t22 : tie.Need-add-t22
 add-t22 c =
@@ -64,9 +25,6 @@ add-t22 c =
     let h2 : c .before .added2 .result ≤ 1 = at-most-one (c .before .added2 .result) (adds (c .before .before .before .before .before .before .before .before .before .before .before .before .args .minimum .0) (c .before .before .before .before .before .before .before .before .before .before .deeper .result) (c .before .before .before .before .before .before .before .before .before .before .before .before .args .second)) (c .before .added2 .ensures) in
     let h3 : c .added3 .result ≤ 1 = at-most-one (c .added3 .result) (adds (c .before .before .before .before .before .before .before .before .before .before .before .before .args .minimum .0) (c .before .before .before .before .before .before .before .before .before .deeper2 .result) (c .before .before .before .before .before .before .before .before .before .before .before .before .args .third)) (c .added3 .ensures) in
     omega (arith, h1, h2, h3)
-
-added-requires-4 : tie.Need-added-requires-4
-added-requires-4 c κs = search needs
 
 add-t24 : tie.Need-add-t24
 add-t24 c =
@@ -101,21 +59,21 @@ pub down-spec : {M : Type 1} → statement M
 down-spec =
     tie.close
     (tie.spec
-    cast-m
-    deeper-requires
-    deeper-requires-2
-    deeper-requires-3
-    deeper-requires-4
-    order-where-requires
-    order-where-requires-2
-    order-where-requires-3
-    order-where-requires-4
-    cast-t17
-    added-requires
-    added-requires-2
+    (λ c. search needs)
+    (λ c κs. search needs)
+    (λ c κs. search needs)
+    (λ c κs. search needs)
+    (λ c κs. search needs)
+    (λ c κs. search needs)
+    (λ c κs. search needs)
+    (λ c κs. search needs)
+    (λ c κs. search needs)
+    (λ c. search needs)
+    (λ c κs. search needs)
+    (λ c κs. search needs)
     add-t20
-    added-requires-3
+    (λ c κs. search needs)
     add-t22
-    added-requires-4
+    (λ c κs. search needs)
     add-t24
     returns)

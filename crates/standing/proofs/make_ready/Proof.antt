@@ -6,9 +6,6 @@ use Rattle.standing.proofs.Reading.{ready-none, ready-short, ready-all}
 use Rattle.standing.proofs.make_ready.Statement.{statement}
 use Rattle.standing.proofs.make_ready.Tie as tie
 
-measure-requires : tie.Need-measure-requires
-measure-requires c κs = search needs
-
 returns : tie.Need-returns
 returns c =
     let m = c .before .before .measure in
@@ -28,4 +25,4 @@ returns-3 c =
     ready-all (a .words .now) (a .room) (m .result) (m .ensures) (not-false (m .result .whole) (c .before .before .if1 .left)) (c .if2 .left)
 
 pub make-ready-spec : {M : Type 1} → statement M
-make-ready-spec = tie.close (tie.spec measure-requires returns returns-2 returns-3)
+make-ready-spec = tie.close (tie.spec (λ c κs. search needs) returns returns-2 returns-3)

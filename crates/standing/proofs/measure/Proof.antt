@@ -18,40 +18,10 @@ abbrev μ-loop : tie.MeasureT-loop
 loop-holds : tie.Need-loop-holds Inv-loop μ-loop
 loop-holds c = upto-start _
 
-add-loop : tie.Need-add-loop Inv-loop μ-loop
-add-loop c = search needs
-
-mul-is-call : tie.Need-mul-is-call Inv-loop μ-loop
-mul-is-call c = search needs
-
-shared-slice-read-is-call : tie.Need-shared-slice-read-is-call Inv-loop μ-loop
-shared-slice-read-is-call c = search needs
-
-add-is-call : tie.Need-add-is-call Inv-loop μ-loop
-add-is-call c = search needs
-
-mul-is-call-2 : tie.Need-mul-is-call-2 Inv-loop μ-loop
-mul-is-call-2 c = search needs
-
-shared-slice-read-is-call-2 : tie.Need-shared-slice-read-is-call-2 Inv-loop μ-loop
-shared-slice-read-is-call-2 c = search needs
-
-is-call-requires : tie.Need-is-call-requires Inv-loop μ-loop
-is-call-requires c κs = search needs
-
 returns : tie.Need-returns Inv-loop μ-loop
 returns c =
     upto-bad (c .before .before .before .before .before .before .before .args .words .now) (c .before .before .before .before .before .loop .calls) (c .before .before .before .before .before .loop .at) (c .before .before .before .before .before .loop .inv) (c .before .before .before .before .loop-test .taken)
     (sym (c .before .is-call .ensures) ∙ not-true (c .before .is-call .result) (c .if1 .taken))
-
-add-calls : tie.Need-add-calls Inv-loop μ-loop
-add-calls c = search needs
-
-add-at : tie.Need-add-at Inv-loop μ-loop
-add-at c = search needs
-
-loop-less : tie.Need-loop-less Inv-loop μ-loop
-loop-less c = search needs
 
 loop-again : tie.Need-loop-again Inv-loop μ-loop
 loop-again c =
@@ -69,16 +39,16 @@ measure-spec =
     Inv-loop
     μ-loop
     loop-holds
-    add-loop
-    mul-is-call
-    shared-slice-read-is-call
-    add-is-call
-    mul-is-call-2
-    shared-slice-read-is-call-2
-    is-call-requires
+    (λ c. search needs)
+    (λ c. search needs)
+    (λ c. search needs)
+    (λ c. search needs)
+    (λ c. search needs)
+    (λ c. search needs)
+    (λ c κs. search needs)
     returns
-    add-calls
-    add-at
-    loop-less
+    (λ c. search needs)
+    (λ c. search needs)
+    (λ c. search needs)
     loop-again
     returns-2)

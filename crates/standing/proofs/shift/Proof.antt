@@ -2,7 +2,7 @@
 -- A turn reads the next record on the way and stores it in the hole. All that the proof knows of `makers::toward`, which says where that is, is that it meets its contract. What the list is on the way is in `Shifting.antt` of `makers`.
 -- Assumes nothing.
 use mathlib.Core.Path.{_≡_, refl, sym, ap, subst, _∙_}
-use Prim.Native.Nat.{ℕ, _<_, _≤_, _^_, _*_, _-_, _+_}
+use Prim.Native.Nat.{ℕ, _<_, _≤_, _^_, _*_, _+_}
 use native.Mathlib.Omega.{arith}
 use mathlib.Core.Bool.{Bool, true, false, not}
 use mathlib.Core.List.{[], _∷_, List}

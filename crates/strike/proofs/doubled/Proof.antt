@@ -4,14 +4,8 @@ use borrow.Author.Needs.{needs}
 use Rattle.strike.proofs.doubled.Statement.{statement}
 use Rattle.strike.proofs.doubled.Tie as tie
 
-mul-result : tie.Need-mul-result
-mul-result c = search needs
-
-sub-result : tie.Need-sub-result
-sub-result c = search needs
-
 returns : tie.Need-returns
 returns c = (omega arith, omega arith)
 
 pub doubled-spec : {M : Type 1} → statement M
-doubled-spec = tie.close (tie.spec mul-result sub-result returns)
+doubled-spec = tie.close (tie.spec (λ c. search needs) (λ c. search needs) returns)

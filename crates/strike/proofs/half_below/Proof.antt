@@ -1,5 +1,5 @@
 -- The square fits 36,500 times. Assumes nothing.
-use Prim.Native.Nat.{ℕ, _-_, _*_, _^_}
+use Prim.Native.Nat.{ℕ, _*_, _^_}
 use native.Mathlib.Omega.{arith}
 use mathlib.Core.Path.{sym, ap, _∙_}
 use lib.Dec.{leb}
@@ -7,9 +7,6 @@ use Rattle.strike.proofs.Squares.{square-is, doubled-most}
 use borrow.Author.Needs.{needs}
 use Rattle.strike.proofs.half_below.Statement.{statement}
 use Rattle.strike.proofs.half_below.Tie as tie
-
-doubled-requires : tie.Need-doubled-requires
-doubled-requires c κs = search needs
 
 mul-result : tie.Need-mul-result
 mul-result c = omega (arith, doubled-most (c .doubled .result) (c .doubled .ensures .1))
@@ -23,4 +20,4 @@ returns c =
     (sym (square-is (c .doubled .result)) ∙ ap (λ (x : ℕ). x ^ 2) (c .doubled .ensures .0))
 
 pub half-below-spec : {M : Type 1} → statement M
-half-below-spec = tie.close (tie.spec doubled-requires mul-result mul-result-2 returns)
+half-below-spec = tie.close (tie.spec (λ c κs. search needs) mul-result mul-result-2 returns)

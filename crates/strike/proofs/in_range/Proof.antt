@@ -5,15 +5,6 @@ use borrow.Author.Needs.{needs}
 use Rattle.strike.proofs.in_range.Statement.{statement}
 use Rattle.strike.proofs.in_range.Tie as tie
 
-enum-told : tie.Need-enum-told
-enum-told c = search needs
-
-enum-known-spread : tie.Need-enum-known-spread
-enum-known-spread c = search needs
-
-is-good-requires : tie.Need-is-good-requires
-is-good-requires c κs = search needs
-
 returns : tie.Need-returns
 returns c = search needs
 
@@ -21,4 +12,4 @@ returns-2 : tie.Need-returns-2
 returns-2 c = c .is-good .ensures ∙ sym (ap goodSpreadRule (c .before .before .spread .given .1))
 
 pub in-range-spec : {M : Type 1} → statement M
-in-range-spec = tie.close (tie.spec enum-told enum-known-spread is-good-requires returns returns-2)
+in-range-spec = tie.close (tie.spec (λ c. search needs) (λ c. search needs) (λ c κs. search needs) returns returns-2)

@@ -7,20 +7,11 @@ use borrow.Author.Needs.{needs}
 use Rattle.strike.proofs.square.Statement.{statement}
 use Rattle.strike.proofs.square.Tie as tie
 
-cast-product : tie.Need-cast-product
-cast-product c = search needs
-
-cast-product-2 : tie.Need-cast-product-2
-cast-product-2 c = search needs
-
 mul-product : tie.Need-mul-product
 mul-product c = omega (arith, product-most (c .before .before .args .s) (c .before .before .pre))
 
 mul-result : tie.Need-mul-result
 mul-result c = omega (arith, product-square-most (c .before .before .args .s) (c .before .before .pre))
-
-cast-result : tie.Need-cast-result
-cast-result c = search needs
 
 mul-result-2 : tie.Need-mul-result-2
 mul-result-2 c = omega (arith, square-most (c .before .before .before .args .s) (c .before .before .before .pre))
@@ -39,11 +30,11 @@ pub square-spec : {M : Type 1} → statement M
 square-spec =
     tie.close
     (tie.spec
-    cast-product
-    cast-product-2
+    (λ c. search needs)
+    (λ c. search needs)
     mul-product
     mul-result
-    cast-result
+    (λ c. search needs)
     mul-result-2
     mul-result-3
     returns)

@@ -4,15 +4,6 @@ use borrow.Author.Needs.{needs}
 use Rattle.strike.proofs.widest.Statement.{statement}
 use Rattle.strike.proofs.widest.Tie as tie
 
-square-requires : tie.Need-square-requires
-square-requires c κs = search needs
-
-nearest-requires : tie.Need-nearest-requires
-nearest-requires c κs = search needs
-
-max-requires : tie.Need-max-requires
-max-requires c κs = search needs
-
 returns : tie.Need-returns
 returns c =
     let near = c .before .nearest in
@@ -21,4 +12,4 @@ returns c =
     (near .ensures .0) (near .ensures .1) (c .max .ensures)
 
 pub widest-spec : {M : Type 1} → statement M
-widest-spec = tie.close (tie.spec square-requires nearest-requires max-requires returns)
+widest-spec = tie.close (tie.spec (λ c κs. search needs) (λ c κs. search needs) (λ c κs. search needs) returns)

@@ -6,19 +6,10 @@ use borrow.Author.Needs.{needs}
 use Rattle.ticket.proofs.is_present.Statement.{statement}
 use Rattle.ticket.proofs.is_present.Tie as tie
 
-same-amendment-requires : tie.Need-same-amendment-requires
-same-amendment-requires c κs = search needs
-
-same-count-requires : tie.Need-same-count-requires
-same-count-requires c κs = search needs
-
-both-requires : tie.Need-both-requires
-both-requires c κs = search needs
-
 returns : tie.Need-returns
 unfolding goodTicket
 returns c = c .both .ensures ∙ λ i. c .before .before .same-amendment .ensures i && c .before .same-count .ensures i
 
 pub is-present-spec : {M : Type 1} → statement M
 is-present-spec =
-    tie.close (tie.spec same-amendment-requires same-count-requires both-requires returns)
+    tie.close (tie.spec (λ c κs. search needs) (λ c κs. search needs) (λ c κs. search needs) returns)

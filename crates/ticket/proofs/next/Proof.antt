@@ -15,9 +15,6 @@ at-most : (n : ℕ) → n < 18446744073709551616 → 18446744073709551615 ≤ n 
 unfolding following
 at-most n h k = omega (arith, h, k)
 
-add-result : tie.Need-add-result
-add-result c = search needs
-
 returns : tie.Need-returns
 returns c = below (c .before .args .count) (c .if1 .taken)
 
@@ -25,4 +22,4 @@ returns-2 : tie.Need-returns-2
 returns-2 c = at-most (c .before .args .count) (c .before .fits .count .fits) (c .if1 .left)
 
 pub next-spec : {M : Type 1} → statement M
-next-spec = tie.close (tie.spec add-result returns returns-2)
+next-spec = tie.close (tie.spec (λ c. search needs) returns returns-2)

@@ -5,18 +5,6 @@ use borrow.Author.Needs.{needs}
 use Rattle.volatile.proofs.after.Statement.{statement}
 use Rattle.volatile.proofs.after.Tie as tie
 
-add-next : tie.Need-add-next
-add-next c = search needs
-
-is-before-requires : tie.Need-is-before-requires
-is-before-requires c κs = search needs
-
-at-most-requires : tie.Need-at-most-requires
-at-most-requires c κs = search needs
-
-both-requires : tie.Need-both-requires
-both-requires c κs = search needs
-
 returns : tie.Need-returns
 returns c =
     let a = c .before .before .before .before .before .args in
@@ -30,9 +18,6 @@ returns-2 c =
     goes-on (a .p) (a .day) (a .sigma) (a .threshold) (a .sum) (c .before .before .before .before .if1 .taken)
     (joined (a .p) (a .day) (a .sigma) (a .threshold) (a .sum) _ _ _ _ (c .before .both .ensures)
     (c .before .before .before .is-before .ensures) (c .before .before .at-most .ensures) (c .if2 .left))
-
-at-most-requires-2 : tie.Need-at-most-requires-2
-at-most-requires-2 c κs = search needs
 
 returns-3 : tie.Need-returns-3
 returns-3 c =
@@ -48,12 +33,12 @@ pub after-spec : {M : Type 1} → statement M
 after-spec =
     tie.close
     (tie.spec
-    add-next
-    is-before-requires
-    at-most-requires
-    both-requires
+    (λ c. search needs)
+    (λ c κs. search needs)
+    (λ c κs. search needs)
+    (λ c κs. search needs)
     returns
     returns-2
-    at-most-requires-2
+    (λ c κs. search needs)
     returns-3
     returns-4)

@@ -28,9 +28,6 @@ abbrev μ-loop : tie.MeasureT-loop
 long : (c : tie.Start Inv-loop μ-loop) → length (c .args .prices .now) < 9223372036854775807
 long c = omega arith
 
-start-requires : tie.Need-start-requires Inv-loop μ-loop
-start-requires c κs = search needs
-
 loop-holds : tie.Need-loop-holds Inv-loop μ-loop
 loop-holds c =
     let a = c .before .args in
@@ -43,17 +40,8 @@ loop-holds c =
 add-loop : tie.Need-add-loop Inv-loop μ-loop
 add-loop c = omega (arith, long (c .before .before))
 
-price-word-requires : tie.Need-price-word-requires Inv-loop μ-loop
-price-word-requires c κs = omega arith
-
 add-price-word : tie.Need-add-price-word Inv-loop μ-loop
 add-price-word c = omega (arith, long (c .before .before .before .before))
-
-price-word-requires-2 : tie.Need-price-word-requires-2 Inv-loop μ-loop
-price-word-requires-2 c κs = search needs
-
-change-of-requires : tie.Need-change-of-requires Inv-loop μ-loop
-change-of-requires c κs = search needs
 
 -- the change of the two prices of the turn
 change-is : (c : tie.After-change-of Inv-loop μ-loop)
@@ -73,12 +61,6 @@ change-is c =
 more : (c : tie.After-change-of Inv-loop μ-loop)
     → suc (c .before .before .before .before .loop .i) < length (c .before .before .before .before .before .before .args .prices .now)
 more c = omega arith
-
-enum-known-change : tie.Need-enum-known-change Inv-loop μ-loop
-enum-known-change c = search needs
-
-enum-told : tie.Need-enum-told Inv-loop μ-loop
-enum-told c = search needs
 
 returns : tie.Need-returns Inv-loop μ-loop
 returns c =
@@ -118,9 +100,6 @@ next c =
     (turn-represents (a .prices .now) (a .threshold) (l .i) (l .state) (l .inv .1) (more (c .before .before .before .before))
     (long (c .before .before .before .before .before .before .before .before .before .before)) (c .before .before .change .given .0 .0) (answers (c .before)) (l .inv .2)
     (c .turn .ensures .1))
-
-is-early-requires : tie.Need-is-early-requires Inv-loop μ-loop
-is-early-requires c κs = search needs
 
 returns-2 : tie.Need-returns-2 Inv-loop μ-loop
 returns-2 c =
@@ -171,18 +150,18 @@ inside-spec =
     (tie.spec
     Inv-loop
     μ-loop
-    start-requires
+    (λ c κs. search needs)
     loop-holds
     add-loop
-    price-word-requires
+    (λ c κs. omega arith)
     add-price-word
-    price-word-requires-2
-    change-of-requires
-    enum-known-change
-    enum-told
+    (λ c κs. search needs)
+    (λ c κs. search needs)
+    (λ c. search needs)
+    (λ c. search needs)
     returns
     turn-requires
-    is-early-requires
+    (λ c κs. search needs)
     returns-2
     add-i
     loop-less

@@ -4,14 +4,8 @@ use borrow.Author.Needs.{needs}
 use Rattle.volatile.proofs.is_early.Statement.{statement}
 use Rattle.volatile.proofs.is_early.Tie as tie
 
-is-before-requires : tie.Need-is-before-requires
-is-before-requires c κs = search needs
-
-both-requires : tie.Need-both-requires
-both-requires c κs = search needs
-
 returns : tie.Need-returns
 returns c = c .both .ensures ∙ simp (c .before .is-before .ensures)
 
 pub is-early-spec : {M : Type 1} → statement M
-is-early-spec = tie.close (tie.spec is-before-requires both-requires returns)
+is-early-spec = tie.close (tie.spec (λ c κs. search needs) (λ c κs. search needs) returns)

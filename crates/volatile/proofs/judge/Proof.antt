@@ -4,15 +4,6 @@ use borrow.Author.Needs.{needs}
 use Rattle.volatile.proofs.judge.Statement.{statement}
 use Rattle.volatile.proofs.judge.Tie as tie
 
-sigma-requires : tie.Need-sigma-requires
-sigma-requires c κs = search needs
-
-push-requires : tie.Need-push-requires
-push-requires c κs = search needs
-
-after-requires : tie.Need-after-requires
-after-requires c κs = search needs
-
 returns : tie.Need-returns
 returns c =
     let a = c .before .before .before .before .before .args in
@@ -23,4 +14,4 @@ returns c =
     )
 
 pub judge-spec : {M : Type 1} → statement M
-judge-spec = tie.close (tie.spec sigma-requires push-requires after-requires returns)
+judge-spec = tie.close (tie.spec (λ c κs. search needs) (λ c κs. search needs) (λ c κs. search needs) returns)

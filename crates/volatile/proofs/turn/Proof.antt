@@ -11,9 +11,6 @@ returns c =
     let a = c .before .before .before .args in
     (first-two (a .s) (a .i) (a .r) (a .threshold) (c .before .before .if1 .taken), λ h. absurd (omega arith))
 
-judge-requires : tie.Need-judge-requires
-judge-requires c κs = search needs
-
 returns-2 : tie.Need-returns-2
 returns-2 c =
     let a = c .before .before .args in (
@@ -22,4 +19,4 @@ returns-2 c =
     )
 
 pub turn-spec : {M : Type 1} → statement M
-turn-spec = tie.close (tie.spec returns judge-requires returns-2)
+turn-spec = tie.close (tie.spec returns (λ c κs. search needs) returns-2)

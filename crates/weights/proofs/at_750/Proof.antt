@@ -5,17 +5,8 @@ use Rattle.weights.proofs.Right.{right-750}
 use Rattle.weights.proofs.at_750.Statement.{statement}
 use Rattle.weights.proofs.at_750.Tie as tie
 
-mul-wide : tie.Need-mul-wide
-mul-wide c = search needs
-
-array-read-wide : tie.Need-array-read-wide
-array-read-wide c = search needs
-
-wide-requires : tie.Need-wide-requires
-wide-requires c κs = search needs
-
 returns : tie.Need-returns
 returns c = c .wide .ensures ∙ right-750 (c .before .args .f) (c .before .pre)
 
 pub at-750-spec : {M : Type 1} → statement M
-at-750-spec = tie.close (tie.spec mul-wide array-read-wide wide-requires returns)
+at-750-spec = tie.close (tie.spec (λ c. search needs) (λ c. search needs) (λ c κs. search needs) returns)

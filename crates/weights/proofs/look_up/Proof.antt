@@ -6,29 +6,17 @@ use Rattle.weights.proofs.Card.{is-750, found}
 use Rattle.weights.proofs.look_up.Statement.{statement}
 use Rattle.weights.proofs.look_up.Tie as tie
 
-line-of-requires : tie.Need-line-of-requires
-line-of-requires c κs = search needs
-
-at-600-requires : tie.Need-at-600-requires
-at-600-requires c κs = search needs
-
 returns : tie.Need-returns
 returns c =
     let l = c .before .before in
     let a = l .before in
     c .at-600 .ensures ∙ found (a .args .f) (a .args .share) (l .line-of .result) 600 (l .line-of .ensures) (c .before .if1 .taken) (omega arith)
 
-at-700-requires : tie.Need-at-700-requires
-at-700-requires c κs = search needs
-
 returns-2 : tie.Need-returns-2
 returns-2 c =
     let l = c .before .before .before in
     let a = l .before in
     c .at-700 .ensures ∙ found (a .args .f) (a .args .share) (l .line-of .result) 700 (l .line-of .ensures) (c .before .if2 .taken) (omega arith)
-
-at-750-requires : tie.Need-at-750-requires
-at-750-requires c κs = search needs
 
 returns-3 : tie.Need-returns-3
 returns-3 c =
@@ -40,4 +28,4 @@ returns-3 c =
 pub look-up-spec : {M : Type 1} → statement M
 look-up-spec =
     tie.close
-    (tie.spec line-of-requires at-600-requires returns at-700-requires returns-2 at-750-requires returns-3)
+    (tie.spec (λ c κs. search needs) (λ c κs. search needs) returns (λ c κs. search needs) returns-2 (λ c κs. search needs) returns-3)

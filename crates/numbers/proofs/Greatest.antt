@@ -2,28 +2,27 @@
 use Prim.Native.Nat.{ℕ, zero, suc, _≤_, _<_}
 use native.Mathlib.Omega.{arith}
 use mathlib.Core.Path.{_≡_, refl, sym, ap, _∙_}
-use mathlib.Core.Bool.{Bool, true, false}
+use mathlib.Core.Bool.{Bool, true, false, true≢false, cond}
 use borrow.Author.Tests.{leb-true, leb-false}
 use lib.Dec.{leb}
-use Rattle.rules.specs.Lists.{if_then_else_}
-use Rattle.strike.specs.Widest.{greatestUpTo}
+use Rattle.numbers.specs.Greatest.{greatestUpTo}
 
 module _ (p : ℕ → Bool) where
-  pub greatest-passes : (n : ℕ) → p 0 ≡ true → p (greatestUpTo p n) ≡ true
+  greatest-passes : (n : ℕ) → p 0 ≡ true → p (greatestUpTo p n) ≡ true
   unfolding greatestUpTo
   greatest-passes zero e = e
   greatest-passes (suc n) e = go (p (suc n)) refl (greatest-passes n e)
     where
-      go : (t : Bool) → p (suc n) ≡ t → p (greatestUpTo p n) ≡ true → p (if t then suc n else greatestUpTo p n) ≡ true
+      go : (t : Bool) → p (suc n) ≡ t → p (greatestUpTo p n) ≡ true → p (cond t (suc n) (greatestUpTo p n)) ≡ true
       go true h rest = h
       go false h rest = rest
 
-  pub greatest-last : (n m : ℕ) → greatestUpTo p n < m → m ≤ n → p m ≡ false
+  greatest-last : (n m : ℕ) → greatestUpTo p n < m → m ≤ n → p m ≡ false
   unfolding greatestUpTo
   greatest-last zero m h k = absurd (omega arith)
   greatest-last (suc n) m h k = go (p (suc n)) refl (leb m n) refl h (greatest-last n m)
     where
-      go : (t : Bool) → p (suc n) ≡ t → (u : Bool) → leb m n ≡ u → (if t then suc n else greatestUpTo p n) < m
+      go : (t : Bool) → p (suc n) ≡ t → (u : Bool) → leb m n ≡ u → cond t (suc n) (greatestUpTo p n) < m
           → (greatestUpTo p n < m → m ≤ n → p m ≡ false) → p m ≡ false
       go true e u f l rest = absurd (omega arith)
       go false e true f l rest = rest l (leb-true m n f)
@@ -43,3 +42,12 @@ module _ (p : ℕ → Bool) where
       go : (t : Bool) → leb d (greatestUpTo p n) ≡ t → t ≡ p d
       go true f = sym (down d (greatestUpTo p n) (leb-true d (greatestUpTo p n) f) (greatest-passes n e))
       go false f = sym (past (leb d n) refl (leb-false d (greatestUpTo p n) f))
+
+  -- n passes, none above it does: it is the greatest, whatever bound from n on
+  pub greatest-is : (bound n : ℕ) → p 0 ≡ true → n ≤ bound → p n ≡ true → ((m : ℕ) → n < m → p m ≡ false) → greatestUpTo p bound ≡ n
+  greatest-is bound n z h e l = go (leb n (greatestUpTo p bound)) (leb (greatestUpTo p bound) n) refl refl
+    where
+      go : (t u : Bool) → leb n (greatestUpTo p bound) ≡ t → leb (greatestUpTo p bound) n ≡ u → greatestUpTo p bound ≡ n
+      go true true f k = omega (arith, leb-true n (greatestUpTo p bound) f, leb-true (greatestUpTo p bound) n k)
+      go true false f k = absurd (true≢false (sym (greatest-passes bound z) ∙ l (greatestUpTo p bound) (leb-false (greatestUpTo p bound) n k)))
+      go false u f k = absurd (true≢false (sym e ∙ greatest-last bound n (leb-false n (greatestUpTo p bound) f) h))
