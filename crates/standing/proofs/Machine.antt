@@ -1,15 +1,36 @@
--- The machine values of the records that the walks pass on, and what is known of them. Assumes nothing.
+-- The types and machine values of what the walks pass on, and what is known of them. Assumes nothing.
+use Prim.Native.Nat.{ℕ, _*_, _^_, _<_}
+use native.Mathlib.Omega.{arith}
 use mathlib.Core.Path.{_≡_, subst}
 use mathlib.Core.List.{List}
-use package.mir.Syntax.{w32, w64}
+use package.mir.Syntax.{Ty, Lifetime, mut, w32, w64, tyInt, tyRef}
 use package.mir.Val.{Val, vbool, vint, vstruct, vnil, vcons}
 use denote.RattleType.{RattleType}
 use denote.Laws.{Is, Tells}
+use denote.Memory.{pointee}
+use denote.Slice.{sliceTy}
 use Rattle.makers.specs.declared.Maker.{Maker}
 use Rattle.makers.specs.declared.Asked.{Asked}
 use Rattle.makers.specs.declared.Answer.{Answer}
 use Rattle.makers.specs.declared.Seen.{Seen}
 use Rattle.makers.specs.declared.Checked.{Checked}
+use Rattle.makers.proofs.Maker as T
+
+abbrev pub R : RattleType
+R = T.the-row
+
+abbrev pub word : Ty
+word = tyInt w64
+
+abbrev pub ref : Lifetime → Ty
+ref ℓ = tyRef ℓ mut (pointee (R .written))
+
+abbrev pub slice : Lifetime → Ty
+slice ℓ = sliceTy (ref ℓ)
+
+-- a record takes 8 bytes
+pub place-fits : {n i : ℕ} → n * 8 < 2 ^ 63 → i < n → i * 8 < 2 ^ 64
+place-fits h l = omega arith
 
 abbrev pub mach : Maker → Val
 mach m = vstruct (vcons (vint w32 (m .number)) (vcons (vint w32 (m .rating)) vnil))

@@ -20,7 +20,7 @@ use types.Kit.{Given, ‵, _⊛_, _$_, _∵_, !, qed, by, move, keep, drop, spli
 use types.Run.{addr, and-then, no-more, land, look, init, forget, stop, hop, fld, from, load, assigns, returns, enter, alloc1, alloc0, params1, pass1, pass0, free1, free0}
 use types.Part.{agg, whole, sub, look-in}
 use package.sound.WpLaws.{FmC, fmOf, WpFn-mono}
-use denote.RattleType.{RattleType, owns}
+use denote.RattleType.{owns}
 use denote.Laws.{Is}
 use denote.Plain.{uint-vals, uint-tells, uint-makes, bool-tells, bool-makes, bool-lawful}
 use denote.Builtin.{bool, usize}
@@ -39,13 +39,12 @@ use Rattle.makers.specs.declared.Maker.{Maker}
 use Rattle.makers.specs.declared.Asked.{Asked}
 use Rattle.makers.specs.declared.Answer.{Answer}
 use Rattle.makers.specs.Calls.{standing, callOf, wrong, step, answerOf}
-use Rattle.makers.proofs.Maker as T
 use Rattle.makers.proofs.Asked as B
 use Rattle.makers.proofs.Asked.Laws as B′
 use Rattle.makers.proofs.Answer as D
 use Rattle.makers.proofs.Answer.Laws as D′
 use Rattle.standing.proofs.Calling.{lends}
-use Rattle.standing.proofs.Machine.{asked-mach}
+use Rattle.standing.proofs.Machine.{R, asked-mach}
 use Rattle.standing.proofs.judge as judge
 use Rattle.standing.proofs.judge.Symbol as judge-def
 use Rattle.standing.proofs.judge.Symbol.{name as #standing·judge}
@@ -58,9 +57,6 @@ use Rattle.standing.proofs.apply.Key.{name as #standing·apply}
 use Rattle.standing.proofs.apply as it
 use Rattle.standing.proofs.apply.Statement as stated
 use Rattle.standing.proofs.apply.Code as code
-
-abbrev R : RattleType
-R = T.the-row
 
 abbrev stayed : Stays (it.ended .signature .params) (it.ended .kept)
 stayed = (stay-slice (0 ∷ []) tt (plain (λ _. R)), (stay-none (λ _. usize) yes, (stay-none (λ _. B.the-row) yes, tt)))

@@ -28,8 +28,7 @@ use types.Kit.{Given, Item, ‵, _⊛_, ⋆, runs, anyQ, atRet, Sq, _$_, _∵_, 
 use types.Run.{addr, and-then, no-more, land, look, init, store, forget, stop, hop, fld, from, load, lit, of-opd, bin, assigns, assigns-last, stays, leaves-loop, first, blocks, exec, Below, again, loops, returns, enter, alloc1, alloc0, params1, pass1, pass0, free1, free0}
 use types.Part.{agg, whole, sub, look-in}
 use package.sound.WpLaws.{FmC, fmOf, WpFn-mono}
-use denote.RattleType.{RattleType, owns}
-use denote.Memory.{pointee}
+use denote.RattleType.{owns}
 use denote.Laws.{Is}
 use denote.Plain.{uint-vals, uint-tells, uint-makes, bool-tells, bool-makes, bool-lawful}
 use denote.Builtin.{unit, bool, u32, usize}
@@ -48,7 +47,6 @@ use Rattle.makers.specs.declared.Maker.{Maker}
 use Rattle.makers.specs.declared.Answer.{Answer}
 use Rattle.makers.specs.declared.Asked.{Asked}
 use Rattle.makers.specs.Calls.{Standing, standing, Call, callOf, wrong, step, answerOf}
-use Rattle.makers.proofs.Maker as T
 use Rattle.makers.proofs.Asked as B
 use Rattle.makers.proofs.Asked.Laws as B′
 use Rattle.makers.proofs.Answer as D
@@ -59,7 +57,7 @@ use Rattle.standing.specs.Claim.{ListAnswers}
 use Rattle.standing.specs.Internal.{askedAt, readyOf}
 use Rattle.standing.proofs.Running.{running, at as at-call, noted, ready-is, at-start, noted-start, few, inside, judged-once, at-next, noted-next, noted-long, finished}
 use Rattle.standing.proofs.Calling.{Asks, lends, shares}
-use Rattle.standing.proofs.Machine.{asked-mach, same-value}
+use Rattle.standing.proofs.Machine.{R, word, ref, slice, asked-mach, same-value}
 use Rattle.standing.proofs.Ready as Y
 use Rattle.standing.proofs.Ready.Laws as Y′
 use Rattle.standing.proofs.Ran as N
@@ -90,9 +88,6 @@ use Rattle.standing.proofs.run.Statement as stated
 use Rattle.standing.proofs.run.Code as code
 use Rattle.standing.proofs.run.Code.Mir as mir
 
-abbrev R : RattleType
-R = T.the-row
-
 abbrev stayed : Stays (it.ended .signature .params) (it.ended .kept)
 stayed = (stay-slice (0 ∷ []) tt (plain (λ _. R)), (stay-none (λ _. usize) yes, (stay-none-slice (1 ∷ []) tt (plain (λ _. u32)) yes, (stay-slice (2 ∷ []) tt (plain (λ _. u32)), tt))))
 
@@ -102,15 +97,6 @@ ready-mach r = vstruct (vcons (vint w64 (r .calls)) (vcons (vbool (r .fits)) vni
 
 abbrev ran-mach : Ran → Val
 ran-mach r = vstruct (vcons (vint w64 (r .count)) (vcons (vbool (r .fits)) vnil))
-
-abbrev word : Ty
-word = tyInt w64
-
-abbrev ref : Lifetime → Ty
-ref ℓ = tyRef ℓ mut (pointee (R .written))
-
-abbrev slice : Lifetime → Ty
-slice ℓ = sliceTy (ref ℓ)
 
 abbrev wref : Lifetime → Ty
 wref ℓ = tyRef ℓ mut (tyInt w32)
