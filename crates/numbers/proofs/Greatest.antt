@@ -1,11 +1,20 @@
--- The greatest number that passes, up to a bound. Assumes nothing.
-use Prim.Native.Nat.{ℕ, zero, suc, _≤_, _<_}
+-- The greatest number that passes, up to a bound, and the greater of two. Assumes nothing.
+use Prim.Native.Nat.{ℕ, zero, suc, _≤_, _<_, max}
 use native.Mathlib.Omega.{arith}
 use mathlib.Core.Path.{_≡_, refl, sym, ap, _∙_}
-use mathlib.Core.Bool.{Bool, true, false, true≢false, cond}
-use borrow.Author.Tests.{leb-true, leb-false}
+use mathlib.Core.Bool.{Bool, true, false, true≢false, _||_, cond}
+use borrow.Author.Tests.{leb-true, leb-false, le-leb, lt-leb}
 use lib.Dec.{leb}
 use Rattle.numbers.specs.Greatest.{greatestUpTo}
+
+-- at most the greater of two: at most one of them
+pub leb-max : (k a b : ℕ) → leb k (max a b) ≡ leb k a || leb k b
+leb-max k a b = go (leb k a) (leb k b) refl refl
+  where
+    go : (t u : Bool) → leb k a ≡ t → leb k b ≡ u → leb k (max a b) ≡ t || u
+    go true u e f = le-leb k (max a b) (omega (arith, leb-true k a e))
+    go false true e f = le-leb k (max a b) (omega (arith, leb-true k b f))
+    go false false e f = lt-leb k (max a b) (omega (arith, leb-false k a e, leb-false k b f))
 
 module _ (p : ℕ → Bool) where
   greatest-passes : (n : ℕ) → p 0 ≡ true → p (greatestUpTo p n) ≡ true

@@ -1,2 +1,2 @@
--- Laws about the greatest number that passes a test, for the crates above.
+-- Laws about the greatest number that passes a test and the greater of two, for the crates above.
 pub mod Greatest

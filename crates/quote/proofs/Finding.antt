@@ -4,8 +4,8 @@ use Prim.Native.Nat.{ℕ, zero, suc, _+_, _≤_, _<_, max}
 use native.Mathlib.Omega.{arith}
 use mathlib.Core.Path.{_≡_, refl, sym, ap, _∙_, subst}
 use mathlib.Core.List.{List, [], _∷_, _++_, map, map-append, append-assoc, List·Memᴰ, List·Memᴰ·head, List·Memᴰ·tail, Memᴰ·append-left, Memᴰ·append-right}
-use mathlib.Core.Bool.{Bool, true, false, not, _&&_, _||_}
-use borrow.Author.Tests.{ltb-true, ltb-false, leb-true, leb-false, lt-ltb, le-ltb, le-leb, lt-leb}
+use mathlib.Core.Bool.{Bool, true, false, not, _&&_}
+use borrow.Author.Tests.{ltb-true, ltb-false, leb-true, leb-false, lt-ltb, le-ltb, lt-leb}
 use lib.Dec.{leb, ltb}
 use lib.IntN.{ℤ}
 use lib.ListN.{length, getD, take, replicate, length-append, length-map, length-replicate}
@@ -21,6 +21,7 @@ use Rattle.rules.specs.Search.{beats, matched, addsUp, sumsAfter, sumsOf}
 use Rattle.rules.proofs.Lists.{filter-filter, kept-in}
 use Rattle.rules.proofs.Best.{depth-append, depth-one, sided, one-side}
 use Rattle.rules.proofs.Counting.{count-stretch}
+use Rattle.numbers.proofs.Greatest.{leb-max}
 use Rattle.quote.specs.declared.Searched.{Searched}
 use Rattle.quote.specs.Keys.{keyOf, priceAt, keyIn, quoteKey, quoteAt}
 use Rattle.quote.specs.Levels.{held, enough, greatest, bestKey, foundBy, triedBy, shortBy, depthFrom}
@@ -129,14 +130,6 @@ opposite a b = go (leb b a) refl
     go : (t : Bool) → leb b a ≡ t → not t ≡ ltb a b
     go true e = sym (le-ltb a b (leb-true b a e))
     go false e = sym (lt-ltb a b (leb-false b a e))
-
-leb-max : (k a b : ℕ) → leb k (max a b) ≡ leb k a || leb k b
-leb-max k a b = go (leb k a) (leb k b) refl refl
-  where
-    go : (t u : Bool) → leb k a ≡ t → leb k b ≡ u → leb k (max a b) ≡ t || u
-    go true u e f = le-leb k (max a b) (omega (arith, leb-true k a e))
-    go false true e f = le-leb k (max a b) (omega (arith, leb-true k b f))
-    go false false e f = lt-leb k (max a b) (omega (arith, leb-false k a e, leb-false k b f))
 
 ltb-max : (a b k : ℕ) → ltb a k && not (leb k b) ≡ ltb (max a b) k
 ltb-max a b k = go (ltb a k) (leb k b) refl refl

@@ -2,19 +2,16 @@
 use Prim.Native.Nat.{ℕ, suc, _+_, _-_, _≤_, _<_}
 use native.Mathlib.Omega.{arith}
 use mathlib.Core.Path.{_≡_, refl, sym, ap, _∙_}
-use mathlib.Core.Logic.{_⊎_, inl, inr}
 use borrow.Author.Tests.{lt-ltb, le-ltb}
-use lib.Dec.{ltb}
 use lib.IntN.{ℤ, pos, negsuc, natAbs, subℕ, _-ℤ_}
 use lib.Signed.{mag}
 use mir.Syntax.{w32}
 use mir.Val.{toZ, ofZ}
 use mir.Facts.{toZ-ofZ}
-use Rattle.rules.specs.Lists.{if_then_else_}
 use Rattle.rules.specs.Records.{signedOf, unsignedOf}
 use Rattle.rules.proofs.Records.{signed-unsigned}
 use Rattle.sigma.specs.Internal.{lifted}
-use Rattle.sigma.proofs.Differences.{lt-or-ge, sub-lt, sub-ge, sub-same, sub-minus}
+use Rattle.sigma.proofs.Differences.{sub-lt, sub-ge, sub-same, sub-minus}
 
 module _ (w : ℕ) where
   pub magnitude-low : w < 2147483648 → w ≡ natAbs (signedOf w)
@@ -37,15 +34,6 @@ module _ (w : ℕ) where
 pub word-is : (p : ℤ) (w : ℕ) → mag p < 2147483648 → w ≡ unsignedOf (toZ w32 (ofZ w32 p)) → signedOf w ≡ p
 word-is p w f e =
     ap signedOf e ∙ ap (λ (z : ℤ). signedOf (unsignedOf z)) (toZ-ofZ (record { sfits = f })) ∙ signed-unsigned p f
-
--- every word is a price of 32 bits
-pub signed-fits : (w : ℕ) → w < 4294967296 → mag (signedOf w) < 2147483648
-unfolding signedOf
-signed-fits w l = go (lt-or-ge w 2147483648)
-  where
-    go : (w < 2147483648) ⊎ (2147483648 ≤ w) → mag (if ltb w 2147483648 then pos w else negsuc (4294967295 - w)) < 2147483648
-    go (inl h) = rw (lt-ltb w 2147483648 h) h
-    go (inr h) = let k : 4294967295 - w < 2147483648 = omega arith in rw (le-ltb w 2147483648 h) k
 
 -- the difference of two prices is that of the raised ones
 as-sub : (p : ℤ) → mag p < 2147483648 → p ≡ subℕ (lifted p) 2147483648

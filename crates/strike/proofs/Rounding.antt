@@ -10,18 +10,9 @@ use lib.IntN.{ℤ, pos, negsuc}
 use lib.Signed.{leZ}
 use Rattle.rules.specs.declared.Strike.{Strike}
 use Rattle.rules.specs.Strikes.{goodStrike, squareOf, halfBelow, strikeWithin, Rounded}
-use Rattle.numbers.proofs.Greatest.{greatest-law}
+use Rattle.numbers.proofs.Greatest.{leb-max, greatest-law}
 use Rattle.strike.specs.Widest.{roundedOf, widestOfStrike}
 use Rattle.strike.proofs.Squares.{square-is, square-le, beyond, strike-bounds, square-most}
-
--- at most the greater of two: at most one of them
-at-most-greater : (d m n : ℕ) → leb d (max m n) ≡ leb d m || leb d n
-at-most-greater d m n = go (leb d m) (leb d n) refl refl
-  where
-    go : (t u : Bool) → leb d m ≡ t → leb d n ≡ u → leb d (max m n) ≡ t || u
-    go true u e f = le-leb d (max m n) (omega (arith, leb-true d m e))
-    go false true e f = le-leb d (max m n) (omega (arith, leb-true d n f))
-    go false false e f = lt-leb d (max m n) (omega (arith, leb-false d m e, leb-false d n f))
 
 module _ (s : Strike) where
   -- the test as an order of squares
@@ -82,7 +73,7 @@ module _ (s : Strike) where
   -- "Whether D is within it is decided exactly": for every D, and whatever the four numbers
   pub strike-law : (d : ℤ) → leZ d (pos (widestOfStrike s)) ≡ strikeWithin s d
   unfolding widestOfStrike strikeWithin
-  strike-law (pos d) = at-most-greater d (roundedOf s) (s .b) ∙ ap (λ (t : Bool). t || leb d (s .b)) (rounded-law d)
+  strike-law (pos d) = leb-max d (roundedOf s) (s .b) ∙ ap (λ (t : Bool). t || leb d (s .b)) (rounded-law d)
   strike-law (negsuc d) = refl
 
   -- with the four numbers in their ranges, the product is rounded to at most 2,000,000, and b is at most 1,000,000

@@ -4,13 +4,14 @@ use Prim.Native.Nat.{ℕ, zero, suc, _+_, _-_, _≤_, _<_}
 use native.Mathlib.Omega.{arith}
 use mathlib.Core.Path.{_≡_, refl, ap, _∙_}
 use mathlib.Core.Bool.{Bool, true, false, false≢true}
-use borrow.Author.Tests.{lt-ltb, le-ltb, leb-false}
+use borrow.Author.Tests.{ltb-true, ltb-false, lt-ltb, le-ltb, leb-false}
 use lib.Dec.{T, leb, ltb}
 use lib.IntN.{ℤ, pos, negsuc, natAbs, _-ℤ_}
 use lib.Signed.{mag, leZ, nonNeg}
 use mir.Syntax.{w32}
 use mir.Val.{toZ, ofZ, Fits, SFits}
 use mir.Facts.{toZ-ofZ}
+use Rattle.rules.specs.Lists.{if_then_else_}
 use Rattle.rules.specs.Units.{steps}
 use Rattle.rules.specs.Records.{signedOf, unsignedOf}
 
@@ -34,6 +35,15 @@ minus-negsuc n =
 pub low : (w : ℕ) → w < 2147483648 → steps (toZ w32 w) ≡ steps (signedOf w)
 unfolding signedOf
 low w h = rw (lt-ltb w 2147483648 h) refl
+
+-- every word is a price of 32 bits
+pub signed-fits : (w : ℕ) → w < 4294967296 → mag (signedOf w) < 2147483648
+unfolding signedOf
+signed-fits w h = go (ltb w 2147483648) refl
+  where
+    go : (b : Bool) → ltb w 2147483648 ≡ b → mag (if b then pos w else negsuc (4294967295 - w)) < 2147483648
+    go true e = ltb-true w 2147483648 e
+    go false e = omega (arith, ltb-false w 2147483648 e)
 
 -- from 2 ^ 31 on, by way of what is missing to the greatest word
 module _ (w : ℕ) (least : 2147483648 ≤ w) where

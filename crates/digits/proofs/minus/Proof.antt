@@ -19,5 +19,9 @@ returns c = search needs
 returns-2 : tie.Need-returns-2
 returns-2 c = ap (λ (z : ℤ). some z) (below (c .before .args .n - 1) (omega (arith, c .before .pre))) ∙ minus (c .before .args .n) (search needs) (c .before .pre)
 
+-- named, as a must-fail edit makes it false
+sub-t3 : tie.Need-sub-t3
+sub-t3 c = search needs
+
 pub minus-spec : {M : Type 1} → statement M
-minus-spec = tie.close (tie.spec (λ c. search needs) (λ c. search needs) sub-t5 returns returns-2)
+minus-spec = tie.close (tie.spec sub-t3 (λ c. search needs) sub-t5 returns returns-2)

@@ -1,7 +1,7 @@
 -- Each answer by its law. Assumes nothing.
 use mathlib.Core.Path.{sym, _∙_}
 use Rattle.rules.specs.Records.{signedOf}
-use Rattle.sigma.proofs.Lifted.{signed-fits}
+use Rattle.words.proofs.Complement.{signed-fits}
 use Rattle.sigma.proofs.Changes.{zero-is, rise-is, fall-is}
 use borrow.Author.Needs.{needs}
 use Rattle.sigma.proofs.change_of.Statement.{statement}
