@@ -5,11 +5,8 @@ use borrow.Author.Needs.{needs}
 use Rattle.blocks.proofs.charge_at.Statement.{statement}
 use Rattle.blocks.proofs.charge_at.Tie as tie
 
-wide-at-requires : tie.Need-wide-at-requires
-wide-at-requires c κs = search needs
-
 returns : tie.Need-returns
 returns c = ap kopecks (c .wide-at .ensures)
 
 pub charge-at-spec : {M : Type 1} → statement M
-charge-at-spec = tie.close (tie.spec wide-at-requires returns)
+charge-at-spec = tie.close (tie.spec (λ c κs. search needs) returns)

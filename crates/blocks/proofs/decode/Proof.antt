@@ -7,60 +7,6 @@ use borrow.Author.Needs.{needs}
 use Rattle.blocks.proofs.decode.Statement.{statement}
 use Rattle.blocks.proofs.decode.Tie as tie
 
-word-requires : tie.Need-word-requires
-word-requires c κs = search needs
-
-row-end-requires : tie.Need-row-end-requires
-row-end-requires c κs = search needs
-
-add-behind : tie.Need-add-behind
-add-behind c = search needs
-
-opening-at-requires : tie.Need-opening-at-requires
-opening-at-requires c κs = search needs
-
-open-requires : tie.Need-open-requires
-open-requires c κs = search needs
-
-add-requires : tie.Need-add-requires
-add-requires c κs = search needs
-
-amend-requires : tie.Need-amend-requires
-amend-requires c κs = search needs
-
-cancel-requires : tie.Need-cancel-requires
-cancel-requires c κs = search needs
-
-deal-requires : tie.Need-deal-requires
-deal-requires c κs = search needs
-
-tick-requires : tie.Need-tick-requires
-tick-requires c κs = search needs
-
-close-requires : tie.Need-close-requires
-close-requires c κs = search needs
-
-charge-requires : tie.Need-charge-requires
-charge-requires c κs = search needs
-
-withdraw-requires : tie.Need-withdraw-requires
-withdraw-requires c κs = search needs
-
-look-requires : tie.Need-look-requires
-look-requires c κs = search needs
-
-strike-opening-at-requires : tie.Need-strike-opening-at-requires
-strike-opening-at-requires c κs = search needs
-
-open-requires-2 : tie.Need-open-requires-2
-open-requires-2 c κs = search needs
-
-ask-requires : tie.Need-ask-requires
-ask-requires c κs = search needs
-
-commit-requires : tie.Need-commit-requires
-commit-requires c κs = search needs
-
 returns : tie.Need-returns
 returns c =
     let s = c .before .before .before in
@@ -149,24 +95,24 @@ pub decode-spec : {M : Type 1} → statement M
 decode-spec =
     tie.close
     (tie.spec
-    word-requires
-    row-end-requires
-    add-behind
-    opening-at-requires
-    open-requires
-    add-requires
-    amend-requires
-    cancel-requires
-    deal-requires
-    tick-requires
-    close-requires
-    charge-requires
-    withdraw-requires
-    look-requires
-    strike-opening-at-requires
-    open-requires-2
-    ask-requires
-    commit-requires
+    (λ c κs. search needs)
+    (λ c κs. search needs)
+    (λ c. search needs)
+    (λ c κs. search needs)
+    (λ c κs. search needs)
+    (λ c κs. search needs)
+    (λ c κs. search needs)
+    (λ c κs. search needs)
+    (λ c κs. search needs)
+    (λ c κs. search needs)
+    (λ c κs. search needs)
+    (λ c κs. search needs)
+    (λ c κs. search needs)
+    (λ c κs. search needs)
+    (λ c κs. search needs)
+    (λ c κs. search needs)
+    (λ c κs. search needs)
+    (λ c κs. search needs)
     returns
     returns-2
     returns-3

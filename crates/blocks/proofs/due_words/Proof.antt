@@ -8,42 +8,6 @@ use borrow.Author.Needs.{needs}
 use Rattle.blocks.proofs.due_words.Statement.{statement}
 use Rattle.blocks.proofs.due_words.Tie as tie
 
-word-requires : tie.Need-word-requires
-word-requires c κs = search needs
-
-word-requires-2 : tie.Need-word-requires-2
-word-requires-2 c κs = search needs
-
-length-requires : tie.Need-length-requires
-length-requires c κs = search needs
-
-add-result : tie.Need-add-result
-add-result c = search needs
-
-word-requires-3 : tie.Need-word-requires-3
-word-requires-3 c κs = search needs
-
-add-due-requires : tie.Need-add-due-requires
-add-due-requires c κs = search needs
-
-word-requires-4 : tie.Need-word-requires-4
-word-requires-4 c κs = search needs
-
-length-requires-2 : tie.Need-length-requires-2
-length-requires-2 c κs = search needs
-
-add-result-2 : tie.Need-add-result-2
-add-result-2 c = search needs
-
-word-requires-5 : tie.Need-word-requires-5
-word-requires-5 c κs = search needs
-
-word-requires-6 : tie.Need-word-requires-6
-word-requires-6 c κs = search needs
-
-message-due-requires : tie.Need-message-due-requires
-message-due-requires c κs = search needs
-
 returns : tie.Need-returns
 unfolding due
 returns c =
@@ -154,18 +118,18 @@ pub due-words-spec : {M : Type 1} → statement M
 due-words-spec =
     tie.close
     (tie.spec
-    word-requires
-    word-requires-2
-    length-requires
-    add-result
-    word-requires-3
-    add-due-requires
-    word-requires-4
-    length-requires-2
-    add-result-2
-    word-requires-5
-    word-requires-6
-    message-due-requires
+    (λ c κs. search needs)
+    (λ c κs. search needs)
+    (λ c κs. search needs)
+    (λ c. search needs)
+    (λ c κs. search needs)
+    (λ c κs. search needs)
+    (λ c κs. search needs)
+    (λ c κs. search needs)
+    (λ c. search needs)
+    (λ c κs. search needs)
+    (λ c κs. search needs)
+    (λ c κs. search needs)
     returns
     returns-2
     returns-3

@@ -15,9 +15,6 @@ Inv-loop bytes calls₀ at₀ size₀ calls at size = Passed (wordsIn bytes) cal
 abbrev μ-loop : tie.MeasureT-loop
 μ-loop bytes calls₀ at₀ size₀ calls at size = length (wordsIn bytes) - at
 
-size-at-requires : tie.Need-size-at-requires Inv-loop μ-loop
-size-at-requires c κs = omega arith
-
 loop-holds : tie.Need-loop-holds Inv-loop μ-loop
 loop-holds c = at-start (wordsIn (c .before .before .args .bytes .now)) (c .size-at .result) (c .size-at .ensures)
 
@@ -29,9 +26,6 @@ add-at c = omega (arith, words-length (c .before .before .before .before .args .
 
 size-at-requires-2 : tie.Need-size-at-requires-2 Inv-loop μ-loop
 size-at-requires-2 c κs = omega (arith, words-length (c .before .before .before .before .args .bytes .now))
-
-loop-less : tie.Need-loop-less Inv-loop μ-loop
-loop-less c = omega arith
 
 loop-again : tie.Need-loop-again Inv-loop μ-loop
 loop-again c =
@@ -50,11 +44,11 @@ measure-spec =
     (tie.spec
     Inv-loop
     μ-loop
-    size-at-requires
+    (λ c κs. omega arith)
     loop-holds
     add-calls
     add-at
     size-at-requires-2
-    loop-less
+    (λ c. omega arith)
     loop-again
     returns)

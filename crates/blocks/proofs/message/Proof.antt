@@ -6,21 +6,6 @@ use borrow.Author.Needs.{needs}
 use Rattle.blocks.proofs.message.Statement.{statement}
 use Rattle.blocks.proofs.message.Tie as tie
 
-word-requires : tie.Need-word-requires
-word-requires c κs = search needs
-
-length-requires : tie.Need-length-requires
-length-requires c κs = search needs
-
-word-requires-2 : tie.Need-word-requires-2
-word-requires-2 c κs = search needs
-
-length-requires-2 : tie.Need-length-requires-2
-length-requires-2 c κs = search needs
-
-part-requires : tie.Need-part-requires
-part-requires c κs = search needs
-
 returns : tie.Need-returns
 returns c =
     let l = c .before in
@@ -33,9 +18,9 @@ pub message-spec : {M : Type 1} → statement M
 message-spec =
     tie.close
     (tie.spec
-    word-requires
-    length-requires
-    word-requires-2
-    length-requires-2
-    part-requires
+    (λ c κs. search needs)
+    (λ c κs. search needs)
+    (λ c κs. search needs)
+    (λ c κs. search needs)
+    (λ c κs. search needs)
     returns)

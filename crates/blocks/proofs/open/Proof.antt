@@ -8,16 +8,10 @@ use borrow.Author.Needs.{needs}
 use Rattle.blocks.proofs.open.Statement.{statement}
 use Rattle.blocks.proofs.open.Tie as tie
 
-row-end-requires : tie.Need-row-end-requires
-row-end-requires c κs = search needs
-
-word-requires : tie.Need-word-requires
-word-requires c κs = search needs
-
 returns : tie.Need-returns
 returns c =
     let a = c .before .before .before .args in
     ap (λ (day : ℕ). D.Open day (a .opening)) (c .word .ensures ∙ ap (λ (i : ℕ). getD (wordsIn (a .bytes .now)) i 0) (c .before .row-end .ensures .0))
 
 pub open-spec : {M : Type 1} → statement M
-open-spec = tie.close (tie.spec row-end-requires word-requires returns)
+open-spec = tie.close (tie.spec (λ c κs. search needs) (λ c κs. search needs) returns)

@@ -4,17 +4,8 @@ use borrow.Author.Needs.{needs}
 use Rattle.blocks.proofs.opening_at.Statement.{statement}
 use Rattle.blocks.proofs.opening_at.Tie as tie
 
-steps-at-requires : tie.Need-steps-at-requires
-steps-at-requires c κs = search needs
-
-add-word : tie.Need-add-word
-add-word c = search needs
-
-word-requires : tie.Need-word-requires
-word-requires c κs = search needs
-
 returns : tie.Need-returns
 returns c = λ i. record { spread = Settled (c .before .steps-at .ensures i); allowed = c .word .ensures i }
 
 pub opening-at-spec : {M : Type 1} → statement M
-opening-at-spec = tie.close (tie.spec steps-at-requires add-word word-requires returns)
+opening-at-spec = tie.close (tie.spec (λ c κs. search needs) (λ c. search needs) (λ c κs. search needs) returns)

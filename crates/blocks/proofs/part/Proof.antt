@@ -8,36 +8,6 @@ use borrow.Author.Needs.{needs}
 use Rattle.blocks.proofs.part.Statement.{statement}
 use Rattle.blocks.proofs.part.Tie as tie
 
-add-min-length : tie.Need-add-min-length
-add-min-length c = search needs
-
-add-min-length-2 : tie.Need-add-min-length-2
-add-min-length-2 c = search needs
-
-count-requires : tie.Need-count-requires
-count-requires c κs = search needs
-
-mul-min-length : tie.Need-mul-min-length
-mul-min-length c = search needs
-
-min-length-requires : tie.Need-min-length-requires
-min-length-requires c κs = search needs
-
-add-min-length-3 : tie.Need-add-min-length-3
-add-min-length-3 c = search needs
-
-min-length-requires-2 : tie.Need-min-length-requires-2
-min-length-requires-2 c κs = search needs
-
-sub-result : tie.Need-sub-result
-sub-result c = search needs
-
-part-result-start : tie.Need-part-result-start
-part-result-start c = search needs
-
-part-result-end : tie.Need-part-result-end
-part-result-end c = search needs
-
 returns : tie.Need-returns
 returns c =
     let n = c .before .before .before in
@@ -52,14 +22,14 @@ pub part-spec : {M : Type 1} → statement M
 part-spec =
     tie.close
     (tie.spec
-    add-min-length
-    add-min-length-2
-    count-requires
-    mul-min-length
-    min-length-requires
-    add-min-length-3
-    min-length-requires-2
-    sub-result
-    part-result-start
-    part-result-end
+    (λ c. search needs)
+    (λ c. search needs)
+    (λ c κs. search needs)
+    (λ c. search needs)
+    (λ c κs. search needs)
+    (λ c. search needs)
+    (λ c κs. search needs)
+    (λ c. search needs)
+    (λ c. search needs)
+    (λ c. search needs)
     returns)

@@ -8,21 +8,6 @@ use borrow.Author.Needs.{needs}
 use Rattle.blocks.proofs.row_length.Statement.{statement}
 use Rattle.blocks.proofs.row_length.Tie as tie
 
-row-end-requires : tie.Need-row-end-requires
-row-end-requires c κs = search needs
-
-count-requires : tie.Need-count-requires
-count-requires c κs = search needs
-
-min-length-requires : tie.Need-min-length-requires
-min-length-requires c κs = search needs
-
-min-length-requires-2 : tie.Need-min-length-requires-2
-min-length-requires-2 c κs = search needs
-
-sub-result : tie.Need-sub-result
-sub-result c = search needs
-
 returns : tie.Need-returns
 returns c =
     let n = c .before .before in
@@ -36,9 +21,9 @@ pub row-length-spec : {M : Type 1} → statement M
 row-length-spec =
     tie.close
     (tie.spec
-    row-end-requires
-    count-requires
-    min-length-requires
-    min-length-requires-2
-    sub-result
+    (λ c κs. search needs)
+    (λ c κs. search needs)
+    (λ c κs. search needs)
+    (λ c κs. search needs)
+    (λ c. search needs)
     returns)

@@ -5,9 +5,6 @@ use borrow.Author.Needs.{needs}
 use Rattle.blocks.proofs.side_at.Statement.{statement}
 use Rattle.blocks.proofs.side_at.Tie as tie
 
-word-requires : tie.Need-word-requires
-word-requires c κs = search needs
-
 returns : tie.Need-returns
 returns c = is-buy _ (sym (c .before .word .ensures) ∙ c .if1 .taken)
 
@@ -15,4 +12,4 @@ returns-2 : tie.Need-returns-2
 returns-2 c = is-sell _ (λ e. c .if1 .left (c .before .word .ensures ∙ e))
 
 pub side-at-spec : {M : Type 1} → statement M
-side-at-spec = tie.close (tie.spec word-requires returns returns-2)
+side-at-spec = tie.close (tie.spec (λ c κs. search needs) returns returns-2)

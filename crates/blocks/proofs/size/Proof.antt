@@ -7,12 +7,6 @@ use borrow.Author.Needs.{needs}
 use Rattle.blocks.proofs.size.Statement.{statement}
 use Rattle.blocks.proofs.size.Tie as tie
 
-due-words-requires : tie.Need-due-words-requires
-due-words-requires c κs = search needs
-
-count-requires : tie.Need-count-requires
-count-requires c κs = search needs
-
 returns : tie.Need-returns
 returns c =
     let d = c .before .before in
@@ -24,4 +18,4 @@ returns-2 c =
     sym (cut (wordsIn (d .before .before .args .bytes .now)) (d .due-words .result) (sym (d .due-words .ensures)) (omega arith))
 
 pub size-spec : {M : Type 1} → statement M
-size-spec = tie.close (tie.spec due-words-requires count-requires returns returns-2)
+size-spec = tie.close (tie.spec (λ c κs. search needs) (λ c κs. search needs) returns returns-2)

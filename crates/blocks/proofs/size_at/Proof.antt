@@ -7,21 +7,6 @@ use borrow.Author.Needs.{needs}
 use Rattle.blocks.proofs.size_at.Statement.{statement}
 use Rattle.blocks.proofs.size_at.Tie as tie
 
-mul-from : tie.Need-mul-from
-mul-from c = search needs
-
-sub-rest : tie.Need-sub-rest
-sub-rest c = search needs
-
-part-rest-start : tie.Need-part-rest-start
-part-rest-start c = search needs
-
-part-rest-end : tie.Need-part-rest-end
-part-rest-end c = search needs
-
-size-requires : tie.Need-size-requires
-size-requires c κs = search needs
-
 returns : tie.Need-returns
 returns c = let a = c .before .before .before .args in
     c .size .ensures ∙ ap blockSize (part-words (a .bytes .now) (a .at) (4 * a .at) refl)
@@ -29,4 +14,4 @@ returns c = let a = c .before .before .before .args in
 pub size-at-spec : {M : Type 1} → statement M
 size-at-spec =
     tie.close
-    (tie.spec mul-from sub-rest part-rest-start part-rest-end size-requires returns)
+    (tie.spec (λ c. search needs) (λ c. search needs) (λ c. search needs) (λ c. search needs) (λ c κs. search needs) returns)

@@ -7,15 +7,6 @@ use borrow.Author.Needs.{needs}
 use Rattle.blocks.proofs.start.Statement.{statement}
 use Rattle.blocks.proofs.start.Tie as tie
 
-word-requires : tie.Need-word-requires
-word-requires c κs = search needs
-
-length-requires : tie.Need-length-requires
-length-requires c κs = search needs
-
-part-requires : tie.Need-part-requires
-part-requires c κs = search needs
-
 returns : tie.Need-returns
 returns c =
     let l = c .before in
@@ -23,4 +14,4 @@ returns c =
     c .part .ensures ∙ ap (λ (n : ℕ). take n (bytesOf (drop 3 ws))) (l .length .ensures .0 ∙ l .before .word .ensures)
 
 pub start-spec : {M : Type 1} → statement M
-start-spec = tie.close (tie.spec word-requires length-requires part-requires returns)
+start-spec = tie.close (tie.spec (λ c κs. search needs) (λ c κs. search needs) (λ c κs. search needs) returns)

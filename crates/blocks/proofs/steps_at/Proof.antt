@@ -7,14 +7,8 @@ use borrow.Author.Needs.{needs}
 use Rattle.blocks.proofs.steps_at.Statement.{statement}
 use Rattle.blocks.proofs.steps_at.Tie as tie
 
-word-requires : tie.Need-word-requires
-word-requires c κs = search needs
-
-to-steps-requires : tie.Need-to-steps-requires
-to-steps-requires c κs = search needs
-
 returns : tie.Need-returns
 returns c = c .to-steps .ensures ∙ ap (λ (w : ℕ). steps (signedOf w)) (c .before .word .ensures)
 
 pub steps-at-spec : {M : Type 1} → statement M
-steps-at-spec = tie.close (tie.spec word-requires to-steps-requires returns)
+steps-at-spec = tie.close (tie.spec (λ c κs. search needs) (λ c κs. search needs) returns)

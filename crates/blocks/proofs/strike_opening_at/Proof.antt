@@ -4,17 +4,8 @@ use borrow.Author.Needs.{needs}
 use Rattle.blocks.proofs.strike_opening_at.Statement.{statement}
 use Rattle.blocks.proofs.strike_opening_at.Tie as tie
 
-strike-at-requires : tie.Need-strike-at-requires
-strike-at-requires c κs = search needs
-
-add-word : tie.Need-add-word
-add-word c = search needs
-
-word-requires : tie.Need-word-requires
-word-requires c κs = search needs
-
 returns : tie.Need-returns
 returns c = λ i. record { spread = OfStrike (c .before .strike-at .ensures i); allowed = c .word .ensures i }
 
 pub strike-opening-at-spec : {M : Type 1} → statement M
-strike-opening-at-spec = tie.close (tie.spec strike-at-requires add-word word-requires returns)
+strike-opening-at-spec = tie.close (tie.spec (λ c κs. search needs) (λ c. search needs) (λ c κs. search needs) returns)

@@ -8,15 +8,6 @@ use borrow.Author.Needs.{needs}
 use Rattle.blocks.proofs.word.Statement.{statement}
 use Rattle.blocks.proofs.word.Tie as tie
 
-count-requires : tie.Need-count-requires
-count-requires c κs = search needs
-
-mul-word-at : tie.Need-mul-word-at
-mul-word-at c = search needs
-
-word-at-requires : tie.Need-word-at-requires
-word-at-requires c κs = search needs
-
 returns : tie.Need-returns
 returns c =
     let a = c .before .before .before .before .args in
@@ -26,4 +17,4 @@ returns-2 : tie.Need-returns-2
 returns-2 c = sym (List·getD-eq-default (wordsIn (c .before .before .before .args .bytes .now)) 0 (omega arith))
 
 pub word-spec : {M : Type 1} → statement M
-word-spec = tie.close (tie.spec count-requires mul-word-at word-at-requires returns returns-2)
+word-spec = tie.close (tie.spec (λ c κs. search needs) (λ c. search needs) (λ c κs. search needs) returns returns-2)

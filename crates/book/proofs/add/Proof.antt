@@ -13,27 +13,12 @@ use Rattle.book.proofs.Applied.{refuses, applied-add}
 use Rattle.book.proofs.add.Statement.{statement}
 use Rattle.book.proofs.add.Tie as tie
 
-refused-requires : tie.Need-refused-requires
-refused-requires c κs = search needs
-
 returns : tie.Need-returns
 returns c = λ t minimum live represents at.
     let a = c .before .before .before .before .before .before .args in
     let o = a .order in
     refuses (addOf t o) minimum live (a .table .now) represents 9 (c .refused .result) (c .refused .ensures)
     (add-known live (represents .good) (o .id) (a .slot) at t (o .side) (o .price) (o .volume) (c .before .if1 .taken))
-
-in-range-requires : tie.Need-in-range-requires
-in-range-requires c κs = search needs
-
-count-requires : tie.Need-count-requires
-count-requires c κs = search needs
-
-refused-requires-2 : tie.Need-refused-requires-2
-refused-requires-2 c κs = search needs
-
-same-length : tie.Need-same-length
-same-length c = search needs
 
 returns-2 : tie.Need-returns-2
 returns-2 c = λ t minimum live represents at.
@@ -42,24 +27,6 @@ returns-2 c = λ t minimum live represents at.
     refuses (addOf t o) minimum live (a .table .now) represents 12 (c .refused2 .result) (c .refused2 .ensures)
     (add-full live (represents .good) (o .id) (a .slot) at t (o .side) (o .price) (o .volume) (c .before .before .before .before .before .before .if1 .left) (sym (c .before .before .before .before .before .in-range .ensures) ∙ c .before .before .before .before .if2 .taken)
     (subst (λ (n : ℕ). 64 ≤ n) (c .before .before .count .ensures minimum live (represents .good) (represents .is)) (c .before .if3 .taken)))
-
-side-number-requires : tie.Need-side-number-requires
-side-number-requires c κs = search needs
-
-mul-note : tie.Need-mul-note
-mul-note c = search needs
-
-mul-note-2 : tie.Need-mul-note-2
-mul-note-2 c = search needs
-
-add-note : tie.Need-add-note
-add-note c = search needs
-
-mul-note-3 : tie.Need-mul-note-3
-mul-note-3 c = search needs
-
-slice-read-note : tie.Need-slice-read-note
-slice-read-note c = search needs
 
 -- at most 64 orders are on a side
 behind : (start : tie.Start) (n : ℕ) → n < 2 → getD (start .args .table .now) (256 * n + 192) 0 ≤ 64
@@ -73,27 +40,6 @@ add-note-2 c = record { fits = omega (arith, behind (c .before .before .before .
 
 note-requires : tie.Need-note-requires
 note-requires c κs = (c .before .before .before .before .before .before .before .before .before .before .before .before .before .pre .1, omega (arith, behind (c .before .before .before .before .before .before .before .before .before .before .before .before .before) (c .before .before .side-number .result) (c .before .before .side-number .ensures .small)))
-
-mul-add : tie.Need-mul-add
-mul-add c = search needs
-
-mul-add-2 : tie.Need-mul-add-2
-mul-add-2 c = search needs
-
-add-add : tie.Need-add-add
-add-add c = search needs
-
-mul-add-3 : tie.Need-mul-add-3
-mul-add-3 c = search needs
-
-sub-add : tie.Need-sub-add
-sub-add c = search needs
-
-part-add-start : tie.Need-part-add-start
-part-add-start c = search needs
-
-part-add-end : tie.Need-part-add-end
-part-add-end c = search needs
 
 add-requires : tie.Need-add-requires
 add-requires c κs =
@@ -110,15 +56,6 @@ add-requires c κs =
       both (goodPrice (o .price .0)) (goodVolume (o .volume .0)) (sym (c .before .before .before .before .before .before .before .before .before .before .before .in-range .ensures) ∙ c .before .before .before .before .before .before .before .before .before .before .if2 .taken) .0,
     )
 
-done-requires : tie.Need-done-requires
-done-requires c κs = search needs
-
-same-length-2 : tie.Need-same-length-2
-same-length-2 c = search needs
-
-same-length-3 : tie.Need-same-length-3
-same-length-3 c = search needs
-
 returns-3 : tie.Need-returns-3
 returns-3 c = λ t minimum live represents at.
     let a = c .before .before .before .before .before .before .before .before .before .before .before .before .before .before .before .before .before .before .before .before .before .args in
@@ -129,9 +66,6 @@ returns-3 c = λ t minimum live represents at.
     applied-add t minimum live (a .table .now) represents o (number .result) (c .before .before .before .add .last .0) (c .before .before .before .add .result) (c .done .result)
     (add-passes live (represents .good) (o .id) (a .slot) at t (o .side) (o .price) (o .volume) (c .before .before .before .before .before .before .before .before .before .before .before .before .before .before .before .before .if1 .left) (sym (c .before .before .before .before .before .before .before .before .before .before .before .before .before .before .before .in-range .ensures) ∙ c .before .before .before .before .before .before .before .before .before .before .before .before .before .before .if2 .taken) few)
     (number .ensures) (c .before .before .before .add .ensures) (c .done .ensures)
-
-refused-requires-3 : tie.Need-refused-requires-3
-refused-requires-3 c κs = search needs
 
 returns-4 : tie.Need-returns-4
 returns-4 c = λ t minimum live represents at.
@@ -144,33 +78,33 @@ pub add-spec : {M : Type 1} → statement M
 add-spec =
     tie.close
     (tie.spec
-    refused-requires
+    (λ c κs. search needs)
     returns
-    in-range-requires
-    count-requires
-    refused-requires-2
-    same-length
+    (λ c κs. search needs)
+    (λ c κs. search needs)
+    (λ c κs. search needs)
+    (λ c. search needs)
     returns-2
-    side-number-requires
-    mul-note
-    mul-note-2
-    add-note
-    mul-note-3
-    slice-read-note
+    (λ c κs. search needs)
+    (λ c. search needs)
+    (λ c. search needs)
+    (λ c. search needs)
+    (λ c. search needs)
+    (λ c. search needs)
     cast-note
     add-note-2
     note-requires
-    mul-add
-    mul-add-2
-    add-add
-    mul-add-3
-    sub-add
-    part-add-start
-    part-add-end
+    (λ c. search needs)
+    (λ c. search needs)
+    (λ c. search needs)
+    (λ c. search needs)
+    (λ c. search needs)
+    (λ c. search needs)
+    (λ c. search needs)
     add-requires
-    done-requires
-    same-length-2
-    same-length-3
+    (λ c κs. search needs)
+    (λ c. search needs)
+    (λ c. search needs)
     returns-3
-    refused-requires-3
+    (λ c κs. search needs)
     returns-4)

@@ -7,18 +7,6 @@ use Rattle.book.proofs.Quotes.{word-most, word-quote}
 use Rattle.book.proofs.best.Statement.{statement}
 use Rattle.book.proofs.best.Tie as tie
 
-side-number-requires : tie.Need-side-number-requires
-side-number-requires c κs = search needs
-
-mul-quote-at : tie.Need-mul-quote-at
-mul-quote-at c = search needs
-
-add-quote-at : tie.Need-add-quote-at
-add-quote-at c = search needs
-
-mul-quote-at-2 : tie.Need-mul-quote-at-2
-mul-quote-at-2 c = search needs
-
 shared-slice-read-quote-at : tie.Need-shared-slice-read-quote-at
 shared-slice-read-quote-at c =
     let start = c .before .before .before in
@@ -39,4 +27,11 @@ returns c minimum live good is =
 pub best-spec : {M : Type 1} → statement M
 best-spec =
     tie.close
-    (tie.spec side-number-requires mul-quote-at add-quote-at mul-quote-at-2 shared-slice-read-quote-at quote-at-requires returns)
+    (tie.spec
+    (λ c κs. search needs)
+    (λ c. search needs)
+    (λ c. search needs)
+    (λ c. search needs)
+    shared-slice-read-quote-at
+    quote-at-requires
+    returns)

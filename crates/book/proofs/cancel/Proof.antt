@@ -7,38 +7,11 @@ use Rattle.book.proofs.Applied.{refuses, applied-cancel, placed, lent-r
 use Rattle.book.proofs.cancel.Statement.{statement}
 use Rattle.book.proofs.cancel.Tie as tie
 
-refused-requires : tie.Need-refused-requires
-refused-requires c κs = search needs
-
 returns : tie.Need-returns
 returns c = λ t id minimum live represents at.
     let a = c .before .before .before .before .args in
     refuses (Cancel t id) minimum live (a .table .now) represents 10 (c .refused .result) (c .refused .ensures)
     (cancel-unknown live (represents .good) id (a .slot) at t (c .before .if1 .taken))
-
-mul-remove : tie.Need-mul-remove
-mul-remove c = search needs
-
-mul-remove-2 : tie.Need-mul-remove-2
-mul-remove-2 c = search needs
-
-add-remove : tie.Need-add-remove
-add-remove c = search needs
-
-mul-remove-3 : tie.Need-mul-remove-3
-mul-remove-3 c = search needs
-
-sub-remove : tie.Need-sub-remove
-sub-remove c = search needs
-
-part-remove-start : tie.Need-part-remove-start
-part-remove-start c = search needs
-
-part-remove-end : tie.Need-part-remove-end
-part-remove-end c = search needs
-
-side-at-requires : tie.Need-side-at-requires
-side-at-requires c κs = search needs
 
 remove-requires : tie.Need-remove-requires
 remove-requires c κs =
@@ -56,15 +29,6 @@ rehint-requires c κs =
     placed (millis 0) (l .minimum) (l .live) (a .table .now) (l .represents) (l .id) (a .slot) (l .at) (c .before .before .before .before .before .before .before .if1 .left) (removed .last .0) (a .hints .now)
     (removed .result) (start .pre .1) (removed .ensures)
 
-done-requires : tie.Need-done-requires
-done-requires c κs = search needs
-
-same-length : tie.Need-same-length
-same-length c = search needs
-
-same-length-2 : tie.Need-same-length-2
-same-length-2 c = search needs
-
 returns-2 : tie.Need-returns-2
 returns-2 c = λ t id minimum live represents at.
     let a = c .before .before .before .before .before .before .before .before .before .before .before .before .before .before .args in
@@ -77,19 +41,19 @@ pub cancel-spec : {M : Type 1} → statement M
 cancel-spec =
     tie.close
     (tie.spec
-    refused-requires
+    (λ c κs. search needs)
     returns
-    mul-remove
-    mul-remove-2
-    add-remove
-    mul-remove-3
-    sub-remove
-    part-remove-start
-    part-remove-end
-    side-at-requires
+    (λ c. search needs)
+    (λ c. search needs)
+    (λ c. search needs)
+    (λ c. search needs)
+    (λ c. search needs)
+    (λ c. search needs)
+    (λ c. search needs)
+    (λ c κs. search needs)
     remove-requires
     rehint-requires
-    done-requires
-    same-length
-    same-length-2
+    (λ c κs. search needs)
+    (λ c. search needs)
+    (λ c. search needs)
     returns-2)

@@ -12,9 +12,6 @@ use Rattle.book.proofs.ByKind.{says-amend, says-add}
 use Rattle.book.proofs.changed.Statement.{statement}
 use Rattle.book.proofs.changed.Tie as tie
 
-find-requires : tie.Need-find-requires
-find-requires c κs = search needs
-
 located : (c : tie.After-find) → Located (c .before .before .before .before .before .before .before .args .table .now) (c .find .result)
 located c =
     let start = c .before .before .before .before .before .before .before in
@@ -35,12 +32,6 @@ hinted c = c .find .kept .1 .0 ∙ c .before .before .before .before .before .be
 amend-requires : tie.Need-amend-requires
 amend-requires c κs = located (c .before .before .before .before)
 
-same-length : tie.Need-same-length
-same-length c = search needs
-
-same-length-2 : tie.Need-same-length-2
-same-length-2 c = search needs
-
 returns : tie.Need-returns
 returns c = λ minimum live represents.
     let start = c .before .before .before .before .before .before .before .before .before .before .before .before .before .before in
@@ -49,20 +40,8 @@ returns c = λ minimum live represents.
     subst (λ (o : Outcome Event). AppliedRead o minimum live (start .args .table .now) (r .last .0) (r .result)) (says-amend f (c .before .before .before .before .if1 .taken))
     (r .ensures (f .t) (f .id) minimum live represents (c .before .before .before .before .before .before .before .find .ensures minimum live represents))
 
-is-add-requires : tie.Need-is-add-requires
-is-add-requires c κs = search needs
-
-order-of-requires : tie.Need-order-of-requires
-order-of-requires c κs = search needs
-
 add-requires : tie.Need-add-requires
 add-requires c κs = (located (c .before .before .before .before .before .before .before .before), hinted (c .before .before .before .before .before .before .before .before))
-
-same-length-3 : tie.Need-same-length-3
-same-length-3 c = search needs
-
-same-length-4 : tie.Need-same-length-4
-same-length-4 c = search needs
 
 returns-2 : tie.Need-returns-2
 returns-2 c = λ minimum live represents.
@@ -83,12 +62,6 @@ lessened-requires c κs =
       record { no-add = sym (c .before .before .before .is-add .ensures) ∙ c .before .before .if2 .left; no-amend = c .before .before .before .before .if1 .left; no-tick = start .pre .2 },
     )
 
-same-length-5 : tie.Need-same-length-5
-same-length-5 c = search needs
-
-same-length-6 : tie.Need-same-length-6
-same-length-6 c = search needs
-
 returns-3 : tie.Need-returns-3
 returns-3 c = λ minimum live represents.
     c .before .before .before .before .lessened .ensures minimum live represents (c .before .before .before .before .before .before .before .before .before .before .before .before .find .ensures minimum live represents)
@@ -97,18 +70,18 @@ pub changed-spec : {M : Type 1} → statement M
 changed-spec =
     tie.close
     (tie.spec
-    find-requires
+    (λ c κs. search needs)
     amend-requires
-    same-length
-    same-length-2
+    (λ c. search needs)
+    (λ c. search needs)
     returns
-    is-add-requires
-    order-of-requires
+    (λ c κs. search needs)
+    (λ c κs. search needs)
     add-requires
-    same-length-3
-    same-length-4
+    (λ c. search needs)
+    (λ c. search needs)
     returns-2
     lessened-requires
-    same-length-5
-    same-length-6
+    (λ c. search needs)
+    (λ c. search needs)
     returns-3)

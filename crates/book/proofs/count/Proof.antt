@@ -8,12 +8,6 @@ use Rattle.book.proofs.count.Tie as tie
 shared-slice-read-result : tie.Need-shared-slice-read-result
 shared-slice-read-result c = omega (arith, held-length (c .before .args .table .now) (c .before .pre))
 
-add-result : tie.Need-add-result
-add-result c = search needs
-
-mul-result : tie.Need-mul-result
-mul-result c = search needs
-
 shared-slice-read-result-2 : tie.Need-shared-slice-read-result-2
 shared-slice-read-result-2 c = omega (arith, held-length (c .before .before .args .table .now) (c .before .before .pre))
 
@@ -24,4 +18,12 @@ returns : tie.Need-returns
 returns c minimum live good is = all-count (c .before .before .args .table .now) minimum live (record { good = good; is = is })
 
 pub count-spec : {M : Type 1} → statement M
-count-spec = tie.close (tie.spec shared-slice-read-result add-result mul-result shared-slice-read-result-2 add-result-2 returns)
+count-spec =
+    tie.close
+    (tie.spec
+    shared-slice-read-result
+    (λ c. search needs)
+    (λ c. search needs)
+    shared-slice-read-result-2
+    add-result-2
+    returns)

@@ -26,26 +26,11 @@ less a b h n = go (ltb a b) refl
     go true e = ltb-true a b e
     go false e = absurd (n (omega (arith, ltb-false a b e)))
 
-refused-requires : tie.Need-refused-requires
-refused-requires c κs = search needs
-
 returns : tie.Need-returns
 returns c = λ t id minimum live represents at.
     let a = c .before .before .before .before .args in
     refuses (Deal t id (a .volume)) minimum live (a .table .now) represents 10 (c .refused .result) (c .refused .ensures)
     (deal-unknown live (represents .good) id (a .slot) at t (a .volume) (c .before .if1 .taken))
-
-volume-requires : tie.Need-volume-requires
-volume-requires c κs = search needs
-
-order-in-requires : tie.Need-order-in-requires
-order-in-requires c κs = search needs
-
-refused-requires-2 : tie.Need-refused-requires-2
-refused-requires-2 c κs = search needs
-
-same-length : tie.Need-same-length
-same-length c = search needs
 
 returns-2 : tie.Need-returns-2
 returns-2 c = λ t id minimum live represents at.
@@ -56,15 +41,6 @@ returns-2 c = λ t id minimum live represents at.
     (deal-above live (represents .good) id (a .slot) at t (a .volume) there (sym (c .before .before .before .before .before .before .volume .ensures) ∙ c .before .before .before .before .before .if2 .taken)
     (subst (λ (m : ℕ). m < a .volume .0)
     (its-left t minimum live (a .table .now) represents id (a .slot) at there (read .result) (read .ensures id minimum live represents at)) (c .before .if3 .taken)))
-
-cancel-requires : tie.Need-cancel-requires
-cancel-requires c κs = search needs
-
-same-length-2 : tie.Need-same-length-2
-same-length-2 c = search needs
-
-same-length-3 : tie.Need-same-length-3
-same-length-3 c = search needs
 
 returns-3 : tie.Need-returns-3
 returns-3 c = λ t id minimum live represents at.
@@ -83,30 +59,6 @@ returns-3 c = λ t id minimum live represents at.
     (deal-cancels live (represents .good) t id (a .volume) (known live (represents .good) id (a .slot) at t there) all)
     (cancelled .ensures t id minimum live represents at)
 
-mul-put : tie.Need-mul-put
-mul-put c = search needs
-
-mul-put-2 : tie.Need-mul-put-2
-mul-put-2 c = search needs
-
-add-put : tie.Need-add-put
-add-put c = search needs
-
-mul-put-3 : tie.Need-mul-put-3
-mul-put-3 c = search needs
-
-sub-put : tie.Need-sub-put
-sub-put c = search needs
-
-part-put-start : tie.Need-part-put-start
-part-put-start c = search needs
-
-part-put-end : tie.Need-part-put-end
-part-put-end c = search needs
-
-renewed-requires : tie.Need-renewed-requires
-renewed-requires c κs = search needs
-
 put-requires : tie.Need-put-requires
 put-requires c κs =
     let start = c .before .before .before .before .before .before .before .before .before .before .before .before in
@@ -119,12 +71,6 @@ put-requires c κs =
           ∙ its-good (millis 0) (l .minimum) (l .live) (a .table .now) (l .represents) (l .id) (a .slot) (l .at) there (read .result)
           (read .ensures (l .id) (l .minimum) (l .live) (l .represents) (l .at)),
     )
-
-done-requires : tie.Need-done-requires
-done-requires c κs = search needs
-
-same-length-4 : tie.Need-same-length-4
-same-length-4 c = search needs
 
 returns-4 : tie.Need-returns-4
 returns-4 c = λ t id minimum live represents at.
@@ -141,9 +87,6 @@ returns-4 c = λ t id minimum live represents at.
     (subst (λ (o : Order). a .volume .0 < o .volume .0) is part)
     (new .ensures ∙ ap (λ (o : Order). orderWith o (o .price) (contracts (o .volume .0 - a .volume .0))) is) (put .ensures) (c .done .ensures)
 
-refused-requires-3 : tie.Need-refused-requires-3
-refused-requires-3 c κs = search needs
-
 returns-5 : tie.Need-returns-5
 returns-5 c = λ t id minimum live represents at.
     let a = c .before .before .before .before .before .before .args in
@@ -154,28 +97,28 @@ pub deal-spec : {M : Type 1} → statement M
 deal-spec =
     tie.close
     (tie.spec
-    refused-requires
+    (λ c κs. search needs)
     returns
-    volume-requires
-    order-in-requires
-    refused-requires-2
-    same-length
+    (λ c κs. search needs)
+    (λ c κs. search needs)
+    (λ c κs. search needs)
+    (λ c. search needs)
     returns-2
-    cancel-requires
-    same-length-2
-    same-length-3
+    (λ c κs. search needs)
+    (λ c. search needs)
+    (λ c. search needs)
     returns-3
-    mul-put
-    mul-put-2
-    add-put
-    mul-put-3
-    sub-put
-    part-put-start
-    part-put-end
-    renewed-requires
+    (λ c. search needs)
+    (λ c. search needs)
+    (λ c. search needs)
+    (λ c. search needs)
+    (λ c. search needs)
+    (λ c. search needs)
+    (λ c. search needs)
+    (λ c κs. search needs)
     put-requires
-    done-requires
-    same-length-4
+    (λ c κs. search needs)
+    (λ c. search needs)
     returns-4
-    refused-requires-3
+    (λ c κs. search needs)
     returns-5)

@@ -13,43 +13,16 @@ use Rattle.book.proofs.Table.{held-length, held-represents, held-sized,
 use Rattle.book.proofs.find.Statement.{statement}
 use Rattle.book.proofs.find.Tie as tie
 
-cast-hint : tie.Need-cast-hint
-cast-hint c = search needs
-
-slice-read-hint : tie.Need-slice-read-hint
-slice-read-hint c = search needs
-
-cast-hint-2 : tie.Need-cast-hint-2
-cast-hint-2 c = search needs
-
-mul-word : tie.Need-mul-word
-mul-word c = search needs
-
-add-word : tie.Need-add-word
-add-word c = search needs
-
-mul-word-2 : tie.Need-mul-word-2
-mul-word-2 c = search needs
-
 shared-slice-read-word : tie.Need-shared-slice-read-word
 shared-slice-read-word c =
     let start = c .before .before .before .before in
     omega (arith, held-length (start .args .table .now) (start .pre .0))
-
-names-requires : tie.Need-names-requires
-names-requires c κs = search needs
 
 returns : tie.Need-returns
 returns c = λ minimum live represents.
     let start = c .before .before .before .before .before .before in
     word-is (start .args .table .now) minimum live represents (start .args .id) (getD (start .args .hints .now) (start .args .id % 2048) 0 % 128)
     (c .before .names .result) (omega arith) (c .before .names .ensures) (c .if1 .taken)
-
-sub-located : tie.Need-sub-located
-sub-located c = search needs
-
-part-located-start : tie.Need-part-located-start
-part-located-start c = search needs
 
 part-located-end : tie.Need-part-located-end
 part-located-end c =
@@ -61,12 +34,6 @@ located-requires c κs =
     let start = c .before .before .before .before .before .before .before in
     held-sized (start .args .table .now) (start .pre .0) 0 (omega arith)
 
-sub-located-2 : tie.Need-sub-located-2
-sub-located-2 c = search needs
-
-part-located-start-2 : tie.Need-part-located-start-2
-part-located-start-2 c = search needs
-
 part-located-end-2 : tie.Need-part-located-end-2
 part-located-end-2 c =
     let start = c .before .before .before .before .before .before .before .before in
@@ -76,9 +43,6 @@ located-requires-2 : tie.Need-located-requires-2
 located-requires-2 c κs =
     let start = c .before .before .before .before .before .before .before .before .before in
     held-sized (start .args .table .now) (start .pre .0) 1 (omega arith)
-
-slot-of-requires : tie.Need-slot-of-requires
-slot-of-requires c κs = search needs
 
 -- what both sides answered
 asked : (c : tie.After-slot-of) (minimum : ℕ) (live : List Order)
@@ -95,9 +59,6 @@ note-requires c κs =
     let held = start .pre .0 in
     (start .pre .1, omega (arith, asked (c .before) (held .minimum) (held .live) (held-represents (start .args .table .now) held), slot-most (held .live) (held .good) (start .args .id)))
 
-same-length : tie.Need-same-length
-same-length c = search needs
-
 returns-2 : tie.Need-returns-2
 returns-2 c = asked (c .before .before .before .before)
 
@@ -105,24 +66,24 @@ pub find-spec : {M : Type 1} → statement M
 find-spec =
     tie.close
     (tie.spec
-    cast-hint
-    slice-read-hint
-    cast-hint-2
-    mul-word
-    add-word
-    mul-word-2
+    (λ c. search needs)
+    (λ c. search needs)
+    (λ c. search needs)
+    (λ c. search needs)
+    (λ c. search needs)
+    (λ c. search needs)
     shared-slice-read-word
-    names-requires
+    (λ c κs. search needs)
     returns
-    sub-located
-    part-located-start
+    (λ c. search needs)
+    (λ c. search needs)
     part-located-end
     located-requires
-    sub-located-2
-    part-located-start-2
+    (λ c. search needs)
+    (λ c. search needs)
     part-located-end-2
     located-requires-2
-    slot-of-requires
+    (λ c κs. search needs)
     note-requires
-    same-length
+    (λ c. search needs)
     returns-2)

@@ -7,21 +7,6 @@ use Rattle.book.specs.Internal.{keepsBy}
 use Rattle.book.proofs.keeps_after.Statement.{statement}
 use Rattle.book.proofs.keeps_after.Tie as tie
 
-shared-slice-read-keys-keep : tie.Need-shared-slice-read-keys-keep
-shared-slice-read-keys-keep c = search needs
-
-add-keys-keep : tie.Need-add-keys-keep
-add-keys-keep c = search needs
-
-mul-keys-keep : tie.Need-mul-keys-keep
-mul-keys-keep c = search needs
-
-shared-slice-read-keys-keep-2 : tie.Need-shared-slice-read-keys-keep-2
-shared-slice-read-keys-keep-2 c = search needs
-
-keys-keep-requires : tie.Need-keys-keep-requires
-keys-keep-requires c κs = search needs
-
 returns : tie.Need-returns
 returns c =
     let a = c .before .before .before .before .before .args in
@@ -35,10 +20,10 @@ pub keeps-after-spec : {M : Type 1} → statement M
 keeps-after-spec =
     tie.close
     (tie.spec
-    shared-slice-read-keys-keep
-    add-keys-keep
-    mul-keys-keep
-    shared-slice-read-keys-keep-2
-    keys-keep-requires
+    (λ c. search needs)
+    (λ c. search needs)
+    (λ c. search needs)
+    (λ c. search needs)
+    (λ c κs. search needs)
     returns
     returns-2)

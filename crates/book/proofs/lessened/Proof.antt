@@ -9,18 +9,6 @@ use Rattle.book.proofs.ByKind.{says-cancel, says-deal}
 use Rattle.book.proofs.lessened.Statement.{statement}
 use Rattle.book.proofs.lessened.Tie as tie
 
-is-good-requires : tie.Need-is-good-requires
-is-good-requires c κs = search needs
-
-cancel-requires : tie.Need-cancel-requires
-cancel-requires c κs = search needs
-
-same-length : tie.Need-same-length
-same-length c = search needs
-
-same-length-2 : tie.Need-same-length-2
-same-length-2 c = search needs
-
 returns : tie.Need-returns
 returns c = λ minimum live represents at.
     let start = c .before .before .before .before .before .before .before .before .before .before .before .before .before in
@@ -30,15 +18,6 @@ returns c = λ minimum live represents at.
     (says-cancel f (sym (c .before .before .before .before .before .before .before .before .before .is-good .ensures) ∙ c .before .before .before .before .before .before .before .before .if1 .taken) (c .before .before .before .before .before .before .before .if2 .taken))
     (r .ensures (f .t) (f .id) minimum live represents at)
 
-deal-requires : tie.Need-deal-requires
-deal-requires c κs = search needs
-
-same-length-3 : tie.Need-same-length-3
-same-length-3 c = search needs
-
-same-length-4 : tie.Need-same-length-4
-same-length-4 c = search needs
-
 returns-2 : tie.Need-returns-2
 returns-2 c = λ minimum live represents at.
     let start = c .before .before .before .before .before .before .before .before .before .before .before .before .before in
@@ -47,9 +26,6 @@ returns-2 c = λ minimum live represents at.
     subst (λ (o : Outcome Event). AppliedRead o minimum live (start .args .table .now) (r .last .0) (r .result))
     (says-deal f (sym (c .before .before .before .before .before .before .before .before .before .is-good .ensures) ∙ c .before .before .before .before .before .before .before .before .if1 .taken) (start .pre .2) (c .before .before .before .before .before .before .before .if2 .left))
     (r .ensures (f .t) (f .id) minimum live represents at)
-
-refused-requires : tie.Need-refused-requires
-refused-requires c κs = search needs
 
 returns-3 : tie.Need-returns-3
 returns-3 c = λ minimum live represents at.
@@ -61,14 +37,14 @@ pub lessened-spec : {M : Type 1} → statement M
 lessened-spec =
     tie.close
     (tie.spec
-    is-good-requires
-    cancel-requires
-    same-length
-    same-length-2
+    (λ c κs. search needs)
+    (λ c κs. search needs)
+    (λ c. search needs)
+    (λ c. search needs)
     returns
-    deal-requires
-    same-length-3
-    same-length-4
+    (λ c κs. search needs)
+    (λ c. search needs)
+    (λ c. search needs)
     returns-2
-    refused-requires
+    (λ c κs. search needs)
     returns-3)

@@ -6,30 +6,6 @@ use Rattle.book.proofs.Applied.{stands, its-order}
 use Rattle.book.proofs.order_in.Statement.{statement}
 use Rattle.book.proofs.order_in.Tie as tie
 
-mul-order-at : tie.Need-mul-order-at
-mul-order-at c = search needs
-
-mul-order-at-2 : tie.Need-mul-order-at-2
-mul-order-at-2 c = search needs
-
-add-order-at : tie.Need-add-order-at
-add-order-at c = search needs
-
-mul-order-at-3 : tie.Need-mul-order-at-3
-mul-order-at-3 c = search needs
-
-sub-order-at : tie.Need-sub-order-at
-sub-order-at c = search needs
-
-part-order-at-start : tie.Need-part-order-at-start
-part-order-at-start c = search needs
-
-part-order-at-end : tie.Need-part-order-at-end
-part-order-at-end c = search needs
-
-side-at-requires : tie.Need-side-at-requires
-side-at-requires c κs = search needs
-
 order-at-requires : tie.Need-order-at-requires
 order-at-requires c κs =
     let start = c .before .before .before in
@@ -46,13 +22,13 @@ pub order-in-spec : {M : Type 1} → statement M
 order-in-spec =
     tie.close
     (tie.spec
-    mul-order-at
-    mul-order-at-2
-    add-order-at
-    mul-order-at-3
-    sub-order-at
-    part-order-at-start
-    part-order-at-end
-    side-at-requires
+    (λ c. search needs)
+    (λ c. search needs)
+    (λ c. search needs)
+    (λ c. search needs)
+    (λ c. search needs)
+    (λ c. search needs)
+    (λ c. search needs)
+    (λ c κs. search needs)
     order-at-requires
     returns)

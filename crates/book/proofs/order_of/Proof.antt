@@ -11,11 +11,8 @@ use Rattle.book.proofs.order_of.Tie as tie
 abbrev sided : Fields → Side → Order
 sided f side = record { id = f .id; side = side; price = f .price; volume = f .volume }
 
-side-of-requires : tie.Need-side-of-requires
-side-of-requires c κs = search needs
-
 returns : tie.Need-returns
 returns c = ap (sided (c .before .before .before .args .f)) (c .side-of .ensures)
 
 pub order-of-spec : {M : Type 1} → statement M
-order-of-spec = tie.close (tie.spec side-of-requires returns)
+order-of-spec = tie.close (tie.spec (λ c κs. search needs) returns)

@@ -31,15 +31,6 @@ long c =
     let h = start .pre .0 in
     c .changed .kept .0 ∙ table-length (start .args .table .now) (start .args .minimum .0) (h .live) (record { good = h .good; is = h .is })
 
-changed-requires : tie.Need-changed-requires
-changed-requires c κs = search needs
-
-same-length : tie.Need-same-length
-same-length c = search needs
-
-same-length-2 : tie.Need-same-length-2
-same-length-2 c = search needs
-
 returns : tie.Need-returns
 returns c =
     let start = c .before .before .before .before .before .before .before .before .before .before in
@@ -48,9 +39,6 @@ returns c =
     let t = c .before .before .before .before .before .changed in
     refused-sends (readFields (a .f)) (a .minimum .0) (a .widest) (a .keeping) (a .table .now) (t .last .0) (t .result)
     (λ live good is. t .ensures (a .minimum .0) live (record { good = good; is = is })) (h .live) (h .good) (h .is) (c .if1 .taken)
-
-side-at-requires : tie.Need-side-at-requires
-side-at-requires c κs = search needs
 
 mul-requote : tie.Need-mul-requote
 mul-requote c = record { fits = omega (arith, small (c .before .before .before .before .before .before)) }
@@ -63,12 +51,6 @@ add-requote c = record { fits = omega (arith, small (c .before .before .before .
 
 mul-requote-3 : tie.Need-mul-requote-3
 mul-requote-3 c = record { fits = omega (arith, small (c .before .before .before .before .before .before)) }
-
-sub-requote : tie.Need-sub-requote
-sub-requote c = search needs
-
-part-requote-start : tie.Need-part-requote-start
-part-requote-start c = search needs
 
 part-requote-end : tie.Need-part-requote-end
 part-requote-end c = omega (arith, small (c .before .before .before .before .before .before), long (c .before .before .before .before .before .before))
@@ -90,12 +72,6 @@ keeps-after-requires c κs =
     same-len-mid (256 * t .result .s) (256 * t .result .s + 256 - 256 * t .result .s) (t .last .0) (c .before .before .before .requote .last .0) (c .before .before .before .requote .kept .0)
     ∙ long (c .before .before .before .before .before .before .before .before .before .before .before)
 
-same-length-3 : tie.Need-same-length-3
-same-length-3 c = search needs
-
-same-length-4 : tie.Need-same-length-4
-same-length-4 c = search needs
-
 returns-2 : tie.Need-returns-2
 returns-2 c =
     let start = c .before .before .before .before .before .before .before .before .before .before .before .before .before .before .before .before .before in
@@ -113,20 +89,20 @@ pub send-spec : {M : Type 1} → statement M
 send-spec =
     tie.close
     (tie.spec
-    changed-requires
-    same-length
-    same-length-2
+    (λ c κs. search needs)
+    (λ c. search needs)
+    (λ c. search needs)
     returns
-    side-at-requires
+    (λ c κs. search needs)
     mul-requote
     mul-requote-2
     add-requote
     mul-requote-3
-    sub-requote
-    part-requote-start
+    (λ c. search needs)
+    (λ c. search needs)
     part-requote-end
     requote-requires
     keeps-after-requires
-    same-length-3
-    same-length-4
+    (λ c. search needs)
+    (λ c. search needs)
     returns-2)

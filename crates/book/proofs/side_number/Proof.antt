@@ -14,12 +14,6 @@ buys side e = record { is = sym e; small = omega arith }
 sells : (side : Side) → side ≡ Sell → Numbers side 1
 sells side e = record { is = sym e; small = omega arith }
 
-enum-told : tie.Need-enum-told
-enum-told c = search needs
-
-enum-told-2 : tie.Need-enum-told-2
-enum-told-2 c = search needs
-
 returns : tie.Need-returns
 returns c = buys (c .before .before .args .side) (c .enum-told .given .1)
 
@@ -27,4 +21,4 @@ returns-2 : tie.Need-returns-2
 returns-2 c = sells (c .before .before .args .side) (c .enum-told2 .given .1)
 
 pub side-number-spec : {M : Type 1} → statement M
-side-number-spec = tie.close (tie.spec enum-told enum-told-2 returns returns-2)
+side-number-spec = tie.close (tie.spec (λ c. search needs) (λ c. search needs) returns returns-2)

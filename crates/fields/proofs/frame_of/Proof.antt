@@ -17,71 +17,20 @@ use Rattle.fields.proofs.frame_of.Tie as tie
 returns : tie.Need-returns
 returns c = unshaped (c .before .before .args .bytes .now) (λ S. long (c .before .before .args .bytes .now) S (c .if1 .taken))
 
-sub-if2 : tie.Need-sub-if2
-sub-if2 c = search needs
-
-shared-slice-read-if2 : tie.Need-shared-slice-read-if2
-shared-slice-read-if2 c = search needs
-
 returns-2 : tie.Need-returns-2
 returns-2 c = unshaped (c .before .before .before .before .args .bytes .now) (λ S. c .if2 .taken (last-one (c .before .before .before .before .args .bytes .now) S))
-
-head-good-requires : tie.Need-head-good-requires
-head-good-requires c κs = search needs
 
 returns-3 : tie.Need-returns-3
 returns-3 c = unshaped (c .before .before .before .before .before .before .args .bytes .now) (λ S. true≢false (sym (head-right (c .before .before .before .before .before .before .args .bytes .now) S) ∙ sym (c .before .head-good .ensures) ∙ not-true (c .before .head-good .result) (c .if3 .taken)))
 
-end-of-requires : tie.Need-end-of-requires
-end-of-requires c κs = search needs
-
-sub-if4 : tie.Need-sub-if4
-sub-if4 c = search needs
-
 returns-4 : tie.Need-returns-4
 returns-4 c = unshaped (c .before .before .before .before .before .before .before .before .args .bytes .now) (λ S. room (c .before .before .before .before .before .before .before .before .args .bytes .now) S (c .before .end-of .result) (c .before .end-of .ensures) (c .if4 .taken))
-
-sub-end : tie.Need-sub-end
-sub-end c = search needs
-
-add-type-good : tie.Need-add-type-good
-add-type-good c = search needs
-
-type-good-requires : tie.Need-type-good-requires
-type-good-requires c κs = search needs
 
 returns-5 : tie.Need-returns-5
 returns-5 c = unshaped (c .before .before .before .before .before .before .before .before .before .before .args .bytes .now) (λ S. true≢false (sym (type-right (c .before .before .before .before .before .before .before .before .before .before .args .bytes .now) S (c .before .before .before .end-of .result) (c .before .before .before .end-of .ensures)) ∙ sym (c .before .type-good .ensures) ∙ not-true (c .before .type-good .result) (c .if5 .taken)))
 
-add-kind : tie.Need-add-kind
-add-kind c = search needs
-
-shared-slice-read-kind : tie.Need-shared-slice-read-kind
-shared-slice-read-kind c = search needs
-
-kind-good-requires : tie.Need-kind-good-requires
-kind-good-requires c κs = search needs
-
 returns-6 : tie.Need-returns-6
 returns-6 c = unshaped (c .before .before .before .before .before .before .before .before .before .before .before .before .before .args .bytes .now) (λ S. true≢false (sym (kind-right (c .before .before .before .before .before .before .before .before .before .before .before .before .before .args .bytes .now) S (c .before .before .before .before .before .before .end-of .result) (c .before .before .before .before .before .before .end-of .ensures)) ∙ sym (c .before .kind-good .ensures) ∙ not-true (c .before .kind-good .result) (c .if6 .taken)))
-
-sub-length-good : tie.Need-sub-length-good
-sub-length-good c = search needs
-
-part-length-good-start : tie.Need-part-length-good-start
-part-length-good-start c = search needs
-
-part-length-good-end : tie.Need-part-length-good-end
-part-length-good-end c = search needs
-
-add-length-good : tie.Need-add-length-good
-add-length-good c = search needs
-
-sub-length-good-2 : tie.Need-sub-length-good-2
-sub-length-good-2 c = search needs
-
-length-good-requires : tie.Need-length-good-requires
-length-good-requires c κs = search needs
 
 returns-7 : tie.Need-returns-7
 returns-7 c = unshaped (c .before .before .before .before .before .before .before .before .before .before .before .before .before .before .before .before .args .bytes .now) (λ S. true≢false (sym (count-right (c .before .before .before .before .before .before .before .before .before .before .before .before .before .before .before .before .args .bytes .now) S (c .before .before .before .before .before .before .before .before .before .end-of .result) (c .before .before .before .before .before .before .before .before .before .end-of .ensures)) ∙ sym (c .before .length-good .ensures) ∙ not-true (c .before .length-good .result) (c .if7 .taken)))
@@ -89,19 +38,10 @@ returns-7 c = unshaped (c .before .before .before .before .before .before .befor
 slice-aggregate-byte-sum : tie.Need-slice-aggregate-byte-sum
 slice-aggregate-byte-sum c = sym (length-take-le (length (c .before .before .before .before .before .before .before .before .before .before .before .before .before .before .before .before .before .args .bytes .now) - 7) (c .before .before .before .before .before .before .before .before .before .before .before .before .before .before .before .before .before .args .bytes .now) (omega arith))
 
-byte-sum-requires : tie.Need-byte-sum-requires
-byte-sum-requires c κs = search needs
-
-tail-good-requires : tie.Need-tail-good-requires
-tail-good-requires c κs = search needs
-
 returns-8 : tie.Need-returns-8
 returns-8 c =
     unshaped (c .before .before .before .before .before .before .before .before .before .before .before .before .before .before .before .before .before .before .before .before .args .bytes .now)
     (λ S. true≢false (sym (tail-right (c .before .before .before .before .before .before .before .before .before .before .before .before .before .before .before .before .before .before .before .before .args .bytes .now) S) ∙ sym (ap (tailRight (c .before .before .before .before .before .before .before .before .before .before .before .before .before .before .before .before .before .before .before .before .args .bytes .now) (length (c .before .before .before .before .before .before .before .before .before .before .before .before .before .before .before .before .before .before .before .before .args .bytes .now) - 7)) (c .before .before .byte-sum .ensures)) ∙ sym (c .before .tail-good .ensures) ∙ not-true (c .before .tail-good .result) (c .if8 .taken)))
-
-add-t16 : tie.Need-add-t16
-add-t16 c = search needs
 
 returns-9 : tie.Need-returns-9
 returns-9 c = frame-right (c .before .before .before .before .before .before .before .before .before .before .before .before .before .before .before .before .before .before .before .before .args .bytes .now) (c .before .before .before .before .before .before .before .before .before .before .before .before .before .end-of .result) (c .before .before .before .before .before .before .before .before .before .before .before .before .before .before .before .before .before .before .if1 .left) (c .before .before .before .before .before .before .before .before .before .before .before .before .before .before .before .before .if2 .left) (sym (c .before .before .before .before .before .before .before .before .before .before .before .before .before .before .before .head-good .ensures) ∙ not-false (c .before .before .before .before .before .before .before .before .before .before .before .before .before .before .before .head-good .result) (c .before .before .before .before .before .before .before .before .before .before .before .before .before .before .if3 .left)) (c .before .before .before .before .before .before .before .before .before .before .before .before .before .end-of .ensures) (c .before .before .before .before .before .before .before .before .before .before .before .before .if4 .left) (sym (c .before .before .before .before .before .before .before .before .before .before .before .type-good .ensures) ∙ not-false (c .before .before .before .before .before .before .before .before .before .before .before .type-good .result) (c .before .before .before .before .before .before .before .before .before .before .if5 .left)) (sym (c .before .before .before .before .before .before .before .before .kind-good .ensures) ∙ not-false (c .before .before .before .before .before .before .before .before .kind-good .result) (c .before .before .before .before .before .before .before .if6 .left)) (sym (c .before .before .before .before .before .length-good .ensures) ∙ not-false (c .before .before .before .before .before .length-good .result) (c .before .before .before .before .if7 .left)) (c .before .before .byte-sum .result) (c .before .before .byte-sum .ensures) (sym (c .before .tail-good .ensures) ∙ not-false (c .before .tail-good .result) (c .if8 .left))
@@ -111,32 +51,32 @@ frame-of-spec =
     tie.close
     (tie.spec
     returns
-    sub-if2
-    shared-slice-read-if2
+    (λ c. search needs)
+    (λ c. search needs)
     returns-2
-    head-good-requires
+    (λ c κs. search needs)
     returns-3
-    end-of-requires
-    sub-if4
+    (λ c κs. search needs)
+    (λ c. search needs)
     returns-4
-    sub-end
-    add-type-good
-    type-good-requires
+    (λ c. search needs)
+    (λ c. search needs)
+    (λ c κs. search needs)
     returns-5
-    add-kind
-    shared-slice-read-kind
-    kind-good-requires
+    (λ c. search needs)
+    (λ c. search needs)
+    (λ c κs. search needs)
     returns-6
-    sub-length-good
-    part-length-good-start
-    part-length-good-end
-    add-length-good
-    sub-length-good-2
-    length-good-requires
+    (λ c. search needs)
+    (λ c. search needs)
+    (λ c. search needs)
+    (λ c. search needs)
+    (λ c. search needs)
+    (λ c κs. search needs)
     returns-7
     slice-aggregate-byte-sum
-    byte-sum-requires
-    tail-good-requires
+    (λ c κs. search needs)
+    (λ c κs. search needs)
     returns-8
-    add-t16
+    (λ c. search needs)
     returns-9)

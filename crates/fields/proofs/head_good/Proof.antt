@@ -5,42 +5,6 @@ use borrow.Author.Needs.{needs}
 use Rattle.fields.proofs.head_good.Statement.{statement}
 use Rattle.fields.proofs.head_good.Tie as tie
 
-shared-slice-read-result : tie.Need-shared-slice-read-result
-shared-slice-read-result c = search needs
-
-shared-slice-read-result-2 : tie.Need-shared-slice-read-result-2
-shared-slice-read-result-2 c = search needs
-
-shared-slice-read-result-3 : tie.Need-shared-slice-read-result-3
-shared-slice-read-result-3 c = search needs
-
-shared-slice-read-result-4 : tie.Need-shared-slice-read-result-4
-shared-slice-read-result-4 c = search needs
-
-shared-slice-read-result-5 : tie.Need-shared-slice-read-result-5
-shared-slice-read-result-5 c = search needs
-
-shared-slice-read-result-6 : tie.Need-shared-slice-read-result-6
-shared-slice-read-result-6 c = search needs
-
-shared-slice-read-result-7 : tie.Need-shared-slice-read-result-7
-shared-slice-read-result-7 c = search needs
-
-shared-slice-read-result-8 : tie.Need-shared-slice-read-result-8
-shared-slice-read-result-8 c = search needs
-
-shared-slice-read-result-9 : tie.Need-shared-slice-read-result-9
-shared-slice-read-result-9 c = search needs
-
-shared-slice-read-result-10 : tie.Need-shared-slice-read-result-10
-shared-slice-read-result-10 c = search needs
-
-shared-slice-read-result-11 : tie.Need-shared-slice-read-result-11
-shared-slice-read-result-11 c = search needs
-
-shared-slice-read-result-12 : tie.Need-shared-slice-read-result-12
-shared-slice-read-result-12 c = search needs
-
 returns : tie.Need-returns
 unfolding headRight
 returns c = refl
@@ -49,16 +13,16 @@ pub head-good-spec : {M : Type 1} → statement M
 head-good-spec =
     tie.close
     (tie.spec
-    shared-slice-read-result
-    shared-slice-read-result-2
-    shared-slice-read-result-3
-    shared-slice-read-result-4
-    shared-slice-read-result-5
-    shared-slice-read-result-6
-    shared-slice-read-result-7
-    shared-slice-read-result-8
-    shared-slice-read-result-9
-    shared-slice-read-result-10
-    shared-slice-read-result-11
-    shared-slice-read-result-12
+    (λ c. search needs)
+    (λ c. search needs)
+    (λ c. search needs)
+    (λ c. search needs)
+    (λ c. search needs)
+    (λ c. search needs)
+    (λ c. search needs)
+    (λ c. search needs)
+    (λ c. search needs)
+    (λ c. search needs)
+    (λ c. search needs)
+    (λ c. search needs)
     returns)

@@ -7,24 +7,12 @@ use borrow.Author.Needs.{needs}
 use Rattle.fields.proofs.length_good.Statement.{statement}
 use Rattle.fields.proofs.length_good.Tie as tie
 
-number-in-requires : tie.Need-number-in-requires
-number-in-requires c κs = search needs
-
-enum-known-x : tie.Need-enum-known-x
-enum-known-x c = search needs
-
-enum-told : tie.Need-enum-told
-enum-told c = search needs
-
 returns : tie.Need-returns
 returns c = no-length (inDigits (c .before .before .before .before .args .v .now)) (c .before .before .before .before .args .n) (sym (ap shownNumber (c .enum-told .given .1)) ∙ c .before .before .number-in .ensures)
-
-wide-requires : tie.Need-wide-requires
-wide-requires c κs = search needs
 
 returns-2 : tie.Need-returns-2
 returns-2 c = a-length (c .before .before .x .given .0 .0) (c .before .before .before .before .before .before .args .n) (c .before .before .before .before .before .before .pre) (inDigits (c .before .before .before .before .before .before .args .v .now)) (c .wide .result) (sym (ap shownNumber (c .before .before .x .given .1)) ∙ c .before .before .before .before .number-in .ensures) (c .wide .ensures)
 
 pub length-good-spec : {M : Type 1} → statement M
 length-good-spec =
-    tie.close (tie.spec number-in-requires enum-known-x enum-told returns wide-requires returns-2)
+    tie.close (tie.spec (λ c κs. search needs) (λ c. search needs) (λ c. search needs) returns (λ c κs. search needs) returns-2)

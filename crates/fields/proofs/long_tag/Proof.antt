@@ -20,9 +20,6 @@ loop-holds c = begins (c .before .args .b .now) (c .before .args .from) (c .befo
 shared-slice-read-is-digit : tie.Need-shared-slice-read-is-digit Inv-loop μ-loop
 shared-slice-read-is-digit c = c .before .loop .inv .inside
 
-is-digit-requires : tie.Need-is-digit-requires Inv-loop μ-loop
-is-digit-requires c κs = search needs
-
 add-i : tie.Need-add-i Inv-loop μ-loop
 add-i c = omega (arith, c .before .before .before .loop .inv .inside)
 
@@ -52,7 +49,7 @@ long-tag-spec =
     μ-loop
     loop-holds
     shared-slice-read-is-digit
-    is-digit-requires
+    (λ c κs. search needs)
     add-i
     loop-less
     loop-again

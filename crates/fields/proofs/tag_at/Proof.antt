@@ -10,41 +10,17 @@ use borrow.Author.Needs.{needs}
 use Rattle.fields.proofs.tag_at.Statement.{statement}
 use Rattle.fields.proofs.tag_at.Tie as tie
 
-shared-slice-read-x : tie.Need-shared-slice-read-x
-shared-slice-read-x c = search needs
-
 returns : tie.Need-returns
 returns c = no-begin (c .before .before .before .args .b .now) (c .before .before .before .args .at) (c .before .before .before .pre .0) (c .before .before .before .args .at) (c .if1 .taken)
-
-add-y : tie.Need-add-y
-add-y c = search needs
-
-shared-slice-read-y : tie.Need-shared-slice-read-y
-shared-slice-read-y c = search needs
 
 sub-slot-of : tie.Need-sub-slot-of
 sub-slot-of c = omega (arith, low (c .before .before .before .before .before .args .b .now) (c .before .before .before .before .before .args .at) (c .before .before .before .before .before .pre .0) (c .before .before .if1 .left))
 
-slot-of-requires : tie.Need-slot-of-requires
-slot-of-requires c κs = search needs
-
-add-t14 : tie.Need-add-t14
-add-t14 c = search needs
-
 returns-2 : tie.Need-returns-2
 returns-2 c = one-digit (c .before .before .before .before .before .before .args .b .now) (c .before .before .before .before .before .before .args .at) (c .before .before .before .before .before .before .pre .0) (c .before .before .before .if1 .left) (c .slot-of .result) (c .before .if2 .taken) (c .slot-of .ensures)
 
-is-digit-requires : tie.Need-is-digit-requires
-is-digit-requires c κs = search needs
-
 returns-3 : tie.Need-returns-3
 returns-3 c = no-second (c .before .before .before .before .before .before .before .args .b .now) (c .before .before .before .before .before .before .before .args .at) (c .before .before .before .before .before .before .before .pre .0) (c .before .before .before .before .if1 .left) (c .before .before .before .before .before .before .before .args .at) (c .before .before .if2 .left) (sym (c .before .is-digit .ensures) ∙ not-true (c .before .is-digit .result) (c .if3 .taken))
-
-add-if4 : tie.Need-add-if4
-add-if4 c = search needs
-
-shared-slice-read-if4 : tie.Need-shared-slice-read-if4
-shared-slice-read-if4 c = search needs
 
 sub-slot-of-2 : tie.Need-sub-slot-of-2
 sub-slot-of-2 c = omega (arith, low (c .before .before .before .before .before .before .before .before .before .args .b .now) (c .before .before .before .before .before .before .before .before .before .args .at) (c .before .before .before .before .before .before .before .before .before .pre .0) (c .before .before .before .before .before .before .if1 .left))
@@ -58,20 +34,8 @@ sub-slot-of-3 c = digit-from (getD (c .before .before .before .before .before .b
 add-slot-of : tie.Need-add-slot-of
 add-slot-of c = omega (arith, high (c .before .before .before .before .before .before .before .before .before .args .b .now) (c .before .before .before .before .before .before .before .before .before .args .at) (c .before .before .before .before .before .before .before .before .before .pre .0) (c .before .before .before .before .before .before .if1 .left), digit-to (getD (c .before .before .before .before .before .before .before .before .before .args .b .now) (c .before .before .before .before .before .before .before .before .before .args .at + 1) 0) (sym (c .before .before .before .is-digit .ensures) ∙ not-false (c .before .before .before .is-digit .result) (c .before .before .if3 .left)))
 
-slot-of-requires-2 : tie.Need-slot-of-requires-2
-slot-of-requires-2 c κs = search needs
-
-add-t21 : tie.Need-add-t21
-add-t21 c = search needs
-
 returns-4 : tie.Need-returns-4
 returns-4 c = two-digits (c .before .before .before .before .before .before .before .before .before .before .args .b .now) (c .before .before .before .before .before .before .before .before .before .before .args .at) (c .before .before .before .before .before .before .before .before .before .before .pre .0) (c .before .before .before .before .before .before .before .if1 .left) (sym (c .before .before .before .before .is-digit .ensures) ∙ not-false (c .before .before .before .before .is-digit .result) (c .before .before .before .if3 .left)) (c .slot-of2 .result) (c .before .if4 .taken) (c .slot-of2 .ensures)
-
-add-long-tag : tie.Need-add-long-tag
-add-long-tag c = search needs
-
-long-tag-requires : tie.Need-long-tag-requires
-long-tag-requires c κs = search needs
 
 returns-5 : tie.Need-returns-5
 returns-5 c = more-digits (c .before .before .before .before .before .before .before .before .before .before .args .b .now) (c .before .before .before .before .before .before .before .before .before .before .args .at) (c .before .before .before .before .before .before .before .before .before .before .pre .0) (c .before .before .before .before .before .before .before .if1 .left) (sym (c .before .before .before .before .is-digit .ensures) ∙ not-false (c .before .before .before .before .is-digit .result) (c .before .before .before .if3 .left)) (c .long-tag .result .slot) (c .long-tag .result .next) (c .before .if4 .left) (c .long-tag .ensures)
@@ -80,25 +44,25 @@ pub tag-at-spec : {M : Type 1} → statement M
 tag-at-spec =
     tie.close
     (tie.spec
-    shared-slice-read-x
+    (λ c. search needs)
     returns
-    add-y
-    shared-slice-read-y
+    (λ c. search needs)
+    (λ c. search needs)
     sub-slot-of
-    slot-of-requires
-    add-t14
+    (λ c κs. search needs)
+    (λ c. search needs)
     returns-2
-    is-digit-requires
+    (λ c κs. search needs)
     returns-3
-    add-if4
-    shared-slice-read-if4
+    (λ c. search needs)
+    (λ c. search needs)
     sub-slot-of-2
     mul-slot-of
     sub-slot-of-3
     add-slot-of
-    slot-of-requires-2
-    add-t21
+    (λ c κs. search needs)
+    (λ c. search needs)
     returns-4
-    add-long-tag
-    long-tag-requires
+    (λ c. search needs)
+    (λ c κs. search needs)
     returns-5)

@@ -5,27 +5,6 @@ use borrow.Author.Needs.{needs}
 use Rattle.fields.proofs.type_good.Statement.{statement}
 use Rattle.fields.proofs.type_good.Tie as tie
 
-shared-slice-read-result : tie.Need-shared-slice-read-result
-shared-slice-read-result c = search needs
-
-add-result : tie.Need-add-result
-add-result c = search needs
-
-shared-slice-read-result-2 : tie.Need-shared-slice-read-result-2
-shared-slice-read-result-2 c = search needs
-
-add-result-2 : tie.Need-add-result-2
-add-result-2 c = search needs
-
-shared-slice-read-result-3 : tie.Need-shared-slice-read-result-3
-shared-slice-read-result-3 c = search needs
-
-add-result-3 : tie.Need-add-result-3
-add-result-3 c = search needs
-
-shared-slice-read-result-4 : tie.Need-shared-slice-read-result-4
-shared-slice-read-result-4 c = search needs
-
 returns : tie.Need-returns
 unfolding typeRight
 returns c = refl
@@ -34,11 +13,11 @@ pub type-good-spec : {M : Type 1} → statement M
 type-good-spec =
     tie.close
     (tie.spec
-    shared-slice-read-result
-    add-result
-    shared-slice-read-result-2
-    add-result-2
-    shared-slice-read-result-3
-    add-result-3
-    shared-slice-read-result-4
+    (λ c. search needs)
+    (λ c. search needs)
+    (λ c. search needs)
+    (λ c. search needs)
+    (λ c. search needs)
+    (λ c. search needs)
+    (λ c. search needs)
     returns)

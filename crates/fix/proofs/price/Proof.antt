@@ -7,12 +7,6 @@ use borrow.Author.Needs.{needs}
 use Rattle.fix.proofs.price.Statement.{statement}
 use Rattle.fix.proofs.price.Tie as tie
 
-element-copy-out-from : tie.Need-element-copy-out-from
-element-copy-out-from c = search needs
-
-element-copy-out-to : tie.Need-element-copy-out-to
-element-copy-out-to c = search needs
-
 returns : tie.Need-returns
 returns c = absent (c .before .before .before .before .args .b .now) (c .before .before .before .before .args .spans .now) 4 (omega arith) stepsIn (c .if1 .taken)
 
@@ -25,9 +19,6 @@ part-steps-in-start c = bounds (c .before .before .before .before .args .b .now)
 part-steps-in-end : tie.Need-part-steps-in-end
 part-steps-in-end c = bounds (c .before .before .before .before .args .b .now) (c .before .before .before .before .args .spans .now) 4 (omega arith) (c .before .before .before .before .pre) (c .if1 .left) .1
 
-steps-in-requires : tie.Need-steps-in-requires
-steps-in-requires c κs = search needs
-
 returns-2 : tie.Need-returns-2
 returns-2 c = λ fs h. c .steps-in .ensures ∙ present (c .before .before .before .before .before .before .args .b .now) (c .before .before .before .before .before .before .args .spans .now) 4 (omega arith) stepsIn (c .before .before .if1 .left) fs h
 
@@ -35,11 +26,11 @@ pub price-spec : {M : Type 1} → statement M
 price-spec =
     tie.close
     (tie.spec
-    element-copy-out-from
-    element-copy-out-to
+    (λ c. search needs)
+    (λ c. search needs)
     returns
     sub-steps-in
     part-steps-in-start
     part-steps-in-end
-    steps-in-requires
+    (λ c κs. search needs)
     returns-2)

@@ -4,17 +4,8 @@ use borrow.Author.Needs.{needs}
 use Rattle.fix.proofs.read.Statement.{statement}
 use Rattle.fix.proofs.read.Tie as tie
 
-frame-of-requires : tie.Need-frame-of-requires
-frame-of-requires c κs = search needs
-
-enum-known-kind : tie.Need-enum-known-kind
-enum-known-kind c = search needs
-
 read-body-requires : tie.Need-read-body-requires
 read-body-requires c κs = a-frame (c .before .before .before .before .before .args .bytes .now) (c .before .before .before .frame-of .result) (c .before .kind .given .0 .0) (c .before .kind .given .0 .1 .0) (c .before .kind .given .0 .1 .1 .0) (c .before .before .before .frame-of .ensures) (c .before .kind .given .1)
-
-enum-told : tie.Need-enum-told
-enum-told c = search needs
 
 returns : tie.Need-returns
 returns c = search needs
@@ -25,4 +16,4 @@ returns-2 c = no-frame (c .before .before .before .before .args .bytes .now) (c 
 pub read-spec : {M : Type 1} → statement M
 read-spec =
     tie.close
-    (tie.spec frame-of-requires enum-known-kind read-body-requires enum-told returns returns-2)
+    (tie.spec (λ c κs. search needs) (λ c. search needs) read-body-requires (λ c. search needs) returns returns-2)

@@ -7,9 +7,6 @@ use borrow.Author.Needs.{needs}
 use Rattle.fix.proofs.read_body.Statement.{statement}
 use Rattle.fix.proofs.read_body.Tie as tie
 
-spans-of-requires : tie.Need-spans-of-requires
-spans-of-requires c κs = search needs
-
 returns : tie.Need-returns
 returns c = no-spans (c .before .before .before .before .args .b .now) (c .before .before .before .before .args .start) (kindByte (c .before .before .before .before .args .kind)) (c .before .before .before .before .pre .1) _ (c .before .spans-of .result) (c .before .spans-of .ensures) (not-true (c .before .spans-of .result) (c .if1 .taken))
 
@@ -20,4 +17,4 @@ returns-2 : tie.Need-returns-2
 returns-2 c = said (c .before .before .before .before .before .before .args .b .now) (c .before .before .before .before .before .before .args .start) (kindByte (c .before .before .before .before .before .before .args .kind)) (c .before .before .before .before .before .before .pre .1) _ (c .before .before .before .spans-of .result) _ (c .before .before .before .spans-of .ensures) (not-false (c .before .before .before .spans-of .result) (c .before .before .if1 .left)) (c .read-kind .ensures)
 
 pub read-body-spec : {M : Type 1} → statement M
-read-body-spec = tie.close (tie.spec spans-of-requires returns read-kind-requires returns-2)
+read-body-spec = tie.close (tie.spec (λ c κs. search needs) returns read-kind-requires returns-2)

@@ -12,38 +12,11 @@ use borrow.Author.Needs.{needs}
 use Rattle.fix.proofs.read_cancel.Statement.{statement}
 use Rattle.fix.proofs.read_cancel.Tie as tie
 
-word-requires : tie.Need-word-requires
-word-requires c κs = search needs
-
-enum-known-id : tie.Need-enum-known-id
-enum-known-id c = search needs
-
-enum-told : tie.Need-enum-told
-enum-told c = search needs
-
 returns : tie.Need-returns
 returns c = λ fs h. cancel-says fs none (once wordIn (valuesOf origTag fs)) (once timeIn (valuesOf timeTag fs)) (sym (ap shownUnsigned (c .enum-told .given .1)) ∙ c .before .before .word .ensures fs h) refl refl
 
-word-requires-2 : tie.Need-word-requires-2
-word-requires-2 c κs = search needs
-
-enum-known-orig : tie.Need-enum-known-orig
-enum-known-orig c = search needs
-
-enum-told-2 : tie.Need-enum-told-2
-enum-told-2 c = search needs
-
 returns-2 : tie.Need-returns-2
 returns-2 c = λ fs h. cancel-says fs (some (c .before .before .before .before .id .given .0 .0)) none (once timeIn (valuesOf timeTag fs)) (sym (ap shownUnsigned (c .before .before .before .before .id .given .1)) ∙ c .before .before .before .before .before .before .word .ensures fs h) (sym (ap shownUnsigned (c .enum-told2 .given .1)) ∙ c .before .before .word2 .ensures fs h) refl
-
-time-requires : tie.Need-time-requires
-time-requires c κs = search needs
-
-enum-known-time : tie.Need-enum-known-time
-enum-known-time c = search needs
-
-enum-told-3 : tie.Need-enum-told-3
-enum-told-3 c = search needs
 
 returns-3 : tie.Need-returns-3
 returns-3 c = λ fs h. cancel-says fs (some (c .before .before .before .before .before .before .before .before .id .given .0 .0)) (some (c .before .before .before .before .orig .given .0 .0)) none (sym (ap shownUnsigned (c .before .before .before .before .before .before .before .before .id .given .1)) ∙ c .before .before .before .before .before .before .before .before .before .before .word .ensures fs h) (sym (ap shownUnsigned (c .before .before .before .before .orig .given .1)) ∙ c .before .before .before .before .before .before .word2 .ensures fs h) (sym (ap shownTime (c .enum-told3 .given .1)) ∙ c .before .before .time .ensures fs h)
@@ -55,16 +28,16 @@ pub read-cancel-spec : {M : Type 1} → statement M
 read-cancel-spec =
     tie.close
     (tie.spec
-    word-requires
-    enum-known-id
-    enum-told
+    (λ c κs. search needs)
+    (λ c. search needs)
+    (λ c. search needs)
     returns
-    word-requires-2
-    enum-known-orig
-    enum-told-2
+    (λ c κs. search needs)
+    (λ c. search needs)
+    (λ c. search needs)
     returns-2
-    time-requires
-    enum-known-time
-    enum-told-3
+    (λ c κs. search needs)
+    (λ c. search needs)
+    (λ c. search needs)
     returns-3
     returns-4)

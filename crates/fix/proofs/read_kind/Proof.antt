@@ -7,20 +7,11 @@ use borrow.Author.Needs.{needs}
 use Rattle.fix.proofs.read_kind.Statement.{statement}
 use Rattle.fix.proofs.read_kind.Tie as tie
 
-read-new-requires : tie.Need-read-new-requires
-read-new-requires c κs = search needs
-
 returns : tie.Need-returns
 returns c = λ fs h. c .read-new .ensures fs h ∙ ap (λ (k : Kind). readable (messageOf k fs)) (kind-new (c .before .before .before .args .kind) (c .before .if1 .taken))
 
-read-cancel-requires : tie.Need-read-cancel-requires
-read-cancel-requires c κs = search needs
-
 returns-2 : tie.Need-returns-2
 returns-2 c = λ fs h. c .read-cancel .ensures fs h ∙ ap (λ (k : Kind). readable (messageOf k fs)) (kind-cancel (c .before .before .before .before .args .kind) (c .before .before .if1 .left) (c .before .if2 .taken))
-
-read-replace-requires : tie.Need-read-replace-requires
-read-replace-requires c κs = search needs
 
 returns-3 : tie.Need-returns-3
 returns-3 c = λ fs h. c .read-replace .ensures fs h ∙ ap (λ (k : Kind). readable (messageOf k fs)) (kind-replace (c .before .before .before .before .args .kind) (c .before .before .if1 .left) (c .before .if2 .left))
@@ -29,9 +20,9 @@ pub read-kind-spec : {M : Type 1} → statement M
 read-kind-spec =
     tie.close
     (tie.spec
-    read-new-requires
+    (λ c κs. search needs)
     returns
-    read-cancel-requires
+    (λ c κs. search needs)
     returns-2
-    read-replace-requires
+    (λ c κs. search needs)
     returns-3)

@@ -7,12 +7,6 @@ use borrow.Author.Needs.{needs}
 use Rattle.fix.proofs.side.Statement.{statement}
 use Rattle.fix.proofs.side.Tie as tie
 
-element-copy-out-from : tie.Need-element-copy-out-from
-element-copy-out-from c = search needs
-
-element-copy-out-to : tie.Need-element-copy-out-to
-element-copy-out-to c = search needs
-
 returns : tie.Need-returns
 returns c = absent (c .before .before .before .before .args .b .now) (c .before .before .before .before .args .spans .now) 2 (omega arith) sideIn (c .if1 .taken)
 
@@ -25,9 +19,6 @@ part-side-in-start c = bounds (c .before .before .before .before .args .b .now) 
 part-side-in-end : tie.Need-part-side-in-end
 part-side-in-end c = bounds (c .before .before .before .before .args .b .now) (c .before .before .before .before .args .spans .now) 2 (omega arith) (c .before .before .before .before .pre) (c .if1 .left) .1
 
-side-in-requires : tie.Need-side-in-requires
-side-in-requires c κs = search needs
-
 returns-2 : tie.Need-returns-2
 returns-2 c = λ fs h. c .side-in .ensures ∙ present (c .before .before .before .before .before .before .args .b .now) (c .before .before .before .before .before .before .args .spans .now) 2 (omega arith) sideIn (c .before .before .if1 .left) fs h
 
@@ -35,11 +26,11 @@ pub side-spec : {M : Type 1} → statement M
 side-spec =
     tie.close
     (tie.spec
-    element-copy-out-from
-    element-copy-out-to
+    (λ c. search needs)
+    (λ c. search needs)
     returns
     sub-side-in
     part-side-in-start
     part-side-in-end
-    side-in-requires
+    (λ c κs. search needs)
     returns-2)

@@ -8,12 +8,6 @@ use Rattle.fix.proofs.side_in.Tie as tie
 returns : tie.Need-returns
 returns c = side-long (c .before .args .v .now) (λ e. omega arith)
 
-sub-last : tie.Need-sub-last
-sub-last c = search needs
-
-shared-slice-read-last : tie.Need-shared-slice-read-last
-shared-slice-read-last c = search needs
-
 returns-2 : tie.Need-returns-2
 returns-2 c = side-buy (c .before .before .before .args .v .now) (omega arith) (c .if2 .taken)
 
@@ -25,4 +19,4 @@ returns-4 c = side-other (c .before .before .before .before .args .v .now) (omeg
 
 pub side-in-spec : {M : Type 1} → statement M
 side-in-spec =
-    tie.close (tie.spec returns sub-last shared-slice-read-last returns-2 returns-3 returns-4)
+    tie.close (tie.spec returns (λ c. search needs) (λ c. search needs) returns-2 returns-3 returns-4)

@@ -7,12 +7,6 @@ use borrow.Author.Needs.{needs}
 use Rattle.fix.proofs.time.Statement.{statement}
 use Rattle.fix.proofs.time.Tie as tie
 
-element-copy-out-from : tie.Need-element-copy-out-from
-element-copy-out-from c = search needs
-
-element-copy-out-to : tie.Need-element-copy-out-to
-element-copy-out-to c = search needs
-
 returns : tie.Need-returns
 returns c = absent (c .before .before .before .before .args .b .now) (c .before .before .before .before .args .spans .now) 5 (omega arith) timeIn (c .if1 .taken)
 
@@ -25,9 +19,6 @@ part-time-in-start c = bounds (c .before .before .before .before .args .b .now) 
 part-time-in-end : tie.Need-part-time-in-end
 part-time-in-end c = bounds (c .before .before .before .before .args .b .now) (c .before .before .before .before .args .spans .now) 5 (omega arith) (c .before .before .before .before .pre) (c .if1 .left) .1
 
-time-in-requires : tie.Need-time-in-requires
-time-in-requires c κs = search needs
-
 returns-2 : tie.Need-returns-2
 returns-2 c = λ fs h. c .time-in .ensures ∙ present (c .before .before .before .before .before .before .args .b .now) (c .before .before .before .before .before .before .args .spans .now) 5 (omega arith) timeIn (c .before .before .if1 .left) fs h
 
@@ -35,11 +26,11 @@ pub time-spec : {M : Type 1} → statement M
 time-spec =
     tie.close
     (tie.spec
-    element-copy-out-from
-    element-copy-out-to
+    (λ c. search needs)
+    (λ c. search needs)
     returns
     sub-time-in
     part-time-in-start
     part-time-in-end
-    time-in-requires
+    (λ c κs. search needs)
     returns-2)

@@ -4,60 +4,15 @@ use borrow.Author.Needs.{needs}
 use Rattle.fix_call.proofs.put_message.Statement.{statement}
 use Rattle.fix_call.proofs.put_message.Tie as tie
 
-enum-known-read : tie.Need-enum-known-read
-enum-known-read c = search needs
-
-side-number-requires : tie.Need-side-number-requires
-side-number-requires c κs = search needs
-
-from-steps-requires : tie.Need-from-steps-requires
-from-steps-requires c κs = search needs
-
-put-words-requires : tie.Need-put-words-requires
-put-words-requires c κs = search needs
-
-enum-known-read-2 : tie.Need-enum-known-read-2
-enum-known-read-2 c = search needs
-
-put-words-requires-2 : tie.Need-put-words-requires-2
-put-words-requires-2 c κs = search needs
-
-enum-known-read-3 : tie.Need-enum-known-read-3
-enum-known-read-3 c = search needs
-
-side-number-requires-2 : tie.Need-side-number-requires-2
-side-number-requires-2 c κs = search needs
-
-from-steps-requires-2 : tie.Need-from-steps-requires-2
-from-steps-requires-2 c κs = search needs
-
-put-words-requires-3 : tie.Need-put-words-requires-3
-put-words-requires-3 c κs = search needs
-
-enum-told : tie.Need-enum-told
-enum-told c = search needs
-
-enum-told-2 : tie.Need-enum-told-2
-enum-told-2 c = search needs
-
-same-length : tie.Need-same-length
-same-length c = search needs
-
 returns : tie.Need-returns
 returns c =
     let start = c .before .before .before .before .before .before .before .before .before .before in
     new-left (start .args .read) (start .args .out .now) (c .before .before .put-words .last .0) (c .before .before .before .before .before .before .before .read .given .0 .0) (c .before .before .before .before .before .before .before .read .given .0 .1 .0) (c .before .before .before .before .before .before .before .read .given .0 .1 .1 .0) (c .before .before .before .before .before .before .before .read .given .0 .1 .1 .1 .0) (c .before .before .before .before .before .before .before .read .given .0 .1 .1 .1 .1 .0) (c .before .before .before .before .side-number .result) (c .before .before .before .from-steps .result) (c .before .before .before .before .before .before .before .read .given .1) (c .before .before .before .before .side-number .ensures) (c .before .before .before .from-steps .ensures) (c .before .before .put-words .ensures)
 
-same-length-2 : tie.Need-same-length-2
-same-length-2 c = search needs
-
 returns-2 : tie.Need-returns-2
 returns-2 c =
     let start = c .before .before .before .before .before .before .before .before in
     cancel-left (start .args .read) (start .args .out .now) (c .before .before .put-words2 .last .0) (c .before .before .before .before .before .read2 .given .0 .0) (c .before .before .before .before .before .read2 .given .0 .1 .0) (c .before .before .before .before .before .read2 .given .0 .1 .1 .0) (c .before .before .before .before .before .read2 .given .1) (c .before .before .put-words2 .ensures)
-
-same-length-3 : tie.Need-same-length-3
-same-length-3 c = search needs
 
 returns-3 : tie.Need-returns-3
 returns-3 c =
@@ -74,23 +29,23 @@ pub put-message-spec : {M : Type 1} → statement M
 put-message-spec =
     tie.close
     (tie.spec
-    enum-known-read
-    side-number-requires
-    from-steps-requires
-    put-words-requires
-    enum-known-read-2
-    put-words-requires-2
-    enum-known-read-3
-    side-number-requires-2
-    from-steps-requires-2
-    put-words-requires-3
-    enum-told
-    enum-told-2
-    same-length
+    (λ c. search needs)
+    (λ c κs. search needs)
+    (λ c κs. search needs)
+    (λ c κs. search needs)
+    (λ c. search needs)
+    (λ c κs. search needs)
+    (λ c. search needs)
+    (λ c κs. search needs)
+    (λ c κs. search needs)
+    (λ c κs. search needs)
+    (λ c. search needs)
+    (λ c. search needs)
+    (λ c. search needs)
     returns
-    same-length-2
+    (λ c. search needs)
     returns-2
-    same-length-3
+    (λ c. search needs)
     returns-3
     returns-4
     returns-5)

@@ -7,9 +7,6 @@ use borrow.Author.Needs.{needs}
 use Rattle.fix_call.proofs.put_words.Statement.{statement}
 use Rattle.fix_call.proofs.put_words.Tie as tie
 
-slice-write-out : tie.Need-slice-write-out
-slice-write-out c = search needs
-
 slice-write-out-2 : tie.Need-slice-write-out-2
 slice-write-out-2 c = simp length-set (omega arith)
 
@@ -43,9 +40,6 @@ slice-write-out-11 c = simp length-set (omega arith)
 slice-write-out-12 : tie.Need-slice-write-out-12
 slice-write-out-12 c = simp length-set (omega arith)
 
-same-length : tie.Need-same-length
-same-length c = search needs
-
 returns : tie.Need-returns
 returns c =
     let a = c .args in
@@ -56,7 +50,7 @@ pub put-words-spec : {M : Type 1} → statement M
 put-words-spec =
     tie.close
     (tie.spec
-    slice-write-out
+    (λ c. search needs)
     slice-write-out-2
     slice-write-out-3
     slice-write-out-4
@@ -68,5 +62,5 @@ put-words-spec =
     slice-write-out-10
     slice-write-out-11
     slice-write-out-12
-    same-length
+    (λ c. search needs)
     returns)

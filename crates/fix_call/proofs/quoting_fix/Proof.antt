@@ -7,15 +7,6 @@ use Rattle.fix_call.proofs.quoting_fix.Tie as tie
 returns : tie.Need-returns
 returns c = too-few (c .before .before .before .args .message .now) (c .before .before .before .args .out .now) (c .if1 .taken)
 
-read-requires : tie.Need-read-requires
-read-requires c κs = search needs
-
-put-message-requires : tie.Need-put-message-requires
-put-message-requires c κs = search needs
-
-same-length : tie.Need-same-length
-same-length c = search needs
-
 returns-2 : tie.Need-returns-2
 returns-2 c =
     let start = c .before .before .before .before .before .before .before .before in
@@ -23,4 +14,4 @@ returns-2 c =
 
 pub quoting-fix-spec : {M : Type 1} → statement M
 quoting-fix-spec =
-    tie.close (tie.spec returns read-requires put-message-requires same-length returns-2)
+    tie.close (tie.spec returns (λ c κs. search needs) (λ c κs. search needs) (λ c. search needs) returns-2)

@@ -7,23 +7,8 @@ use borrow.Author.Needs.{needs}
 use Rattle.fix_writer.proofs.closed.Statement.{statement}
 use Rattle.fix_writer.proofs.closed.Tie as tie
 
-sub-put-head : tie.Need-sub-put-head
-sub-put-head c = search needs
-
-put-head-requires : tie.Need-put-head-requires
-put-head-requires c κs = search needs
-
-array-share-prefix-bytes : tie.Need-array-share-prefix-bytes
-array-share-prefix-bytes c = search needs
-
 slice-aggregate-byte-sum : tie.Need-slice-aggregate-byte-sum
 slice-aggregate-byte-sum c = sym (length-take-le (c .before .before .before .args .end) (c .before .put-head .last .0) (omega (arith, c .before .put-head .ensures .size)))
-
-byte-sum-requires : tie.Need-byte-sum-requires
-byte-sum-requires c κs = search needs
-
-put-tail-requires : tie.Need-put-tail-requires
-put-tail-requires c κs = search needs
 
 returns : tie.Need-returns
 returns c = λ body laid.
@@ -36,10 +21,10 @@ pub closed-spec : {M : Type 1} → statement M
 closed-spec =
     tie.close
     (tie.spec
-    sub-put-head
-    put-head-requires
-    array-share-prefix-bytes
+    (λ c. search needs)
+    (λ c κs. search needs)
+    (λ c. search needs)
     slice-aggregate-byte-sum
-    byte-sum-requires
-    put-tail-requires
+    (λ c κs. search needs)
+    (λ c κs. search needs)
     returns)

@@ -21,26 +21,6 @@ abbrev μ-loop : tie.MeasureT-loop
 loop-holds : tie.Need-loop-holds Inv-loop μ-loop
 loop-holds c = (search needs, paste-zero (c .args .out .now) (c .args .at) (c .args .v .now))
 
--- src/lib.rt:40:23
-shared-slice-read-out : tie.Need-shared-slice-read-out Inv-loop μ-loop
-shared-slice-read-out c = search needs
-
--- src/lib.rt:40:13
-add-out : tie.Need-add-out Inv-loop μ-loop
-add-out c = search needs
-
--- src/lib.rt:40:9
-element-write-out : tie.Need-element-write-out Inv-loop μ-loop
-element-write-out c = search needs
-
--- src/lib.rt:41:9
-add-i : tie.Need-add-i Inv-loop μ-loop
-add-i c = search needs
-
--- src/lib.rt:39:5
-loop-less : tie.Need-loop-less Inv-loop μ-loop
-loop-less c = search needs
-
 -- src/lib.rt:39:5
 loop-again : tie.Need-loop-again Inv-loop μ-loop
 loop-again c =
@@ -49,10 +29,6 @@ loop-again c =
       search needs,
       copied-on (start .out .now) (at-loop .loop .out) (start .at) (start .v .now) (at-loop .loop .i) (omega arith) (c .before .loop-test .taken) (at-loop .loop .inv .1),
     )
-
--- src/lib.rt:43:5
-add-result : tie.Need-add-result Inv-loop μ-loop
-add-result c = search needs
 
 -- src/lib.rt:34:1
 returns : tie.Need-returns Inv-loop μ-loop
@@ -68,11 +44,11 @@ put-all-spec =
     Inv-loop
     μ-loop
     loop-holds
-    shared-slice-read-out
-    add-out
-    element-write-out
-    add-i
-    loop-less
+    (λ c. search needs)
+    (λ c. search needs)
+    (λ c. search needs)
+    (λ c. search needs)
+    (λ c. search needs)
     loop-again
-    add-result
+    (λ c. search needs)
     returns)

@@ -9,15 +9,6 @@ use borrow.Author.Needs.{needs}
 use Rattle.fix_writer.proofs.put_head.Statement.{statement}
 use Rattle.fix_writer.proofs.put_head.Tie as tie
 
-slice-aggregate-put-all : tie.Need-slice-aggregate-put-all
-slice-aggregate-put-all c = search needs
-
-put-all-requires : tie.Need-put-all-requires
-put-all-requires c κs = search needs
-
-cast-put-number : tie.Need-cast-put-number
-cast-put-number c = search needs
-
 put-number-requires : tie.Need-put-number-requires
 put-number-requires c κs = (c .before .put-all .ensures .size ∙ c .before .before .before .before .pre .0, omega (arith, c .before .put-all .ensures .place, two-digits (c .before .before .before .before .args .n) (c .before .before .before .before .pre .1) (c .before .before .before .before .pre .2)))
 
@@ -32,9 +23,9 @@ pub put-head-spec : {M : Type 1} → statement M
 put-head-spec =
     tie.close
     (tie.spec
-    slice-aggregate-put-all
-    put-all-requires
-    cast-put-number
+    (λ c. search needs)
+    (λ c κs. search needs)
+    (λ c. search needs)
     put-number-requires
     put-requires
     returns)

@@ -10,18 +10,6 @@ use borrow.Author.Needs.{needs}
 use Rattle.fix_writer.proofs.put_price.Statement.{statement}
 use Rattle.fix_writer.proofs.put_price.Tie as tie
 
-slice-aggregate-put-all : tie.Need-slice-aggregate-put-all
-slice-aggregate-put-all c = search needs
-
-put-all-requires : tie.Need-put-all-requires
-put-all-requires c κs = search needs
-
-put-signed-requires : tie.Need-put-signed-requires
-put-signed-requires c κs = search needs
-
-put-requires : tie.Need-put-requires
-put-requires c κs = search needs
-
 returns : tie.Need-returns
 unfolding fieldBytes
 returns c =
@@ -35,4 +23,4 @@ returns c =
 pub put-price-spec : {M : Type 1} → statement M
 put-price-spec =
     tie.close
-    (tie.spec slice-aggregate-put-all put-all-requires put-signed-requires put-requires returns)
+    (tie.spec (λ c. search needs) (λ c κs. search needs) (λ c κs. search needs) (λ c κs. search needs) returns)

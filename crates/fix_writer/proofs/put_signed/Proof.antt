@@ -10,9 +10,6 @@ use borrow.Author.Needs.{needs}
 use Rattle.fix_writer.proofs.put_signed.Statement.{statement}
 use Rattle.fix_writer.proofs.put_signed.Tie as tie
 
-from-steps-requires : tie.Need-from-steps-requires
-from-steps-requires c κs = search needs
-
 put-number-requires : tie.Need-put-number-requires
 put-number-requires c κs = (c .before .before .before .pre .0, omega (arith, ten-at-most (c .before .before .from-steps .result) (omega arith)))
 
@@ -23,15 +20,6 @@ returns c =
       without-sign (start .args .out .now) (start .args .at) (start .args .x) (w .result) (start .fits .x .sfits) (w .ensures ∙ ap unsignedOf (toZ-ofZ (start .fits .x))) (c .put-number .result) _ (c .before .before .if1 .taken) (c .put-number .ensures),
       omega (arith, c .put-number .ensures .place, ten-at-most (w .result) (omega arith)),
     )
-
-put-requires : tie.Need-put-requires
-put-requires c κs = search needs
-
-sub-put-number : tie.Need-sub-put-number
-sub-put-number c = search needs
-
-add-put-number : tie.Need-add-put-number
-add-put-number c = search needs
 
 put-number-requires-2 : tie.Need-put-number-requires-2
 put-number-requires-2 c κs = (c .before .put .ensures .size ∙ c .before .before .before .before .before .pre .0, omega (arith, c .before .put .ensures .place, ten-at-most (4294967295 - c .before .before .before .before .from-steps .result + 1) (omega arith)))
@@ -49,11 +37,11 @@ pub put-signed-spec : {M : Type 1} → statement M
 put-signed-spec =
     tie.close
     (tie.spec
-    from-steps-requires
+    (λ c κs. search needs)
     put-number-requires
     returns
-    put-requires
-    sub-put-number
-    add-put-number
+    (λ c κs. search needs)
+    (λ c. search needs)
+    (λ c. search needs)
     put-number-requires-2
     returns-2)

@@ -10,15 +10,6 @@ use borrow.Author.Needs.{needs}
 use Rattle.fix_writer.proofs.put_terms.Statement.{statement}
 use Rattle.fix_writer.proofs.put_terms.Tie as tie
 
-put-side-requires : tie.Need-put-side-requires
-put-side-requires c κs = search needs
-
-put-word-requires : tie.Need-put-word-requires
-put-word-requires c κs = search needs
-
-put-price-requires : tie.Need-put-price-requires
-put-price-requires c κs = search needs
-
 returns : tie.Need-returns
 unfolding fieldBytes fieldsBytes
 returns c =
@@ -36,4 +27,4 @@ returns c =
 
 pub put-terms-spec : {M : Type 1} → statement M
 put-terms-spec =
-    tie.close (tie.spec put-side-requires put-word-requires put-price-requires returns)
+    tie.close (tie.spec (λ c κs. search needs) (λ c κs. search needs) (λ c κs. search needs) returns)

@@ -9,18 +9,6 @@ use borrow.Author.Needs.{needs}
 use Rattle.fix_writer.proofs.put_time.Statement.{statement}
 use Rattle.fix_writer.proofs.put_time.Tie as tie
 
-slice-aggregate-put-all : tie.Need-slice-aggregate-put-all
-slice-aggregate-put-all c = search needs
-
-put-all-requires : tie.Need-put-all-requires
-put-all-requires c κs = search needs
-
-put-all-requires-2 : tie.Need-put-all-requires-2
-put-all-requires-2 c κs = search needs
-
-put-requires : tie.Need-put-requires
-put-requires c κs = search needs
-
 returns : tie.Need-returns
 unfolding fieldBytes fieldsBytes
 returns c =
@@ -34,4 +22,4 @@ returns c =
 pub put-time-spec : {M : Type 1} → statement M
 put-time-spec =
     tie.close
-    (tie.spec slice-aggregate-put-all put-all-requires put-all-requires-2 put-requires returns)
+    (tie.spec (λ c. search needs) (λ c κs. search needs) (λ c κs. search needs) (λ c κs. search needs) returns)

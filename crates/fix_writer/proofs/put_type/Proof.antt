@@ -6,18 +6,6 @@ use borrow.Author.Needs.{needs}
 use Rattle.fix_writer.proofs.put_type.Statement.{statement}
 use Rattle.fix_writer.proofs.put_type.Tie as tie
 
-slice-aggregate-put-all : tie.Need-slice-aggregate-put-all
-slice-aggregate-put-all c = search needs
-
-put-all-requires : tie.Need-put-all-requires
-put-all-requires c κs = search needs
-
-put-requires : tie.Need-put-requires
-put-requires c κs = search needs
-
-put-requires-2 : tie.Need-put-requires-2
-put-requires-2 c κs = search needs
-
 returns : tie.Need-returns
 unfolding fieldBytes
 returns c =
@@ -31,4 +19,4 @@ returns c =
 pub put-type-spec : {M : Type 1} → statement M
 put-type-spec =
     tie.close
-    (tie.spec slice-aggregate-put-all put-all-requires put-requires put-requires-2 returns)
+    (tie.spec (λ c. search needs) (λ c κs. search needs) (λ c κs. search needs) (λ c κs. search needs) returns)

@@ -7,9 +7,6 @@ use borrow.Author.Needs.{needs}
 use Rattle.fix_writer.proofs.put_word.Statement.{statement}
 use Rattle.fix_writer.proofs.put_word.Tie as tie
 
-put-all-requires : tie.Need-put-all-requires
-put-all-requires c κs = search needs
-
 put-number-requires : tie.Need-put-number-requires
 put-number-requires c κs = (c .before .put-all .ensures .size ∙ c .before .before .before .before .pre .0, omega (arith, c .before .put-all .ensures .place, ten-at-most (c .before .before .before .before .args .n) (omega arith)))
 
@@ -26,4 +23,4 @@ returns c =
     )
 
 pub put-word-spec : {M : Type 1} → statement M
-put-word-spec = tie.close (tie.spec put-all-requires put-number-requires put-requires returns)
+put-word-spec = tie.close (tie.spec (λ c κs. search needs) put-number-requires put-requires returns)

@@ -6,15 +6,6 @@ use Rattle.fix_writer.specs.Internal.{isSome, isTime}
 use Rattle.fix_writer.proofs.time_good.Statement.{statement}
 use Rattle.fix_writer.proofs.time_good.Tie as tie
 
-time-in-requires : tie.Need-time-in-requires
-time-in-requires c κs = search needs
-
-enum-told : tie.Need-enum-told
-enum-told c = search needs
-
-enum-told-2 : tie.Need-enum-told-2
-enum-told-2 c = search needs
-
 returns : tie.Need-returns
 unfolding isTime
 returns c = sym (ap (λ t. isSome (shownTime t)) (c .enum-told .given .1)) ∙ ap isSome (c .before .before .time-in .ensures)
@@ -24,4 +15,4 @@ unfolding isTime
 returns-2 c = sym (ap (λ t. isSome (shownTime t)) (c .enum-told2 .given .1)) ∙ ap isSome (c .before .before .time-in .ensures)
 
 pub time-good-spec : {M : Type 1} → statement M
-time-good-spec = tie.close (tie.spec time-in-requires enum-told enum-told-2 returns returns-2)
+time-good-spec = tie.close (tie.spec (λ c κs. search needs) (λ c. search needs) (λ c. search needs) returns returns-2)

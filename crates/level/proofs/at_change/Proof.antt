@@ -11,12 +11,6 @@ use Rattle.level.proofs.Depths.{own-level, level-small}
 use Rattle.level.proofs.at_change.Statement.{statement}
 use Rattle.level.proofs.at_change.Tie as tie
 
-can-be-best-requires : tie.Need-can-be-best-requires
-can-be-best-requires c κs = search needs
-
-measured-requires : tie.Need-measured-requires
-measured-requires c κs = search needs
-
 tried-requires : tie.Need-tried-requires
 tried-requires c κs =
     let s = c .before .before .before .before .before in
@@ -40,4 +34,4 @@ returns-2 c =
 
 pub at-change-spec : {M : Type 1} → statement M
 at-change-spec =
-    tie.close (tie.spec can-be-best-requires measured-requires tried-requires returns returns-2)
+    tie.close (tie.spec (λ c κs. search needs) (λ c κs. search needs) tried-requires returns returns-2)

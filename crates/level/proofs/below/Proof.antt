@@ -23,31 +23,16 @@ loop-holds : tie.Need-loop-holds Inv-loop μ-loop
 unfolding keyBelow least greatest filter
 loop-holds c = (omega arith, refl, omega arith)
 
-mul-k : tie.Need-mul-k Inv-loop μ-loop
-mul-k c = omega arith
-
-shared-slice-read-k : tie.Need-shared-slice-read-k Inv-loop μ-loop
-shared-slice-read-k c = omega arith
-
 under-requires : tie.Need-under-requires Inv-loop μ-loop
 under-requires c κs =
     let s = c .before .before .before .before in
     let most = s .pre .0 (c .before .before .loop .i) in
     (most, s .pre .1)
 
-key-where-requires : tie.Need-key-where-requires Inv-loop μ-loop
-key-where-requires c κs = tt
-
 greater-requires : tie.Need-greater-requires Inv-loop μ-loop
 greater-requires c κs =
     let u = c .before .before .before .before in
     (u .loop .inv .2, where-most (c .before .under .result) (getD (u .before .before .args .keys .now) (u .loop .i) 0) 0 (c .key-where .result) (u .before .before .pre .0 (u .loop .i)) (omega arith) (c .key-where .ensures))
-
-add-i : tie.Need-add-i Inv-loop μ-loop
-add-i c = omega arith
-
-loop-less : tie.Need-loop-less Inv-loop μ-loop
-loop-less c = omega arith
 
 loop-again : tie.Need-loop-again Inv-loop μ-loop
 loop-again c =
@@ -70,4 +55,18 @@ returns c =
     u .loop .inv .1 ∙ ap (λ (n : ℕ). keyBelow (a .key) (take n (a .keys .now))) end ∙ ap (keyBelow (a .key)) (take-length (a .keys .now))
 
 pub below-spec : {M : Type 1} → statement M
-below-spec = tie.close (tie.spec Inv-loop μ-loop loop-holds mul-k shared-slice-read-k under-requires key-where-requires greater-requires add-i loop-less loop-again returns)
+below-spec =
+    tie.close
+    (tie.spec
+    Inv-loop
+    μ-loop
+    loop-holds
+    (λ c. omega arith)
+    (λ c. omega arith)
+    under-requires
+    (λ c κs. tt)
+    greater-requires
+    (λ c. omega arith)
+    (λ c. omega arith)
+    loop-again
+    returns)

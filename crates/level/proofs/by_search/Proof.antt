@@ -23,17 +23,11 @@ open-start minimum ks vs start o = go (o .below)
     go (inl e) = inl e
     go (inr h) = inr (omega (arith, h, level-split start ks vs))
 
-search-requires : tie.Need-search-requires
-search-requires c κs = search needs
-
 quote-key-requires : tie.Need-quote-key-requires
 quote-key-requires c κs =
     let s = c .before .before .before in
     let a = s .args in
     found-good (a .side) (a .keys .now) (a .volumes .now) (a .guess .start) (a .minimum .0) (s .pre .0) (c .search .result) (c .search .ensures)
-
-less-requires : tie.Need-less-requires
-less-requires c κs = search needs
 
 returns : tie.Need-returns
 returns c =
@@ -52,4 +46,4 @@ returns c =
     }
 
 pub by-search-spec : {M : Type 1} → statement M
-by-search-spec = tie.close (tie.spec search-requires quote-key-requires less-requires returns)
+by-search-spec = tie.close (tie.spec (λ c κs. search needs) quote-key-requires (λ c κs. search needs) returns)

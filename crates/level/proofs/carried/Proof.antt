@@ -39,32 +39,11 @@ shared-slice-read-is-fifth c =
     let long-words : length (s .args .words .now) ≡ 256 = long (s .args .words .now) (s .args .change) (s .pre) in
     search needs
 
-is-fifth-requires : tie.Need-is-fifth-requires
-is-fifth-requires c κs = search needs
-
-add-measured : tie.Need-add-measured
-add-measured c = search needs
-
-sub-measured : tie.Need-sub-measured
-sub-measured c = search needs
-
-part-measured-start : tie.Need-part-measured-start
-part-measured-start c = search needs
-
 part-measured-end : tie.Need-part-measured-end
 part-measured-end c =
     let s = c .before .before .before .before in
     let long-words : length (s .args .words .now) ≡ 256 = long (s .args .words .now) (s .args .change) (s .pre) in
     search needs
-
-add-measured-2 : tie.Need-add-measured-2
-add-measured-2 c = search needs
-
-sub-measured-2 : tie.Need-sub-measured-2
-sub-measured-2 c = search needs
-
-part-measured-start-2 : tie.Need-part-measured-start-2
-part-measured-start-2 c = search needs
 
 part-measured-end-2 : tie.Need-part-measured-end-2
 part-measured-end-2 c =
@@ -129,14 +108,14 @@ carried-spec =
     tie.close
     (tie.spec
     shared-slice-read-is-fifth
-    is-fifth-requires
-    add-measured
-    sub-measured
-    part-measured-start
+    (λ c κs. search needs)
+    (λ c. search needs)
+    (λ c. search needs)
+    (λ c. search needs)
     part-measured-end
-    add-measured-2
-    sub-measured-2
-    part-measured-start-2
+    (λ c. search needs)
+    (λ c. search needs)
+    (λ c. search needs)
     part-measured-end-2
     shared-slice-read-measured
     measured-requires

@@ -6,14 +6,8 @@ use borrow.Author.Needs.{needs}
 use Rattle.level.proofs.falls_short.Statement.{statement}
 use Rattle.level.proofs.falls_short.Tie as tie
 
-mul-result : tie.Need-mul-result
-mul-result c = search needs
-
-lacking-requires : tie.Need-lacking-requires
-lacking-requires c κs = search needs
-
 returns : tie.Need-returns
 returns c = ap (ltb (8 * c .before .before .args .level .at)) (c .lacking .ensures)
 
 pub falls-short-spec : {M : Type 1} → statement M
-falls-short-spec = tie.close (tie.spec mul-result lacking-requires returns)
+falls-short-spec = tie.close (tie.spec (λ c. search needs) (λ c κs. search needs) returns)

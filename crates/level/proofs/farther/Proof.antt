@@ -18,9 +18,6 @@ returns : tie.Need-returns
 returns c =
     record { stays = λ e. refl; steps = λ e. absurd (true≢false (sym (sym (c .before .falls-short .ensures) ∙ c .if1 .taken) ∙ e)) }
 
-stepped-requires : tie.Need-stepped-requires
-stepped-requires c κs = search needs
-
 tried-requires : tie.Need-tried-requires
 tried-requires c κs =
     let s = c .before .before .before .before .before .before in
@@ -43,4 +40,4 @@ returns-2 c =
 
 pub farther-spec : {M : Type 1} → statement M
 farther-spec =
-    tie.close (tie.spec falls-short-requires returns stepped-requires tried-requires returns-2)
+    tie.close (tie.spec falls-short-requires returns (λ c κs. search needs) tried-requires returns-2)

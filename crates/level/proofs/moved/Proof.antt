@@ -7,12 +7,6 @@ use Rattle.level.proofs.Depths.{lasting, changed-held, before-is, at-is
 use Rattle.level.proofs.moved.Statement.{statement}
 use Rattle.level.proofs.moved.Tie as tie
 
-volume-where-requires : tie.Need-volume-where-requires
-volume-where-requires c κs = search needs
-
-volume-where-requires-2 : tie.Need-volume-where-requires-2
-volume-where-requires-2 c κs = search needs
-
 changed-requires : tie.Need-changed-requires
 changed-requires c κs =
     let s = c .before .before .before .before in
@@ -20,12 +14,6 @@ changed-requires c κs =
     let l = s .args .level in
     lasting (ltb (l .key)) (s .args .change) (m .before) (m .after) (l .before) (c .before .volume-where .result) (c .volume-where2 .result) (m .good) (m .changed)
     (before-is (m .before) l (m .is)) (c .before .volume-where .ensures) (c .volume-where2 .ensures)
-
-volume-where-requires-3 : tie.Need-volume-where-requires-3
-volume-where-requires-3 c κs = search needs
-
-volume-where-requires-4 : tie.Need-volume-where-requires-4
-volume-where-requires-4 c κs = search needs
 
 changed-requires-2 : tie.Need-changed-requires-2
 changed-requires-2 c κs =
@@ -55,10 +43,10 @@ pub moved-spec : {M : Type 1} → statement M
 moved-spec =
     tie.close
     (tie.spec
-    volume-where-requires
-    volume-where-requires-2
+    (λ c κs. search needs)
+    (λ c κs. search needs)
     changed-requires
-    volume-where-requires-3
-    volume-where-requires-4
+    (λ c κs. search needs)
+    (λ c κs. search needs)
     changed-requires-2
     returns)

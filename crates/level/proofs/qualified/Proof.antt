@@ -6,9 +6,6 @@ use Rattle.level.proofs.Starts.{found-enough, found-short}
 use Rattle.level.proofs.qualified.Statement.{statement}
 use Rattle.level.proofs.qualified.Tie as tie
 
-add-if1 : tie.Need-add-if1
-add-if1 c = search needs
-
 returns : tie.Need-returns
 returns c =
     let a = c .before .before .before .args in
@@ -20,4 +17,4 @@ returns-2 c =
     sym (found-short (a .minimum .0) (a .start) (a .level .key) (a .level .before + a .level .at) (c .if1 .left))
 
 pub qualified-spec : {M : Type 1} → statement M
-qualified-spec = tie.close (tie.spec add-if1 returns returns-2)
+qualified-spec = tie.close (tie.spec (λ c. search needs) returns returns-2)

@@ -30,29 +30,11 @@ slice-read-count c =
     let long : length (s .args .words .now) ≡ 256 = moving-length (s .args .words .now) (s .args .change) (s .args .minimum .0) (s .pre .0) in
     search needs
 
-add-best : tie.Need-add-best
-add-best c = search needs
-
-sub-best : tie.Need-sub-best
-sub-best c = search needs
-
-part-best-start : tie.Need-part-best-start
-part-best-start c = search needs
-
 part-best-end : tie.Need-part-best-end
 part-best-end c =
     let s = c .before .before .before .before in
     let long : length (s .args .words .now) ≡ 256 = moving-length (s .args .words .now) (s .args .change) (s .args .minimum .0) (s .pre .0) in
     search needs
-
-add-best-2 : tie.Need-add-best-2
-add-best-2 c = search needs
-
-sub-best-2 : tie.Need-sub-best-2
-sub-best-2 c = search needs
-
-part-best-start-2 : tie.Need-part-best-start-2
-part-best-start-2 c = search needs
 
 part-best-end-2 : tie.Need-part-best-end-2
 part-best-end-2 c =
@@ -75,9 +57,6 @@ put-requires c κs =
     let s = c .before .before .before .before .before .before .before .before in
     moving-length (s .args .words .now) (s .args .change) (s .args .minimum .0) (s .pre .0)
 
-same-length : tie.Need-same-length
-same-length c = search needs
-
 returns : tie.Need-returns
 returns c m =
     let s = c .before .before .before .before .before .before .before .before .before .before .before in
@@ -87,12 +66,6 @@ carried-requires : tie.Need-carried-requires
 carried-requires c κs =
     let s = c .before .before .before .before in
     record { minimum = s .args .minimum .0; stale = s .pre .0; many = omega (arith, c .before .if1 .left, moving-count (s .args .words .now) (s .args .change) (s .args .minimum .0) (s .pre .0)) }
-
-is-fifth-requires : tie.Need-is-fifth-requires
-is-fifth-requires c κs = search needs
-
-volume-where-requires : tie.Need-volume-where-requires
-volume-where-requires c κs = search needs
 
 is-best-requires : tie.Need-is-best-requires
 is-best-requires c κs =
@@ -106,9 +79,6 @@ put-requires-2 : tie.Need-put-requires-2
 put-requires-2 c κs =
     let s = c .before .before .before .before .before .before .before .before .before .before in
     moving-length (s .args .words .now) (s .args .change) (s .args .minimum .0) (s .pre .0)
-
-same-length-2 : tie.Need-same-length-2
-same-length-2 c = search needs
 
 returns-2 : tie.Need-returns-2
 returns-2 c m =
@@ -134,12 +104,6 @@ add-sought c =
     let most = room-most (getD (s .args .words .now) 192 0) (to .result) few (to .ensures) in
     record { fits = omega (arith, most) }
 
-sub-sought : tie.Need-sub-sought
-sub-sought c = search needs
-
-part-sought-start : tie.Need-part-sought-start
-part-sought-start c = search needs
-
 part-sought-end : tie.Need-part-sought-end
 part-sought-end c =
     let s = c .before .before .before .before .before .before .before .before .before .before .before in
@@ -158,12 +122,6 @@ add-sought-2 c =
     let over = room-over (getD (s .args .words .now) 192 0) (to .result) (to .ensures) in
     let most = room-most (getD (s .args .words .now) 192 0) (to .result) few (to .ensures) in
     record { fits = omega (arith, most) }
-
-sub-sought-2 : tie.Need-sub-sought-2
-sub-sought-2 c = search needs
-
-part-sought-start-2 : tie.Need-part-sought-start-2
-part-sought-start-2 c = search needs
 
 part-sought-end-2 : tie.Need-part-sought-end-2
 part-sought-end-2 c =
@@ -213,9 +171,6 @@ add-t13 c =
           );
     }
 
-same-length-3 : tie.Need-same-length-3
-same-length-3 c = search needs
-
 returns-3 : tie.Need-returns-3
 returns-3 c m =
     let s = c .before .before .before .before .before .before .before .before .before .before .before .before .before .before .before .before .before .before .before .before in
@@ -238,36 +193,36 @@ requote-spec =
     tie.close
     (tie.spec
     slice-read-count
-    add-best
-    sub-best
-    part-best-start
+    (λ c. search needs)
+    (λ c. search needs)
+    (λ c. search needs)
     part-best-end
-    add-best-2
-    sub-best-2
-    part-best-start-2
+    (λ c. search needs)
+    (λ c. search needs)
+    (λ c. search needs)
     part-best-end-2
     best-requires
     put-requires
-    same-length
+    (λ c. search needs)
     returns
     carried-requires
-    is-fifth-requires
-    volume-where-requires
+    (λ c κs. search needs)
+    (λ c κs. search needs)
     is-best-requires
     put-requires-2
-    same-length-2
+    (λ c. search needs)
     returns-2
     room-requires
     add-sought
-    sub-sought
-    part-sought-start
+    (λ c. search needs)
+    (λ c. search needs)
     part-sought-end
     add-sought-2
-    sub-sought-2
-    part-sought-start-2
+    (λ c. search needs)
+    (λ c. search needs)
     part-sought-end-2
     sought-requires
     put-requires-3
     add-t13
-    same-length-3
+    (λ c. search needs)
     returns-3)

@@ -97,9 +97,6 @@ qualified-requires c κs =
     let s = c .before .before in
     level-small (s .args .keys .now) (s .args .volumes .now) (s .args .old) (s .pre .0 .columns) (s .pre .1)
 
-stepped-requires : tie.Need-stepped-requires
-stepped-requires c κs = search needs
-
 tried-requires : tie.Need-tried-requires
 tried-requires c κs =
     let s = c .before .before .before .before in
@@ -107,9 +104,6 @@ tried-requires c κs =
 
 is-best-requires : tie.Need-is-best-requires
 is-best-requires c κs = fits (c .before .before .before) (c .before .tried .result) (near-first (c .before) .guessed)
-
-taken-requires : tie.Need-taken-requires
-taken-requires c κs = search needs
 
 returns : tie.Need-returns
 returns c =
@@ -133,9 +127,6 @@ farther-requires c κs =
 is-best-requires-2 : tie.Need-is-best-requires-2
 is-best-requires-2 c κs = fits (c .before .before .before .before .before .before .before) (c .before .farther .result) (near-second (c .before) .guessed)
 
-taken-requires-2 : tie.Need-taken-requires-2
-taken-requires-2 c κs = search needs
-
 returns-2 : tie.Need-returns-2
 returns-2 c =
     let u = c .before .before .before .before in
@@ -151,9 +142,6 @@ at-change-requires c κs =
 is-best-requires-3 : tie.Need-is-best-requires-3
 is-best-requires-3 c κs =
     fits (c .before .before .before .before .before .before .before .before .before .before .before) (c .before .at-change .result) (holds-last (c .before))
-
-taken-requires-3 : tie.Need-taken-requires-3
-taken-requires-3 c κs = search needs
 
 returns-3 : tie.Need-returns-3
 returns-3 c =
@@ -183,18 +171,18 @@ sought-spec =
     tie.close
     (tie.spec
     qualified-requires
-    stepped-requires
+    (λ c κs. search needs)
     tried-requires
     is-best-requires
-    taken-requires
+    (λ c κs. search needs)
     returns
     farther-requires
     is-best-requires-2
-    taken-requires-2
+    (λ c κs. search needs)
     returns-2
     at-change-requires
     is-best-requires-3
-    taken-requires-3
+    (λ c κs. search needs)
     returns-3
     by-search-requires
     returns-4)

@@ -7,12 +7,6 @@ use Rattle.level.proofs.Nexts.{there-less, steps-up, steps-down}
 use Rattle.level.proofs.stepped.Statement.{statement}
 use Rattle.level.proofs.stepped.Tie as tie
 
-above-requires : tie.Need-above-requires
-above-requires c κs = search needs
-
-held-at-requires : tie.Need-held-at-requires
-held-at-requires c κs = search needs
-
 sub-t9 : tie.Need-sub-t9
 sub-t9 c =
     let s = c .before .before .before .before .before .before .before .before in
@@ -27,17 +21,11 @@ returns c =
     steps-up (a .minimum .0) (a .keys .now) (a .volumes .now) (a .level) (s .pre .0) (s .pre .1) (s .pre .3) (c .before .before .before .if1 .taken)
     (c .before .before .above .result) (c .before .held-at .result) (c .before .before .above .ensures) (c .before .held-at .ensures)
 
-below-requires : tie.Need-below-requires
-below-requires c κs = search needs
-
 add-t10 : tie.Need-add-t10
 add-t10 c =
     let s = c .before .before .before .before .before .before .before in
     let a = s .args in
     record { fits = omega (arith, level-small (a .keys .now) (a .volumes .now) (a .level) (s .pre .0 .columns) (s .pre .1)) }
-
-held-at-requires-2 : tie.Need-held-at-requires-2
-held-at-requires-2 c κs = search needs
 
 returns-2 : tie.Need-returns-2
 returns-2 c =
@@ -50,11 +38,11 @@ pub stepped-spec : {M : Type 1} → statement M
 stepped-spec =
     tie.close
     (tie.spec
-    above-requires
-    held-at-requires
+    (λ c κs. search needs)
+    (λ c κs. search needs)
     sub-t9
     returns
-    below-requires
+    (λ c κs. search needs)
     add-t10
-    held-at-requires-2
+    (λ c κs. search needs)
     returns-2)

@@ -4,16 +4,10 @@ use borrow.Author.Needs.{needs}
 use Rattle.level.proofs.tried.Statement.{statement}
 use Rattle.level.proofs.tried.Tie as tie
 
-qualified-requires : tie.Need-qualified-requires
-qualified-requires c κs = search needs
-
-add-t5 : tie.Need-add-t5
-add-t5 c = search needs
-
 returns : tie.Need-returns
 returns c =
     let a = c .before .before .args in
     λ i. record { level = a .level; start = c .before .qualified .ensures i; sums = a .guess .sums + 1 }
 
 pub tried-spec : {M : Type 1} → statement M
-tried-spec = tie.close (tie.spec qualified-requires add-t5 returns)
+tried-spec = tie.close (tie.spec (λ c κs. search needs) (λ c. search needs) returns)

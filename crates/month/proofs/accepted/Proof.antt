@@ -5,9 +5,6 @@ use borrow.Author.Needs.{needs}
 use Rattle.month.proofs.accepted.Statement.{statement}
 use Rattle.month.proofs.accepted.Tie as tie
 
-next-requires : tie.Need-next-requires
-next-requires c κs = search needs
-
 returns : tie.Need-returns
 returns c =
     let m = c .before .args .month in (
@@ -27,4 +24,4 @@ returns c =
     )
 
 pub accepted-spec : {M : Type 1} → statement M
-accepted-spec = tie.close (tie.spec next-requires returns)
+accepted-spec = tie.close (tie.spec (λ c κs. search needs) returns)

@@ -23,9 +23,6 @@ add-result c = omega (arith, in-range (c .args .day) (c .args .expiry) (c .args 
 add-result-2 : tie.Need-add-result-2
 add-result-2 c = omega (arith, in-range (c .args .day) (c .args .expiry) (c .args .quantum) (c .pre))
 
-cast-result : tie.Need-cast-result
-cast-result c = search needs
-
 returns : tie.Need-returns
 returns c = search needs
 
@@ -39,5 +36,5 @@ place-of-spec =
     mul-result-2
     add-result
     add-result-2
-    cast-result
+    (λ c. search needs)
     returns)

@@ -12,61 +12,22 @@ Inv-loop bytes i₀ t4 t5 i-end i = (i ≤ i-end) × (i-end ≡ length bytes)
 abbrev μ-loop : tie.MeasureT-loop
 μ-loop bytes i₀ t4 t5 i-end i = i-end - i
 
-slice-aggregate-text : tie.Need-slice-aggregate-text Inv-loop μ-loop
-slice-aggregate-text c = search needs
-
-text-requires : tie.Need-text-requires Inv-loop μ-loop
-text-requires c κs = search needs
-
-loop-holds : tie.Need-loop-holds Inv-loop μ-loop
-loop-holds c = search needs
-
-slice-aggregate-text-2 : tie.Need-slice-aggregate-text-2 Inv-loop μ-loop
-slice-aggregate-text-2 c = search needs
-
-text-requires-2 : tie.Need-text-requires-2 Inv-loop μ-loop
-text-requires-2 c κs = search needs
-
-shared-slice-read-hex : tie.Need-shared-slice-read-hex Inv-loop μ-loop
-shared-slice-read-hex c = search needs
-
-hex-requires : tie.Need-hex-requires Inv-loop μ-loop
-hex-requires c κs = search needs
-
-add-i : tie.Need-add-i Inv-loop μ-loop
-add-i c = search needs
-
-loop-less : tie.Need-loop-less Inv-loop μ-loop
-loop-less c = search needs
-
-loop-again : tie.Need-loop-again Inv-loop μ-loop
-loop-again c = search needs
-
-slice-aggregate-text-3 : tie.Need-slice-aggregate-text-3 Inv-loop μ-loop
-slice-aggregate-text-3 c = search needs
-
-text-requires-3 : tie.Need-text-requires-3 Inv-loop μ-loop
-text-requires-3 c κs = search needs
-
-returns : tie.Need-returns Inv-loop μ-loop
-returns c = search needs
-
 pub bytes-line-spec : {M : Type 1} → statement M
 bytes-line-spec =
     tie.close
     (tie.spec
     Inv-loop
     μ-loop
-    slice-aggregate-text
-    text-requires
-    loop-holds
-    slice-aggregate-text-2
-    text-requires-2
-    shared-slice-read-hex
-    hex-requires
-    add-i
-    loop-less
-    loop-again
-    slice-aggregate-text-3
-    text-requires-3
-    returns)
+    (λ c. search needs)
+    (λ c κs. search needs)
+    (λ c. search needs)
+    (λ c. search needs)
+    (λ c κs. search needs)
+    (λ c. search needs)
+    (λ c κs. search needs)
+    (λ c. search needs)
+    (λ c. search needs)
+    (λ c. search needs)
+    (λ c. search needs)
+    (λ c κs. search needs)
+    (λ c. search needs))

@@ -4,9 +4,6 @@ use Rattle.quantum.specs.Represents.{dutyOf}
 use Rattle.quantum.proofs.duty_of.Statement.{statement}
 use Rattle.quantum.proofs.duty_of.Tie as tie
 
-widest-of-requires : tie.Need-widest-of-requires
-widest-of-requires c κs = search needs
-
 returns : tie.Need-returns
 unfolding dutyOf
 returns c =
@@ -14,4 +11,4 @@ returns c =
     λ i. record { length = row .length; minimum = row .minimum; widest = c .widest-of .ensures i }
 
 pub duty-of-spec : {M : Type 1} → statement M
-duty-of-spec = tie.close (tie.spec widest-of-requires returns)
+duty-of-spec = tie.close (tie.spec (λ c κs. search needs) returns)

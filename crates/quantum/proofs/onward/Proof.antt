@@ -13,9 +13,6 @@ at-most zero n h = omega arith
 at-most (suc zero) n h = omega arith
 at-most (suc (suc k)) n h = absurd (omega (arith, h))
 
-sub-more : tie.Need-sub-more
-sub-more c = search needs
-
 mul-more : tie.Need-mul-more
 mul-more c =
     let s = c .before .before .before .before .before in
@@ -60,4 +57,4 @@ returns-2 c =
 
 pub onward-spec : {M : Type 1} → statement M
 onward-spec =
-    tie.close (tie.spec sub-more mul-more add-t9 starting-requires add-lapses returns returns-2)
+    tie.close (tie.spec (λ c. search needs) mul-more add-t9 starting-requires add-lapses returns returns-2)

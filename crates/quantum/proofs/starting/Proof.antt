@@ -5,17 +5,11 @@ use Rattle.quantum.proofs.Represents.{starts-first, starts-later}
 use Rattle.quantum.proofs.starting.Statement.{statement}
 use Rattle.quantum.proofs.starting.Tie as tie
 
-sub-result : tie.Need-sub-result
-sub-result c = search needs
-
 returns : tie.Need-returns
 returns c =
     let s = c .before .before .before in
     let k = s .args .clock in
     starts-first (k .keeps) (k .time .0) (k .last) (s .pre .0) (c .before .if1 .taken)
-
-sub-result-2 : tie.Need-sub-result-2
-sub-result-2 c = search needs
 
 mul-result : tie.Need-mul-result
 mul-result c =
@@ -30,4 +24,4 @@ returns-2 c =
     starts-later (k .keeps) (k .time .0) (k .last) (s .pre .0) (s .pre .1) (c .before .before .if1 .left)
 
 pub starting-spec : {M : Type 1} → statement M
-starting-spec = tie.close (tie.spec sub-result returns sub-result-2 mul-result returns-2)
+starting-spec = tie.close (tie.spec (λ c. search needs) returns (λ c. search needs) mul-result returns-2)

@@ -4,18 +4,6 @@ use Rattle.quantum.proofs.Steps.{by-fields}
 use Rattle.quantum.proofs.step.Statement.{statement}
 use Rattle.quantum.proofs.step.Tie as tie
 
-event-fields-requires : tie.Need-event-fields-requires
-event-fields-requires c κs = search needs
-
-step-fields-requires : tie.Need-step-fields-requires
-step-fields-requires c κs = search needs
-
-same-length : tie.Need-same-length
-same-length c = search needs
-
-same-length-2 : tie.Need-same-length-2
-same-length-2 c = search needs
-
 returns : tie.Need-returns
 returns c =
     let g = c .before .before .before .before in
@@ -26,4 +14,4 @@ returns c =
 pub step-spec : {M : Type 1} → statement M
 step-spec =
     tie.close
-    (tie.spec event-fields-requires step-fields-requires same-length same-length-2 returns)
+    (tie.spec (λ c κs. search needs) (λ c κs. search needs) (λ c. search needs) (λ c. search needs) returns)

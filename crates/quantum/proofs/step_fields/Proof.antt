@@ -6,9 +6,6 @@ use Rattle.quantum.proofs.Steps.{timely, tick-read, untimely-read}
 use Rattle.quantum.proofs.step_fields.Statement.{statement}
 use Rattle.quantum.proofs.step_fields.Tie as tie
 
-in-time-requires : tie.Need-in-time-requires
-in-time-requires c κs = search needs
-
 ticked-requires : tie.Need-ticked-requires
 ticked-requires c κs =
     let s = c .before .before .before .before .before .before in
@@ -27,20 +24,8 @@ taken-requires c κs =
     let s = c .before .before .before .before .before .before .before .before in
     (s .pre, timely (s .args .duty) (s .args .clock) (s .args .f .t) (sym (c .before .before .before .before .in-time .ensures) ∙ c .before .before .before .if1 .taken), c .before .before .if2 .left)
 
-same-length : tie.Need-same-length
-same-length c = search needs
-
-same-length-2 : tie.Need-same-length-2
-same-length-2 c = search needs
-
 returns-2 : tie.Need-returns-2
 returns-2 c = search needs
-
-untimely-requires : tie.Need-untimely-requires
-untimely-requires c κs = search needs
-
-refused-requires : tie.Need-refused-requires
-refused-requires c κs = search needs
 
 returns-3 : tie.Need-returns-3
 returns-3 c =
@@ -52,13 +37,13 @@ pub step-fields-spec : {M : Type 1} → statement M
 step-fields-spec =
     tie.close
     (tie.spec
-    in-time-requires
+    (λ c κs. search needs)
     ticked-requires
     returns
     taken-requires
-    same-length
-    same-length-2
+    (λ c. search needs)
+    (λ c. search needs)
     returns-2
-    untimely-requires
-    refused-requires
+    (λ c κs. search needs)
+    (λ c κs. search needs)
     returns-3)

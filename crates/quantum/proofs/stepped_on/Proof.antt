@@ -7,12 +7,6 @@ use borrow.Author.Needs.{needs}
 use Rattle.quantum.proofs.stepped_on.Statement.{statement}
 use Rattle.quantum.proofs.stepped_on.Tie as tie
 
-slice-aggregate-step : tie.Need-slice-aggregate-step
-slice-aggregate-step c = search needs
-
-slice-aggregate-step-2 : tie.Need-slice-aggregate-step-2
-slice-aggregate-step-2 c = search needs
-
 step-requires : tie.Need-step-requires
 step-requires c κs =
     let s = c .before .before in
@@ -45,8 +39,8 @@ pub stepped-on-spec : {M : Type 1} → statement M
 stepped-on-spec =
     tie.close
     (tie.spec
-    slice-aggregate-step
-    slice-aggregate-step-2
+    (λ c. search needs)
+    (λ c. search needs)
     step-requires
     refusal-of-requires
     returns

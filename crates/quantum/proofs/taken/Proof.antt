@@ -12,15 +12,6 @@ send-requires c κs =
     let s = c .before .before .before .before .before in
     (holding (s .pre .0), s .pre .2)
 
-refused-requires : tie.Need-refused-requires
-refused-requires c κs = search needs
-
-same-length : tie.Need-same-length
-same-length c = search needs
-
-same-length-2 : tie.Need-same-length-2
-same-length-2 c = search needs
-
 returns : tie.Need-returns
 returns c =
     let g = c .before .before .before .before .before .before in
@@ -33,12 +24,6 @@ onward-requires c κs =
     let s = c .before .before .before .before .before .before .before .before .before .before .before .before in
     let r = s .pre .0 in
     onward (r .row) (r .sp) (r .events) (s .args .clock) (r .clock-is) (s .args .f .t) (s .pre .1 .onward)
-
-same-length-3 : tie.Need-same-length-3
-same-length-3 c = search needs
-
-same-length-4 : tie.Need-same-length-4
-same-length-4 c = search needs
 
 returns-2 : tie.Need-returns-2
 returns-2 c =
@@ -53,11 +38,11 @@ taken-spec =
     tie.close
     (tie.spec
     send-requires
-    refused-requires
-    same-length
-    same-length-2
+    (λ c κs. search needs)
+    (λ c. search needs)
+    (λ c. search needs)
     returns
     onward-requires
-    same-length-3
-    same-length-4
+    (λ c. search needs)
+    (λ c. search needs)
     returns-2)

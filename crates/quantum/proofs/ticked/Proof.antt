@@ -5,12 +5,6 @@ use Rattle.quantum.proofs.Steps.{ticked-good, ticked-bad}
 use Rattle.quantum.proofs.ticked.Statement.{statement}
 use Rattle.quantum.proofs.ticked.Tie as tie
 
-is-good-requires : tie.Need-is-good-requires
-is-good-requires c κs = search needs
-
-onward-requires : tie.Need-onward-requires
-onward-requires c κs = search needs
-
 returns : tie.Need-returns
 returns c = ticked-good (c .before .before .before .before .args .clock) (c .before .before .before .before .args .f) (sym (c .before .before .before .is-good .ensures) ∙ c .before .before .if1 .taken) (c .onward .result) (c .onward .ensures)
 
@@ -18,4 +12,4 @@ returns-2 : tie.Need-returns-2
 returns-2 c = ticked-bad (c .before .before .args .clock) (c .before .before .args .f) (sym (c .before .is-good .ensures) ∙ c .if1 .left)
 
 pub ticked-spec : {M : Type 1} → statement M
-ticked-spec = tie.close (tie.spec is-good-requires onward-requires returns returns-2)
+ticked-spec = tie.close (tie.spec (λ c κs. search needs) (λ c κs. search needs) returns returns-2)

@@ -5,9 +5,6 @@ use Rattle.quantum.proofs.Steps.{untimely-early, untimely-late, untimel
 use Rattle.quantum.proofs.untimely.Statement.{statement}
 use Rattle.quantum.proofs.untimely.Tie as tie
 
-is-good-requires : tie.Need-is-good-requires
-is-good-requires c κs = search needs
-
 returns : tie.Need-returns
 returns c = untimely-early (c .before .before .before .before .before .before .before .args .clock) (c .before .before .before .before .before .before .before .args .f) (sym (c .before .before .before .before .is-good .ensures) ∙ c .before .before .before .if1 .taken) (c .if2 .taken)
 
@@ -18,4 +15,4 @@ returns-3 : tie.Need-returns-3
 returns-3 c = untimely-bad (c .before .before .before .before .args .clock) (c .before .before .before .before .args .f) (sym (c .before .is-good .ensures) ∙ c .if1 .left)
 
 pub untimely-spec : {M : Type 1} → statement M
-untimely-spec = tie.close (tie.spec is-good-requires returns returns-2 returns-3)
+untimely-spec = tie.close (tie.spec (λ c κs. search needs) returns returns-2 returns-3)

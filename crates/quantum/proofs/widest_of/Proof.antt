@@ -25,16 +25,10 @@ settled-a row spread sp e g = row-bounds paper row (sym (ap (λ (s : SpreadRule)
 strike-good : (spread : SpreadRule) (s : Strike) → spread ≡ OfStrike s → goodSpreadRule spread ≡ true → goodStrike s ≡ true
 strike-good spread s e g = sym (ap goodSpreadRule e) ∙ g
 
-enum-known-spread : tie.Need-enum-known-spread
-enum-known-spread c = search needs
-
 widest-for-price-requires : tie.Need-widest-for-price-requires
 widest-for-price-requires c κs =
     let s = c .before .before .before in
     settled-a (s .args .row) (s .args .spread) _ (c .before .spread .given .1) (s .pre .0)
-
-enum-known-spread-2 : tie.Need-enum-known-spread-2
-enum-known-spread-2 c = search needs
 
 widest-requires : tie.Need-widest-requires
 widest-requires c κs =
@@ -55,9 +49,9 @@ pub widest-of-spec : {M : Type 1} → statement M
 widest-of-spec =
     tie.close
     (tie.spec
-    enum-known-spread
+    (λ c. search needs)
     widest-for-price-requires
-    enum-known-spread-2
+    (λ c. search needs)
     widest-requires
     returns
     returns-2)

@@ -16,9 +16,6 @@ Inv-loop bytes month₀ at₀ month at = Underway (wordsIn bytes) month at
 abbrev μ-loop : tie.MeasureT-loop
 μ-loop bytes month₀ at₀ month at = length (wordsIn bytes) - at
 
-fresh-requires : tie.Need-fresh-requires Inv-loop μ-loop
-fresh-requires c κs = search needs
-
 loop-holds : tie.Need-loop-holds Inv-loop μ-loop
 loop-holds c = underway (wordsIn (c .before .before .args .bytes .now)) (c .fresh .result) (c .fresh .ensures)
 
@@ -33,9 +30,6 @@ returns c =
       all-read (wordsIn bytes) (l .month) (l .at) (l .inv) (b .result) (b .ensures) (c .if1 .taken),
       omega (arith, inside (wordsIn bytes) (l .month) (l .at) (l .inv), words-length bytes),
     )
-
-line-requires : tie.Need-line-requires Inv-loop μ-loop
-line-requires c κs = search needs
 
 loop-less : tie.Need-loop-less Inv-loop μ-loop
 loop-less c =
@@ -56,10 +50,10 @@ play-spec =
     (tie.spec
     Inv-loop
     μ-loop
-    fresh-requires
+    (λ c κs. search needs)
     loop-holds
     block-requires
     returns
-    line-requires
+    (λ c κs. search needs)
     loop-less
     loop-again)

@@ -9,15 +9,6 @@ use borrow.Author.Needs.{needs}
 use Rattle.script.proofs.answer_shown.Statement.{statement}
 use Rattle.script.proofs.answer_shown.Tie as tie
 
-enum-told : tie.Need-enum-told
-enum-told c = search needs
-
-enum-known-answer : tie.Need-enum-known-answer
-enum-known-answer c = search needs
-
-number-requires : tie.Need-number-requires
-number-requires c κs = search needs
-
 returns : tie.Need-returns
 returns c = shown-by shownAnswer (c .enum-told .given .1) refl
 
@@ -25,4 +16,4 @@ returns-2 : tie.Need-returns-2
 returns-2 c = shown-by shownAnswer (c .before .before .answer .given .1) (ap (λ (k : ℕ). showing (O.Refused k)) (c .number .ensures))
 
 pub answer-shown-spec : {M : Type 1} → statement M
-answer-shown-spec = tie.close (tie.spec enum-told enum-known-answer number-requires returns returns-2)
+answer-shown-spec = tie.close (tie.spec (λ c. search needs) (λ c. search needs) (λ c κs. search needs) returns returns-2)

@@ -9,15 +9,6 @@ use borrow.Author.Needs.{needs}
 use Rattle.script.proofs.asked_shown.Statement.{statement}
 use Rattle.script.proofs.asked_shown.Tie as tie
 
-enum-known-asked : tie.Need-enum-known-asked
-enum-known-asked c = search needs
-
-enum-known-asked-2 : tie.Need-enum-known-asked-2
-enum-known-asked-2 c = search needs
-
-number-requires : tie.Need-number-requires
-number-requires c κs = search needs
-
 returns : tie.Need-returns
 returns c = shown-by shownAsked (c .before .asked .given .1) refl
 
@@ -25,4 +16,4 @@ returns-2 : tie.Need-returns-2
 returns-2 c = shown-by shownAsked (c .before .before .asked2 .given .1) (ap (λ (k : ℕ). showing (O.Refused k)) (c .number .ensures))
 
 pub asked-shown-spec : {M : Type 1} → statement M
-asked-shown-spec = tie.close (tie.spec enum-known-asked enum-known-asked-2 number-requires returns returns-2)
+asked-shown-spec = tie.close (tie.spec (λ c. search needs) (λ c. search needs) (λ c κs. search needs) returns returns-2)

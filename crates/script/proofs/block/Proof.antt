@@ -13,35 +13,11 @@ use borrow.Author.Needs.{needs}
 use Rattle.script.proofs.block.Statement.{statement}
 use Rattle.script.proofs.block.Tie as tie
 
-count-requires : tie.Need-count-requires
-count-requires c κs = search needs
-
-no-call-requires : tie.Need-no-call-requires
-no-call-requires c κs = search needs
-
 returns : tie.Need-returns
 returns c =
     let a = c .before .before .before .before .args in
     stepped-none (a .month) (wordsIn (a .bytes .now)) (a .at) 0 _ refl (none-past (wordsIn (a .bytes .now)) (a .at) (omega arith)) (c .no-call .result) refl
     (c .no-call .ensures)
-
-mul-from : tie.Need-mul-from
-mul-from c = search needs
-
-sub-rest : tie.Need-sub-rest
-sub-rest c = search needs
-
-part-rest-start : tie.Need-part-rest-start
-part-rest-start c = search needs
-
-part-rest-end : tie.Need-part-rest-end
-part-rest-end c = search needs
-
-size-requires : tie.Need-size-requires
-size-requires c κs = search needs
-
-no-call-requires-2 : tie.Need-no-call-requires-2
-no-call-requires-2 c κs = search needs
 
 returns-2 : tie.Need-returns-2
 returns-2 c =
@@ -50,36 +26,12 @@ returns-2 c =
     stepped-none (a .month) (wordsIn (a .bytes .now)) (a .at) (f .size .result) _ (part-words (a .bytes .now) (a .at) (4 * a .at) refl) (f .size .ensures) (c .no-call2 .result)
     (c .before .if2 .taken) (c .no-call2 .ensures)
 
-decode-requires : tie.Need-decode-requires
-decode-requires c κs = search needs
-
 add-next : tie.Need-add-next
 add-next c =
     let f = c .before .before in
     let a = f .before .before .before .before .before .args in
     omega
     (arith, next-fits (wordsIn (a .bytes .now)) (a .at) (f .size .result) (omega arith) (f .size .ensures ∙ ap blockSize (part-words (a .bytes .now) (a .at) (4 * a .at) refl)))
-
-enum-known-said : tie.Need-enum-known-said
-enum-known-said c = search needs
-
-send-requires : tie.Need-send-requires
-send-requires c κs = search needs
-
-tell-requires : tie.Need-tell-requires
-tell-requires c κs = search needs
-
-enum-told : tie.Need-enum-told
-enum-told c = search needs
-
-message-requires : tie.Need-message-requires
-message-requires c κs = search needs
-
-tell-requires-2 : tie.Need-tell-requires-2
-tell-requires-2 c κs = search needs
-
-call-requires : tie.Need-call-requires
-call-requires c κs = search needs
 
 returns-3 : tie.Need-returns-3
 returns-3 c =
@@ -114,25 +66,25 @@ pub block-spec : {M : Type 1} → statement M
 block-spec =
     tie.close
     (tie.spec
-    count-requires
-    no-call-requires
+    (λ c κs. search needs)
+    (λ c κs. search needs)
     returns
-    mul-from
-    sub-rest
-    part-rest-start
-    part-rest-end
-    size-requires
-    no-call-requires-2
+    (λ c. search needs)
+    (λ c. search needs)
+    (λ c. search needs)
+    (λ c. search needs)
+    (λ c κs. search needs)
+    (λ c κs. search needs)
     returns-2
-    decode-requires
+    (λ c κs. search needs)
     add-next
-    enum-known-said
-    send-requires
-    tell-requires
-    enum-told
-    message-requires
-    tell-requires-2
-    call-requires
+    (λ c. search needs)
+    (λ c κs. search needs)
+    (λ c κs. search needs)
+    (λ c. search needs)
+    (λ c κs. search needs)
+    (λ c κs. search needs)
+    (λ c κs. search needs)
     returns-3
     returns-4
     returns-5)

@@ -4,105 +4,6 @@ use borrow.Author.Needs.{needs}
 use Rattle.script.proofs.call.Statement.{statement}
 use Rattle.script.proofs.call.Tie as tie
 
-enum-known-said : tie.Need-enum-known-said
-enum-known-said c = search needs
-
-open-requires : tie.Need-open-requires
-open-requires c κs = search needs
-
-tell-requires : tie.Need-tell-requires
-tell-requires c κs = search needs
-
-enum-known-said-2 : tie.Need-enum-known-said-2
-enum-known-said-2 c = search needs
-
-send-requires : tie.Need-send-requires
-send-requires c κs = search needs
-
-tell-requires-2 : tie.Need-tell-requires-2
-tell-requires-2 c κs = search needs
-
-enum-told : tie.Need-enum-told
-enum-told c = search needs
-
-message-requires : tie.Need-message-requires
-message-requires c κs = search needs
-
-tell-requires-3 : tie.Need-tell-requires-3
-tell-requires-3 c κs = search needs
-
-enum-known-said-3 : tie.Need-enum-known-said-3
-enum-known-said-3 c = search needs
-
-ask-requires : tie.Need-ask-requires
-ask-requires c κs = search needs
-
-tell-asked-requires : tie.Need-tell-asked-requires
-tell-asked-requires c κs = search needs
-
-enum-known-said-4 : tie.Need-enum-known-said-4
-enum-known-said-4 c = search needs
-
-commit-requires : tie.Need-commit-requires
-commit-requires c κs = search needs
-
-tell-requires-4 : tie.Need-tell-requires-4
-tell-requires-4 c κs = search needs
-
-enum-known-said-5 : tie.Need-enum-known-said-5
-enum-known-said-5 c = search needs
-
-close-requires : tie.Need-close-requires
-close-requires c κs = search needs
-
-tell-requires-5 : tie.Need-tell-requires-5
-tell-requires-5 c κs = search needs
-
-enum-told-2 : tie.Need-enum-told-2
-enum-told-2 c = search needs
-
-drop-requires : tie.Need-drop-requires
-drop-requires c κs = search needs
-
-tell-requires-6 : tie.Need-tell-requires-6
-tell-requires-6 c κs = search needs
-
-enum-known-said-6 : tie.Need-enum-known-said-6
-enum-known-said-6 c = search needs
-
-charge-requires : tie.Need-charge-requires
-charge-requires c κs = search needs
-
-tell-requires-7 : tie.Need-tell-requires-7
-tell-requires-7 c κs = search needs
-
-enum-known-said-7 : tie.Need-enum-known-said-7
-enum-known-said-7 c = search needs
-
-withdraw-requires : tie.Need-withdraw-requires
-withdraw-requires c κs = search needs
-
-tell-requires-8 : tie.Need-tell-requires-8
-tell-requires-8 c κs = search needs
-
-enum-known-said-8 : tie.Need-enum-known-said-8
-enum-known-said-8 c = search needs
-
-look-requires : tie.Need-look-requires
-look-requires c κs = search needs
-
-tell-looked-requires : tie.Need-tell-looked-requires
-tell-looked-requires c κs = search needs
-
-enum-told-3 : tie.Need-enum-told-3
-enum-told-3 c = search needs
-
-report-requires : tie.Need-report-requires
-report-requires c κs = search needs
-
-tell-report-requires : tie.Need-tell-report-requires
-tell-report-requires c κs = search needs
-
 returns : tie.Need-returns
 returns c = told _ (c .before .before .before .said .given .1) (c .before .«open» .ensures) (c .tell .ensures)
 
@@ -140,39 +41,39 @@ pub call-spec : {M : Type 1} → statement M
 call-spec =
     tie.close
     (tie.spec
-    enum-known-said
-    open-requires
-    tell-requires
-    enum-known-said-2
-    send-requires
-    tell-requires-2
-    enum-told
-    message-requires
-    tell-requires-3
-    enum-known-said-3
-    ask-requires
-    tell-asked-requires
-    enum-known-said-4
-    commit-requires
-    tell-requires-4
-    enum-known-said-5
-    close-requires
-    tell-requires-5
-    enum-told-2
-    drop-requires
-    tell-requires-6
-    enum-known-said-6
-    charge-requires
-    tell-requires-7
-    enum-known-said-7
-    withdraw-requires
-    tell-requires-8
-    enum-known-said-8
-    look-requires
-    tell-looked-requires
-    enum-told-3
-    report-requires
-    tell-report-requires
+    (λ c. search needs)
+    (λ c κs. search needs)
+    (λ c κs. search needs)
+    (λ c. search needs)
+    (λ c κs. search needs)
+    (λ c κs. search needs)
+    (λ c. search needs)
+    (λ c κs. search needs)
+    (λ c κs. search needs)
+    (λ c. search needs)
+    (λ c κs. search needs)
+    (λ c κs. search needs)
+    (λ c. search needs)
+    (λ c κs. search needs)
+    (λ c κs. search needs)
+    (λ c. search needs)
+    (λ c κs. search needs)
+    (λ c κs. search needs)
+    (λ c. search needs)
+    (λ c κs. search needs)
+    (λ c κs. search needs)
+    (λ c. search needs)
+    (λ c κs. search needs)
+    (λ c κs. search needs)
+    (λ c. search needs)
+    (λ c κs. search needs)
+    (λ c κs. search needs)
+    (λ c. search needs)
+    (λ c κs. search needs)
+    (λ c κs. search needs)
+    (λ c. search needs)
+    (λ c κs. search needs)
+    (λ c κs. search needs)
     returns
     returns-2
     returns-3

@@ -9,15 +9,6 @@ use borrow.Author.Needs.{needs}
 use Rattle.script.proofs.looked_shown.Statement.{statement}
 use Rattle.script.proofs.looked_shown.Tie as tie
 
-enum-known-looked : tie.Need-enum-known-looked
-enum-known-looked c = search needs
-
-enum-known-looked-2 : tie.Need-enum-known-looked-2
-enum-known-looked-2 c = search needs
-
-number-requires : tie.Need-number-requires
-number-requires c κs = search needs
-
 returns : tie.Need-returns
 returns c = shown-by shownLooked (c .before .looked .given .1) refl
 
@@ -25,4 +16,4 @@ returns-2 : tie.Need-returns-2
 returns-2 c = shown-by shownLooked (c .before .before .looked2 .given .1) (ap (λ (k : ℕ). showing (O.Refused k)) (c .number .ensures))
 
 pub looked-shown-spec : {M : Type 1} → statement M
-looked-shown-spec = tie.close (tie.spec enum-known-looked enum-known-looked-2 number-requires returns returns-2)
+looked-shown-spec = tie.close (tie.spec (λ c. search needs) (λ c. search needs) (λ c κs. search needs) returns returns-2)

@@ -12,23 +12,8 @@ use borrow.Author.Needs.{needs}
 use Rattle.script.proofs.open.Statement.{statement}
 use Rattle.script.proofs.open.Tie as tie
 
-row-requires : tie.Need-row-requires
-row-requires c κs = search needs
-
-row-length-requires : tie.Need-row-length-requires
-row-length-requires c κs = search needs
-
-handed-on-requires : tie.Need-handed-on-requires
-handed-on-requires c κs = search needs
-
-array-share-prefix-row : tie.Need-array-share-prefix-row
-array-share-prefix-row c = search needs
-
 slice-aggregate-open : tie.Need-slice-aggregate-open
 slice-aggregate-open c = simp length-take (omega arith)
-
-open-requires : tie.Need-open-requires
-open-requires c κs = search needs
 
 returns : tie.Need-returns
 returns c =
@@ -43,10 +28,10 @@ pub open-spec : {M : Type 1} → statement M
 open-spec =
     tie.close
     (tie.spec
-    row-requires
-    row-length-requires
-    handed-on-requires
-    array-share-prefix-row
+    (λ c κs. search needs)
+    (λ c κs. search needs)
+    (λ c κs. search needs)
+    (λ c. search needs)
     slice-aggregate-open
-    open-requires
+    (λ c κs. search needs)
     returns)

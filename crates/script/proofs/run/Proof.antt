@@ -18,12 +18,6 @@ Inv-loop bytes outcomes₀ calls read month₀ at₀ k₀ outcomes month at k =
 abbrev μ-loop : tie.MeasureT-loop
 μ-loop bytes outcomes₀ calls read month₀ at₀ k₀ outcomes month at k = calls - k
 
-measure-requires : tie.Need-measure-requires Inv-loop μ-loop
-measure-requires c κs = search needs
-
-fresh-requires : tie.Need-fresh-requires Inv-loop μ-loop
-fresh-requires c κs = search needs
-
 returns : tie.Need-returns Inv-loop μ-loop
 returns c =
     let s = c .before .before .before .before .before in
@@ -43,9 +37,6 @@ block-requires c κs =
     let l = c .before .loop in
     is-reached (wordsIn (s .args .bytes .now)) (s .args .outcomes .now) (l .outcomes) (l .month) (l .at) (l .k) (l .inv .0)
 
-number-requires : tie.Need-number-requires Inv-loop μ-loop
-number-requires c κs = search needs
-
 mul-outcomes : tie.Need-mul-outcomes Inv-loop μ-loop
 mul-outcomes c =
     let s = c .before .before .before .before .before .before .before .before .before .before in
@@ -58,12 +49,6 @@ slice-write-outcomes c =
     let l = c .before .before .before .before .loop in
     omega
     (arith, l .inv .0 .room, l .inv .1, out-length (wordsIn (s .args .bytes .now)) (s .args .outcomes .now) (l .outcomes) (l .month) (l .at) (l .k) (l .inv .0))
-
-add-k : tie.Need-add-k Inv-loop μ-loop
-add-k c = omega arith
-
-loop-less : tie.Need-loop-less Inv-loop μ-loop
-loop-less c = omega arith
 
 loop-again : tie.Need-loop-again Inv-loop μ-loop
 loop-again c =
@@ -94,16 +79,16 @@ run-spec =
     (tie.spec
     Inv-loop
     μ-loop
-    measure-requires
-    fresh-requires
+    (λ c κs. search needs)
+    (λ c κs. search needs)
     returns
     loop-holds
     block-requires
-    number-requires
+    (λ c κs. search needs)
     mul-outcomes
     slice-write-outcomes
-    add-k
-    loop-less
+    (λ c. omega arith)
+    (λ c. omega arith)
     loop-again
     same-length
     returns-2)

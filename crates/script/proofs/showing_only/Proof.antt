@@ -4,11 +4,8 @@ use borrow.Author.Needs.{needs}
 use Rattle.script.proofs.showing_only.Statement.{statement}
 use Rattle.script.proofs.showing_only.Tie as tie
 
-blank-report-requires : tie.Need-blank-report-requires
-blank-report-requires c κs = search needs
-
 returns : tie.Need-returns
 returns c = λ i. record { outcome = c .before .args .outcome; report = c .blank-report .ensures i }
 
 pub showing-only-spec : {M : Type 1} → statement M
-showing-only-spec = tie.close (tie.spec blank-report-requires returns)
+showing-only-spec = tie.close (tie.spec (λ c κs. search needs) returns)

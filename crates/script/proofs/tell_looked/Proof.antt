@@ -4,14 +4,8 @@ use borrow.Author.Needs.{needs}
 use Rattle.script.proofs.tell_looked.Statement.{statement}
 use Rattle.script.proofs.tell_looked.Tie as tie
 
-looked-shown-requires : tie.Need-looked-shown-requires
-looked-shown-requires c κs = search needs
-
-showing-only-requires : tie.Need-showing-only-requires
-showing-only-requires c κs = search needs
-
 returns : tie.Need-returns
 returns c = (refl, refl, c .showing-only .ensures ∙ c .before .looked-shown .ensures)
 
 pub tell-looked-spec : {M : Type 1} → statement M
-tell-looked-spec = tie.close (tie.spec looked-shown-requires showing-only-requires returns)
+tell-looked-spec = tie.close (tie.spec (λ c κs. search needs) (λ c κs. search needs) returns)

@@ -10,45 +10,12 @@ use borrow.Author.Needs.{needs}
 use Rattle.side.proofs.located.Statement.{statement}
 use Rattle.side.proofs.located.Tie as tie
 
-shared-slice-read-count : tie.Need-shared-slice-read-count
-shared-slice-read-count c = search needs
-
-cast-scan : tie.Need-cast-scan
-cast-scan c = search needs
-
-sub-scan : tie.Need-sub-scan
-sub-scan c = search needs
-
-part-scan-start : tie.Need-part-scan-start
-part-scan-start c = search needs
-
-part-scan-end : tie.Need-part-scan-end
-part-scan-end c = search needs
-
-scan-requires : tie.Need-scan-requires
-scan-requires c κs = search needs
-
 returns : tie.Need-returns
 returns c = λ slots level few is.
     let a = c .before .before .before .before .before .args in
     c .scan .ensures
     ∙ ap (λ (n : ℕ). seenFrom 1 (a .id) (take n (a .words .now))) (sub-zero (getD (a .words .now) 192 0))
     ∙ seen-exactly (a .words .now) slots level few is (a .id)
-
-room-requires : tie.Need-room-requires
-room-requires c κs = search needs
-
-sub-scan-2 : tie.Need-sub-scan-2
-sub-scan-2 c = search needs
-
-part-scan-start-2 : tie.Need-part-scan-start-2
-part-scan-start-2 c = search needs
-
-part-scan-end-2 : tie.Need-part-scan-end-2
-part-scan-end-2 c = search needs
-
-scan-requires-2 : tie.Need-scan-requires-2
-scan-requires-2 c κs = search needs
 
 returns-2 : tie.Need-returns-2
 returns-2 c = λ slots level few is.
@@ -62,16 +29,16 @@ pub located-spec : {M : Type 1} → statement M
 located-spec =
     tie.close
     (tie.spec
-    shared-slice-read-count
-    cast-scan
-    sub-scan
-    part-scan-start
-    part-scan-end
-    scan-requires
+    (λ c. search needs)
+    (λ c. search needs)
+    (λ c. search needs)
+    (λ c. search needs)
+    (λ c. search needs)
+    (λ c κs. search needs)
     returns
-    room-requires
-    sub-scan-2
-    part-scan-start-2
-    part-scan-end-2
-    scan-requires-2
+    (λ c κs. search needs)
+    (λ c. search needs)
+    (λ c. search needs)
+    (λ c. search needs)
+    (λ c κs. search needs)
     returns-2)

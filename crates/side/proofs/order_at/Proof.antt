@@ -15,33 +15,6 @@ use Rattle.side.proofs.order_at.Tie as tie
 abbrev priced : ℕ → Side → Contracts → Steps → Order
 priced id side volume price = record { id = id; side = side; price = price; volume = volume }
 
-mul-t4 : tie.Need-mul-t4
-mul-t4 c = search needs
-
-shared-slice-read-t6 : tie.Need-shared-slice-read-t6
-shared-slice-read-t6 c = search needs
-
-add-price-at : tie.Need-add-price-at
-add-price-at c = search needs
-
-mul-price-at : tie.Need-mul-price-at
-mul-price-at c = search needs
-
-shared-slice-read-price-at : tie.Need-shared-slice-read-price-at
-shared-slice-read-price-at c = search needs
-
-price-at-requires : tie.Need-price-at-requires
-price-at-requires c κs = search needs
-
-add-t12 : tie.Need-add-t12
-add-t12 c = search needs
-
-mul-t13 : tie.Need-mul-t13
-mul-t13 c = search needs
-
-shared-slice-read-t15 : tie.Need-shared-slice-read-t15
-shared-slice-read-t15 c = search needs
-
 returns : tie.Need-returns
 returns c =
     let a = c .before .before .before .before .before .args in
@@ -51,13 +24,13 @@ pub order-at-spec : {M : Type 1} → statement M
 order-at-spec =
     tie.close
     (tie.spec
-    mul-t4
-    shared-slice-read-t6
-    add-price-at
-    mul-price-at
-    shared-slice-read-price-at
-    price-at-requires
-    add-t12
-    mul-t13
-    shared-slice-read-t15
+    (λ c. search needs)
+    (λ c. search needs)
+    (λ c. search needs)
+    (λ c. search needs)
+    (λ c. search needs)
+    (λ c κs. search needs)
+    (λ c. search needs)
+    (λ c. search needs)
+    (λ c. search needs)
     returns)

@@ -9,23 +9,11 @@ use borrow.Author.Needs.{needs}
 use Rattle.side.proofs.put.Statement.{statement}
 use Rattle.side.proofs.put.Tie as tie
 
-order-at-requires : tie.Need-order-at-requires
-order-at-requires c κs = search needs
-
-store-requires : tie.Need-store-requires
-store-requires c κs = search needs
-
 key-in-requires : tie.Need-key-in-requires
 key-in-requires c κs =
     let start = c .before .before .before .before .before .before .before .before .before in
     let read = c .before .before .before .before .before .order-at in
     read-good (start .args .place) (start .args .words .now) (start .pre .0) (start .args .order .side) (read .result) (read .ensures)
-
-key-in-requires-2 : tie.Need-key-in-requires-2
-key-in-requires-2 c κs = search needs
-
-same-length : tie.Need-same-length
-same-length c = search needs
 
 returns : tie.Need-returns
 returns c =
@@ -45,9 +33,9 @@ pub put-spec : {M : Type 1} → statement M
 put-spec =
     tie.close
     (tie.spec
-    order-at-requires
-    store-requires
+    (λ c κs. search needs)
+    (λ c κs. search needs)
     key-in-requires
-    key-in-requires-2
-    same-length
+    (λ c κs. search needs)
+    (λ c. search needs)
     returns)

@@ -12,63 +12,6 @@ use borrow.Author.Needs.{needs}
 use Rattle.side.proofs.remove.Statement.{statement}
 use Rattle.side.proofs.remove.Tie as tie
 
-order-at-requires : tie.Need-order-at-requires
-order-at-requires c κs = search needs
-
-slice-read-rest : tie.Need-slice-read-rest
-slice-read-rest c = search needs
-
-sub-rest : tie.Need-sub-rest
-sub-rest c = search needs
-
-sub-shift : tie.Need-sub-shift
-sub-shift c = search needs
-
-part-shift-start : tie.Need-part-shift-start
-part-shift-start c = search needs
-
-part-shift-end : tie.Need-part-shift-end
-part-shift-end c = search needs
-
-cast-shift : tie.Need-cast-shift
-cast-shift c = search needs
-
-shift-requires : tie.Need-shift-requires
-shift-requires c κs = search needs
-
-sub-shift-2 : tie.Need-sub-shift-2
-sub-shift-2 c = search needs
-
-part-shift-start-2 : tie.Need-part-shift-start-2
-part-shift-start-2 c = search needs
-
-part-shift-end-2 : tie.Need-part-shift-end-2
-part-shift-end-2 c = search needs
-
-cast-shift-2 : tie.Need-cast-shift-2
-cast-shift-2 c = search needs
-
-shift-requires-2 : tie.Need-shift-requires-2
-shift-requires-2 c κs = search needs
-
-sub-shift-3 : tie.Need-sub-shift-3
-sub-shift-3 c = search needs
-
-part-shift-start-3 : tie.Need-part-shift-start-3
-part-shift-start-3 c = search needs
-
-part-shift-end-3 : tie.Need-part-shift-end-3
-part-shift-end-3 c = search needs
-
-cast-shift-3 : tie.Need-cast-shift-3
-cast-shift-3 c = search needs
-
-shift-requires-3 : tie.Need-shift-requires-3
-shift-requires-3 c κs = search needs
-
-slice-write-words : tie.Need-slice-write-words
-slice-write-words c = search needs
-
 key-in-requires : tie.Need-key-in-requires
 key-in-requires c κs =
     let start = c .before .before .before .before .before .before .before .before .before .before .before .before .before .before .before .before .before in
@@ -110,25 +53,25 @@ pub remove-spec : {M : Type 1} → statement M
 remove-spec =
     tie.close
     (tie.spec
-    order-at-requires
-    slice-read-rest
-    sub-rest
-    sub-shift
-    part-shift-start
-    part-shift-end
-    cast-shift
-    shift-requires
-    sub-shift-2
-    part-shift-start-2
-    part-shift-end-2
-    cast-shift-2
-    shift-requires-2
-    sub-shift-3
-    part-shift-start-3
-    part-shift-end-3
-    cast-shift-3
-    shift-requires-3
-    slice-write-words
+    (λ c κs. search needs)
+    (λ c. search needs)
+    (λ c. search needs)
+    (λ c. search needs)
+    (λ c. search needs)
+    (λ c. search needs)
+    (λ c. search needs)
+    (λ c κs. search needs)
+    (λ c. search needs)
+    (λ c. search needs)
+    (λ c. search needs)
+    (λ c. search needs)
+    (λ c κs. search needs)
+    (λ c. search needs)
+    (λ c. search needs)
+    (λ c. search needs)
+    (λ c. search needs)
+    (λ c κs. search needs)
+    (λ c. search needs)
     key-in-requires
     same-length
     returns)

@@ -18,29 +18,11 @@ abbrev μ-loop : tie.MeasureT-loop
 loop-holds : tie.Need-loop-holds Inv-loop μ-loop
 loop-holds c = (omega arith, omega arith, omega arith, omega arith)
 
-mul-volume-where : tie.Need-mul-volume-where Inv-loop μ-loop
-mul-volume-where c = omega arith
-
-shared-slice-read-volume-where : tie.Need-shared-slice-read-volume-where Inv-loop μ-loop
-shared-slice-read-volume-where c = omega arith
-
-volume-where-requires : tie.Need-volume-where-requires Inv-loop μ-loop
-volume-where-requires c κs = search needs
-
 add-found : tie.Need-add-found Inv-loop μ-loop
 add-found c =
     let a = c .before .before .before .before .before .args in
     let l = c .before .before .before .loop in
     omega (arith, c .volume-where .ensures, where-most (eqb (getD (a .ids .now) (l .i) 0) (a .id)) (l .n))
-
-add-n : tie.Need-add-n Inv-loop μ-loop
-add-n c = omega arith
-
-add-i : tie.Need-add-i Inv-loop μ-loop
-add-i c = omega arith
-
-loop-less : tie.Need-loop-less Inv-loop μ-loop
-loop-less c = omega arith
 
 loop-again : tie.Need-loop-again Inv-loop μ-loop
 loop-again c =
@@ -62,12 +44,12 @@ scan-spec =
     Inv-loop
     μ-loop
     loop-holds
-    mul-volume-where
-    shared-slice-read-volume-where
-    volume-where-requires
+    (λ c. omega arith)
+    (λ c. omega arith)
+    (λ c κs. search needs)
     add-found
-    add-n
-    add-i
-    loop-less
+    (λ c. omega arith)
+    (λ c. omega arith)
+    (λ c. omega arith)
     loop-again
     returns)

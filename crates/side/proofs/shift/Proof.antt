@@ -17,27 +17,6 @@ abbrev μ-loop : tie.MeasureT-loop
 loop-holds : tie.Need-loop-holds Inv-loop μ-loop
 loop-holds c = (omega arith, omega arith, refl, partly-none (c .args .place) (c .args .column .now))
 
-add-next : tie.Need-add-next Inv-loop μ-loop
-add-next c = omega arith
-
-mul-next : tie.Need-mul-next Inv-loop μ-loop
-mul-next c = omega arith
-
-slice-read-next : tie.Need-slice-read-next Inv-loop μ-loop
-slice-read-next c = omega arith
-
-mul-column : tie.Need-mul-column Inv-loop μ-loop
-mul-column c = omega arith
-
-slice-write-column : tie.Need-slice-write-column Inv-loop μ-loop
-slice-write-column c = omega arith
-
-add-i : tie.Need-add-i Inv-loop μ-loop
-add-i c = omega arith
-
-loop-less : tie.Need-loop-less Inv-loop μ-loop
-loop-less c = omega arith
-
 loop-again : tie.Need-loop-again Inv-loop μ-loop
 loop-again c =
     let a = c .before .before .before .args in
@@ -47,12 +26,6 @@ loop-again c =
       length-set (l .column) (l .i) (getD (l .column) (l .i + 1) 0) ∙ l .inv .2,
       partly-next (a .place) (l .i) (a .column .now) (l .column) (l .inv .3) (omega arith) (omega arith),
     )
-
-mul-column-2 : tie.Need-mul-column-2 Inv-loop μ-loop
-mul-column-2 c = omega arith
-
-slice-write-column-2 : tie.Need-slice-write-column-2 Inv-loop μ-loop
-slice-write-column-2 c = omega arith
 
 same-length : tie.Need-same-length Inv-loop μ-loop
 same-length c = simp length-set (c .before .loop .inv .2)
@@ -71,15 +44,15 @@ shift-spec =
     Inv-loop
     μ-loop
     loop-holds
-    add-next
-    mul-next
-    slice-read-next
-    mul-column
-    slice-write-column
-    add-i
-    loop-less
+    (λ c. omega arith)
+    (λ c. omega arith)
+    (λ c. omega arith)
+    (λ c. omega arith)
+    (λ c. omega arith)
+    (λ c. omega arith)
+    (λ c. omega arith)
     loop-again
-    mul-column-2
-    slice-write-column-2
+    (λ c. omega arith)
+    (λ c. omega arith)
     same-length
     returns)

@@ -14,9 +14,6 @@ use Rattle.month.proofs.Month.ask.Tie as tie
 abbrev named : tie.Start → Amendment
 named s = record { t = s .args .t; id = s .args .id; price = s .args .price; volume = s .args .volume }
 
-asked-requires : tie.Need-asked-requires
-asked-requires c κs = search needs
-
 returns : tie.Need-returns
 returns c =
     let s = c .before .before .before in
@@ -25,9 +22,6 @@ returns c =
 
 send-requires : tie.Need-send-requires
 send-requires c κs = let s = c .before .before .before in quantum-reached (s .args .self) (s .pre)
-
-enum-told : tie.Need-enum-told
-enum-told c = search needs
 
 -- both quanta were handed back by a call; the one that is shown is the one with the amendment taken
 preview-requires : tie.Need-preview-requires
@@ -38,15 +32,6 @@ preview-requires c κs =
     let after =
     ask-reached (s .args .self) (named s) (k .send .result) (not-false _ (k .before .before .if1 .left)) (k .send .ensures) (c .enum-told .given .1) (s .pre) in
     search (needs, before, after)
-
-asked-requires-2 : tie.Need-asked-requires-2
-asked-requires-2 c κs = search needs
-
-enum-known-answer : tie.Need-enum-known-answer
-enum-known-answer c = search needs
-
-asked-requires-3 : tie.Need-asked-requires-3
-asked-requires-3 c κs = search needs
 
 returns-2 : tie.Need-returns-2
 returns-2 c =
@@ -67,13 +52,13 @@ pub ask-spec : {M : Type 1} → statement M
 ask-spec =
     tie.close
     (tie.spec
-    asked-requires
+    (λ c κs. search needs)
     returns
     send-requires
-    enum-told
+    (λ c. search needs)
     preview-requires
-    asked-requires-2
-    enum-known-answer
-    asked-requires-3
+    (λ c κs. search needs)
+    (λ c. search needs)
+    (λ c κs. search needs)
     returns-2
     returns-3)

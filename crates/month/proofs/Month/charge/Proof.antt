@@ -34,12 +34,6 @@ found k =
     let a = k .before .before .before .before .before .args in
     named-filled (a .self .cells) (a .day) (a .expiry) (a .quantum) _ _ (sym (k .before .before .named .ensures) ∙ k .found .given .1)
 
-both-charges-requires : tie.Need-both-charges-requires
-both-charges-requires c κs = search needs
-
-refused-requires : tie.Need-refused-requires
-refused-requires c κs = search needs
-
 returns : tie.Need-returns
 returns c =
     let s = c .before .before .before in
@@ -49,35 +43,11 @@ returns c =
     (ap (λ (t : Bool). goodCell (a .day) (a .expiry) (a .quantum) && t) (sym (c .before .before .both-charges .ensures) ∙ not-true _ (c .before .if1 .taken))
     ∙ and-false (goodCell (a .day) (a .expiry) (a .quantum))))
 
-named-requires : tie.Need-named-requires
-named-requires c κs = search needs
-
-enum-told : tie.Need-enum-told
-enum-told c = search needs
-
-refused-requires-2 : tie.Need-refused-requires-2
-refused-requires-2 c κs = search needs
-
-enum-told-2 : tie.Need-enum-told-2
-enum-told-2 c = search needs
-
-refused-requires-3 : tie.Need-refused-requires-3
-refused-requires-3 c κs = search needs
-
-enum-known-found : tie.Need-enum-known-found
-enum-known-found c = search needs
-
-recharged-requires : tie.Need-recharged-requires
-recharged-requires c κs = search needs
-
 with-cell-requires : tie.Need-with-cell-requires
 with-cell-requires c κs = let s = c .before .before .before .before .before .before .before in
     let a = s .args in
     let f = found (c .before .before) in
     omega (arith, f .at, cell-small (a .day) (a .expiry) (a .quantum) (f .good))
-
-accepted-requires : tie.Need-accepted-requires
-accepted-requires c κs = search needs
 
 returns-2 : tie.Need-returns-2
 returns-2 c =
@@ -110,18 +80,18 @@ pub charge-spec : {M : Type 1} → statement M
 charge-spec =
     tie.close
     (tie.spec
-    both-charges-requires
-    refused-requires
+    (λ c κs. search needs)
+    (λ c κs. search needs)
     returns
-    named-requires
-    enum-told
-    refused-requires-2
-    enum-told-2
-    refused-requires-3
-    enum-known-found
-    recharged-requires
+    (λ c κs. search needs)
+    (λ c. search needs)
+    (λ c κs. search needs)
+    (λ c. search needs)
+    (λ c κs. search needs)
+    (λ c. search needs)
+    (λ c κs. search needs)
     with-cell-requires
-    accepted-requires
+    (λ c κs. search needs)
     returns-2
     returns-3
     returns-4)

@@ -21,20 +21,11 @@ use Rattle.month.proofs.Month.close.Tie as tie
 good : (k : tie.Else1) → goodCharges paper (k .before .before .args .active) (k .before .before .args .passive) ≡ true
 good k = sym (k .before .both-charges .ensures) ∙ not-false _ (k .if1 .left)
 
-both-charges-requires : tie.Need-both-charges-requires
-both-charges-requires c κs = search needs
-
-refused-requires : tie.Need-refused-requires
-refused-requires c κs = search needs
-
 returns : tie.Need-returns
 returns c =
     let a = c .before .before .before .args in
     handed (a .self) (Close (a .active) (a .passive)) (c .refused .result) (a .self) (Refused ArgumentOutOfRange) (c .refused .ensures)
     (close-range (a .self) (a .active) (a .passive) (sym (c .before .before .both-charges .ensures) ∙ not-true _ (c .before .if1 .taken)))
-
-refused-requires-2 : tie.Need-refused-requires-2
-refused-requires-2 c κs = search needs
 
 returns-2 : tie.Need-returns-2
 returns-2 c =
@@ -45,17 +36,8 @@ returns-2 c =
 ended-requires : tie.Need-ended-requires
 ended-requires c κs = let s = c .before .before .before .before .before in quantum-reached (s .args .self) (s .pre)
 
-whole-requires : tie.Need-whole-requires
-whole-requires c κs = search needs
-
 with-cell-requires : tie.Need-with-cell-requires
 with-cell-requires c κs = let s = c .before .before .before .before .before .before .before .before in place-inside (s .args .self) (s .pre)
-
-without-quantum-requires : tie.Need-without-quantum-requires
-without-quantum-requires c κs = search needs
-
-accepted-requires : tie.Need-accepted-requires
-accepted-requires c κs = search needs
 
 returns-3 : tie.Need-returns-3
 returns-3 c =
@@ -73,14 +55,14 @@ pub close-spec : {M : Type 1} → statement M
 close-spec =
     tie.close
     (tie.spec
-    both-charges-requires
-    refused-requires
+    (λ c κs. search needs)
+    (λ c κs. search needs)
     returns
-    refused-requires-2
+    (λ c κs. search needs)
     returns-2
     ended-requires
-    whole-requires
+    (λ c κs. search needs)
     with-cell-requires
-    without-quantum-requires
-    accepted-requires
+    (λ c κs. search needs)
+    (λ c κs. search needs)
     returns-3)

@@ -14,30 +14,12 @@ use Rattle.month.proofs.Month.commit.Tie as tie
 abbrev named : tie.Start → Amendment
 named s = record { t = s .args .t; id = s .args .id; price = s .args .price; volume = s .args .volume }
 
-is-present-requires : tie.Need-is-present-requires
-is-present-requires c κs = search needs
-
-amend-requires : tie.Need-amend-requires
-amend-requires c κs = search needs
-
-enum-told : tie.Need-enum-told
-enum-told c = search needs
-
 returns : tie.Need-returns
 returns c =
     let k = c .before .before .before in
     let s = k .before .before in
     commit-done (s .args .self) (named s) (s .args .ticket) (k .amend .result .month) (k .amend .result .answer) (k .amend .ensures)
     (c .before .enum-told .given .1) (sym (k .before .is-present .ensures) ∙ c .if1 .taken)
-
-refused-requires : tie.Need-refused-requires
-refused-requires c κs = search needs
-
-enum-known-answer : tie.Need-enum-known-answer
-enum-known-answer c = search needs
-
-refused-requires-2 : tie.Need-refused-requires-2
-refused-requires-2 c κs = search needs
 
 returns-2 : tie.Need-returns-2
 returns-2 c =
@@ -59,12 +41,12 @@ pub commit-spec : {M : Type 1} → statement M
 commit-spec =
     tie.close
     (tie.spec
-    is-present-requires
-    amend-requires
-    enum-told
+    (λ c κs. search needs)
+    (λ c κs. search needs)
+    (λ c. search needs)
     returns
-    refused-requires
-    enum-known-answer
-    refused-requires-2
+    (λ c κs. search needs)
+    (λ c. search needs)
+    (λ c κs. search needs)
     returns-2
     returns-3)

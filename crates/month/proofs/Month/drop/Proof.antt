@@ -14,19 +14,10 @@ use borrow.Author.Needs.{needs}
 use Rattle.month.proofs.Month.drop.Statement.{statement}
 use Rattle.month.proofs.Month.drop.Tie as tie
 
-refused-requires : tie.Need-refused-requires
-refused-requires c κs = search needs
-
 returns : tie.Need-returns
 returns c =
     let m = c .before .before .before .args .self in
     handed m Drop (c .refused .result) m (Refused NoQuantumOpen) (c .refused .ensures) (drop-idle m (not-true _ (c .before .if1 .taken)))
-
-without-quantum-requires : tie.Need-without-quantum-requires
-without-quantum-requires c κs = search needs
-
-accepted-requires : tie.Need-accepted-requires
-accepted-requires c κs = search needs
 
 returns-2 : tie.Need-returns-2
 returns-2 c =
@@ -37,4 +28,4 @@ returns-2 c =
 pub drop-spec : {M : Type 1} → statement M
 drop-spec =
     tie.close
-    (tie.spec refused-requires returns without-quantum-requires accepted-requires returns-2)
+    (tie.spec (λ c κs. search needs) returns (λ c κs. search needs) (λ c κs. search needs) returns-2)

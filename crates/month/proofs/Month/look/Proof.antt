@@ -16,18 +16,6 @@ found k =
     let a = k .before .before .before .args in
     named-filled (a .self .cells) (a .day) (a .expiry) (a .quantum) _ _ (sym (k .before .before .named .ensures) ∙ k .found .given .1)
 
-named-requires : tie.Need-named-requires
-named-requires c κs = search needs
-
-enum-told : tie.Need-enum-told
-enum-told c = search needs
-
-enum-told-2 : tie.Need-enum-told-2
-enum-told-2 c = search needs
-
-enum-known-found : tie.Need-enum-known-found
-enum-known-found c = search needs
-
 view-requires : tie.Need-view-requires
 view-requires c κs = let s = c .before .before .before .before in
     let a = s .args in
@@ -58,10 +46,10 @@ pub look-spec : {M : Type 1} → statement M
 look-spec =
     tie.close
     (tie.spec
-    named-requires
-    enum-told
-    enum-told-2
-    enum-known-found
+    (λ c κs. search needs)
+    (λ c. search needs)
+    (λ c. search needs)
+    (λ c. search needs)
     view-requires
     returns
     returns-2

@@ -20,9 +20,6 @@ there k =
     let a = k .before .before .before .before .args in
     k .cell-at .ensures ∙ ap (λ (p : ℕ). cellAt (a .self .cells) p) (k .before .place-of .ensures)
 
-cell-requires : tie.Need-cell-requires
-cell-requires c κs = search needs
-
 returns : tie.Need-returns
 returns c = let a = c .before .before .args in is-out (a .self .cells) (a .day) (a .expiry) (a .quantum) (sym (c .before .cell .ensures) ∙ not-true _ (c .if1 .taken))
 
@@ -53,4 +50,4 @@ returns-3 c =
 pub named-spec : {M : Type 1} → statement M
 named-spec =
     tie.close
-    (tie.spec cell-requires returns place-of-requires cell-at-requires returns-2 returns-3)
+    (tie.spec (λ c κs. search needs) returns place-of-requires cell-at-requires returns-2 returns-3)

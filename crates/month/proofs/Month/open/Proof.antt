@@ -12,20 +12,8 @@ use Rattle.month.proofs.Month.open.Tie as tie
 was-read : (k : tie.After-read2) → ReadAs (k .before .before .before .before .args .opening .spread) (now (k .before .before .before .before .args .words)) (k .read2 .given .0 .0)
 was-read k = read-as _ _ _ (ap shownRow (sym (k .read2 .given .1)) ∙ k .before .before .read .ensures)
 
-read-requires : tie.Need-read-requires
-read-requires c κs = search needs
-
-enum-known-read : tie.Need-enum-known-read
-enum-known-read c = search needs
-
 open-row-requires : tie.Need-open-row-requires
 open-row-requires c κs = let s = c .before .before .before .before .before in (s .pre, was-read (c .before) .good)
-
-enum-known-read-2 : tie.Need-enum-known-read-2
-enum-known-read-2 c = search needs
-
-refused-requires : tie.Need-refused-requires
-refused-requires c κs = search needs
 
 returns : tie.Need-returns
 returns c =
@@ -42,10 +30,10 @@ pub open-spec : {M : Type 1} → statement M
 open-spec =
     tie.close
     (tie.spec
-    read-requires
-    enum-known-read
+    (λ c κs. search needs)
+    (λ c. search needs)
     open-row-requires
-    enum-known-read-2
-    refused-requires
+    (λ c. search needs)
+    (λ c κs. search needs)
     returns
     returns-2)

@@ -37,18 +37,6 @@ filled k b h =
     let a = k .before .before .before .before .before .before .args in
     ap (λ (p : ℕ). cellAt (a .self .cells) p .filled) (sym (k .before .place-of .ensures)) ∙ ap (λ (x : Cell). x .filled) (sym (k .cell-at .ensures)) ∙ h
 
-between-requires : tie.Need-between-requires
-between-requires c κs = search needs
-
-settlement-requires : tie.Need-settlement-requires
-settlement-requires c κs = search needs
-
-both-requires : tie.Need-both-requires
-both-requires c κs = search needs
-
-refused-requires : tie.Need-refused-requires
-refused-requires c κs = search needs
-
 returns : tie.Need-returns
 returns c = λ words seven is.
     let s = c .before .before .before .before .before in
@@ -64,9 +52,6 @@ cell-at-requires : tie.Need-cell-at-requires
 cell-at-requires c κs = let a = c .before .before .before .before .before .args in
     omega (arith, c .place-of .ensures, cell-small (a .day) (a .row .expiry) (a .row .quantum) (cell-named (c .before)))
 
-refused-requires-2 : tie.Need-refused-requires-2
-refused-requires-2 c κs = search needs
-
 returns-2 : tie.Need-returns-2
 returns-2 c = λ words seven is.
     let s = c .before .before .before .before .before .before .before .before in
@@ -75,9 +60,6 @@ returns-2 c = λ words seven is.
     (open-filled (a .self) words (a .row) (a .day) (a .opening) (record { seven = seven; is = is; good = s .pre .1 }) (good (c .before .before .before .before))
     (filled (c .before .before) _ (c .before .if2 .taken)))
 
-refused-requires-3 : tie.Need-refused-requires-3
-refused-requires-3 c κs = search needs
-
 returns-3 : tie.Need-returns-3
 returns-3 c = λ words seven is.
     let s = c .before .before .before .before .before .before .before .before .before in
@@ -85,12 +67,6 @@ returns-3 c = λ words seven is.
     handed (a .self) (Open words (a .day) (a .opening)) (c .refused3 .result) (a .self) (Refused QuantumOpen) (c .refused3 .ensures)
     (open-running (a .self) words (a .row) (a .day) (a .opening) (record { seven = seven; is = is; good = s .pre .1 }) (good (c .before .before .before .before .before))
     (filled (c .before .before .before) _ (c .before .before .if2 .left)) (c .before .if3 .taken))
-
-lapse-limit-requires : tie.Need-lapse-limit-requires
-lapse-limit-requires c κs = search needs
-
-refused-requires-4 : tie.Need-refused-requires-4
-refused-requires-4 c κs = search needs
 
 returns-4 : tie.Need-returns-4
 returns-4 c = λ words seven is.
@@ -101,12 +77,6 @@ returns-4 c = λ words seven is.
     (open-allowed (a .self) words (a .row) (a .day) (a .opening) (record { seven = seven; is = is; good = s .pre .1 }) (good (f .before .before .before .before))
     (filled (f .before .before) _ (f .before .if2 .left)) (f .if3 .left)
     (sym (c .before .before .lapse-limit .ensures) ∙ not-true _ (c .before .if4 .taken)))
-
-in-range-requires : tie.Need-in-range-requires
-in-range-requires c κs = search needs
-
-refused-requires-5 : tie.Need-refused-requires-5
-refused-requires-5 c κs = search needs
 
 returns-5 : tie.Need-returns-5
 returns-5 c = λ words seven is.
@@ -127,9 +97,6 @@ opened-requires : tie.Need-opened-requires
 opened-requires c κs =
     (c .before .before .before .before .before .before .before .before .before .before .before .before .pre .1, in-range c)
 
-accepted-requires : tie.Need-accepted-requires
-accepted-requires c κs = search needs
-
 returns-6 : tie.Need-returns-6
 returns-6 c = λ words seven is.
     let g = c .before .before .before in
@@ -147,23 +114,23 @@ pub open-row-spec : {M : Type 1} → statement M
 open-row-spec =
     tie.close
     (tie.spec
-    between-requires
-    settlement-requires
-    both-requires
-    refused-requires
+    (λ c κs. search needs)
+    (λ c κs. search needs)
+    (λ c κs. search needs)
+    (λ c κs. search needs)
     returns
     place-of-requires
     cell-at-requires
-    refused-requires-2
+    (λ c κs. search needs)
     returns-2
-    refused-requires-3
+    (λ c κs. search needs)
     returns-3
-    lapse-limit-requires
-    refused-requires-4
+    (λ c κs. search needs)
+    (λ c κs. search needs)
     returns-4
-    in-range-requires
-    refused-requires-5
+    (λ c κs. search needs)
+    (λ c κs. search needs)
     returns-5
     opened-requires
-    accepted-requires
+    (λ c κs. search needs)
     returns-6)

@@ -6,14 +6,8 @@ use borrow.Author.Needs.{needs}
 use Rattle.month.proofs.Month.report.Statement.{statement}
 use Rattle.month.proofs.Month.report.Tie as tie
 
-failures-requires : tie.Need-failures-requires
-failures-requires c κs = search needs
-
 fee-requires : tie.Need-fee-requires
 fee-requires c κs = let s = c .before .before .before in cells-good (s .args .self) (s .pre)
-
-now-requires : tie.Need-now-requires
-now-requires c κs = search needs
 
 live-requires : tie.Need-live-requires
 live-requires c κs = let s = c .before .before .before .before .before in quantum-reached (s .args .self) (s .pre)
@@ -23,12 +17,6 @@ best-bid-requires c κs = let s = c .before .before .before .before .before .bef
 
 best-ask-requires : tie.Need-best-ask-requires
 best-ask-requires c κs = let s = c .before .before .before .before .before .before .before in quantum-reached (s .args .self) (s .pre)
-
-kept-so-far-requires : tie.Need-kept-so-far-requires
-kept-so-far-requires c κs = search needs
-
-lapses-so-far-requires : tie.Need-lapses-so-far-requires
-lapses-so-far-requires c κs = search needs
 
 returns : tie.Need-returns
 returns c =
@@ -50,12 +38,12 @@ pub report-spec : {M : Type 1} → statement M
 report-spec =
     tie.close
     (tie.spec
-    failures-requires
+    (λ c κs. search needs)
     fee-requires
-    now-requires
+    (λ c κs. search needs)
     live-requires
     best-bid-requires
     best-ask-requires
-    kept-so-far-requires
-    lapses-so-far-requires
+    (λ c κs. search needs)
+    (λ c κs. search needs)
     returns)

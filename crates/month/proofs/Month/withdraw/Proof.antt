@@ -21,34 +21,10 @@ found k =
     let a = k .before .before .before .args in
     named-filled (a .self .cells) (a .day) (a .expiry) (a .quantum) _ _ (sym (k .before .before .named .ensures) ∙ k .found .given .1)
 
-named-requires : tie.Need-named-requires
-named-requires c κs = search needs
-
-enum-told : tie.Need-enum-told
-enum-told c = search needs
-
-refused-requires : tie.Need-refused-requires
-refused-requires c κs = search needs
-
-enum-told-2 : tie.Need-enum-told-2
-enum-told-2 c = search needs
-
-refused-requires-2 : tie.Need-refused-requires-2
-refused-requires-2 c κs = search needs
-
-enum-known-found : tie.Need-enum-known-found
-enum-known-found c = search needs
-
-blank-cell-requires : tie.Need-blank-cell-requires
-blank-cell-requires c κs = search needs
-
 with-cell-requires : tie.Need-with-cell-requires
 with-cell-requires c κs = let a = c .before .before .before .before .before .args in
     let f = found (c .before .before) in
     omega (arith, f .at, cell-small (a .day) (a .expiry) (a .quantum) (f .good))
-
-accepted-requires : tie.Need-accepted-requires
-accepted-requires c κs = search needs
 
 returns : tie.Need-returns
 returns c =
@@ -78,15 +54,15 @@ pub withdraw-spec : {M : Type 1} → statement M
 withdraw-spec =
     tie.close
     (tie.spec
-    named-requires
-    enum-told
-    refused-requires
-    enum-told-2
-    refused-requires-2
-    enum-known-found
-    blank-cell-requires
+    (λ c κs. search needs)
+    (λ c. search needs)
+    (λ c κs. search needs)
+    (λ c. search needs)
+    (λ c κs. search needs)
+    (λ c. search needs)
+    (λ c κs. search needs)
     with-cell-requires
-    accepted-requires
+    (λ c κs. search needs)
     returns
     returns-2
     returns-3)

@@ -6,13 +6,10 @@ use borrow.Author.Needs.{needs}
 use Rattle.month.proofs.Month.without_quantum.Statement.{statement}
 use Rattle.month.proofs.Month.without_quantum.Tie as tie
 
-idle-requires : tie.Need-idle-requires
-idle-requires c κs = search needs
-
 returns : tie.Need-returns
 returns c =
     let m = c .before .before .args .self in
     ap (λ (q : Quantum). record { running = false; place = 0; share = 0; allowed = 0; count = m .count; quantum = q; cells = m .cells }) (c .idle .ensures)
 
 pub without-quantum-spec : {M : Type 1} → statement M
-without-quantum-spec = tie.close (tie.spec idle-requires returns)
+without-quantum-spec = tie.close (tie.spec (λ c κs. search needs) returns)

@@ -13,38 +13,11 @@ Inv-loop bytes count strikes₀ i₀ strikes i = (i ≤ count) × (64 ≡ length
 abbrev μ-loop : tie.MeasureT-loop
 μ-loop bytes count strikes₀ i₀ strikes i = count - i
 
-no-strikes-requires : tie.Need-no-strikes-requires Inv-loop μ-loop
-no-strikes-requires c κs = search needs
-
 loop-holds : tie.Need-loop-holds Inv-loop μ-loop
 loop-holds c = (omega arith, c .no-strikes .ensures)
 
-mul-strike-at : tie.Need-mul-strike-at Inv-loop μ-loop
-mul-strike-at c = search needs
-
-add-strike-at : tie.Need-add-strike-at Inv-loop μ-loop
-add-strike-at c = search needs
-
-strike-at-requires : tie.Need-strike-at-requires Inv-loop μ-loop
-strike-at-requires c κs = search needs
-
-mul-strikes : tie.Need-mul-strikes Inv-loop μ-loop
-mul-strikes c = search needs
-
-array-set-from-strikes : tie.Need-array-set-from-strikes Inv-loop μ-loop
-array-set-from-strikes c = search needs
-
-add-i : tie.Need-add-i Inv-loop μ-loop
-add-i c = search needs
-
-loop-less : tie.Need-loop-less Inv-loop μ-loop
-loop-less c = search needs
-
 loop-again : tie.Need-loop-again Inv-loop μ-loop
 loop-again c = simp length-set (omega arith)
-
-returns : tie.Need-returns Inv-loop μ-loop
-returns c = search needs
 
 pub read-strikes-spec : {M : Type 1} → statement M
 read-strikes-spec =
@@ -52,14 +25,14 @@ read-strikes-spec =
     (tie.spec
     Inv-loop
     μ-loop
-    no-strikes-requires
+    (λ c κs. search needs)
     loop-holds
-    mul-strike-at
-    add-strike-at
-    strike-at-requires
-    mul-strikes
-    array-set-from-strikes
-    add-i
-    loop-less
+    (λ c. search needs)
+    (λ c. search needs)
+    (λ c κs. search needs)
+    (λ c. search needs)
+    (λ c. search needs)
+    (λ c. search needs)
+    (λ c. search needs)
     loop-again
-    returns)
+    (λ c. search needs))

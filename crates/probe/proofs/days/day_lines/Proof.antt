@@ -13,56 +13,11 @@ Inv-loop prices threshold n day₀ t6 day = (day ≤ n) × (n ≡ length prices)
 abbrev μ-loop : tie.MeasureT-loop
 μ-loop prices threshold n day₀ t6 day = n - day
 
-loop-holds : tie.Need-loop-holds Inv-loop μ-loop
-loop-holds c = search needs
-
-day-text-requires : tie.Need-day-text-requires Inv-loop μ-loop
-day-text-requires c κs = search needs
-
 slice-aggregate-inside : tie.Need-slice-aggregate-inside Inv-loop μ-loop
 slice-aggregate-inside c = simp length-take (omega arith)
 
-inside-requires : tie.Need-inside-requires Inv-loop μ-loop
-inside-requires c κs = search needs
-
-answer-text-requires : tie.Need-answer-text-requires Inv-loop μ-loop
-answer-text-requires c κs = search needs
-
-add-next : tie.Need-add-next Inv-loop μ-loop
-add-next c = search needs
-
 slice-aggregate-last-sigma : tie.Need-slice-aggregate-last-sigma Inv-loop μ-loop
 slice-aggregate-last-sigma c = simp length-take (omega arith)
-
-last-sigma-requires : tie.Need-last-sigma-requires Inv-loop μ-loop
-last-sigma-requires c κs = search needs
-
-sigma-text-requires : tie.Need-sigma-text-requires Inv-loop μ-loop
-sigma-text-requires c κs = search needs
-
-slice-aggregate-text : tie.Need-slice-aggregate-text Inv-loop μ-loop
-slice-aggregate-text c = search needs
-
-text-requires : tie.Need-text-requires Inv-loop μ-loop
-text-requires c κs = search needs
-
-add-day : tie.Need-add-day Inv-loop μ-loop
-add-day c = search needs
-
-loop-less : tie.Need-loop-less Inv-loop μ-loop
-loop-less c = search needs
-
-loop-again : tie.Need-loop-again Inv-loop μ-loop
-loop-again c = search needs
-
-day-text-requires-2 : tie.Need-day-text-requires-2 Inv-loop μ-loop
-day-text-requires-2 c κs = search needs
-
-inside-line-requires : tie.Need-inside-line-requires Inv-loop μ-loop
-inside-line-requires c κs = search needs
-
-returns : tie.Need-returns Inv-loop μ-loop
-returns c = search needs
 
 pub day-lines-spec : {M : Type 1} → statement M
 day-lines-spec =
@@ -70,20 +25,20 @@ day-lines-spec =
     (tie.spec
     Inv-loop
     μ-loop
-    loop-holds
-    day-text-requires
+    (λ c. search needs)
+    (λ c κs. search needs)
     slice-aggregate-inside
-    inside-requires
-    answer-text-requires
-    add-next
+    (λ c κs. search needs)
+    (λ c κs. search needs)
+    (λ c. search needs)
     slice-aggregate-last-sigma
-    last-sigma-requires
-    sigma-text-requires
-    slice-aggregate-text
-    text-requires
-    add-day
-    loop-less
-    loop-again
-    day-text-requires-2
-    inside-line-requires
-    returns)
+    (λ c κs. search needs)
+    (λ c κs. search needs)
+    (λ c. search needs)
+    (λ c κs. search needs)
+    (λ c. search needs)
+    (λ c. search needs)
+    (λ c. search needs)
+    (λ c κs. search needs)
+    (λ c κs. search needs)
+    (λ c. search needs))

@@ -6,9 +6,6 @@ use borrow.Author.Needs.{needs}
 use Rattle.quantum.proofs.Quantum.best.Statement.{statement}
 use Rattle.quantum.proofs.Quantum.best.Tie as tie
 
-slice-aggregate-best : tie.Need-slice-aggregate-best
-slice-aggregate-best c = search needs
-
 best-requires : tie.Need-best-requires
 best-requires c κs =
     let s = c .before .before in
@@ -20,4 +17,4 @@ returns c = λ row sp es g is.
     c .best .ensures (row .minimum .0) (liveOrders es) (good-orders row es g) (represents-all row sp es q is g .table-is)
 
 pub best-spec : {M : Type 1} → statement M
-best-spec = tie.close (tie.spec slice-aggregate-best best-requires returns)
+best-spec = tie.close (tie.spec (λ c. search needs) best-requires returns)

@@ -6,9 +6,6 @@ use borrow.Author.Needs.{needs}
 use Rattle.quantum.proofs.Quantum.live.Statement.{statement}
 use Rattle.quantum.proofs.Quantum.live.Tie as tie
 
-slice-aggregate-count : tie.Need-slice-aggregate-count
-slice-aggregate-count c = search needs
-
 count-requires : tie.Need-count-requires
 count-requires c κs =
     let s = c .before .before in
@@ -20,4 +17,4 @@ returns c = λ row sp es g is.
     c .count .ensures (row .minimum .0) (liveOrders es) (good-orders row es g) (represents-all row sp es q is g .table-is)
 
 pub live-spec : {M : Type 1} → statement M
-live-spec = tie.close (tie.spec slice-aggregate-count count-requires returns)
+live-spec = tie.close (tie.spec (λ c. search needs) count-requires returns)

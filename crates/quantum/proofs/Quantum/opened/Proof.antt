@@ -4,15 +4,6 @@ use borrow.Author.Needs.{needs}
 use Rattle.quantum.proofs.Quantum.opened.Statement.{statement}
 use Rattle.quantum.proofs.Quantum.opened.Tie as tie
 
-duty-of-requires : tie.Need-duty-of-requires
-duty-of-requires c κs = search needs
-
-started-requires : tie.Need-started-requires
-started-requires c κs = search needs
-
-empty-requires : tie.Need-empty-requires
-empty-requires c κs = search needs
-
 returns : tie.Need-returns
 returns c =
     let s = c .before .before .before in
@@ -20,4 +11,4 @@ returns c =
     (c .before .before .duty-of .ensures) (c .before .started .ensures (s .args .row) (s .args .spread)) (c .empty .ensures (s .args .row .minimum .0))
 
 pub opened-spec : {M : Type 1} → statement M
-opened-spec = tie.close (tie.spec duty-of-requires started-requires empty-requires returns)
+opened-spec = tie.close (tie.spec (λ c κs. search needs) (λ c κs. search needs) (λ c κs. search needs) returns)
