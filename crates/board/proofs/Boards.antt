@@ -11,11 +11,7 @@ use lib.ListN.{length, getD}
 use Rattle.rules.specs.Lists.{within, every}
 use Rattle.rules.specs.Rows.{goodLength}
 use Rattle.rules.specs.Answers.{Outcome, accepted, refused}
-<<<<<<< HEAD
 use Rattle.rules.specs.Causes.{firstNumber}
-=======
-use Rattle.rules.specs.Causes.{firstNumber}
->>>>>>> 750efba7edcb19fa60b49fc94715b13a0e2df678
 use Rattle.rules.specs.Boards.{lengthIn, boardLength, goodQuantumOf, goodBoard, reaches, boardMet, judged}
 use Rattle.rules.proofs.Lists.{both}
 use Rattle.rules.proofs.Refusals.{within-parts}
@@ -97,11 +93,7 @@ module _ (first second : ℕ) (strikes : List (List ℕ)) (size : Bool) (s : siz
 
     pub answered : not good ≡ false → (met t : Bool) → met ≡ sharesMet l first second strikes → met ≡ t
         → accepted t ≡ judged first second strikes
-<<<<<<< HEAD
     unfolding judged firstNumber boardMet
-=======
-    unfolding judged firstNumber boardMet
->>>>>>> 750efba7edcb19fa60b49fc94715b13a0e2df678
     answered f met t m h = rw (good-is ∙ not-false good f, length-is) (ap accepted (sym h ∙ m ∙ rw (every-is (reaches first l) strikes) refl))
 
 same-verdict : (a b : Bool) → _≡_ {A = Outcome Bool} (accepted a) (accepted b) → a ≡ b

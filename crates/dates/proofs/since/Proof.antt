@@ -1,8 +1,4 @@
-<<<<<<< HEAD
 -- The 60's bytes say a time or none. Assumes nothing.
-=======
--- `dates::since` meets its contract. Assumes nothing.
->>>>>>> 750efba7edcb19fa60b49fc94715b13a0e2df678
 use mathlib.Core.Path.{sym, ap, _∙_}
 use Rattle.dates.specs.Answers.{shownTime}
 use Rattle.dates.proofs.Reading.{timed, no-sixty, with-sixty}
@@ -15,14 +11,11 @@ returns c =
     let start = c .before .before .before .before .before in
     no-sixty (start .args .start .now) (start .args .sixty .now) (sym (ap shownTime (c .enum-told .given .1)) ∙ c .before .before .time-in .ensures)
 
-<<<<<<< HEAD
 after-requires : tie.Need-after-requires
 after-requires c κs =
     let start = c .before .before .before .before .before .before in
     timed (start .args .sixty .now) (c .before .time .given .0 .0) (sym (sym (ap shownTime (c .before .time .given .1)) ∙ c .before .before .before .time-in .ensures))
 
-=======
->>>>>>> 750efba7edcb19fa60b49fc94715b13a0e2df678
 returns-2 : tie.Need-returns-2
 returns-2 c =
     let start = c .before .before .before .before .before .before .before in
@@ -30,20 +23,4 @@ returns-2 c =
     ∙ with-sixty (start .args .start .now) (start .args .sixty .now) (c .before .before .time .given .0 .0) (sym (ap shownTime (c .before .before .time .given .1)) ∙ c .before .before .before .before .time-in .ensures)
 
 pub since-spec : {M : Type 1} → statement M
-<<<<<<< HEAD
 since-spec = tie.close (tie.spec (λ c κs. search needs) (λ c. search needs) (λ c. search needs) returns after-requires returns-2)
-=======
-since-spec =
-    tie.close
-    (tie.spec
-    (λ c κs. search needs)
-    (λ c. search needs)
-    (λ c. search needs)
-    returns
-    (λ c κs. search needs)
-    (λ c. search needs)
-    (λ c. search needs)
-    returns-2
-    moment-requires
-    returns-3)
->>>>>>> 750efba7edcb19fa60b49fc94715b13a0e2df678
