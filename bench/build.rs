@@ -1,4 +1,4 @@
-//! Links the archive of the proved meter, where the feature asks for it.
+//! Links the archives of the proved meter and of the proved reader of FIX messages, where the feature asks for them.
 
 use std::path::Path;
 
@@ -8,11 +8,13 @@ fn main() {
         return;
     }
     let folder = std::env::var("CARGO_MANIFEST_DIR").unwrap() + "/../target/staticlib";
-    let archive = folder.clone() + "/libsession.a";
-    if !Path::new(&archive).exists() {
-        panic!("no target/staticlib/libsession.a: run `make bench`, which writes it first");
-    }
-    println!("cargo:rerun-if-changed={archive}");
     println!("cargo:rustc-link-search=native={folder}");
-    println!("cargo:rustc-link-lib=static=session");
+    for name in ["session", "fix_call"] {
+        let archive = format!("{folder}/lib{name}.a");
+        if !Path::new(&archive).exists() {
+            panic!("no target/staticlib/lib{name}.a: run `make bench`, which writes it first");
+        }
+        println!("cargo:rerun-if-changed={archive}");
+        println!("cargo:rustc-link-lib=static={name}");
+    }
 }
