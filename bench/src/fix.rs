@@ -21,6 +21,40 @@ mod proved {
     }
 }
 
+/// QuickFIX's parse, where it is installed.
+#[cfg(quickfix)]
+mod quickfix {
+    use std::ffi::{c_char, c_int, c_void};
+
+    extern "C" {
+        fn quickfix_text(bytes: *const c_char, length: usize) -> *mut c_void;
+        fn quickfix_free(text: *mut c_void);
+        fn quickfix_parse(text: *const c_void) -> c_int;
+    }
+
+    /// The message as a string of C++.
+    pub struct Text(*mut c_void);
+
+    impl Text {
+        pub fn new(m: &[u8]) -> Self {
+            // SAFETY: the bytes are copied during the call.
+            Text(unsafe { quickfix_text(m.as_ptr().cast(), m.len()) })
+        }
+
+        pub fn is_parsed(&self) -> bool {
+            // SAFETY: the string lives until this value is dropped, and the call only reads it.
+            unsafe { quickfix_parse(self.0) == 1 }
+        }
+    }
+
+    impl Drop for Text {
+        fn drop(&mut self) {
+            // SAFETY: made by `new`, and dropped once.
+            unsafe { quickfix_free(self.0) }
+        }
+    }
+}
+
 type Reader = fn(&[u8], &mut [u32; 12]) -> u64;
 
 const READERS: &[(&str, Reader)] = &[
@@ -184,12 +218,35 @@ fn measure(ms: &[Vec<u8>]) -> Vec<f64> {
     least.iter().map(|t| *t as f64 / count).collect()
 }
 
+/// The least time of QuickFIX's parse over several rounds, in nanoseconds a message.
+#[cfg(quickfix)]
+fn quickfix_time(ms: &[Vec<u8>]) -> Option<f64> {
+    let texts: Vec<_> = ms.iter().map(|m| quickfix::Text::new(m)).collect();
+    if !texts.iter().all(quickfix::Text::is_parsed) {
+        eprintln!("QuickFIX does not parse a message that is read");
+        exit(1);
+    }
+    let round = |_| {
+        let began = clock();
+        texts.iter().for_each(|t| drop(black_box(t.is_parsed())));
+        clock() - began
+    };
+    let least = (0..40).map(round).min()?;
+    Some(least as f64 / ms.len() as f64)
+}
+
+#[cfg(not(quickfix))]
+fn quickfix_time(_: &[Vec<u8>]) -> Option<f64> {
+    None
+}
+
 /// A line for each type, bare and with the usual header.
 pub fn table(seed: u64) {
     let names: Vec<_> = READERS.iter().map(|r| r.0).collect();
     let mut titles: Vec<_> = ["message", "bytes"].map(String::from).into();
     titles.extend(names.iter().map(|n| format!("{n} ns")));
     titles.extend(names[1..].iter().map(|n| format!("{}/{n}", names[0])));
+    titles.extend(["QuickFIX ns".into(), format!("QuickFIX/{}", names[0])]);
     println!("FIX messages, nanoseconds a message, and ratios:");
     println!();
     row(titles.clone());
@@ -204,6 +261,10 @@ pub fn table(seed: u64) {
             let mut cells = vec![format!("{kind} {with}"), bytes.to_string()];
             cells.extend(times.iter().map(|t| format!("{t:.0}")));
             cells.extend(times[1..].iter().map(|t| format!("{:.2}", times[0] / t)));
+            match quickfix_time(&ms) {
+                Some(t) => cells.extend([format!("{t:.0}"), format!("{:.1}", t / times[0])]),
+                None => cells.extend(["not installed".into(), String::new()]),
+            }
             row(cells);
         }
     }
