@@ -120,8 +120,8 @@ pub fn stamp(v: &[u8]) -> Option<Stamp> {
 }
 
 /// The next field: its tag (none that is used is above 10,000), its value, and the rest.
-#[inline(always)]
-pub fn field(b: &[u8]) -> Option<(u32, &[u8], &[u8])> {
+#[inline]
+fn field(b: &[u8]) -> Option<(u32, &[u8], &[u8])> {
     let mut tag = 0u32;
     let mut i = 0;
     loop {
