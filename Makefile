@@ -20,7 +20,8 @@ client:
 	rt staticlib session
 	cc -O2 -Iinclude -o target/client examples/client.c target/staticlib/libsession.a
 
-# The proved meter's C call against two meters in Rust.
+# The proved meter's C call against two meters in Rust, and the proved reader of FIX messages against two in Rust.
 bench:
 	rt staticlib session
+	rt staticlib fix_call
 	cd bench && cargo run --release --offline --quiet

@@ -1,4 +1,5 @@
-/* The session run of the quoting meter, for programs in C (document 01, "Event records and the session run"). */
+/* The session run of the quoting meter (document 01, "Event records and the session run") and its reader of FIX messages (document 02, W11),
+ * for programs in C. */
 #ifndef QUOTING_H
 #define QUOTING_H
 
@@ -35,6 +36,29 @@ extern "C" {
  * 0. Nothing is allocated, and no state is kept between calls, so calls from several threads don't disturb each other.
  */
 uint64_t quoting_session(const uint8_t *head, size_t head_length, const uint8_t *records, size_t records_length);
+
+/*
+ * Reads one FIX 4.4 message: NewOrderSingle (35=D), OrderCancelRequest (F) or OrderCancelReplaceRequest (G).
+ *
+ * message  the message's bytes, from 8= to the byte 1 behind the checksum and nothing else. message_length is their number.
+ * words    where the fields are written, at least twelve words. words_length is their number.
+ *
+ * Returns 1 for D, 2 for F, 3 for G, with the fields in the first twelve words; those that the message does not use are 0:
+ *    0  the order's id (11)                    1  the id that it refers to (41)
+ *    2  the side (54): 1 buy, 2 sell           3  the volume (38)
+ *    4  the price (44), in two's complement    5  the year of the time (60)      6  its month, from 1
+ *    7  its day of the month, from 1           8  its hour                       9  its minute
+ *   10  its second                            11  its millisecond
+ * Else returns a number and changes no word:
+ *    0  words_length is below 12
+ *   20  frame, length, checksum or message type wrong
+ *   21  a used tag absent, twice, unreadable or with a number past 32 bits
+ * A volume or price outside the limits of document 01 is no error here. The words behind the twelfth are never changed.
+ *
+ * The message is only read, and only during the call. It must not overlap the words. A pointer may be null only if its length is 0.
+ * Nothing is allocated, and no state is kept between calls, so calls from several threads don't disturb each other.
+ */
+uint64_t quoting_fix(const uint8_t *message, size_t message_length, uint32_t *words, size_t words_length);
 
 #ifdef __cplusplus
 }

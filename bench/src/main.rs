@@ -1,8 +1,11 @@
 //! The proved meter's C call against two meters in Rust: their answers are compared, and their time measured. A third one
-//! in Rust counts the sums.
+//! in Rust counts the sums. And the proved reader of FIX messages against two in Rust.
 
 mod counted;
 mod fast;
+mod fix;
+mod fix_fast;
+mod fix_plain;
 mod input;
 mod plain;
 mod session;
@@ -176,12 +179,13 @@ fn main() {
             ("--seed", Some(n)) => seed = n,
             ("--only", None) if value.is_some() => only = value,
             _ => {
-                eprintln!("bench [--most RECORDS] [--check SESSIONS] [--seed N] [--only SHAPE]");
+                eprintln!("bench [--most RECORDS] [--check CASES] [--seed N] [--only SHAPE]");
                 exit(2);
             }
         }
     }
     check(sessions, seed);
+    fix::check(sessions, seed);
 
     let cores = std::thread::available_parallelism().map_or(0, usize::from);
     let model = field("/proc/cpuinfo", "model name");
@@ -256,6 +260,9 @@ fn main() {
             "A record's time at {LIMIT} records over that at 10000: {}.",
             growth.join("; ")
         );
+    }
+    if !only.as_ref().is_some_and(|o| o != "fix") {
+        fix::table(seed);
     }
     println!("Load average {} after.", load());
 }

@@ -101,7 +101,9 @@ impl Meter {
             return false;
         };
         let d = ask as i64 - bid as i64;
-        d >= 1 && (d * 100_000 <= self.terms.a as i64 * self.terms.sp as i64 || d <= self.terms.b as i64)
+        d >= 1
+            && (d * 100_000 <= self.terms.a as i64 * self.terms.sp as i64
+                || d <= self.terms.b as i64)
     }
 
     fn run_on(&mut self, t: u32) {

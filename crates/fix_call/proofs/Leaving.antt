@@ -14,28 +14,26 @@ use Rattle.rules.specs.Messages.{Message, readMessage}
 use Rattle.fix.specs.declared.MessageRead.{MessageRead}
 use Rattle.fix.specs.declared.MessageRead.the-variants as R
 use Rattle.fix.specs.Answers.{shownMessage}
-use Rattle.fix_call.specs.Words.{timeWords, numberOf, leftBy, Called}
+use Rattle.fix_call.specs.Words.{timeWords, orderWords, numberOf, leftBy, Called}
 
+-- ---- a D or a G
+pub ordered : (id orig s p : ℕ) (side : Side) (volume : Contracts) (price : Steps) (time : Timestamp) (out left : List ℕ) → s ≡ addKind side → p ≡ unsignedOf (price .0)
+    → left ≡ (id ∷ orig ∷ s ∷ volume .0 ∷ p ∷ timeWords time) ++ drop 12 out → left ≡ orderWords id orig side volume price time ++ drop 12 out
+ordered id orig s p side volume price time out left a b q = q ∙ (λ i. (id ∷ orig ∷ a i ∷ volume .0 ∷ b i ∷ timeWords time) ++ drop 12 out)
+
+-- ---- each kind
 module _ (read : MessageRead) (out left : List ℕ) where
-  pub new-left : (id : ℕ) (side : Side) (volume : Contracts) (price : Steps) (time : Timestamp) (s p : ℕ) → read ≡ R.New id side volume price time
-      → s ≡ addKind side → p ≡ unsignedOf (price .0) → left ≡ (id ∷ 0 ∷ s ∷ volume .0 ∷ p ∷ timeWords time) ++ drop 12 out
-      → (1 ≡ numberOf (shownMessage read)) × (left ≡ leftBy (shownMessage read) out)
-  new-left id side volume price time s p e a b q = (
-    sym (ap (λ r. numberOf (shownMessage r)) e),
-    q ∙ (λ i. (id ∷ 0 ∷ a i ∷ volume .0 ∷ b i ∷ timeWords time) ++ drop 12 out) ∙ sym (ap (λ r. leftBy (shownMessage r) out) e),
-  )
+  pub new-left : (id : ℕ) (side : Side) (volume : Contracts) (price : Steps) (time : Timestamp) → read ≡ R.New id side volume price time
+      → left ≡ orderWords id 0 side volume price time ++ drop 12 out → (1 ≡ numberOf (shownMessage read)) × (left ≡ leftBy (shownMessage read) out)
+  new-left id side volume price time e q = (sym (ap (λ r. numberOf (shownMessage r)) e), q ∙ sym (ap (λ r. leftBy (shownMessage r) out) e))
 
   pub cancel-left : (id orig : ℕ) (time : Timestamp) → read ≡ R.Cancel id orig time → left ≡ (id ∷ orig ∷ 0 ∷ 0 ∷ 0 ∷ timeWords time) ++ drop 12 out
       → (2 ≡ numberOf (shownMessage read)) × (left ≡ leftBy (shownMessage read) out)
   cancel-left id orig time e q = (sym (ap (λ r. numberOf (shownMessage r)) e), q ∙ sym (ap (λ r. leftBy (shownMessage r) out) e))
 
-  pub replace-left : (id orig : ℕ) (side : Side) (volume : Contracts) (price : Steps) (time : Timestamp) (s p : ℕ) → read ≡ R.Replace id orig side volume price time
-      → s ≡ addKind side → p ≡ unsignedOf (price .0) → left ≡ (id ∷ orig ∷ s ∷ volume .0 ∷ p ∷ timeWords time) ++ drop 12 out
-      → (3 ≡ numberOf (shownMessage read)) × (left ≡ leftBy (shownMessage read) out)
-  replace-left id orig side volume price time s p e a b q = (
-    sym (ap (λ r. numberOf (shownMessage r)) e),
-    q ∙ (λ i. (id ∷ orig ∷ a i ∷ volume .0 ∷ b i ∷ timeWords time) ++ drop 12 out) ∙ sym (ap (λ r. leftBy (shownMessage r) out) e),
-  )
+  pub replace-left : (id orig : ℕ) (side : Side) (volume : Contracts) (price : Steps) (time : Timestamp) → read ≡ R.Replace id orig side volume price time
+      → left ≡ orderWords id orig side volume price time ++ drop 12 out → (3 ≡ numberOf (shownMessage read)) × (left ≡ leftBy (shownMessage read) out)
+  replace-left id orig side volume price time e q = (sym (ap (λ r. numberOf (shownMessage r)) e), q ∙ sym (ap (λ r. leftBy (shownMessage r) out) e))
 
 -- ---- the call
 module _ (message out : List ℕ) where

@@ -1,6 +1,8 @@
 // The C call that reads a FIX message: its kind and fields as words.
 use fix::MessageRead;
+use rules::Contracts;
 use rules::Side;
+use rules::Steps;
 use rules::Timestamp;
 ghost use mathlib.Core.Path.{_≡_};
 ghost use mathlib.Core.List.{[], _∷_, _++_};
@@ -9,7 +11,7 @@ ghost use lib.ListN.{length, drop};
 ghost use Rattle.rules.specs.Messages.{readMessage};
 ghost use Rattle.rules.specs.Records.{addKind};
 ghost use Rattle.fix.specs.Answers.{shownMessage};
-ghost use Rattle.fix_call.specs.Words.{timeWords, numberOf, leftBy, Called};
+ghost use Rattle.fix_call.specs.Words.{timeWords, orderWords, numberOf, leftBy, Called};
 
 fn side_number(side: Side) -> u32
     ensures { λ r. ⌜ r ≡ addKind side ⌝ }
@@ -39,6 +41,23 @@ fn put_words(out: &mut [u32], id: u32, orig: u32, side: u32, volume: u32, price:
     out[11] = t.millis;
 }
 
+// Those of a D or a G.
+fn put_order(
+    out: &mut [u32],
+    id: u32,
+    orig: u32,
+    side: Side,
+    volume: Contracts,
+    price: Steps,
+    t: Timestamp,
+)
+    requires { ⌜ 12 ≤ length (now out) ⌝ }
+    ensures { λ _. ⌜ now (out .exit) ≡ orderWords id orig side volume price t ++ drop 12 (now (out .entry)) ⌝ }
+{
+    let w = words::from_steps(price);
+    put_words(out, id, orig, side_number(side), volume.0, w, t);
+}
+
 fn put_message(out: &mut [u32], read: MessageRead) -> u64
     requires { ⌜ 12 ≤ length (now out) ⌝ }
     ensures { λ r. ⌜ (r ≡ numberOf (shownMessage read)) × (now (out .exit) ≡ leftBy (shownMessage read) (now (out .entry))) ⌝ }
@@ -51,15 +70,7 @@ fn put_message(out: &mut [u32], read: MessageRead) -> u64
             price,
             time,
         } => {
-            put_words(
-                out,
-                id,
-                0,
-                side_number(side),
-                volume.0,
-                words::from_steps(price),
-                time,
-            );
+            put_order(out, id, 0, side, volume, price, time);
             1
         }
         MessageRead::Cancel { id, orig, time } => {
@@ -74,15 +85,7 @@ fn put_message(out: &mut [u32], read: MessageRead) -> u64
             price,
             time,
         } => {
-            put_words(
-                out,
-                id,
-                orig,
-                side_number(side),
-                volume.0,
-                words::from_steps(price),
-                time,
-            );
+            put_order(out, id, orig, side, volume, price, time);
             3
         }
         MessageRead::FrameWrong => 20,

@@ -6,18 +6,18 @@ use Rattle.fix_call.proofs.put_message.Tie as tie
 
 returns : tie.Need-returns
 returns c =
-    let start = c .before .before .before .before .before .before .before .before .before .before in
-    new-left (start .args .read) (start .args .out .now) (c .before .before .put-words .last .0) (c .before .before .before .before .before .before .before .read .given .0 .0) (c .before .before .before .before .before .before .before .read .given .0 .1 .0) (c .before .before .before .before .before .before .before .read .given .0 .1 .1 .0) (c .before .before .before .before .before .before .before .read .given .0 .1 .1 .1 .0) (c .before .before .before .before .before .before .before .read .given .0 .1 .1 .1 .1 .0) (c .before .before .before .before .side-number .result) (c .before .before .before .from-steps .result) (c .before .before .before .before .before .before .before .read .given .1) (c .before .before .before .before .side-number .ensures) (c .before .before .before .from-steps .ensures) (c .before .before .put-words .ensures)
+    let start = c .before .before .before .before .before .before .before .before in
+    new-left (start .args .read) (start .args .out .now) (c .before .before .put-order .last .0) (c .before .before .before .before .before .read .given .0 .0) (c .before .before .before .before .before .read .given .0 .1 .0) (c .before .before .before .before .before .read .given .0 .1 .1 .0) (c .before .before .before .before .before .read .given .0 .1 .1 .1 .0) (c .before .before .before .before .before .read .given .0 .1 .1 .1 .1 .0) (c .before .before .before .before .before .read .given .1) (c .before .before .put-order .ensures)
 
 returns-2 : tie.Need-returns-2
 returns-2 c =
     let start = c .before .before .before .before .before .before .before .before in
-    cancel-left (start .args .read) (start .args .out .now) (c .before .before .put-words2 .last .0) (c .before .before .before .before .before .read2 .given .0 .0) (c .before .before .before .before .before .read2 .given .0 .1 .0) (c .before .before .before .before .before .read2 .given .0 .1 .1 .0) (c .before .before .before .before .before .read2 .given .1) (c .before .before .put-words2 .ensures)
+    cancel-left (start .args .read) (start .args .out .now) (c .before .before .put-words .last .0) (c .before .before .before .before .before .read2 .given .0 .0) (c .before .before .before .before .before .read2 .given .0 .1 .0) (c .before .before .before .before .before .read2 .given .0 .1 .1 .0) (c .before .before .before .before .before .read2 .given .1) (c .before .before .put-words .ensures)
 
 returns-3 : tie.Need-returns-3
 returns-3 c =
-    let start = c .before .before .before .before .before .before .before .before .before .before in
-    replace-left (start .args .read) (start .args .out .now) (c .before .before .put-words3 .last .0) (c .before .before .before .before .before .before .before .read3 .given .0 .0) (c .before .before .before .before .before .before .before .read3 .given .0 .1 .0) (c .before .before .before .before .before .before .before .read3 .given .0 .1 .1 .0) (c .before .before .before .before .before .before .before .read3 .given .0 .1 .1 .1 .0) (c .before .before .before .before .before .before .before .read3 .given .0 .1 .1 .1 .1 .0) (c .before .before .before .before .before .before .before .read3 .given .0 .1 .1 .1 .1 .1 .0) (c .before .before .before .before .side-number2 .result) (c .before .before .before .from-steps2 .result) (c .before .before .before .before .before .before .before .read3 .given .1) (c .before .before .before .before .side-number2 .ensures) (c .before .before .before .from-steps2 .ensures) (c .before .before .put-words3 .ensures)
+    let start = c .before .before .before .before .before .before .before .before in
+    replace-left (start .args .read) (start .args .out .now) (c .before .before .put-order2 .last .0) (c .before .before .before .before .before .read3 .given .0 .0) (c .before .before .before .before .before .read3 .given .0 .1 .0) (c .before .before .before .before .before .read3 .given .0 .1 .1 .0) (c .before .before .before .before .before .read3 .given .0 .1 .1 .1 .0) (c .before .before .before .before .before .read3 .given .0 .1 .1 .1 .1 .0) (c .before .before .before .before .before .read3 .given .0 .1 .1 .1 .1 .1 .0) (c .before .before .before .before .before .read3 .given .1) (c .before .before .put-order2 .ensures)
 
 returns-4 : tie.Need-returns-4
 returns-4 c = search needs
@@ -31,13 +31,9 @@ put-message-spec =
     (tie.spec
     (λ c. search needs)
     (λ c κs. search needs)
-    (λ c κs. search needs)
-    (λ c κs. search needs)
     (λ c. search needs)
     (λ c κs. search needs)
     (λ c. search needs)
-    (λ c κs. search needs)
-    (λ c κs. search needs)
     (λ c κs. search needs)
     (λ c. search needs)
     (λ c. search needs)
