@@ -1,4 +1,5 @@
-# Every target needs the Rattle kit (`rt` on the path) and Python 3; `test` and `client` also a C compiler, `bench` Rust with cargo.
+# Every target needs the Rattle kit (`rt` on the path) and Python 3; `test` also what tests/packages lists, `client` a C compiler, `bench`
+# Rust with cargo.
 .PHONY: test demo card client bench
 
 test:
