@@ -228,7 +228,9 @@ fn quickfix_time(ms: &[Vec<u8>]) -> Option<f64> {
     }
     let round = |_| {
         let began = clock();
-        texts.iter().for_each(|t| drop(black_box(t.is_parsed())));
+        for t in &texts {
+            black_box(t.is_parsed());
+        }
         clock() - began
     };
     let least = (0..40).map(round).min()?;

@@ -204,10 +204,12 @@ fn main() {
     let mut titles: Vec<_> = titles.map(String::from).into();
     titles.extend(names.iter().map(|n| format!("{n} ns")));
     titles.extend(names[1..].iter().map(|n| format!("{}/{n}", names[0])));
-    println!("Sums that a record made before a search, records in a hundred that made a search, sums that a search made, nanoseconds a record, and ratios:");
-    println!();
-    row(titles.clone());
-    row(titles.iter().map(|_| "--:".to_string()));
+    if only.as_deref() != Some("fix") {
+        println!("Sums that a record made before a search, records in a hundred that made a search, sums that a search made, nanoseconds a record, and ratios:");
+        println!();
+        row(titles.clone());
+        row(titles.iter().map(|_| "--:".to_string()));
+    }
     let mut growth = Vec::new();
     for (kind, (name, shape)) in input::KINDS.iter().enumerate() {
         if only.as_ref().is_some_and(|o| o != name) {

@@ -1,23 +1,22 @@
 -- A message that is written reads back. Assumes nothing.
-use Prim.Native.Nat.{ℕ, _+_, _/_, _%_, _≤_, _<_}
+use Prim.Native.Nat.{ℕ, _+_, _/_, _%_, _<_}
 use native.Mathlib.Omega.{arith}
-use mathlib.Core.Path.{_≡_, refl, sym, ap, _∙_}
-use mathlib.Core.Bool.{Bool, true, false, _&&_, _||_, not}
+use mathlib.Core.Path.{_≡_, refl, ap, _∙_}
+use mathlib.Core.Bool.{true, false}
 use mathlib.Core.List.{List, [], _∷_, _++_}
-use mathlib.Core.Option.{Option, none, some}
+use mathlib.Core.Option.{some}
 use borrow.Author.Tests.{eq-eqb}
 use lib.ListN.{length}
 use Rattle.rules.specs.declared.Side.{Side}
 use Rattle.rules.specs.declared.Contracts.{Contracts}
 use Rattle.rules.specs.declared.Steps.{Steps}
 use Rattle.rules.specs.declared.Timestamp.{Timestamp}
-use Rattle.rules.specs.Lists.{if_then_else_, sum, any}
-use Rattle.rules.specs.Answers.{accepted}
-use Rattle.rules.specs.Digits.{allDigits, inDigits, decimalOf, signedDecimal, threeDigits}
-use Rattle.rules.specs.Dates.{form, hasForm, timeIn}
-use Rattle.rules.specs.Fields.{Field, fieldBytes, fieldsBytes, goodTag, fieldsOf, sameBytes, valuesOf}
-use Rattle.rules.specs.Frame.{versionTag, lengthTag, typeTag, checksumTag, version, Kind, new, cancel, replace, kindText, kindIn, isNumber, lengthRight, checksumRight, isFrameTag, Body, Ending, behind, endingOf, goodFrame, bodyBy, framedBy, framed, framedIn, bodyIn}
-use Rattle.rules.specs.Messages.{idTag, origTag, sideTag, volumeTag, priceTag, timeTag, Message, newOrder, cancelOrder, replaceOrder, sideText, messageOf, readable, readBody, readMessage, fieldWith, termsFields, writtenFields, kindOf, timeOf, withTime, checkedBy, countedBy, messageBytes}
+use Rattle.rules.specs.Lists.{sum, any}
+use Rattle.rules.specs.Digits.{allDigits, decimalOf, threeDigits}
+use Rattle.rules.specs.Dates.{form, timeIn}
+use Rattle.rules.specs.Fields.{Field, fieldsBytes, goodTag, fieldsOf, sameBytes, valuesOf}
+use Rattle.rules.specs.Frame.{versionTag, lengthTag, typeTag, checksumTag, version, Kind, new, cancel, replace, kindText, kindIn, isNumber, lengthRight, checksumRight, isFrameTag, behind, endingOf, goodFrame, framedBy, framed, framedIn, bodyIn}
+use Rattle.rules.specs.Messages.{idTag, origTag, sideTag, volumeTag, priceTag, timeTag, Message, newOrder, cancelOrder, replaceOrder, messageOf, readable, readBody, readMessage, fieldWith, termsFields, writtenFields, kindOf, timeOf, withTime, countedBy, messageBytes}
 use Rattle.fields.proofs.Pieces.{clear, clear-cons}
 use Rattle.fix_writer.specs.Claims.{NumbersFit, ReadsBack}
 use Rattle.fix_writer.specs.Internal.{isSome, isTime}

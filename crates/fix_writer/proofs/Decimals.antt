@@ -1,19 +1,17 @@
 -- The digits that are written of a number: how many, and that they say the number. Assumes nothing.
 use Prim.Native.Nat.{ℕ, zero, suc, _+_, _*_, _-_, _/_, _%_, _≤_, _<_}
 use native.Mathlib.Omega.{arith}
-use mathlib.Core.Path.{_≡_, refl, sym, ap, _∙_}
-use mathlib.Core.Bool.{Bool, true, false, _&&_}
+use mathlib.Core.Path.{_≡_, refl, ap}
+use mathlib.Core.Bool.{Bool, true, false}
 use mathlib.Core.List.{List, [], _∷_, _++_}
-use mathlib.Core.Option.{Option, none, some}
-use borrow.Author.Tests.{lt-ltb, le-ltb, le-leb, ltb-true, ltb-false, ne-eqb}
-use lib.Dec.{ltb, leb, eqb}
-use lib.IntN.{ℤ, pos, negsuc}
-use lib.Signed.{mag}
+use mathlib.Core.Option.{some}
+use borrow.Author.Tests.{lt-ltb, le-ltb, le-leb, ltb-true, ltb-false}
+use lib.Dec.{ltb}
 use lib.ListN.{length, length-append}
 use Rattle.rules.specs.Lists.{if_then_else_}
-use Rattle.rules.specs.Widths.{Word, SignedWord}
-use Rattle.rules.specs.Digits.{isDigit, allDigits, numberFrom, inDigits, wordWithin, wordIn, positive, negative, stepsIn, decimalBy, decimalOf, signedDecimal}
-use Rattle.digits.proofs.Numbers.{both, digit-from, digit-to}
+use Rattle.rules.specs.Widths.{Word}
+use Rattle.rules.specs.Digits.{isDigit, allDigits, numberFrom, decimalBy, decimalOf}
+use Rattle.digits.proofs.Numbers.{both}
 
 -- ---- a number below ten has one digit; another has those of its tenth, and its last
 same-bound : (k j n : ℕ) → n < k → n < j → decimalBy k n ≡ decimalBy j n

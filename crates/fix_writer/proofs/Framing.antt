@@ -1,27 +1,26 @@
 -- The frame laid around the fields, and the text that is answered. Assumes nothing.
-use Prim.Native.Nat.{ℕ, zero, suc, _+_, _-_, _%_, _≤_, _<_}
+use Prim.Native.Nat.{ℕ, _-_, _%_, _≤_, _<_}
 use native.Mathlib.Omega.{arith}
 use mathlib.Core.Path.{_≡_, refl, sym, ap, subst, _∙_}
 use mathlib.Core.Bool.{Bool, true, false, _&&_, true≢false}
 use mathlib.Core.List.{List, [], _∷_, _++_, append-assoc, append-nil}
 use mathlib.Core.Option.{Option, none, some}
-use lib.ListN.{length, take, drop, replicate, length-append, length-replicate}
+use lib.ListN.{length, take, replicate, length-append, length-replicate}
 use lib.Seq.{take-append-seam, drop-append-seam}
 use Rattle.rules.specs.declared.Side.{Side}
 use Rattle.rules.specs.declared.Contracts.{Contracts}
 use Rattle.rules.specs.declared.Steps.{Steps}
 use Rattle.rules.specs.declared.Timestamp.{Timestamp}
 use Rattle.rules.specs.Lists.{if_then_else_, sum}
-use Rattle.rules.specs.Answers.{Outcome, accepted, refused}
+use Rattle.rules.specs.Answers.{accepted, refused}
 use Rattle.rules.specs.Digits.{decimalOf, threeDigits}
 use Rattle.rules.specs.Dates.{form, hasForm, partsOf, goodDate, goodClock, timeIn}
 use Rattle.rules.specs.Fields.{Field, fieldBytes, fieldsBytes}
 use Rattle.rules.specs.Frame.{versionTag, lengthTag, typeTag, checksumTag, version, new, cancel, replace, kindText}
 use Rattle.rules.specs.Messages.{Message, newOrder, cancelOrder, replaceOrder, idTag, origTag, timeTag, termsFields, kindOf, timeOf, fieldWith, writtenFields, checkedBy, countedBy, messageBytes, writtenBy, writeMessage}
-use Rattle.digits.proofs.Numbers.{both}
 use Rattle.dates.proofs.Forms.{form-length}
 use Rattle.fix_writer.specs.declared.MessageText.{MessageText}
-use Rattle.fix_writer.specs.Answers.{shownText, Writes}
+use Rattle.fix_writer.specs.Answers.{Writes}
 use Rattle.fix_writer.specs.Internal.{Laid, headBytes, tailBytes, framedBytes, textOf, emptyText, isSome, isTime}
 use Rattle.fix_writer.proofs.Laying.{join, named, before, whole, whole-front, zeros-left}
 use Rattle.fix_writer.proofs.Decimals.{two-digits}

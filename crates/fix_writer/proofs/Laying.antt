@@ -5,8 +5,8 @@ use native.Mathlib.Numerals.{add-one}
 use native.Mathlib.Omega.{arith}
 use mathlib.Core.Path.{_≡_, refl, sym, ap, subst, _∙_}
 use mathlib.Core.List.{List, [], _∷_, _++_, append-assoc}
-use lib.ListN.{length, getD, take, drop, set, replicate, length-append, length-drop, length-set}
-use lib.Seq.{take-length, length-take-le, take-at, drop-at, drop-append-add, drop-drop, set-split, paste, paste-zero, paste-suc, length-paste}
+use lib.ListN.{length, getD, take, drop, set, replicate, length-append, length-set}
+use lib.Seq.{take-length, length-take-le, take-at, drop-at, drop-append-add, drop-drop, set-split, paste, paste-suc, length-paste}
 use Rattle.fix_writer.specs.Internal.{laid, Laid}
 
 module _ (d : List ℕ) (at : ℕ) where

@@ -1,29 +1,27 @@
 -- How long a message is that is written. Assumes nothing.
-use Prim.Native.Nat.{ℕ, suc, _+_, _%_, _≤_, _<_}
+use Prim.Native.Nat.{ℕ, suc, _+_, _≤_, _<_}
 use native.Mathlib.Omega.{arith}
-use mathlib.Core.Path.{_≡_, refl, sym, ap, subst, _∙_}
+use mathlib.Core.Path.{_≡_, refl, ap, _∙_}
 use mathlib.Core.List.{List, [], _∷_, _++_}
-use mathlib.Core.Option.{Option, none, some}
-use lib.IntN.{ℤ, pos, negsuc}
+use mathlib.Core.Option.{some}
+use lib.IntN.{pos, negsuc}
 use lib.ListN.{length, length-append}
 use Rattle.rules.specs.declared.Side.{Side}
 use Rattle.rules.specs.declared.Side.the-variants.{Buy, Sell}
 use Rattle.rules.specs.declared.Contracts.{Contracts}
 use Rattle.rules.specs.declared.Steps.{Steps}
 use Rattle.rules.specs.declared.Timestamp.{Timestamp}
-use Rattle.rules.specs.Lists.{sum}
 use Rattle.rules.specs.Units.{steps, contracts}
-use Rattle.rules.specs.Widths.{Word, SignedWord}
-use Rattle.rules.specs.Digits.{decimalOf, signedDecimal, threeDigits}
+use Rattle.rules.specs.Digits.{decimalOf, signedDecimal}
 use Rattle.rules.specs.Dates.{timeIn}
 use Rattle.rules.specs.Fields.{Field, fieldBytes, fieldsBytes}
-use Rattle.rules.specs.Frame.{typeTag, checksumTag, Kind, new, cancel, replace, kindText}
-use Rattle.rules.specs.Messages.{Message, newOrder, cancelOrder, replaceOrder, idTag, origTag, sideTag, volumeTag, priceTag, timeTag, sideText, fieldWith, termsFields, writtenFields, kindOf, timeOf, messageBytes}
+use Rattle.rules.specs.Frame.{typeTag, new, cancel, replace, kindText}
+use Rattle.rules.specs.Messages.{Message, newOrder, cancelOrder, replaceOrder, sideText, fieldWith, writtenFields, timeOf, messageBytes}
 use Rattle.fix_writer.specs.Claims.{NumbersFit, AtMost114, Longest}
 use Rattle.fix_writer.specs.Internal.{headBytes, tailBytes, framedBytes, isSome, isTime}
-use Rattle.fix_writer.proofs.Decimals.{at-least-one, ten-at-most, ten-digits}
+use Rattle.fix_writer.proofs.Decimals.{ten-at-most, ten-digits}
 use Rattle.fix_writer.proofs.Numbers.{signed-at-most}
-use Rattle.fix_writer.proofs.Framing.{head-length, fields-append, bodyBytes, message-is, time-length}
+use Rattle.fix_writer.proofs.Framing.{head-length, bodyBytes, message-is, time-length}
 
 -- ---- a field: its tag, its value and two bytes more
 field-length : (f : Field) → length (fieldBytes f) ≡ length (f .tag) + length (f .value) + 2

@@ -1,17 +1,16 @@
 -- Numbers in digits, laid digit by digit. Assumes nothing.
-use Prim.Native.Nat.{ℕ, zero, suc, _+_, _-_, _/_, _%_, _≤_, _<_}
+use Prim.Native.Nat.{ℕ, suc, _+_, _-_, _/_, _%_, _≤_, _<_}
 use native.Mathlib.Omega.{arith}
-use mathlib.Core.Path.{_≡_, refl, sym, ap, _∙_}
+use mathlib.Core.Path.{_≡_, sym, ap, _∙_}
 use mathlib.Core.List.{List, [], _∷_, _++_}
 use lib.IntN.{ℤ, pos, negsuc}
-use lib.Signed.{mag}
 use lib.ListN.{length, length-append}
-use Rattle.rules.specs.Widths.{Word, SignedWord}
+use Rattle.rules.specs.Widths.{SignedWord}
 use Rattle.rules.specs.Records.{unsignedOf}
 use Rattle.rules.specs.Digits.{decimalOf, signedDecimal}
 use Rattle.fix_writer.specs.Internal.{Laid}
 use Rattle.fix_writer.proofs.Laying.{join, named}
-use Rattle.fix_writer.proofs.Decimals.{one-digit, last-digit, at-least-one, ten-at-most}
+use Rattle.fix_writer.proofs.Decimals.{one-digit, last-digit, ten-at-most}
 
 module _ (d : List ℕ) (at n : ℕ) where
   pub one : (b m : ℕ) (e : List ℕ) → n < 10 → b ≡ 48 + n → Laid d at (b ∷ []) m e → Laid d at (decimalOf n) m e

@@ -1,17 +1,15 @@
 -- The values that are written are read again. Assumes nothing.
-use Prim.Native.Nat.{ℕ, zero, suc, _+_, _≤_, _<_}
+use Prim.Native.Nat.{ℕ, suc, _≤_, _<_}
 use native.Mathlib.Omega.{arith}
-use mathlib.Core.Path.{_≡_, refl, sym, ap, _∙_}
-use mathlib.Core.Bool.{Bool, true, false, _&&_}
-use mathlib.Core.List.{List, [], _∷_, _++_}
-use mathlib.Core.Option.{Option, none, some}
+use mathlib.Core.Path.{_≡_, refl, ap, _∙_}
+use mathlib.Core.Bool.{true}
+use mathlib.Core.List.{List, [], _∷_}
+use mathlib.Core.Option.{some}
 use borrow.Author.Tests.{lt-ltb, ne-eqb}
-use lib.Dec.{ltb, eqb}
 use lib.IntN.{ℤ, pos, negsuc}
 use lib.ListN.{length}
 use Rattle.rules.specs.declared.Side.{Side}
 use Rattle.rules.specs.declared.Side.the-variants.{Buy, Sell}
-use Rattle.rules.specs.Lists.{if_then_else_}
 use Rattle.rules.specs.Widths.{Word, SignedWord}
 use Rattle.rules.specs.Digits.{isDigit, allDigits, numberFrom, inDigits, wordWithin, wordIn, positive, negative, stepsIn, decimalOf, signedDecimal}
 use Rattle.rules.specs.Fields.{sameBytes, goodValue}

@@ -1,7 +1,7 @@
 -- `fix_writer::put_side` meets its contract. Assumes nothing.
 use native.Mathlib.Omega.{arith}
 use mathlib.Core.Path.{ap}
-use mathlib.Core.List.{List, [], _∷_, _++_}
+use mathlib.Core.List.{[], _∷_, _++_}
 use Rattle.rules.specs.Fields.{fieldBytes}
 use Rattle.fix_writer.proofs.Laying.{three, named}
 use borrow.Author.Needs.{needs}

@@ -1,7 +1,7 @@
 -- `fix_writer::put_terms` meets its contract. Assumes nothing.
 use native.Mathlib.Omega.{arith}
 use mathlib.Core.Path.{sym, ap}
-use mathlib.Core.List.{List, _++_, append-nil}
+use mathlib.Core.List.{_++_, append-nil}
 use Rattle.rules.specs.Digits.{decimalOf, signedDecimal}
 use Rattle.rules.specs.Fields.{fieldBytes, fieldsBytes}
 use Rattle.rules.specs.Messages.{fieldWith, sideTag, volumeTag, priceTag, sideText}

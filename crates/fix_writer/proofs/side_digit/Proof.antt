@@ -1,5 +1,5 @@
 -- `fix_writer::side_digit` meets its contract. Assumes nothing.
-use mathlib.Core.Path.{refl, sym, ap}
+use mathlib.Core.Path.{sym, ap}
 use borrow.Author.Needs.{needs}
 use Rattle.rules.specs.Messages.{sideText}
 use Rattle.fix_writer.proofs.side_digit.Statement.{statement}
