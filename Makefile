@@ -1,6 +1,12 @@
-# Every target needs the Rattle kit (`rt` on the path) and Python 3; `test` also what tests/packages lists, `client` a C compiler, `bench`
-# Rust with cargo.
-.PHONY: test demo card client bench
+# Every target but `install` needs the Rattle kit (`rt` on the path) and Python 3; `test` also what tests/packages lists, `client`, `library` and
+# `dist` a C compiler, `bench` Rust with cargo.
+.PHONY: test demo card client library install dist bench
+
+VERSION := $(shell cat VERSION)
+MAJOR := $(firstword $(subst ., ,$(VERSION)))
+PREFIX ?= /usr/local
+LIBRARY := target/library
+STRICT := -std=c11 -O2 -Wall -Wextra -Wpedantic -Werror -Iinclude
 
 test:
 	bash .ci/run
@@ -21,8 +27,43 @@ client:
 	rt staticlib session
 	cc -O2 -Iinclude -o target/client examples/client.c target/staticlib/libsession.a
 
+# Every proved call for C, with the refusals' sentences: target/library has both libraries, the header and what pkg-config reads.
+library:
+	rt staticlib quoting
+	mkdir -p $(LIBRARY)
+	cc $(STRICT) -fPIC -c lib/refusals.c -o $(LIBRARY)/refusals.o
+	cc $(STRICT) -fPIC -c lib/version.c -o $(LIBRARY)/version.o
+	cp target/staticlib/libquoting.a $(LIBRARY)/libquoting.a
+	ar rcs $(LIBRARY)/libquoting.a $(LIBRARY)/refusals.o $(LIBRARY)/version.o
+	cc -shared -Wl,-soname,libquoting.so.$(MAJOR) -Wl,--version-script=lib/quoting.map -Wl,-z,defs -Wl,--gc-sections \
+		-Wl,--whole-archive $(LIBRARY)/libquoting.a -Wl,--no-whole-archive -o $(LIBRARY)/libquoting.so.$(VERSION)
+	ln -sf libquoting.so.$(VERSION) $(LIBRARY)/libquoting.so.$(MAJOR)
+	ln -sf libquoting.so.$(MAJOR) $(LIBRARY)/libquoting.so
+	cp include/quoting.h $(LIBRARY)/quoting.h
+	sed -e 's|@PREFIX@|$(PREFIX)|' -e 's|@VERSION@|$(VERSION)|' lib/quoting.pc.in > $(LIBRARY)/quoting.pc
+
+# Puts what `make library` has built where pkg-config finds it: make install PREFIX=/usr DESTDIR=/tmp/root
+install:
+	[ -e $(LIBRARY)/libquoting.so ] || { echo "run make library first" >&2; exit 1; }
+	install -d $(DESTDIR)$(PREFIX)/include $(DESTDIR)$(PREFIX)/lib/pkgconfig
+	install -m 644 $(LIBRARY)/quoting.h $(DESTDIR)$(PREFIX)/include/quoting.h
+	install -m 644 $(LIBRARY)/libquoting.a $(DESTDIR)$(PREFIX)/lib/libquoting.a
+	install -m 755 $(LIBRARY)/libquoting.so.$(VERSION) $(DESTDIR)$(PREFIX)/lib/libquoting.so.$(VERSION)
+	ln -sf libquoting.so.$(VERSION) $(DESTDIR)$(PREFIX)/lib/libquoting.so.$(MAJOR)
+	ln -sf libquoting.so.$(MAJOR) $(DESTDIR)$(PREFIX)/lib/libquoting.so
+	sed -e 's|@PREFIX@|$(PREFIX)|' -e 's|@VERSION@|$(VERSION)|' lib/quoting.pc.in > $(DESTDIR)$(PREFIX)/lib/pkgconfig/quoting.pc
+
+# The same as a tar file, for machines without the kit: target/quoting-VERSION.tar.gz. It may be unpacked anywhere; BUILT says from which
+# commit and by which kit.
+dist: library
+	rm -rf target/dist
+	$(MAKE) -s install DESTDIR=$(CURDIR)/target/dist PREFIX=/quoting-$(VERSION)
+	sed -e 's|@PREFIX@|$${pcfiledir}/../..|' -e 's|@VERSION@|$(VERSION)|' lib/quoting.pc.in > target/dist/quoting-$(VERSION)/lib/pkgconfig/quoting.pc
+	{ echo "version $(VERSION)"; echo "commit $$(git describe --always --dirty --abbrev=40 --exclude '*')"; echo "kit $$(rt version)"; } > target/dist/quoting-$(VERSION)/BUILT
+	cp docs/FORMATS.md examples/client.c examples/pairs.cpp target/dist/quoting-$(VERSION)/
+	tar -C target/dist --sort=name --owner=0 --group=0 --numeric-owner -czf target/quoting-$(VERSION).tar.gz quoting-$(VERSION)
+
 # The proved meter's C call against two meters in Rust, and the proved reader of FIX messages against two in Rust.
 bench:
-	rt staticlib session
-	rt staticlib fix_call
+	rt staticlib quoting
 	cd bench && cargo run --release --offline --quiet

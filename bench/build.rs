@@ -1,4 +1,4 @@
-//! Links the archives of the proved meter and of the proved reader of FIX messages, where the feature asks for them, and
+//! Links the archive of the proved library, where the feature asks for it, and
 //! QuickFIX where it is installed.
 
 use std::path::Path;
@@ -40,12 +40,10 @@ fn main() {
     }
     let folder = std::env::var("CARGO_MANIFEST_DIR").unwrap() + "/../target/staticlib";
     println!("cargo:rustc-link-search=native={folder}");
-    for name in ["session", "fix_call"] {
-        let archive = format!("{folder}/lib{name}.a");
-        if !Path::new(&archive).exists() {
-            panic!("no target/staticlib/lib{name}.a: run `make bench`, which writes it first");
-        }
-        println!("cargo:rerun-if-changed={archive}");
-        println!("cargo:rustc-link-lib=static={name}");
+    let archive = format!("{folder}/libquoting.a");
+    if !Path::new(&archive).exists() {
+        panic!("no target/staticlib/libquoting.a: run `make bench`, which writes it first");
     }
+    println!("cargo:rerun-if-changed={archive}");
+    println!("cargo:rustc-link-lib=static=quoting");
 }

@@ -1,27 +1,92 @@
-/* The session run of the quoting meter (document 01, "Event records and the session run") and its reader of FIX messages (document 02, W11),
- * for programs in C. */
+/*
+ * The quoting meter for programs in C and C++.
+ *
+ * What holds of every call
+ *   - It answers one number of 64 bits. Below 4294967296 it is the answer; from there on the call is refused, by the refusal
+ *     quoting_refusal_of(answer), at the place answer & 4294967295 (a record counted from 1 in a session, else 0).
+ *   - Of the causes that apply, the refusal is the lowest number, but 16, a buffer too short, comes after all others.
+ *   - A refused call leaves every lent buffer as it was. What an accepted call writes stands at the front of the buffer; what is behind it
+ *     keeps its contents.
+ *   - Lent strings, tables and buffers are looked at only during the call. What is only read may overlap; what is written may overlap
+ *     nothing else. A pointer may be null only if its length is 0.
+ *   - A length counts what the pointer points to: bytes, words of 32 bits, prices or strikes, not bytes alone.
+ *   - Nothing is allocated and no state is kept between calls, so calls from several threads don't disturb each other.
+ * Nothing else is asked of the caller: whatever numbers, bytes and words are handed over, each call ends and answers as is said here. That
+ * is proved of every call but quoting_refusal_text and quoting_version, which are plain C.
+ *
+ * A row is seven words: expiry (1 or 2), quantum (0 to 2), L (a multiple of 1,000 from 1,000 to 86,400,000), M (1 to 100,000), a (0 to
+ * 100,000), b (0 to 1,000,000) and p in tenths of a percent (1 to 799). A price is signed, in two's complement where it is a word.
+ */
 #ifndef QUOTING_H
 #define QUOTING_H
 
 #include <stddef.h>
 #include <stdint.h>
 
+#define QUOTING_VERSION "1.0.0"
+
+/* The longest FIX message that quoting_fix_write writes, in bytes, and the words of one that quoting_fix reads. */
+#define QUOTING_FIX_BYTES 114
+#define QUOTING_FIX_WORDS 13
+
 #ifdef __cplusplus
 extern "C" {
 #endif
+
+/* The refusals, by their numbers. QUOTING_ACCEPTED, 0, is none. */
+enum quoting_refusal {
+    QUOTING_ACCEPTED = 0,
+    QUOTING_ROW_NOT_SEVEN_WORDS = 1,
+    QUOTING_ROW_WORD_OUT_OF_RANGE = 2,
+    QUOTING_ARGUMENT_OUT_OF_RANGE = 3,
+    QUOTING_CELL_FILLED = 4,
+    QUOTING_CELL_BLANK = 5,
+    QUOTING_QUANTUM_OPEN = 6,
+    QUOTING_NO_QUANTUM_OPEN = 7,
+    QUOTING_TIME_BACKWARDS = 8,
+    QUOTING_TIME_PAST_END = 9,
+    QUOTING_ID_LIVE = 10,
+    QUOTING_ID_NOT_LIVE = 11,
+    QUOTING_PRICE_OR_VOLUME_OUT_OF_RANGE = 12,
+    QUOTING_TOO_MANY_ORDERS = 13,
+    QUOTING_DEAL_ABOVE_LEFT = 14,
+    QUOTING_BAD_RECORD = 15,
+    QUOTING_BUFFER_SHORT = 16,
+    QUOTING_LAPSE_LIMIT_OUT_OF_RANGE = 17,
+    QUOTING_STRIKES_OUT_OF_RANGE = 18,
+    QUOTING_WRONG_TICKET = 19,
+    QUOTING_FRAME_WRONG = 20,
+    QUOTING_FIELD_WRONG = 21,
+    QUOTING_PRICES_NOT_USABLE = 22,
+    QUOTING_STANDING_NOT_IN_ORDER = 23,
+    QUOTING_MAKER_PRESENT_OR_ABSENT = 24,
+    QUOTING_STANDING_FULL = 25,
+    QUOTING_ABOVE_SIXTY = 26
+};
+
+/* The refusal of an answer, 0 where the call was accepted. */
+static inline uint32_t quoting_refusal_of(uint64_t answer) {
+    return (uint32_t) (answer >> 32);
+}
+
+/* A short sentence for a refusal's number, without a full stop; "accepted" for 0, "unknown refusal" above 26. Never null; not to be freed. */
+const char *quoting_refusal_text(uint32_t refusal);
+
+/* The version of the library that is linked, as QUOTING_VERSION is that of the header. */
+const char *quoting_version(void);
 
 /*
  * Runs one session: opens a quantum on day 1 of a fresh month, sends the events of the records in their order, and closes it with both
  * charges 0; stops at the first refusal.
  *
- * head     the 32 leading bytes: the row's seven unsigned 32-bit words (expiry, quantum, L, M, a, b, p), then SP in two's complement, four
- *          bytes each, low byte first. p is in tenths of a percent, 1 to 799. head_length is its number of bytes.
+ * head     the 32 leading bytes: the row's seven words, then SP in two's complement, four bytes each, low byte first. head_length is its
+ *          number of bytes.
  * records  the records, 20 bytes each: kind (1 add buy, 2 add sell, 3 amend, 4 cancel, 5 deal, 6 tick), three zero bytes, then t, id, price
  *          (two's complement) and volume, four bytes each, low byte first; fields that the call doesn't take are zero. records_length is
  *          the number of bytes. 1 to 19 bytes behind the last full record are one more record, cut short.
  *
- * Returns K, the kept milliseconds below L, if nothing is refused. Else returns 4294967296 * refusal + place. The refusal is the lowest
- * number that document 01 gives ("Refused calls"); the place is the record counted from 1, or 0 for the refusals 1, 2 and 3:
+ * Answers K, the kept milliseconds below L, or 4294967296 * refusal + place. The place is the record counted from 1, or 0 for the refusals
+ * 1, 2 and 3:
  *    1  head_length is not 32
  *    2  a word of the row is outside its range
  *    3  SP is outside its range
@@ -30,35 +95,120 @@ extern "C" {
  *   12  price or volume outside its range       13  add with 64 live orders
  *   14  deal above what is left of the order    15  a record cut short, of unknown kind, with a nonzero byte where zero is due, or the
  *                                                   record after 4,000,000
- * So the answer is below 4294967296 exactly if the session ran to its end.
- *
- * Both byte strings are only read, and only during the call. They may be the same or overlap. A pointer may be null only if its length is
- * 0. Nothing is allocated, and no state is kept between calls, so calls from several threads don't disturb each other.
  */
 uint64_t quoting_session(const uint8_t *head, size_t head_length, const uint8_t *records, size_t records_length);
 
 /*
- * Reads one FIX 4.4 message: NewOrderSingle (35=D), OrderCancelRequest (F) or OrderCancelReplaceRequest (G).
+ * Runs the same session and writes its answer to a lent buffer of words: K, the weight w, the number of pairs n, then the n kept stretches
+ * as pairs of offset and length in milliseconds, sorted by offset, each as long as it can be, so that no two touch.
  *
- * message  the message's bytes, from 8= to the byte 1 behind the checksum and nothing else. message_length is their number.
- * words    where the fields are written, at least twelve words. words_length is their number.
+ * buffer   buffer_length words.
  *
- * Returns 1 for D, 2 for F, 3 for G, with the fields in the first twelve words; those that the message does not use are 0:
- *    0  the order's id (11)                    1  the id that it refers to (41)
- *    2  the side (54): 1 buy, 2 sell           3  the volume (38)
- *    4  the price (44), in two's complement    5  the year of the time (60)      6  its month, from 1
- *    7  its day of the month, from 1           8  its hour                       9  its minute
- *   10  its second                            11  its millisecond
- * Else returns a number and changes no word:
- *    0  words_length is below 12
- *   20  frame, length, checksum or message type wrong
- *   21  a used tag absent, twice, unreadable or with a number past 32 bits
- * A volume or price outside the limits of document 01 is no error here. The words behind the twelfth are never changed.
- *
- * The message is only read, and only during the call. It must not overlap the words. A pointer may be null only if its length is 0.
- * Nothing is allocated, and no state is kept between calls, so calls from several threads don't disturb each other.
+ * Answers the number of words written, 3 + 2 n, or 4294967296 * refusal + place. The refusals are those of quoting_session and, after all
+ * records, at place 0:
+ *   16  buffer_length is below 3 + 2 n
  */
-uint64_t quoting_fix(const uint8_t *message, size_t message_length, uint32_t *words, size_t words_length);
+uint64_t quoting_session_pairs(
+    const uint8_t *head, size_t head_length, const uint8_t *records, size_t records_length, uint32_t *buffer, size_t buffer_length);
+
+/*
+ * The weight w of a quantum with kept milliseconds K, length L and required share p in tenths of a percent, by the share alone, with no
+ * lapse limit: 0 where it is failed, else 10,000 to 20,000. Refused by
+ *    2  L or p is outside a row's range
+ *    3  K is above L
+ */
+uint64_t quoting_weight(uint32_t kept, uint32_t length, uint32_t share);
+
+/*
+ * Chooses the row for an expiry and a quantum and writes its seven words to a lent buffer: on a holiday the first row of the holiday table
+ * whose first two words are these; where it has none, or on other days, the first of the usual table. Words are compared as they stand:
+ * a row that is chosen need not be in range.
+ *
+ * usual, holiday   the two tables, seven words a row; words behind the last full seven are ignored. Lengths are in words.
+ * is_holiday       0 for other days, anything else for a holiday.
+ * buffer           buffer_length words.
+ *
+ * Answers the number of words written: 7, or 0 where no table has such a row, and nothing is written. Refused by
+ *   16  there is a row, and buffer_length is below 7
+ */
+uint64_t quoting_choose_row(
+    const uint32_t *usual, size_t usual_length, const uint32_t *holiday, size_t holiday_length, uint32_t is_holiday, uint32_t expiry,
+    uint32_t quantum, uint32_t *buffer, size_t buffer_length);
+
+/*
+ * Reads a FIX 4.4 message, NewOrderSingle (35=D), OrderCancelRequest (F) or OrderCancelReplaceRequest (G), and writes thirteen words to a
+ * lent buffer; those that the message doesn't take are 0:
+ *    0  kind: 1 D, 2 F, 3 G                 1  id (11)                    2  the id that it refers to (41; F and G)
+ *    3  side (54; D and G): 1 buy, 2 sell   4  volume (38; D and G)       5  price (44; D and G), in two's complement
+ *    6 to 12  the time (60): year, month, day, hour, minute, second, millisecond
+ *
+ * bytes    the whole message from 8= to the byte 1 behind the checksum, and nothing else.
+ * buffer   buffer_length words.
+ *
+ * Answers the number of words written, 13. Refused by
+ *   20  the frame, the body length, the checksum or the type of the message is wrong
+ *   21  a used tag is absent, there twice, unreadable, or a number past 32 bits
+ *   16  buffer_length is below 13
+ */
+uint64_t quoting_fix(const uint8_t *bytes, size_t bytes_length, uint32_t *buffer, size_t buffer_length);
+
+/*
+ * Writes such a message, with no other tags, to a lent buffer of bytes. What it writes, quoting_fix reads back to the same words.
+ *
+ * fields   the words 0 to 5 of a message, as quoting_fix writes them; words from the seventh on are not read, nor 41 of a D, nor side,
+ *          volume and price of an F.
+ * sixty    the bytes of 60, of the form YYYYMMDD-HH:MM:SS.sss.
+ * buffer   buffer_length bytes; QUOTING_FIX_BYTES are always enough.
+ *
+ * Answers the number of bytes written, no zero byte behind them. Refused by
+ *    3  fields_length is below 6, the kind is not 1, 2 or 3, or the side of a D or G is not 1 or 2
+ *   21  the bytes of 60 are no time of that form, with a Gregorian date from year 0001, hours to 23, minutes and seconds to 59
+ *   16  buffer_length is below the length of the message
+ */
+uint64_t quoting_fix_write(
+    const uint32_t *fields, size_t fields_length, const uint8_t *sixty, size_t sixty_length, uint8_t *buffer, size_t buffer_length);
+
+/*
+ * Whether a board of strikes is met: every strike has 100 K at least first * L, and 100 times the sum of K is at least second * L * the
+ * number of strikes.
+ *
+ * strikes        two words a strike, K and L of its closed quantum; strikes_length is the number of strikes, half that of the words.
+ * first, second  the two shares in percent, 1 to 100.
+ *
+ * Answers 1 if it is met, 0 if not. Refused by
+ *   18  not 1 to 32 strikes, not all with one L in a row's range, a K above L, or a share outside its range
+ */
+uint64_t quoting_board(const uint32_t *strikes, size_t strikes_length, uint32_t first, uint32_t second);
+
+/*
+ * Whether the day after the last price is inside a disturbed period.
+ *
+ * prices     the settlement prices of successive days, oldest first; prices_length is their number. Under four answer 0.
+ * threshold  in millionths, as the changes from day to day.
+ *
+ * Answers 1 if it is inside, 0 if not. Refused by
+ *   22  a previous price of zero, a change beyond 1,000,000 millionths either way, or fewer than 30 earlier sigmas when a period begins
+ */
+uint64_t quoting_volatile(const int32_t *prices, size_t prices_length, uint32_t threshold);
+
+/*
+ * Answers as quoting_volatile, and eases a lent row where the day is inside: M is halved, rounded up, and a and b are doubled, or set to
+ * the range's end where they would pass it. A row that isn't seven words in their ranges stays as it is; so does any on a day outside.
+ *
+ * row     the row's words, altered in place; row_length is their number.
+ * strike  0 where the row is for an open by SP. Else it is for a strike's open, which leaves a and b unread: they stay as they are, in
+ *         range or not.
+ *
+ * Refused by 22, as quoting_volatile is, and the row stays as it is.
+ */
+uint64_t quoting_ease(uint32_t *row, size_t row_length, uint32_t strike, const int32_t *prices, size_t prices_length, uint32_t threshold);
+
+/*
+ * Maker against taker: of m minutes, with h doubles at most and a stock of k knocks against him, the minutes that a maker can force to stay
+ * unvoided. Refused by
+ *   26  a number above 60
+ */
+uint64_t quoting_safe_minutes(uint32_t m, uint32_t h, uint32_t k);
 
 #ifdef __cplusplus
 }

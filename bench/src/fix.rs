@@ -15,9 +15,16 @@ mod proved {
         ) -> u64;
     }
 
+    /// 1 for D, 2 for F, 3 for G, with the other twelve words; else the refusal's number.
     pub fn run(message: &[u8], out: &mut [u32; 12]) -> u64 {
-        // SAFETY: the call reads the lent message and writes the twelve lent words; it keeps neither.
-        unsafe { quoting_fix(message.as_ptr(), message.len(), out.as_mut_ptr(), out.len()) }
+        let mut words = [0; 13];
+        // SAFETY: the call reads the lent message and writes the thirteen lent words; it keeps neither.
+        let answer = unsafe { quoting_fix(message.as_ptr(), message.len(), words.as_mut_ptr(), words.len()) };
+        if answer >> 32 != 0 {
+            return answer >> 32;
+        }
+        out.copy_from_slice(&words[1..]);
+        u64::from(words[0])
     }
 }
 

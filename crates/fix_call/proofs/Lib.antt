@@ -1,2 +1,0 @@
--- Laws about what the C call leaves.
-pub mod Leaving

@@ -1,2 +1,0 @@
--- The words that the C call answers.
-pub mod Words

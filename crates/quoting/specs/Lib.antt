@@ -1,0 +1,5 @@
+pub mod Answers
+pub mod Extras
+pub mod Internal
+pub mod Messages
+pub mod Sessions

@@ -1,0 +1,160 @@
+/* Runs many calls of the library: first each once, printing its answer and the buffer that it leaves, then all of them again on four
+   threads at once, whose answers must be the same.
+
+   Standard input, case by case until its end, in words of four bytes, low byte first: which call, the count of the lent buffer's elements,
+   what fills them (a byte in each of their bytes), four numbers, and the lengths of two byte strings; then the strings. Each string and
+   buffer stands in memory of exactly its size, so that a tool that watches memory sees a read or a write past its end; an empty one is a
+   null pointer. */
+
+#include <inttypes.h>
+#include <pthread.h>
+#include <stdint.h>
+#include <stdio.h>
+#include <stdlib.h>
+#include <string.h>
+
+#include "quoting.h"
+
+enum { THREADS = 4 };
+
+struct item {
+    uint32_t call, count, fill, numbers[4], sizes[2];
+    uint8_t *parts[2];
+    uint64_t answer;
+    uint8_t *after; /* the buffer that the first run left */
+};
+
+static void stop(const char *why) {
+    fprintf(stderr, "library: %s\n", why);
+    exit(2);
+}
+
+static void *room(size_t size) {
+    if (size == 0) return NULL;
+    void *bytes = malloc(size);
+    if (bytes == NULL) stop("no memory");
+    return bytes;
+}
+
+static int fill(void *bytes, size_t size) {
+    size_t got = size == 0 ? 0 : fread(bytes, 1, size, stdin);
+    if (got == size) return 1;
+    if (got != 0) stop("the input ends in the middle of a case");
+    return 0;
+}
+
+static int read_item(struct item *it) {
+    uint32_t front[9];
+    if (!fill(front, sizeof front)) return 0;
+    it->call = front[0];
+    it->count = front[1];
+    it->fill = front[2];
+    memcpy(it->numbers, front + 3, sizeof it->numbers);
+    for (int i = 0; i < 2; i++) {
+        it->sizes[i] = front[7 + i];
+        it->parts[i] = room(it->sizes[i]);
+        if (!fill(it->parts[i], it->sizes[i])) stop("the input ends in the middle of a case");
+    }
+    return 1;
+}
+
+static size_t element(const struct item *it) {
+    return it->call == 6 ? 1 : 4;
+}
+
+/* One call. The buffer is of `count` elements. */
+static uint64_t run(const struct item *it, void *buffer) {
+    const uint32_t *n = it->numbers;
+    const uint8_t *a = it->parts[0], *b = it->parts[1];
+    const uint32_t *words = (const uint32_t *) (const void *) a, *others = (const uint32_t *) (const void *) b;
+    const int32_t *prices = (const int32_t *) (const void *) a;
+    size_t size = it->sizes[0], other = it->sizes[1], count = it->count;
+    switch (it->call) {
+    case 1: return quoting_session(a, size, b, other);
+    case 2: return quoting_session_pairs(a, size, b, other, buffer, count);
+    case 3: return quoting_weight(n[0], n[1], n[2]);
+    case 4: return quoting_choose_row(words, size / 4, others, other / 4, n[0], n[1], n[2], buffer, count);
+    case 5: return quoting_fix(a, size, buffer, count);
+    case 6: return quoting_fix_write(words, size / 4, b, other, buffer, count);
+    case 7: return quoting_board(words, size / 8, n[0], n[1]);
+    case 8: return quoting_volatile(prices, size / 4, n[0]);
+    case 9: return quoting_ease(buffer, count, n[0], prices, size / 4, n[1]);
+    case 10: return quoting_safe_minutes(n[0], n[1], n[2]);
+    default: stop("no such call"); return 0;
+    }
+}
+
+/* A buffer as it is lent: filled with one byte, but a row to be eased is the second string. */
+static void *lent(const struct item *it) {
+    size_t size = it->count * element(it);
+    void *buffer = room(size);
+    if (size == 0) return buffer;
+    memset(buffer, (int) it->fill, size);
+    if (it->call == 9) memcpy(buffer, it->parts[1], size < it->sizes[1] ? size : it->sizes[1]);
+    return buffer;
+}
+
+static void print(const struct item *it) {
+    printf("%" PRIu64, it->answer);
+    for (size_t i = 0; i < it->count; i++) {
+        uint32_t word = it->after[i];
+        if (element(it) == 4) memcpy(&word, it->after + 4 * i, 4);
+        printf(" %" PRIu32, word);
+    }
+    putchar('\n');
+}
+
+struct work {
+    const struct item *items;
+    size_t count, first;
+    size_t wrong;
+};
+
+/* Every case again, from a place on and round, so that the threads are at different ones. */
+static void *again(void *given) {
+    struct work *w = given;
+    for (size_t k = 0; k < w->count; k++) {
+        const struct item *it = &w->items[(w->first + k) % w->count];
+        void *buffer = lent(it);
+        uint64_t answer = run(it, buffer);
+        size_t size = it->count * element(it);
+        w->wrong += answer != it->answer || (size != 0 && memcmp(buffer, it->after, size) != 0);
+        free(buffer);
+    }
+    return NULL;
+}
+
+int main(void) {
+    struct item *items = NULL, it;
+    size_t count = 0, places = 0;
+    while (read_item(&it)) {
+        if (count == places) {
+            places = 2 * places + 64;
+            items = realloc(items, places * sizeof *items);
+            if (items == NULL) stop("no memory");
+        }
+        it.after = lent(&it);
+        it.answer = run(&it, it.after);
+        print(&it);
+        items[count++] = it;
+    }
+    struct work work[THREADS];
+    pthread_t threads[THREADS];
+    for (size_t k = 0; k < THREADS; k++) {
+        work[k] = (struct work){items, count, k * count / THREADS, 0};
+        if (pthread_create(&threads[k], NULL, again, &work[k]) != 0) stop("no thread");
+    }
+    size_t wrong = 0;
+    for (size_t k = 0; k < THREADS; k++) {
+        pthread_join(threads[k], NULL);
+        wrong += work[k].wrong;
+    }
+    for (size_t i = 0; i < count; i++) {
+        free(items[i].parts[0]);
+        free(items[i].parts[1]);
+        free(items[i].after);
+    }
+    free(items);
+    if (wrong != 0) stop("an answer on a thread differs");
+    return 0;
+}

@@ -1,0 +1,388 @@
+"""The library for C: every call held against the recount, and some of the cases against `probe`.
+
+    python3 tests/library.py               all cases
+    python3 tests/library.py --quick       a tenth of the random ones
+
+What `make library` has built in target/library is taken. tests/library.c runs the cases twice: linked with the archive, its own side
+compiled with the address and undefined-behaviour sanitizers, and with the shared library; each time once in turn and once on four threads.
+Then the header as C and as C++, the C++ example, what the shared library shows, and an installed copy through pkg-config. It fails where
+an answer or a buffer differs, and where a refusal that a call can give never came.
+"""
+
+import argparse
+import random
+import re
+import struct
+import subprocess
+import sys
+from collections import defaultdict, namedtuple
+from pathlib import Path
+
+ROOT = Path(__file__).resolve().parent.parent
+sys.path.insert(0, str(ROOT))
+
+from recount import fix, game, programs, strikes, volatile
+from recount import session as run
+from recount.book import choose, weight
+from tests import generate, known, messages
+from tests import strikes as strike_cases
+from tests import volatile as volatile_cases
+from tools import calls as calls_text
+from tools import session as session_text
+
+TARGET = ROOT / "target"
+BUILT = TARGET / "library"
+STRICT = ["-Wall", "-Wextra", "-Wpedantic", "-Werror", f"-I{ROOT / 'include'}"]
+SHORT = 16 << 32
+SIXTY = b"20261115-10:00:00.000"
+
+# The number of a call in tests/library.c, the refusals that its cases must show, and the cases.
+NAMES = {
+    1: ("session", [1, 2, 3, *range(8, 16)]), 2: ("session_pairs", [1, 2, 3, *range(8, 17)]), 3: ("weight", [2, 3]),
+    4: ("choose_row", [16]), 5: ("fix", [16, 20, 21]), 6: ("fix_write", [3, 16, 21]), 7: ("board", [18]), 8: ("volatile", [22]),
+    9: ("ease", [22]), 10: ("safe_minutes", [26]),
+}
+
+# A case: which call, the buffer's elements and the byte that fills them, numbers, two byte strings.
+Case = namedtuple("Case", "call count fill numbers first second", defaults=[0, 0, (), b"", b""])
+
+
+def packed(numbers):
+    return struct.pack(f"<{len(numbers)}I", *(n % 2**32 for n in numbers))
+
+
+def as_bytes(case):
+    numbers = [*case.numbers, 0, 0, 0, 0][:4]
+    front = [case.call, case.count, case.fill, *numbers, len(case.first), len(case.second)]
+    return packed(front) + case.first + case.second
+
+
+# ---------------------------------------------------------------- what is due, by the recount
+
+
+def lent(case):
+    return [case.fill * (1 if case.call == 6 else 0x01010101)] * case.count
+
+
+def writes(found, buffer):
+    if len(buffer) < len(found):
+        return SHORT, buffer
+    return len(found), [*found, *buffer[len(found) :]]
+
+
+def session_pairs(case, buffer):
+    answer = run.run_bytes(case.first, case.second)
+    if isinstance(answer, run.Stopped):
+        return (answer.number << 32) + answer.place, buffer
+    return writes([answer.kept, answer.weight, len(answer.pairs), *run.pair_words(answer.pairs)], buffer)
+
+
+def weighed(kept, length, share):
+    if length % 1_000 or not 1_000 <= length <= 86_400_000 or not 1 <= share <= 799:
+        return 2 << 32
+    return 3 << 32 if kept > length else weight(kept, length, share)
+
+
+def message_words(order):
+    kind = {name: number for number, name in fix.KINDS.items()}[order.kind]
+    time = [int(part) for part in fix.TIME.fullmatch(order.time).groups()]
+    return [kind, *(order.numbers.get(tag, 0) % 2**32 for tag in fix.NUMBERS), *time]
+
+
+def read_fix(case, buffer):
+    try:
+        return writes(message_words(fix.read(case.first)), buffer)
+    except fix.Unread as refused:
+        return refused.number << 32, buffer
+
+
+def written_fix(case, buffer):
+    words = programs.to_words(case.first)[:6]
+    used = fix.USED.get(fix.KINDS.get(words[0])) if len(words) == 6 else None
+    if used is None:
+        return 3 << 32, buffer
+    order = fix.order_of([words[0], *(w if tag in used else 0 for tag, w in zip(fix.NUMBERS, words[1:]))], case.second)
+    if order is None:
+        return 3 << 32, buffer
+    try:
+        return writes(list(fix.write(order)), buffer)
+    except fix.Unread as refused:
+        return refused.number << 32, buffer
+
+
+def inside(data, threshold):
+    try:
+        return int(volatile.inside([programs.signed(w) for w in programs.to_words(data)], threshold))
+    except volatile.Refused22:
+        return 22 << 32
+
+
+def due(case):
+    """The answer, and the buffer after it."""
+    buffer, numbers = lent(case), case.numbers
+    if case.call == 9:
+        row = programs.to_words(case.second)
+        answer = inside(case.first, numbers[1])
+        return answer, volatile.eased(row, numbers[0] != 0) if answer == 1 else row
+    if case.call in (2, 5, 6):
+        return {2: session_pairs, 5: read_fix, 6: written_fix}[case.call](case, buffer)
+    if case.call == 4:
+        tables = programs.to_words(case.first), programs.to_words(case.second)
+        return writes(choose(*tables, numbers[0] != 0, *numbers[1:3]), buffer)
+    return {
+        1: lambda: run.ccall(case.first, case.second),
+        3: lambda: weighed(*numbers[:3]),
+        7: lambda: judged(numbers, programs.to_words(case.first)),
+        8: lambda: inside(case.first, numbers[0]),
+        10: lambda: 26 << 32 if max(numbers[:3]) > 60 else game.closed(*numbers[:3]),
+    }[case.call](), buffer
+
+
+def judged(shares, words):
+    answer = strikes.board(*shares[:2], list(zip(words[::2], words[1::2])))
+    return {18: 18 << 32, "met": 1, "failed": 0}[answer]
+
+
+# ---------------------------------------------------------------- the cases
+
+
+def sizes(rng, needed):
+    """A buffer's length about what is needed."""
+    return max(0, rng.choice([needed, needed, needed, needed + 1, needed + 7, needed - 1, needed // 2, 0, 1, 2]))
+
+
+def session_cases(rng, count):
+    sessions = list(known.sessions())
+    for name in ("brent", "document01", "gold-mini"):
+        data = session_text.to_bytes((ROOT / "examples" / f"{name}.session").read_text())
+        sessions.append((data[:32], data[32:]))
+    sessions += [generate.any_session(rng)[1:] for _ in range(count)]
+    sessions += [(head[:size], data) for head, data in sessions[:2] for size in (0, 31)] + [(sessions[0][0] + b"\0", b"")]
+    for head, data in sessions:
+        yield Case(1, first=head, second=data)
+        answer = run.run_bytes(head, data)
+        needed = 5 if isinstance(answer, run.Stopped) else 3 + 2 * len(answer.pairs)
+        yield Case(2, sizes(rng, needed), rng.randrange(256), first=head, second=data)
+
+
+def weight_cases(rng, count):
+    for _ in range(count):
+        length = rng.choice([1_000, 10_000, 31_500_000, 86_400_000, 1_000 * rng.randrange(86_402), rng.randrange(2**32)])
+        share = rng.choice([1, 600, 700, 750, 799, 800, 0, rng.randrange(801), rng.randrange(2**32)])
+        near = length * share // 1000
+        kept = rng.choice([0, near - 1, near, near + 1, length, length + 1, length * 8 // 10, rng.randrange(length + 1), rng.randrange(2**32)])
+        yield Case(3, numbers=(kept % 2**32, length, share))
+
+
+def row_cases(rng, count):
+    for _ in range(count):
+        _, holiday, expiry, quantum, u, h, *words = generate.any_tables(rng)
+        numbers = (rng.choice([holiday, holiday, 2**32 - 1]), expiry, quantum)
+        yield Case(4, sizes(rng, 7), rng.randrange(256), numbers, packed(words[:u]), packed(words[u:]))
+
+
+def fix_cases(rng, count):
+    shipped = re.findall(rb"8=FIX.*?\x0110=...\x01", calls_text.to_bytes((ROOT / "examples" / "fix.calls").read_text()), re.S)
+    some = shipped + [messages.any_message(rng)[1] for _ in range(count)] + [messages.good(rng) for _ in range(count)]
+    for data in [*some, b""]:
+        yield Case(5, sizes(rng, 13), rng.randrange(256), first=data)
+    for at in range(count):
+        kind = rng.choice("DFG")
+        order = messages.order(rng, kind)
+        words = message_words(order._replace(time=SIXTY))[: rng.choice([6, 6, 6, 7, 13, 5, 0])]
+        if words and rng.random() < 0.2:
+            words[rng.choice([0, 3][: len(words)])] = rng.choice([0, 3, 4, 2**32 - 1])
+        sixty = order.time if rng.random() < 0.8 else messages.wrong_time(rng)
+        try:
+            needed = len(fix.write(order._replace(time=sixty)))
+        except fix.Unread:
+            needed = 114
+        yield Case(6, sizes(rng, needed), rng.randrange(256), (), packed(words), sixty)
+
+
+def other_cases(rng, count):
+    for at in range(count):
+        first, second, board = (strike_cases.spoiled if at % 3 == 0 else strike_cases.planned)(rng)
+        yield Case(7, numbers=(first, second), first=packed([w for strike in board for w in strike]))
+    lists = list(volatile_cases.known_prices()) + [rng.choice([volatile_cases.walk, volatile_cases.repeated, volatile_cases.rough])(rng) for _ in range(count)]
+    for prices, threshold in lists:
+        yield Case(8, numbers=(threshold,), first=packed(prices))
+        row = rng.choice([volatile_cases.any_row, volatile_cases.any_strike_row])(rng)
+        yield Case(9, len(row), 0, (rng.choice([0, 0, 1, 7]), threshold), packed(prices), packed(row))
+    for _ in range(count):
+        yield Case(10, numbers=tuple(rng.choice([*(rng.randrange(61) for _ in range(8)), 61, 2**32 - 1]) for _ in range(3)))
+
+
+def all_cases(rng, count):
+    for make in (session_cases, weight_cases, row_cases, fix_cases, other_cases):
+        yield from make(rng, count)
+
+
+# ---------------------------------------------------------------- against the programs
+
+
+def program(name, data):
+    return subprocess.run([TARGET / "bin" / name], input=data, capture_output=True, check=True, timeout=60).stdout.decode()
+
+
+def numbers_in(line):
+    return [int(word) for word in line.split()[1:]]
+
+
+def said_by_probe(case):
+    """The case as `probe` takes it, and its answer as the library's; None where it takes no such case."""
+    data, words = case.first, programs.to_words(case.first)
+    if case.call == 2 and len(data) == 32 and case.count >= 3 and len(case.second) < 20_000:
+        line, after, _ = program("probe", packed([1, case.count - 3, lent(case)[0], 7]) + data + case.second).splitlines()
+        if line.startswith("refused"):
+            number, place = int(line.split()[1]), int(line.split()[3])
+            return (number << 32) + place, lent(case)
+        kept, weight_, pairs = (int(word) for word in line.split()[1::2])
+        return 3 + 2 * pairs, [kept, weight_, pairs, *numbers_in(after)]
+    if case.call == 4 and case.numbers[0] < 2:
+        others = programs.to_words(case.second)
+        row = numbers_in(program("probe", packed([2, *case.numbers[:3], len(words), len(others)]) + data + case.second))
+        return writes(row, lent(case))
+    if case.call == 7:
+        line = program("probe", packed([4, *case.numbers[:2], len(words)]) + data)
+        return {"board met\n": 1, "board failed\n": 0, "refused 18\n": 18 << 32}[line], []
+    if case.call == 8:
+        line = program("probe", packed([5, case.numbers[0], len(words)]) + data)
+        return {"inside yes\n": 1, "inside no\n": 0, "refused 22\n": 22 << 32}.get(line), []
+    if case.call == 10:
+        name, number = program("probe", packed([8, *case.numbers[:3]])).split()
+        return (26 << 32 if name == "refused" else int(number)), []
+    return None
+
+
+def check_programs(rng, cases, count):
+    seen = 0
+    by_call = defaultdict(list)
+    for case in cases:
+        by_call[case.call].append(case)
+    for call in (2, 4, 7, 8, 10):
+        for case in rng.sample(by_call[call], min(count, len(by_call[call]))):
+            said = said_by_probe(case)
+            if said is not None and said[0] is not None:
+                assert said == due(case), (case, said, due(case))
+                seen += 1
+    return seen
+
+
+# ---------------------------------------------------------------- the library
+
+
+def compiled(out, *words):
+    subprocess.run([str(word) for word in [*words, "-o", out]], check=True)
+    return out
+
+
+def answers(runner, cases, extra=None):
+    data = b"".join(map(as_bytes, cases))
+    done = subprocess.run([runner], input=data, capture_output=True, timeout=600, env=extra)
+    assert done.returncode == 0, (runner.name, done.returncode, done.stderr.decode()[-2000:])
+    return [[int(word) for word in line.split()] for line in done.stdout.splitlines()]
+
+
+def check_calls(cases):
+    archive = compiled(
+        TARGET / "library_archive", "cc", "-std=c11", "-g", "-O1", *STRICT, "-fsanitize=address,undefined", "-fno-sanitize-recover=all",
+        "-pthread", ROOT / "tests" / "library.c", BUILT / "libquoting.a")
+    shared = compiled(
+        TARGET / "library_shared", "cc", "-std=c11", "-O2", *STRICT, "-pthread", ROOT / "tests" / "library.c", f"-L{BUILT}", "-lquoting",
+        f"-Wl,-rpath,{BUILT}")
+    found = answers(archive, cases)
+    assert found == answers(shared, cases), "the archive and the shared library differ"
+    assert len(found) == len(cases)
+    seen = defaultdict(set)
+    for case, (answer, *after) in zip(cases, found):
+        wanted, buffer = due(case)
+        assert (answer, after) == (wanted, buffer), (NAMES[case.call][0], case, answer, wanted, after, buffer)
+        seen[case.call].add(answer >> 32)
+    for call, (name, refusals) in NAMES.items():
+        missing = {0, *refusals} - seen[call]
+        assert not missing, f"no case of {name} was answered by {sorted(missing)}"
+
+
+# ---------------------------------------------------------------- header, example, symbols, installation
+
+
+def check_header():
+    header = (ROOT / "include" / "quoting.h").read_text()
+    version = (ROOT / "VERSION").read_text().strip()
+    assert f'#define QUOTING_VERSION "{version}"' in header, "VERSION and the header differ"
+    one = TARGET / "header_alone"
+    for compiler, language, standard in (("cc", "c", "c99"), ("cc", "c", "c17"), ("c++", "c++", "c++11"), ("c++", "c++", "c++20")):
+        source = one.with_suffix(".c" if language == "c" else ".cpp")
+        source.write_text('#include "quoting.h"\nint main(void) { return (int) quoting_refusal_of(0); }\n')
+        compiled(one, compiler, f"-std={standard}", *STRICT, source)
+    declared = set(re.findall(r"^[a-z][\w ]*[ *](quoting_\w+)\(", header, re.M)) - {"quoting_refusal_of"}
+    names = subprocess.run(["nm", "-D", "--defined-only", BUILT / "libquoting.so"], capture_output=True, text=True, check=True)
+    shown = {line.split()[-1] for line in names.stdout.splitlines()}
+    assert shown == declared, f"shown and not declared, or the other way round: {shown ^ declared}"
+    dynamic = subprocess.run(["readelf", "-d", BUILT / "libquoting.so"], capture_output=True, text=True, check=True).stdout
+    assert f"[libquoting.so.{version.split('.')[0]}]" in dynamic, "the soname is wrong"
+    numbers = re.findall(r"^    QUOTING_\w+ = (\d+)", header, re.M)
+    assert numbers == [str(n) for n in range(27)], "the refusals' numbers"
+
+
+TEXTS = """#include <stdio.h>
+#include "quoting.h"
+int main(void) {
+    puts(quoting_version());
+    for (uint32_t n = 0; n < 28; n++) puts(quoting_refusal_text(n));
+    return 0;
+}
+"""
+
+
+def check_installed():
+    """An installed copy, found through pkg-config."""
+    root = TARGET / "installed"
+    subprocess.run(["rm", "-rf", root], check=True)
+    subprocess.run(["make", "-s", "install", f"DESTDIR={root}", "PREFIX=/usr"], cwd=ROOT, check=True)
+    flags = subprocess.run(
+        ["pkg-config", f"--define-variable=prefix={root}/usr", "--cflags", "--libs", root / "usr/lib/pkgconfig/quoting.pc"],
+        capture_output=True, text=True, check=True).stdout.split()
+    source = TARGET / "texts.c"
+    source.write_text(TEXTS)
+    texts = compiled(TARGET / "texts", "cc", "-std=c11", "-Wall", "-Wextra", "-Wpedantic", "-Werror", source, *flags, f"-Wl,-rpath,{root}/usr/lib")
+    version, accepted, *refused, unknown = subprocess.run([texts], capture_output=True, text=True, check=True).stdout.splitlines()
+    assert version == (ROOT / "VERSION").read_text().strip() and accepted == "accepted" and unknown == "unknown refusal"
+    assert len(set(refused)) == 26 and not any(text.endswith(".") for text in refused)
+
+
+def check_example():
+    """The C++ example on shipped and known sessions."""
+    example = compiled(
+        TARGET / "pairs", "c++", "-std=c++17", "-O2", *STRICT, ROOT / "examples" / "pairs.cpp", BUILT / "libquoting.a")
+    sessions = [session_text.to_bytes((ROOT / "examples" / f"{name}.session").read_text()) for name in ("brent", "document01", "gold-mini")]
+    for data in [*sessions, *(head + data for head, data in known.sessions())]:
+        if len(data) < 200_000:
+            printed = subprocess.run([example], input=data, capture_output=True, check=True).stdout.decode().splitlines()
+            answer = run.run_bytes(data[:32], data[32:])
+            if isinstance(answer, run.Stopped):
+                assert printed[0].startswith(f"refused {answer.number} at {answer.place}: "), printed
+            else:
+                due_lines = [f"kept {answer.kept} weight {answer.weight}", *(f"{offset} {length}" for offset, length in answer.pairs)]
+                assert printed == due_lines, printed
+
+
+def main():
+    parser = argparse.ArgumentParser(description=__doc__.splitlines()[0])
+    parser.add_argument("--quick", action="store_true", help="a tenth of the random cases")
+    count = 30 if parser.parse_args().quick else 300
+    if not (BUILT / "libquoting.so").exists():
+        sys.exit("target/library is not built: run make library")
+    rng = random.Random(1)
+    cases = list(all_cases(rng, count))
+    check_calls(cases)
+    checked = check_programs(rng, cases, count // 10)
+    check_header()
+    check_installed()
+    check_example()
+    print(f"library: {len(cases)} cases, each on four threads too, and {checked} of them by probe: all as the recount")
+
+
+if __name__ == "__main__":
+    main()
