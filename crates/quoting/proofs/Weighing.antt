@@ -9,14 +9,14 @@ use Rattle.rules.specs.Lists.{within}
 use Rattle.rules.specs.Terms.{paper}
 use Rattle.rules.specs.Rows.{goodLength}
 use Rattle.rules.specs.Pay.{weight}
-use Rattle.rules.specs.Causes.{lowest}
+use Rattle.rules.specs.Causes.{firstNumber}
 use Rattle.volatile.proofs.Periods.{and-true}
 use Rattle.quoting.specs.Answers.{refusedNumber, valueNumber}
 use Rattle.quoting.specs.Extras.{weighed}
 
 module _ (kept length share : ℕ) (good : Bool) (is : good ≡ goodLength length && within 1 799 share) where
   pub weighed-out : not good ≡ true → (r : ℕ) → r ≡ refusedNumber 2 → r ≡ valueNumber (weighed kept length share)
-  unfolding weighed lowest
+  unfolding weighed firstNumber
   weighed-out h r e = e ∙ rw (sym is ∙ not-true good h) refl
 
   module _ (h : not good ≡ false) where
@@ -30,9 +30,9 @@ module _ (kept length share : ℕ) (good : Bool) (is : good ≡ goodLength lengt
         (omega arith, leb-true share 799 j)
 
     pub weighed-above : length < kept → (r : ℕ) → r ≡ refusedNumber 3 → r ≡ valueNumber (weighed kept length share)
-    unfolding weighed lowest
+    unfolding weighed firstNumber
     weighed-above l r e = e ∙ rw (sym is ∙ not-false good h, lt-ltb length kept l) refl
 
     pub weighed-within : kept ≤ length → (r : ℕ) → r ≡ weight paper kept length share → r ≡ valueNumber (weighed kept length share)
-    unfolding weighed lowest
+    unfolding weighed firstNumber
     weighed-within l r e = e ∙ rw (sym is ∙ not-false good h, le-ltb length kept l) refl

@@ -13,12 +13,12 @@ use Rattle.rules.specs.Units.{steps}
 use Rattle.rules.specs.Rows.{goodLength}
 use Rattle.rules.specs.Pay.{weight}
 use Rattle.rules.specs.Answers.{Outcome, outcomeBy}
-use Rattle.rules.specs.Causes.{cause, lowest}
+use Rattle.rules.specs.Causes.{cause, firstNumber}
 
 -- the weight w by the share alone, with no lapse limit; 2, L or p outside a row's range; 3, K above L
 unfoldable pub weighed : ℕ → ℕ → ℕ → Outcome ℕ
 weighed kept length share =
-    outcomeBy (lowest (cause 2 (not (goodLength length && within 1 799 share)) ∷ cause 3 (ltb length kept) ∷ [])) (weight paper kept length share)
+    outcomeBy (firstNumber (cause 2 (not (goodLength length && within 1 799 share)) ∷ cause 3 (ltb length kept) ∷ [])) (weight paper kept length share)
 
 -- a row is eased for an open by SP, or by a strike, which leaves a and b unread. Easing looks at nothing else of them, so any will do.
 abbrev pub anyStrike : Strike
