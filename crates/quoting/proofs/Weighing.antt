@@ -10,7 +10,7 @@ use Rattle.rules.specs.Terms.{paper}
 use Rattle.rules.specs.Rows.{goodLength}
 use Rattle.rules.specs.Pay.{weight}
 use Rattle.rules.specs.Causes.{firstNumber}
-use Rattle.volatile.proofs.Periods.{and-true}
+use Rattle.rules.proofs.Lists.{both}
 use Rattle.quoting.specs.Answers.{refusedNumber, valueNumber}
 use Rattle.quoting.specs.Extras.{weighed}
 
@@ -22,10 +22,10 @@ module _ (kept length share : ℕ) (good : Bool) (is : good ≡ goodLength lengt
   module _ (h : not good ≡ false) where
     pub in-range : (1 ≤ length) × (share ≤ 799)
     in-range =
-        let (a, b) = and-true (goodLength length) (within 1 799 share) (sym is ∙ not-false good h) in
-        let (c, d) = and-true (within 1000 86400000 length) _ a in
-        let (e, f) = and-true (leb 1000 length) (leb length 86400000) c in
-        let (i, j) = and-true (leb 1 share) (leb share 799) b in
+        let (a, b) = both (goodLength length) (within 1 799 share) (sym is ∙ not-false good h) in
+        let (c, d) = both (within 1000 86400000 length) _ a in
+        let (e, f) = both (leb 1000 length) (leb length 86400000) c in
+        let (i, j) = both (leb 1 share) (leb share 799) b in
         let least = leb-true 1000 length e in
         (omega arith, leb-true share 799 j)
 
