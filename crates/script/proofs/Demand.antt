@@ -66,6 +66,7 @@ module _ (ws before behind : List ℕ) (ran : Ran) (promise : ListAnswers ws bef
         outcomes = outcomes-are;
         report = λ r a. (report-is r a, shows (after paper (callsOf ws)) (r .answer) (report-is r a));
         look = λ day expiry quantum r a. a .answer (callsOf ws) month-is;
+        message = λ start bytes r a. a .answer (callsOf ws) month-is;
         ask = λ named r a. a .answer (callsOf ws) month-is;
         commit = λ named ticket r a. a .answer (callsOf ws) month-is;
       }

@@ -5,7 +5,7 @@ use mathlib.Core.Path.{_≡_, sym, ap, subst, _∙_}
 use mathlib.Core.List.{List}
 use lib.ListN.{drop}
 use Rattle.rules.specs.Answers.{Outcome, Reply}
-use Rattle.rules.specs.Calls.{Call}
+use Rattle.rules.specs.Calls.{Call, Message}
 use Rattle.month.specs.declared.Month.{Month}
 use Rattle.month.specs.Represents.{Answered}
 use Rattle.blocks.specs.declared.Decoded.{Decoded}
@@ -30,6 +30,11 @@ told {m} {month} {next} {answer} {r} ws {said} {d} e a t = (
   subst (λ (c : Call). Performed m c (r .month) (r .shown)) (ap (callWith ws) (sym e))
       (record { month = λ calls is. t .0 ∙ a .month calls is; shown = λ calls is. t .2 ∙ ap shownOf (a .answer calls is) }),
 )
+
+-- a message with the same bytes
+pub same-message : {m month : Month} {answer : Outcome Reply} {start bytes start₂ bytes₂ : List ℕ} → start ≡ start₂ → bytes ≡ bytes₂
+    → Answered m (Message start bytes) month answer → Answered m (Message start₂ bytes₂) month answer
+same-message {m} {month} {answer} e f a = subst (λ (c : Call). Answered m c month answer) (λ i. Message (e i) (f i)) a
 
 -- the call that was decoded is the one that the block says
 pub said : {m month : Month} {shown : Shown} (part : List ℕ) (d : Decoded) → callWith part d ≡ callOf part

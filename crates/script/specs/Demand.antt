@@ -57,6 +57,10 @@ pub record Afresh (ws before behind : List ℕ) (ran : Ran) : Type 0 where
   pub look : (day expiry quantum : ℕ) (r : LookedAt)
       → Answered (ran .month) (B.Look day expiry quantum) (r .month) (shownLooked (r .answer))
       → shownLooked (r .answer) ≡ answerOf paper (after paper (callsOf ws)) (B.Look day expiry quantum)
+  -- document 02, W11: any further message, with any start
+  pub message : (start bytes : List ℕ) (r : AfterCall)
+      → Answered (ran .month) (B.Message start bytes) (r .month) (shownAnswer (r .answer))
+      → shownAnswer (r .answer) ≡ answerOf paper (after paper (callsOf ws)) (B.Message start bytes)
   -- document 02, W5: any amendment asked about: the refusal, or both quotes after it and the ticket with the book's count
   pub ask : (a : Amendment) (r : AskedAbout) → Answered (ran .month) (B.Ask a) (r .month) (shownAsked (r .answer))
       → shownAsked (r .answer) ≡ answerOf paper (after paper (callsOf ws)) (B.Ask a)

@@ -8,7 +8,7 @@ ghost use Rattle.rules.specs.Answers.{shownAnswer, shownLooked, shownAsked, sho
 ghost use Rattle.rules.specs.Calls as B;
 ghost use Rattle.month.specs.Represents.{Reached, Answered};
 ghost use Rattle.words.specs.Bytes.{wordsIn};
-ghost use Rattle.blocks.specs.Kinds.{rowAt};
+ghost use Rattle.blocks.specs.Kinds.{rowAt, startAt, messageAt};
 ghost use Rattle.blocks.specs.Decoded.{callWith};
 ghost use Rattle.script.specs.declared.Outcome.the-variants as O;
 ghost use Rattle.script.specs.Blocks.{blankReport, showing, shownOf, outcomeNumber, Performed, Stepped};
@@ -187,8 +187,15 @@ fn open(month: Month, bytes: &[u8], day: u32, opening: Opening) -> AfterCall
     month.open(&row[..n], day, opening)
 }
 
-// The call on the month, with the bytes of its block: one arm a call. An event is sent by `block`, past this choice: the compiler copies
-// the month at each choice that it passes through, and events are most of a list.
+fn message(month: Month, bytes: &[u8]) -> AfterCall
+    requires { ⌜ Reached month ⌝ }
+    ensures { λ r. ⌜ Answered month (B.Message (startAt (wordsIn (now (bytes .entry)))) (messageAt (wordsIn (now (bytes .entry))))) (r .month) (shownAnswer (r .answer)) ⌝ }
+{
+    month.message(blocks::start(bytes), blocks::message(bytes))
+}
+
+// The call on the month, with the bytes of its block: one arm a call. Events and messages are most of a list, and `block` does them past
+// this choice: the compiler copies the month at each choice that it passes through.
 fn call(month: Month, said: Decoded, bytes: &[u8], next: usize) -> Done
     requires { ⌜ Reached month ⌝ }
     ensures { λ r. ⌜ (r .next ≡ next) × Performed month (callWith (wordsIn (now (bytes .entry))) said) (r .month) (r .shown) ⌝ }
@@ -196,6 +203,7 @@ fn call(month: Month, said: Decoded, bytes: &[u8], next: usize) -> Done
     match said {
         Decoded::Open { day, opening } => tell(open(month, bytes, day, opening), next),
         Decoded::Send(e) => tell(month.send(e), next),
+        Decoded::Message => tell(message(month, bytes), next),
         Decoded::Ask(a) => tell_asked(month.ask(a.t, a.id, a.price, a.volume), next),
         Decoded::Commit(a, ticket) => {
             tell(month.commit(a.t, a.id, a.price, a.volume, ticket), next)
@@ -253,6 +261,7 @@ pub fn block(month: Month, bytes: &[u8], at: usize) -> Done
     let next = at + size;
     match said {
         Decoded::Send(e) => tell(month.send(e), next),
+        Decoded::Message => tell(message(month, rest), next),
         _ => call(month, said, rest, next),
     }
 }

@@ -69,6 +69,15 @@ send-requires c κs = search needs
 tell-requires : tie.Need-tell-requires
 tell-requires c κs = search needs
 
+enum-told : tie.Need-enum-told
+enum-told c = search needs
+
+message-requires : tie.Need-message-requires
+message-requires c κs = search needs
+
+tell-requires-2 : tie.Need-tell-requires-2
+tell-requires-2 c κs = search needs
+
 call-requires : tie.Need-call-requires
 call-requires c κs = search needs
 
@@ -84,6 +93,16 @@ returns-3 c =
 
 returns-4 : tie.Need-returns-4
 returns-4 c =
+    let d = c .before .before .before .before in
+    let f = d .before .before in
+    let a = f .before .before .before .before .before .args in
+    let part = wordsIn (take (length (a .bytes .now) - 4 * a .at) (drop (4 * a .at) (a .bytes .now))) in
+    let s = told part (c .before .before .enum-told .given .1) (c .before .message .ensures) (c .tell2 .ensures) in
+    stepped-some (a .month) (wordsIn (a .bytes .now)) (a .at) (f .size .result) _ (part-words (a .bytes .now) (a .at) (4 * a .at) refl) (f .size .ensures) (c .tell2 .result)
+    (d .before .if2 .left) (s .0) (said part (d .decode .result) (d .decode .ensures) (s .1))
+
+returns-5 : tie.Need-returns-5
+returns-5 c =
     let d = c .before .before in
     let f = d .before .before in
     let a = f .before .before .before .before .before .args in
@@ -110,6 +129,10 @@ block-spec =
     enum-known-said
     send-requires
     tell-requires
+    enum-told
+    message-requires
+    tell-requires-2
     call-requires
     returns-3
-    returns-4)
+    returns-4
+    returns-5)
