@@ -4,3 +4,4 @@ pub mod CellNames
 pub mod Calls
 pub mod Asks
 pub mod Messages
+pub mod Words

@@ -1,2 +1,3 @@
 pub mod Represents
+pub mod Words
 pub mod Internal

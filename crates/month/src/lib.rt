@@ -1,9 +1,9 @@
 // The month and its calls. Each takes the month by value and hands back the month after it.
 ghost use mathlib.Core.Path.{_≡_};
-ghost use mathlib.Core.List.{List, []};
+ghost use mathlib.Core.List.{List, [], _++_};
 ghost use mathlib.Core.Bool.{true};
-ghost use Prim.Native.Nat.{ℕ, _<_};
-ghost use lib.ListN.{length};
+ghost use Prim.Native.Nat.{ℕ, _≤_, _<_};
+ghost use lib.ListN.{length, take, drop};
 ghost use Rattle.rules.specs.declared.Event.{Event};
 ghost use Rattle.rules.specs.declared.Event.the-variants.{Add, Amend, Cancel, Deal, Tick};
 ghost use Rattle.rules.specs.Terms.{paper};
@@ -24,6 +24,8 @@ ghost use Rattle.dates.specs.Answers.{shownElapsed};
 ghost use Rattle.rules.specs.Calls as B;
 ghost use Rattle.quantum.specs.Represents as Q;
 ghost use Rattle.month.specs.Represents.{monthOf, quantumIn, Reached, Answered};
+ghost use Rattle.month.specs.declared.Month.{Month};
+ghost use Rattle.month.specs.Words.{monthWords, Fits};
 ghost use Rattle.month.specs.Internal.{withCell, withoutQuantum, counted, Previewed, namedIn, MessageAnswered, BothOrNeither};
 use dates::Elapsed;
 use fix::MessageRead;
@@ -725,6 +727,48 @@ impl Month {
                 failures,
                 fee,
             },
+        }
+    }
+
+    // Its 2,388 words; what stands behind them is kept.
+    pub fn to_words(self, words: &mut [u32])
+        requires { ⌜ Fits self × (2388 ≤ length (now words)) ⌝ }
+        ensures { λ _. ⌜ now (words .exit) ≡ monthWords self ++ drop 2388 (now (words .entry)) ⌝ }
+    {
+        let count = self.count;
+        let quantum = self.quantum;
+        let cells = self.cells;
+        let six = [
+            lent::flag(self.running),
+            self.place as u32,
+            self.share,
+            self.allowed,
+            lent::low(count),
+            lent::high(count),
+        ];
+        lent::copy(&six, &mut words[0..6]);
+        quantum.to_words(&mut words[6..528]);
+        lent::put_cells(cells, &mut words[528..2388]);
+    }
+
+    // The month whose words these are.
+    pub fn of_words(words: &[u32]) -> Month
+        requires { ⌜ 2388 ≤ length (now words) ⌝ }
+        ensures { λ r. ⌜ ((m : Month) → Fits m → take 2388 (now (words .entry)) ≡ monthWords m → r ≡ m) ⌝ }
+    {
+        let running = lent::is_set(words[0]);
+        let place = numbers::length(words[1]);
+        let count = lent::wide(words[4], words[5]);
+        let quantum = Quantum::of_words(&words[6..528]);
+        let cells = lent::cells_in(&words[528..2388]);
+        Month {
+            running,
+            place,
+            share: words[2],
+            allowed: words[3],
+            count,
+            quantum,
+            cells,
         }
     }
 }

@@ -2,3 +2,4 @@
 pub mod Represents
 pub mod Steps
 pub mod Answers
+pub mod Words

@@ -22,6 +22,10 @@ ghost use Rattle.rules.specs.Causes.{goodSpreadRule};
 ghost use Rattle.rules.specs.Bounds.{EventBounds};
 ghost use Rattle.record.specs.Fields.{readFields};
 ghost use Rattle.quantum.specs.Represents.{widestFor, dutyOf, clockOf, quantumOf, Reached, Answered, ReachedParts, Stepping, SteppingRead, Onward, startingBy, ranOn};
+ghost use Rattle.quantum.specs.declared.Duty.{Duty};
+ghost use Rattle.quantum.specs.declared.Clock.{Clock};
+ghost use Rattle.quantum.specs.declared.Quantum.{Quantum};
+ghost use Rattle.quantum.specs.Words.{dutyWords, clockWords, quantumWords};
 ghost use Rattle.quantum.specs.Internal.{InTime, untimelyBy, tickedBy};
 use record::Fields;
 use rules::Answer;
@@ -249,6 +253,48 @@ pub fn step(duty: Duty, clock: Clock, table: &mut [u32], hints: &mut [u8], e: Ev
     step_fields(duty, clock, table, hints, record::event_fields(e))
 }
 
+// ---- in words
+
+// The duty whose three words these are.
+pub fn duty_in(words: &[u32]) -> Duty
+    requires { ⌜ length (now words) ≡ 3 ⌝ }
+    ensures { λ r. ⌜ ((d : Duty) → now (words .entry) ≡ dutyWords d → r ≡ d) ⌝ }
+{
+    let length = Millis(words[0]);
+    let minimum = Contracts(words[1]);
+    Duty {
+        length,
+        minimum,
+        widest: words[2],
+    }
+}
+
+// The clock's five words, and back.
+pub fn put_clock(clock: Clock, words: &mut [u32])
+    requires { ⌜ length (now words) ≡ 5 ⌝ }
+    ensures { λ _. ⌜ now (words .exit) ≡ clockWords clock ⌝ }
+{
+    let time = clock.time;
+    let kept = clock.kept;
+    let five = [time.0, kept.0, clock.keeps, clock.lapses, clock.last];
+    lent::copy(&five, words);
+}
+
+pub fn clock_in(words: &[u32]) -> Clock
+    requires { ⌜ length (now words) ≡ 5 ⌝ }
+    ensures { λ r. ⌜ ((c : Clock) → now (words .entry) ≡ clockWords c → r ≡ c) ⌝ }
+{
+    let time = Millis(words[0]);
+    let kept = Millis(words[1]);
+    Clock {
+        time,
+        kept,
+        keeps: words[2],
+        lapses: words[3],
+        last: words[4],
+    }
+}
+
 // ---- the quantum
 
 // An event on the table of a quantum, lent with hints that say nothing yet.
@@ -383,5 +429,35 @@ impl Quantum {
     {
         let table = self.table;
         book::count(&table)
+    }
+
+    // Its 522 words: the duty's, the clock's, two zeros, the table's.
+    pub fn to_words(self, words: &mut [u32])
+        requires { ⌜ length (now words) ≡ 522 ⌝ }
+        ensures { λ _. ⌜ now (words .exit) ≡ quantumWords self ⌝ }
+    {
+        let duty = self.duty;
+        let clock = self.clock;
+        let table = self.table;
+        let length = duty.length;
+        let minimum = duty.minimum;
+        let three = [length.0, minimum.0, duty.widest];
+        let zeros = [0u32; 2];
+        lent::copy(&three, &mut words[0..3]);
+        put_clock(clock, &mut words[3..8]);
+        lent::copy(&zeros, &mut words[8..10]);
+        lent::copy(&table, &mut words[10..522]);
+    }
+
+    // The quantum whose words these are.
+    pub fn of_words(words: &[u32]) -> Quantum
+        requires { ⌜ length (now words) ≡ 522 ⌝ }
+        ensures { λ r. ⌜ ((q : Quantum) → now (words .entry) ≡ quantumWords q → r ≡ q) ⌝ }
+    {
+        let duty = duty_in(&words[0..3]);
+        let clock = clock_in(&words[3..8]);
+        let mut table = [0u32; 512];
+        lent::copy(&words[10..522], &mut table);
+        Quantum { duty, clock, table }
     }
 }

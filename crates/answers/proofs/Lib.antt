@@ -1,0 +1,2 @@
+-- The answer that some words say.
+pub mod Back

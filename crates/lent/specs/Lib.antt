@@ -1,0 +1,2 @@
+-- The words of what a caller lends words for.
+pub mod Words

@@ -1,0 +1,63 @@
+-- What a call promises on a month whose words are lent.
+use Prim.Native.Nat.{ℕ, _≤_, _%_}
+use mathlib.Core.Path.{_≡_}
+use mathlib.Core.Bool.{Bool, true, false, not, _&&_}
+use mathlib.Core.List.{List, [], _∷_, _++_}
+use lib.Dec.{eqb, leb}
+use lib.ListN.{length, take, drop}
+use Rattle.rules.specs.declared.Report.{Report}
+use Rattle.rules.specs.Lists.{if_then_else_}
+use Rattle.rules.specs.Terms.{paper}
+use Rattle.rules.specs.Answers.{accepted, refused, done, cell, asked, report}
+use Rattle.rules.specs.Calls.{Call}
+use Rattle.rules.specs.Book.{after, answerOf}
+use Rattle.words.specs.Bytes.{wordsIn}
+use Rattle.blocks.specs.Kinds.{blockSize, callOf}
+use Rattle.month.specs.Represents.{monthOf}
+use Rattle.month.specs.Words.{monthWords}
+use Rattle.script.specs.declared.Outcome.{Outcome}
+use Rattle.script.specs.declared.Outcome.the-variants as O
+use Rattle.answers.specs.Words.{answerWords}
+use Rattle.live.specs.declared.Called.{Called}
+use Rattle.live.specs.declared.Called.the-variants.{Done, WordsShort, AnswerShort, NoCall}
+
+-- one call's block, and nothing more
+unfoldable pub isCall : List ℕ → Bool
+isCall bytes =
+    let size = blockSize (wordsIn bytes) in
+    (not (eqb size 0) && eqb size (length (wordsIn bytes))) && eqb (length bytes % 4) 0
+
+-- the month after some calls, as words
+abbrev pub wordsAfter : List Call → List ℕ
+wordsAfter calls = monthWords (monthOf (after paper calls))
+
+-- "the words of a month": `fresh` wrote them, or a call
+pub record HoldsMonth (words : List ℕ) : Type 0 where
+  pub calls : List Call
+  pub is : take 2388 words ≡ wordsAfter calls
+
+-- what became of a call
+abbrev pub calledBy : Bool → Bool → Bool → Called
+calledBy words answer call = if words then (if answer then (if call then Done else NoCall) else AnswerShort) else WordsShort
+
+-- For every list of calls whose month these words are: they are those of the longer list, and the answer's words are the plain book's
+-- answer, of refused calls too. What stands behind the words and behind the answer is kept.
+pub record Performs (words out bytes words′ out′ : List ℕ) : Type 0 where
+  pub month : (calls : List Call) → take 2388 words ≡ wordsAfter calls
+      → words′ ≡ wordsAfter (calls ++ (callOf (wordsIn bytes) ∷ [])) ++ drop 2388 words
+  pub answer : (calls : List Call) → take 2388 words ≡ wordsAfter calls
+      → out′ ≡ answerWords (answerOf paper (after paper calls) (callOf (wordsIn bytes))) ++ drop 20 out
+
+-- Too few words for a month or an answer, and bytes that are no call, are answered as such, and then nothing is changed.
+pub record Calling (words out bytes words′ out′ : List ℕ) (r : Called) : Type 0 where
+  pub called : r ≡ calledBy (leb 2388 (length words)) (leb 20 (length out)) (isCall bytes)
+  pub done : r ≡ Done → Performs words out bytes words′ out′
+  pub kept : (r ≡ Done → ⊥) → (words′ ≡ words) × (out′ ≡ out)
+
+-- what an answer's words are, as the struct shows it
+abbrev pub wordsShown : Outcome → Report → List ℕ
+wordsShown O.Accepted r = answerWords (accepted done)
+wordsShown (O.Refused n) r = answerWords (refused n)
+wordsShown (O.Found v) r = answerWords (accepted (cell v))
+wordsShown (O.Asked p) r = answerWords (accepted (asked p))
+wordsShown O.Reported r = answerWords (accepted (report r))

@@ -1,0 +1,16 @@
+-- An open quantum as 522 words: its duty's three, its clock's five, two zeros, and its table's 512. That no two quanta have the same
+-- words is in proofs/Words.
+use Prim.Native.Nat.{ℕ}
+use mathlib.Core.List.{List, [], _∷_, _++_}
+use Rattle.quantum.specs.declared.Duty.{Duty}
+use Rattle.quantum.specs.declared.Clock.{Clock}
+use Rattle.quantum.specs.declared.Quantum.{Quantum}
+
+abbrev pub dutyWords : Duty → List ℕ
+dutyWords d = d .length .0 ∷ d .minimum .0 ∷ d .widest ∷ []
+
+abbrev pub clockWords : Clock → List ℕ
+clockWords c = c .time .0 ∷ c .kept .0 ∷ c .keeps ∷ c .lapses ∷ c .last ∷ []
+
+unfoldable pub quantumWords : Quantum → List ℕ
+quantumWords q = dutyWords (q .duty) ++ clockWords (q .clock) ++ (0 ∷ 0 ∷ q .table)
