@@ -65,5 +65,7 @@ dist: library
 
 # The proved meter's C call against two meters in Rust, and the proved reader of FIX messages against two in Rust.
 bench:
+	rt staticlib session
 	rt staticlib quoting
+	objcopy --keep-global-symbol=quoting_fix target/staticlib/libquoting.a target/staticlib/libquoting_fix.a
 	cd bench && cargo run --release --offline --quiet

@@ -1,4 +1,4 @@
-//! Links the archive of the proved library, where the feature asks for it, and
+//! Links the archives of the proved session run and of the library's reader of FIX messages, where the feature asks for them, and
 //! QuickFIX where it is installed.
 
 use std::path::Path;
@@ -40,10 +40,12 @@ fn main() {
     }
     let folder = std::env::var("CARGO_MANIFEST_DIR").unwrap() + "/../target/staticlib";
     println!("cargo:rustc-link-search=native={folder}");
-    let archive = format!("{folder}/libquoting.a");
-    if !Path::new(&archive).exists() {
-        panic!("no target/staticlib/libquoting.a: run `make bench`, which writes it first");
+    for name in ["session", "quoting_fix"] {
+        let archive = format!("{folder}/lib{name}.a");
+        if !Path::new(&archive).exists() {
+            panic!("no target/staticlib/lib{name}.a: run `make bench`, which writes it first");
+        }
+        println!("cargo:rerun-if-changed={archive}");
+        println!("cargo:rustc-link-lib=static={name}");
     }
-    println!("cargo:rerun-if-changed={archive}");
-    println!("cargo:rustc-link-lib=static=quoting");
 }
