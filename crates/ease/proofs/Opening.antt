@@ -21,7 +21,8 @@ use Rattle.rules.specs.Causes.{firstNumber, causes, refusalOf, readRow}
 use Rattle.rules.specs.Changes.{noted, changed, closedCell, closed, following}
 use Rattle.rules.specs.Book.{step, run}
 use Rattle.rules.specs.Histories.{NoneRefused}
-use Rattle.rules.proofs.Refusals.{call-passes}
+use Rattle.rules.proofs.Histories.{closes}
+use Rattle.rules.proofs.Refusals.{call-passes, step-accepted}
 use Rattle.ease.specs.Easing.{easedRow, wordsOf, eased}
 use Rattle.ease.proofs.Rows.{eased-good}
 use Rattle.ease.proofs.Words.{was-read, eased-is, not-eased}
@@ -56,31 +57,6 @@ module _ (spread : SpreadRule) (words : List ℕ) (row : Row) (read : accepted r
   same-quantum : rowOf (eased spread words) .quantum ≡ rowOf words .quantum
   unfolding easedRow
   same-quantum = ap (λ (r : Row). r .quantum) row-is ∙ ap (λ (r : Row). r .quantum) (was-read spread words row read .is)
-
--- ---- a quantum
-
--- an accepted call changes the book
-stepped : (b : Book) (c : Call) → refusalOf paper b c ≡ 0 → step paper b c ≡ changed b c
-unfolding step
-stepped b c e = rw e refl
-
--- the open quantum's events go to the end of its list, and its close goes by its row and that list
-module _ (place : ℕ) (row : Row) (opening : Opening) where
-  closes : (b : Book) (past : List Event) (events : List Event) (active passive : Kopecks)
-      → b .running ≡ Quoting place row opening past
-      → NoneRefused paper b (map Send events ++ (Close active passive ∷ []))
-      → run paper b (map Send events ++ (Close active passive ∷ [])) .cells ≡ set (b .cells) place (closedCell row opening (past ++ events) active passive)
-  unfolding run changed
-  closes b past [] active passive e h =
-      ap (λ (s : Book). s .cells) (stepped b (Close active passive) (h .0))
-      ∙ ap (λ (r : Running). closed r active passive (b .cells)) e
-      ∙ ap (λ (l : List Event). set (b .cells) place (closedCell row opening l active passive)) (sym (append-nil past))
-  closes b past (x ∷ events) active passive e h =
-      let s = stepped b (Send x) (h .0) in
-      closes (step paper b (Send x)) (past ++ (x ∷ [])) events active passive
-      (ap (λ (c : Book). c .running) s ∙ ap (λ (r : Running). noted r x) e) (h .1)
-      ∙ ap (λ (c : Book). set (c .cells) place (closedCell row opening (past ++ (x ∷ []) ++ events) active passive)) s
-      ∙ ap (λ (l : List Event). set (b .cells) place (closedCell row opening l active passive)) (append-snoc past x events)
 
 -- ---- an open
 
@@ -131,7 +107,7 @@ module _ (b : Book) (words : List ℕ) (day : ℕ) (opening : Opening) where
   pub opened : refusalOf paper b before ≡ 0 → step paper b after ≡ record { running = Quoting place altered opening []; cells = b .cells; count = following (b .count) }
   unfolding changed easedRow
   opened h =
-      stepped b after (same-refusal ∙ h)
+      step-accepted paper b after (same-refusal ∙ h)
       ∙ ap (λ (r : Row). record { running = Quoting (placeOf day (r .expiry) (r .quantum)) r opening []; cells = b .cells; count = following (b .count) })
       (row-is spread words (rowOf words) (was-accepted h))
 
@@ -144,5 +120,5 @@ module _ (b : Book) (words : List ℕ) (day : ℕ) (opening : Opening) where
   unfolding run
   closed-by events active passive h =
       let o = opened (sym same-refusal ∙ h .0) in
-      closes place altered opening (step paper b after) [] events active passive (ap (λ (s : Book). s .running) o) (h .1)
+      closes paper place altered opening (step paper b after) [] events active passive (ap (λ (s : Book). s .running) o) (h .1)
       ∙ ap (λ (s : Book). set (s .cells) place (closedCell altered opening events active passive)) o

@@ -17,48 +17,11 @@ use Rattle.rules.specs.Causes.{refusalOf}
 use Rattle.rules.specs.Changes.{notedAll, following, countAfter, changed}
 use Rattle.rules.specs.Book.{answerOf, step, run, after}
 use Rattle.rules.specs.Histories.{NoneRefused}
+use Rattle.rules.proofs.Histories.{run-append, Sent, sent-none, sent}
 use Rattle.rules.proofs.Refusals.{SendPasses, InTurn, TurnPasses, CallsPass, MessagePasses, message-turns, call-passes, passes-call, step-accepted, step-refused}
-use Rattle.requests.proofs.DayOrder.{run-append}
 use Rattle.requests.specs.AsCalls.{inPlace, asCalls, SameAsCalls, MessagesAsCalls}
 
--- the book with some events noted and counted
-abbrev with : Book → List Event → Book
-with b es = record { running = notedAll (b .running) es; cells = b .cells; count = countAfter (length es) (b .count) }
-
-in-turn-noted : (r : Running) (e : Event) (es : List Event) → notedAll (notedAll r (e ∷ [])) es ≡ notedAll r (e ∷ es)
-in-turn-noted Idle e es = refl
-in-turn-noted (Quoting place row opening events) e es = ap (Quoting place row opening) (append-assoc events (e ∷ []) es)
-
 module _ (terms : Terms) where
-  -- events that pass in turn are accepted one after the other
-  record Sent (b : Book) (es : List Event) : Type 0 where
-    none : NoneRefused terms b (map Send es)
-    book : run terms b (map Send es) ≡ with b es
-
-  sent-none : (b : Book) → Sent b []
-  unfolding run
-  sent-none b = record { none = tt; book = ap (λ (r : Running). record { running = r; cells = b .cells; count = b .count }) (go (b .running)) }
-    where
-      go : (r : Running) → r ≡ notedAll r []
-      go Idle = refl
-      go (Quoting place row opening events) = ap (Quoting place row opening) (sym (append-nil events))
-
-  sent : (b : Book) (place : ℕ) (row : Row) (opening : Opening) (events es : List Event) → b .running ≡ Quoting place row opening events
-      → InTurn row events es → Sent b es
-  unfolding run changed
-  sent b place row opening events [] o p = sent-none b
-  sent b place row opening events (e ∷ es) o p =
-      let passes = subst (λ (r : Running). SendPasses r e) (sym o) (p .0) in
-      let zero = passes-call terms b (Send e) passes in
-      let next = step-accepted terms b (Send e) zero in
-      let opened = ap (λ (r : Running). notedAll r (e ∷ [])) o in
-      let rest = subst (λ (d : Book). Sent d es) (sym next) (sent (changed b (Send e)) place row opening (events ++ (e ∷ [])) es opened (p .1)) in
-      let joined = in-turn-noted (b .running) e es in
-      record {
-        none = (zero, rest .none);
-        book = rest .book ∙ ap (λ (d : Book). with d es) next ∙ λ i. record { running = joined i; cells = b .cells; count = countAfter (length es) (following (b .count)) };
-      }
-
   -- those of an accepted message
   message-sent : (b : Book) (start bytes : List ℕ) → refusalOf terms b (Message start bytes) ≡ 0 → Sent b (eventsOf start bytes)
   unfolding eventsOf

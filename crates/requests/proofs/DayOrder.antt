@@ -29,6 +29,7 @@ use Rattle.rules.specs.Changes.{noted, notedAll, closedCell, following, countAf
 use Rattle.rules.specs.Book.{step, run, after}
 use Rattle.rules.specs.Histories.{refusalsFrom, NoneRefused}
 use Rattle.requests.specs.DayOrder.{Inside, event, message, ask, commit, look, report, callOf, Whole, callsIn, joined, placeIn, eventsOf, eventsIn, cellIn, countedIn, filedBy, Filed, Rearranged, anywhere, Anywhere, AcceptedToo}
+use Rattle.rules.proofs.Histories.{run-append, none-parts, parts-none}
 use Rattle.rules.proofs.Refusals.{within-parts, OpenPasses, call-passes, passes-call, step-accepted}
 use Rattle.rules.proofs.Bounds.{read-bounds, place-small}
 
@@ -112,22 +113,6 @@ module _ (terms : Terms) where
   unfolding run
   run-taken b [] h = refl
   run-taken b (c ∷ cs) h = ap (λ (x : Book). run terms x cs) (step-accepted terms b c (h .0)) ∙ run-taken (changed b c) cs (h .1)
-
-  pub run-append : (b : Book) (cs ds : List Call) → run terms b (cs ++ ds) ≡ run terms (run terms b cs) ds
-  unfolding run
-  run-append b [] ds = refl
-  run-append b (c ∷ cs) ds = run-append (step terms b c) cs ds
-
-  -- accepted one after the other
-  none-parts : (b : Book) (cs ds : List Call) → NoneRefused terms b (cs ++ ds) → NoneRefused terms b cs × NoneRefused terms (run terms b cs) ds
-  unfolding run
-  none-parts b [] ds h = (tt, h)
-  none-parts b (c ∷ cs) ds h = let (x, y) = none-parts (step terms b c) cs ds (h .1) in ((h .0, x), y)
-
-  parts-none : (b : Book) (cs ds : List Call) → NoneRefused terms b cs → NoneRefused terms (run terms b cs) ds → NoneRefused terms b (cs ++ ds)
-  unfolding run
-  parts-none b [] ds h k = k
-  parts-none b (c ∷ cs) ds h k = (h .0, parts-none (step terms b c) cs ds (h .1) k)
 
   pub filed : (b : Book) (q : Whole) → NoneRefused terms b (callsIn q) → Filed terms b q
   filed b q h =

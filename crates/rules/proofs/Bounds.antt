@@ -102,6 +102,7 @@ pub record ReadBounds (terms : Terms) (row : Row) : Type 0 where
   pub length-least : 1000 ≤ row .length .0
   pub length-most : row .length .0 ≤ 86400000
   pub minimum-least : 1 ≤ row .minimum .0
+  pub minimum-most : row .minimum .0 ≤ 100000
   pub share-least : 1 ≤ row .share
   pub share-most : row .share ≤ terms .most-share
 
@@ -118,6 +119,7 @@ read-part terms row a b r =
       length-least = r .length-least;
       length-most = r .length-most;
       minimum-least = r .minimum-least;
+      minimum-most = r .minimum-most;
       share-least = r .share-least;
       share-most = r .share-most;
     }

@@ -14,6 +14,7 @@ pub mod States
 pub mod Lapses
 pub mod Weights
 pub mod Refusals
+pub mod Histories
 pub mod MessageCalls
 pub mod Bounds
 pub mod Choosing

@@ -188,7 +188,7 @@ event-passes row events e h =
       trader = trader-passes (live events) e (b .1);
     }
 
-passes-event : (row : Row) (events : List Event) (e : Event) → EventPasses row events e → eventRefusal row events e ≡ 0
+pub passes-event : (row : Row) (events : List Event) (e : Event) → EventPasses row events e → eventRefusal row events e ≡ 0
 unfolding eventRefusal eventCauses
 passes-event row events e p =
     skip _ _ (le-ltb (timeOf e) (present events) (p .onward))

@@ -1,0 +1,89 @@
+-- The outlook on an open quantum, held against what may really follow: every list of events and a close that the plain book accepts. None
+-- of this goes by the outlook's formulas; the cells are those that the book's close puts down.
+use Prim.Native.Nat.{ℕ, _+_, _-_, _≤_, _<_}
+use mathlib.Core.Path.{_≡_}
+use mathlib.Core.List.{List, [], _∷_, _++_, map}
+use mathlib.Core.Bool.{Bool, true, false}
+use lib.IntN.{pos}
+use Rattle.rules.specs.declared.Kopecks.{Kopecks}
+use Rattle.rules.specs.declared.Opening.{Opening}
+use Rattle.rules.specs.declared.SpreadRule.{SpreadRule}
+use Rattle.rules.specs.declared.Order.{Order}
+use Rattle.rules.specs.declared.Row.{Row}
+use Rattle.rules.specs.declared.Cell.{Cell}
+use Rattle.rules.specs.declared.Event.{Event}
+use Rattle.rules.specs.declared.Event.the-variants.{Add, Cancel}
+use Rattle.rules.specs.declared.Side.the-variants.{Buy, Sell}
+use Rattle.rules.specs.declared.Outlook.{Outlook}
+use Rattle.rules.specs.Lists.{count}
+use Rattle.rules.specs.Terms.{paper}
+use Rattle.rules.specs.Units.{millis, steps, kopecks}
+use Rattle.rules.specs.Cells.{cellAt}
+use Rattle.rules.specs.Orders.{live, present}
+use Rattle.rules.specs.Kept.{keptAt}
+use Rattle.rules.specs.Lapses.{noLapseLimit}
+use Rattle.rules.specs.Pay.{cellMet, cellWeight}
+use Rattle.rules.specs.Calls.{Call, Send, Close, Quoting, Book}
+use Rattle.rules.specs.Book.{run, after}
+use Rattle.rules.specs.Replies.{outlookIn}
+use Rattle.rules.specs.Histories.{NoneRefused}
+
+-- events, then the close, as calls
+abbrev pub ending : List Event → Kopecks → Kopecks → List Call
+ending events active passive = map Send events ++ (Close active passive ∷ [])
+
+-- the cell that they leave
+abbrev pub cellLeft : Book → ℕ → List Event → Kopecks → Kopecks → Cell
+cellLeft b place events active passive = cellAt (run paper b (ending events active passive) .cells) place
+
+-- whether a millisecond is kept, the events that follow included
+abbrev pub keptThen : Row → SpreadRule → List Event → List Event → ℕ → Bool
+keptThen row spread events more m = keptAt row spread (events ++ more) m
+
+-- how many of the remaining milliseconds are kept: those from the present time to L
+abbrev pub keptOfRest : Row → SpreadRule → List Event → List Event → ℕ
+keptOfRest row spread events more =
+    count (λ (d : ℕ). keptThen row spread events more (present events + d)) (row .length .0 - present events)
+
+-- every live order cancelled at the present time
+abbrev pub cancelAll : List Event → List Event
+cancelAll events = map (λ (o : Order). Cancel (millis (present events)) (o .id)) (live events)
+
+-- .. and one buy and one sell put a step apart, of M contracts each
+abbrev pub quoteAgain : Row → List Event → List Event
+quoteAgain row events =
+    cancelAll events
+    ++ (Add (millis (present events)) 1 Buy (steps (pos 0)) (row .minimum)
+    ∷ Add (millis (present events)) 2 Sell (steps (pos 1)) (row .minimum)
+    ∷ [])
+
+-- What an outlook says of a book with a quantum open.
+pub record Foresees (b : Book) (place : ℕ) (row : Row) (opening : Opening) (events : List Event) (o : Outlook) : Type 0 where
+  -- lost: whatever events and close follow, the cell is failed
+  pub lost : o .lost ≡ true → (more : List Event) (active passive : Kopecks) → NoneRefused paper b (ending more active passive)
+      → cellMet paper (cellLeft b place more active passive) ≡ false
+  -- not lost: there are events and a close, all accepted, that leave a met cell
+  pub winnable : o .lost ≡ false
+      → (more : List Event) × NoneRefused paper b (ending more (kopecks 0) (kopecks 0))
+      × (cellMet paper (cellLeft b place more (kopecks 0) (kopecks 0)) ≡ true)
+  -- need: a cell that is met had so many of the remaining milliseconds kept at least ..
+  pub needed : (more : List Event) (active passive : Kopecks) → NoneRefused paper b (ending more active passive)
+      → cellMet paper (cellLeft b place more active passive) ≡ true → o .need .0 ≤ keptOfRest row (opening .spread) events more
+  -- .. and with no lapse limit so many are enough
+  pub enough : opening .allowed ≡ noLapseLimit → (more : List Event) (active passive : Kopecks) → NoneRefused paper b (ending more active passive)
+      → o .need .0 ≤ keptOfRest row (opening .spread) events more → cellMet paper (cellLeft b place more active passive) ≡ true
+  -- rest: cancelling every live order now and closing is accepted, and leaves a met cell exactly where it says so ..
+  pub accepted : NoneRefused paper b (ending (cancelAll events) (kopecks 0) (kopecks 0))
+  pub rest : cellMet paper (cellLeft b place (cancelAll events) (kopecks 0) (kopecks 0)) ≡ o .rest
+  -- .. with that weight
+  pub resting : cellWeight paper (cellLeft b place (cancelAll events) (kopecks 0) (kopecks 0)) ≡ o .resting
+  -- and where every remaining millisecond is kept, the weight is the other one
+  pub keeping : (more : List Event) (active passive : Kopecks) → NoneRefused paper b (ending more active passive)
+      → ((m : ℕ) → present events ≤ m → m < row .length .0 → keptThen row (opening .spread) events more m ≡ true)
+      → cellWeight paper (cellLeft b place more active passive) ≡ o .keeping
+
+-- for every list of calls that leaves a quantum open
+abbrev pub Outlooks : Type 0
+Outlooks = (calls : List Call) (place : ℕ) (row : Row) (opening : Opening) (events : List Event)
+    → after paper calls .running ≡ Quoting place row opening events
+    → Foresees (after paper calls) place row opening events (outlookIn paper (after paper calls .running))
