@@ -47,7 +47,7 @@ module _ (s : Side) (id : ℕ) where
       let (a, b) = or-false (hasId id o) (any (hasId id) os) h in
       rw (a, seen-none (n + 1) os b) (omega arith)
 
-  seen-at : (n : ℕ) (os : List Order) (k : ℕ) → Distinct os → Has id os k → seenFrom n id (idsOf (map (slotOf s) os)) ≡ n + k
+  pub seen-at : (n : ℕ) (os : List Order) (k : ℕ) → Distinct os → Has id os k → seenFrom n id (idsOf (map (slotOf s) os)) ≡ n + k
   unfolding seenFrom isLive any
   seen-at n [] k d h = absurd (not-suc-le-zero (h .inside))
   seen-at n (o ∷ os) zero d h =

@@ -53,7 +53,7 @@ pub fn room(count: u32) -> usize
 }
 
 // n for the first id that is this one, n + 1 for the second ..: as ids are distinct, 1 + the place of the id, or 0.
-fn scan(ids: &[u32], id: u32) -> u32
+pub fn scan(ids: &[u32], id: u32) -> u32
     requires { ⌜ length (now ids) ≤ 64 ⌝ }
     ensures { λ r. ⌜ r ≡ seenFrom 1 id (now (ids .entry)) ⌝ }
 {
@@ -150,7 +150,7 @@ pub fn put(words: &mut [u32], place: usize, order: Order) -> Change
 }
 
 // What stands behind a place of a column moves up to it, and the last one is 0.
-fn shift(column: &mut [u32], place: usize, last: usize)
+pub fn shift(column: &mut [u32], place: usize, last: usize)
     requires { ⌜ (place ≤ last) × (last < length (now column)) ⌝ }
     ensures { λ r. ⌜ now (column .exit) ≡ shifted (now (column .entry)) place last ⌝ }
 {

@@ -1,0 +1,2 @@
+-- What an accepted event does to the ids.
+pub mod Effects

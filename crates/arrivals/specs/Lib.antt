@@ -1,0 +1,2 @@
+-- The ids of the live orders, in the order in which they were added.
+pub mod Arrivals
