@@ -1,2 +1,3 @@
--- What an accepted event does to the ids.
+-- What an accepted event does to the ids, and the words behind them.
 pub mod Effects
+pub mod Notes

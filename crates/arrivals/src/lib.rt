@@ -1,5 +1,6 @@
 // The live orders' ids in the order in which they were added, in 64 lent words (specs/Arrivals): kept in step with the table after an
-// accepted event, for whoever shows the orders as they came. The table itself has them by side.
+// accepted event, for whoever shows the orders as they came. The table itself has them by side. Behind them stand the row and what the
+// spread limit goes by (specs/Notes), which an open quantum's clock and table do not hold.
 ghost use mathlib.Core.Path.{_≡_};
 ghost use mathlib.Core.List.{List, [], _∷_, _++_};
 ghost use Prim.Native.Nat.{_-_, _≤_, _<_};
@@ -10,6 +11,45 @@ ghost use Rattle.rules.specs.Orders.{live};
 ghost use Rattle.side.specs.Slots.{seenFrom};
 ghost use Rattle.side.specs.Internal.{shifted};
 ghost use Rattle.arrivals.specs.Arrivals.{arrivalsOf, Follows, Notable};
+ghost use Rattle.arrivals.specs.Notes.{spreadWords, notesOf};
+use rules::Row;
+use rules::SpreadRule;
+
+// What the spread limit goes by, in five words.
+fn spread_words(spread: SpreadRule) -> [u32; 5]
+    ensures { λ r. ⌜ r ≡ spreadWords spread ⌝ }
+{
+    match spread {
+        SpreadRule::Settled(sp) => [0, words::from_steps(sp), 0, 0, 0],
+        SpreadRule::OfStrike(s) => [1, s.a, s.difference, s.days, s.b],
+    }
+}
+
+// The notes of a quantum that opens: no orders yet.
+pub fn opened(row: Row, spread: SpreadRule) -> [u32; 76]
+    ensures { λ r. ⌜ r ≡ notesOf row spread [] ⌝ }
+{
+    let length = row.length;
+    let minimum = row.minimum;
+    let five = spread_words(spread);
+    let twelve = [
+        row.expiry,
+        row.quantum,
+        length.0,
+        minimum.0,
+        row.a,
+        row.b,
+        row.share,
+        five[0],
+        five[1],
+        five[2],
+        five[3],
+        five[4],
+    ];
+    let mut notes = [0u32; 76];
+    lent::copy(&twelve, &mut notes[64..76]);
+    notes
+}
 
 // The id goes; those behind it move up.
 fn remove(ids: &mut [u32], count: u32, id: u32)

@@ -1,0 +1,26 @@
+-- The notes of a quantum that opens, and after an event. Assumes nothing.
+use Prim.Native.Nat.{ℕ}
+use mathlib.Core.Path.{_≡_, refl, ap, _∙_}
+use mathlib.Core.List.{List, [], _∷_, _++_, append-nil}
+use lib.ListN.{getD, replicate}
+use Rattle.rules.specs.declared.Row.{Row}
+use Rattle.rules.specs.declared.SpreadRule.{SpreadRule}
+use Rattle.rules.specs.declared.SpreadRule.the-variants.{Settled, OfStrike}
+use Rattle.side.specs.Slots.{column}
+use Rattle.arrivals.specs.Arrivals.{arrivalsOf}
+use Rattle.arrivals.specs.Notes.{rowWords, spreadWords, notesOf}
+
+-- five words, one by one
+abbrev pub fiveOf : List ℕ → List ℕ
+fiveOf five = getD five 0 0 ∷ getD five 1 0 ∷ getD five 2 0 ∷ getD five 3 0 ∷ getD five 4 0 ∷ []
+
+five-back : (spread : SpreadRule) → fiveOf (spreadWords spread) ≡ spreadWords spread
+five-back (Settled sp) = refl
+five-back (OfStrike s) = refl
+
+-- no ids, then the row and the spread rule
+pub laid : (row : Row) (spread : SpreadRule) (five twelve : List ℕ) → five ≡ spreadWords spread → twelve ≡ rowWords row ++ fiveOf five
+    → replicate 64 0 ++ (twelve ++ []) ≡ notesOf row spread []
+unfolding notesOf arrivalsOf column
+laid row spread five twelve f t =
+    ap (λ (l : List ℕ). replicate 64 0 ++ l) (append-nil twelve ∙ t ∙ ap (λ (l : List ℕ). rowWords row ++ l) (ap fiveOf f ∙ five-back spread))
