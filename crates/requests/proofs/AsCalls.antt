@@ -12,7 +12,7 @@ use Rattle.rules.specs.Answers.{Outcome, accepted, refused}
 use Rattle.rules.specs.Dates.{Moment}
 use Rattle.rules.specs.Messages as M
 use Rattle.rules.specs.MessageCalls.{messageIn, eventsIn, eventsOf}
-use Rattle.rules.specs.Calls.{Call, Open, Send, Message, Ask, Commit, Close, Drop, Charge, Withdraw, Look, Report, Running, Idle, Quoting, Book, freshBook}
+use Rattle.rules.specs.Calls.{Call, Open, Send, Message, Ask, Commit, Close, Drop, Charge, Withdraw, Look, Report, Outlook, Running, Idle, Quoting, Book, freshBook}
 use Rattle.rules.specs.Causes.{refusalOf}
 use Rattle.rules.specs.Changes.{notedAll, following, countAfter, changed}
 use Rattle.rules.specs.Book.{answerOf, step, run, after}
@@ -23,15 +23,15 @@ use Rattle.requests.specs.AsCalls.{inPlace, asCalls, SameAsCalls, Messag
 
 module _ (terms : Terms) where
   -- those of an accepted message
-  message-sent : (b : Book) (start bytes : List ℕ) → refusalOf terms b (Message start bytes) ≡ 0 → Sent b (eventsOf start bytes)
+  message-sent : (b : Book) (start bytes : List ℕ) → refusalOf terms b (Message start bytes) ≡ 0 → Sent terms b (eventsOf start bytes)
   unfolding eventsOf
   message-sent b start bytes h = go (b .running) refl (messageIn start bytes) (call-passes terms b (Message start bytes) h)
     where
-      go : (r : Running) → b .running ≡ r → (read : Outcome (M.Message Moment)) → MessagePasses (b .running) read → Sent b (eventsIn read)
-      go Idle o (refused n) p = sent-none b
+      go : (r : Running) → b .running ≡ r → (read : Outcome (M.Message Moment)) → MessagePasses (b .running) read → Sent terms b (eventsIn read)
+      go Idle o (refused n) p = sent-none terms b
       go Idle o (accepted m) p = absurd (subst (λ (r : Running). CallsPass r m (M.timeOf m)) o (p .1))
       go (Quoting place row opening events) o read p =
-          sent b place row opening events (eventsIn read) o (subst (λ (r : Running). TurnPasses r (eventsIn read)) o (message-turns (b .running) read p))
+          sent terms b place row opening events (eventsIn read) o (subst (λ (r : Running). TurnPasses r (eventsIn read)) o (message-turns (b .running) read p))
 
   -- what stands in a call's place does what the call did
   in-place : (b : Book) (c : Call) → run terms b (inPlace c (refusalOf terms b c)) ≡ step terms b c
@@ -51,6 +51,7 @@ module _ (terms : Terms) where
   in-place b (Withdraw day expiry quantum) = refl
   in-place b (Look day expiry quantum) = refl
   in-place b Report = refl
+  in-place b Outlook = refl
 
   run-as-calls : (b : Book) (calls : List Call) → run terms b (asCalls terms b calls) ≡ run terms b calls
   unfolding run asCalls
