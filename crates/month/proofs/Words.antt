@@ -16,7 +16,7 @@ use Rattle.lent.proofs.Parts.{next-part, part-in}
 use Rattle.lent.proofs.Back.{flag-back, wide-back, cell-back, cell-length, cells-length}
 use Rattle.quantum.specs.declared.Quantum.{Quantum}
 use Rattle.quantum.specs.Words.{quantumWords}
-use Rattle.quantum.proofs.Words.{quantum-size, quantum-back}
+use Rattle.quantum.proofs.Words.{quantum-length, quantum-sized, quantum-back}
 use Rattle.month.specs.declared.Month.{Month}
 use Rattle.month.specs.Represents.{monthOf, Reached}
 use Rattle.month.specs.Words.{monthWords, Fits}
@@ -25,7 +25,7 @@ use Rattle.month.proofs.Fields.{quantum-reached, all-cells, place-insid
 -- every month that a call handed back
 pub reached-fits : (m : Month) → Reached m → Fits m
 reached-fits m r =
-    record { place = omega (arith, place-inside m r); quantum = quantum-size (m .quantum) (quantum-reached m r); cells = all-cells m r }
+    record { place = omega (arith, place-inside m r); quantum = quantum-sized (m .quantum) (quantum-reached m r); cells = all-cells m r }
 
 pub month-fits : (calls : List Call) → Fits (monthOf (after paper calls))
 month-fits calls = reached-fits (monthOf (after paper calls)) (record { calls = calls; is = refl })
@@ -37,12 +37,12 @@ headOf m = flagWord (m .running) ∷ m .place ∷ m .share ∷ m .allowed ∷ lo
 pub cells-size : (m : Month) → Fits m → length (cellsWords (m .cells)) ≡ 1860
 cells-size m f = omega (arith, cells-length (m .cells), f .cells)
 
-pub month-length : (m : Month) → Fits m → length (monthWords m) ≡ 2388
+pub month-length : (m : Month) → Fits m → length (monthWords m) ≡ 2464
 unfolding monthWords
-month-length m f = omega (arith, length-append (quantumWords (m .quantum)) (cellsWords (m .cells)), f .quantum, cells-size m f)
+month-length m f = omega (arith, length-append (quantumWords (m .quantum)) (cellsWords (m .cells)), quantum-length (m .quantum) (f .quantum), cells-size m f)
 
-front-size : (m : Month) → Fits m → length (headOf m ++ quantumWords (m .quantum)) ≡ 528
-front-size m f = length-append (headOf m) (quantumWords (m .quantum)) ∙ omega (arith, f .quantum)
+front-size : (m : Month) → Fits m → length (headOf m ++ quantumWords (m .quantum)) ≡ 604
+front-size m f = length-append (headOf m) (quantumWords (m .quantum)) ∙ omega (arith, quantum-length (m .quantum) (f .quantum))
 
 -- ---- written
 
@@ -51,44 +51,44 @@ abbrev pub headed : List ℕ → List ℕ → List ℕ
 headed ws head = head ++ drop 6 ws
 
 abbrev pub opened : List ℕ → List ℕ → List ℕ → List ℕ
-opened ws head quantum = take 6 (headed ws head) ++ (quantum ++ drop 522 (drop 6 (headed ws head)))
+opened ws head quantum = take 6 (headed ws head) ++ (quantum ++ drop 598 (drop 6 (headed ws head)))
 
 module _ (ws head quantum cells : List ℕ) (m : Month) (f : Fits m) (h : head ≡ headOf m) (q : quantum ≡ quantumWords (m .quantum)) (k : cells ≡ cellsWords (m .cells)) where
-  opened-is : opened ws head quantum ≡ (head ++ quantum) ++ drop 522 (drop 6 ws)
-  opened-is = next-part (headed ws head) head (drop 6 ws) quantum 6 522 refl (ap length h)
+  opened-is : opened ws head quantum ≡ (head ++ quantum) ++ drop 598 (drop 6 ws)
+  opened-is = next-part (headed ws head) head (drop 6 ws) quantum 6 598 refl (ap length h)
 
-  sized : length (head ++ quantum) ≡ 528
+  sized : length (head ++ quantum) ≡ 604
   sized = (λ i. length (h i ++ q i)) ∙ front-size m f
 
-  behind : drop 1860 (drop 522 (drop 6 ws)) ≡ drop 2388 ws
-  behind = drop-drop 1860 522 (drop 6 ws) ∙ drop-drop 2382 6 ws
+  behind : drop 1860 (drop 598 (drop 6 ws)) ≡ drop 2464 ws
+  behind = drop-drop 1860 598 (drop 6 ws) ∙ drop-drop 2458 6 ws
 
-  pub month-laid : take 528 (opened ws head quantum) ++ (cells ++ drop 1860 (drop 528 (opened ws head quantum))) ≡ monthWords m ++ drop 2388 ws
+  pub month-laid : take 604 (opened ws head quantum) ++ (cells ++ drop 1860 (drop 604 (opened ws head quantum))) ≡ monthWords m ++ drop 2464 ws
   unfolding monthWords
   month-laid =
-      next-part (opened ws head quantum) (head ++ quantum) (drop 522 (drop 6 ws)) cells 528 1860 opened-is sized
+      next-part (opened ws head quantum) (head ++ quantum) (drop 598 (drop 6 ws)) cells 604 1860 opened-is sized
       ∙ (λ i. ((h i ++ q i) ++ k i) ++ behind i)
 
 -- ---- read
 
-module _ (ws : List ℕ) (m : Month) (f : Fits m) (e : take 2388 ws ≡ monthWords m) where
-  whole : ws ≡ monthWords m ++ drop 2388 ws
-  whole = sym (take-append-drop 2388 ws) ∙ ap (λ (l : List ℕ). l ++ drop 2388 ws) e
+module _ (ws : List ℕ) (m : Month) (f : Fits m) (e : take 2464 ws ≡ monthWords m) where
+  whole : ws ≡ monthWords m ++ drop 2464 ws
+  whole = sym (take-append-drop 2464 ws) ∙ ap (λ (l : List ℕ). l ++ drop 2464 ws) e
 
-  in-parts : ws ≡ headOf m ++ (quantumWords (m .quantum) ++ (cellsWords (m .cells) ++ drop 2388 ws))
+  in-parts : ws ≡ headOf m ++ (quantumWords (m .quantum) ++ (cellsWords (m .cells) ++ drop 2464 ws))
   unfolding monthWords
-  in-parts = whole ∙ ap (λ (l : List ℕ). headOf m ++ l) (append-assoc (quantumWords (m .quantum)) (cellsWords (m .cells)) (drop 2388 ws))
+  in-parts = whole ∙ ap (λ (l : List ℕ). headOf m ++ l) (append-assoc (quantumWords (m .quantum)) (cellsWords (m .cells)) (drop 2464 ws))
 
   pub word-in : (i : ℕ) → i < 6 → getD ws i 0 ≡ getD (headOf m) i 0
-  word-in i h = ap (λ (l : List ℕ). getD l i 0) in-parts ∙ List·getD-append (headOf m) (quantumWords (m .quantum) ++ (cellsWords (m .cells) ++ drop 2388 ws)) 0 i h
+  word-in i h = ap (λ (l : List ℕ). getD l i 0) in-parts ∙ List·getD-append (headOf m) (quantumWords (m .quantum) ++ (cellsWords (m .cells) ++ drop 2464 ws)) 0 i h
 
-  pub quantum-in : take 522 (drop 6 ws) ≡ quantumWords (m .quantum)
-  quantum-in = part-in ws (headOf m) (quantumWords (m .quantum)) (cellsWords (m .cells) ++ drop 2388 ws) 6 522 in-parts refl (f .quantum)
+  pub quantum-in : take 598 (drop 6 ws) ≡ quantumWords (m .quantum)
+  quantum-in = part-in ws (headOf m) (quantumWords (m .quantum)) (cellsWords (m .cells) ++ drop 2464 ws) 6 598 in-parts refl (quantum-length (m .quantum) (f .quantum))
 
-  pub cells-in : take 1860 (drop 528 ws) ≡ cellsWords (m .cells)
+  pub cells-in : take 1860 (drop 604 ws) ≡ cellsWords (m .cells)
   cells-in =
-      part-in ws (headOf m ++ quantumWords (m .quantum)) (cellsWords (m .cells)) (drop 2388 ws) 528 1860
-      (in-parts ∙ sym (append-assoc (headOf m) (quantumWords (m .quantum)) (cellsWords (m .cells) ++ drop 2388 ws)))
+      part-in ws (headOf m ++ quantumWords (m .quantum)) (cellsWords (m .cells)) (drop 2464 ws) 604 1860
+      (in-parts ∙ sym (append-assoc (headOf m) (quantumWords (m .quantum)) (cellsWords (m .cells) ++ drop 2464 ws)))
       (front-size m f) (cells-size m f)
 
   pub month-back : (running : Bool) (place count : ℕ) (quantum : Quantum) (cells : List Cell) → running ≡ eqb (getD ws 0 0) 1 → place ≡ getD ws 1 0
@@ -123,7 +123,7 @@ pub months-apart : (m n : Month) → Fits m → Fits n → monthWords m ≡ mont
 unfolding monthWords
 months-apart m n f g e =
     let ws = monthWords m in
-    let all : take 2388 ws ≡ ws = take-all 2388 ws (omega (arith, month-length m f)) in
+    let all : take 2464 ws ≡ ws = take-all 2464 ws (omega (arith, month-length m f)) in
     month-back ws n g (all ∙ e) (m .running) (m .place) (m .count) (m .quantum) (m .cells) (sym (flag-back (m .running))) refl (sym (wide-back (m .count)))
-    (quantum-back (m .quantum) (n .quantum) (sym (quantum-in ws m f all) ∙ quantum-in ws n g (all ∙ e)))
+    (quantum-back (m .quantum) (n .quantum) (f .quantum) (g .quantum) (sym (quantum-in ws m f all) ∙ quantum-in ws n g (all ∙ e)))
     (cells-apart (m .cells) (n .cells) (sym (cells-in ws m f all) ∙ cells-in ws n g (all ∙ e)))

@@ -758,8 +758,8 @@ impl Month {
 
     // Its 2,388 words; what stands behind them is kept.
     pub fn to_words(self, words: &mut [u32])
-        requires { ⌜ Fits self × (2388 ≤ length (now words)) ⌝ }
-        ensures { λ _. ⌜ now (words .exit) ≡ monthWords self ++ drop 2388 (now (words .entry)) ⌝ }
+        requires { ⌜ Fits self × (2464 ≤ length (now words)) ⌝ }
+        ensures { λ _. ⌜ now (words .exit) ≡ monthWords self ++ drop 2464 (now (words .entry)) ⌝ }
     {
         let count = self.count;
         let quantum = self.quantum;
@@ -773,20 +773,20 @@ impl Month {
             lent::high(count),
         ];
         lent::copy(&six, &mut words[0..6]);
-        quantum.to_words(&mut words[6..528]);
-        lent::put_cells(cells, &mut words[528..2388]);
+        quantum.to_words(&mut words[6..604]);
+        lent::put_cells(cells, &mut words[604..2464]);
     }
 
     // The month whose words these are.
     pub fn of_words(words: &[u32]) -> Month
-        requires { ⌜ 2388 ≤ length (now words) ⌝ }
-        ensures { λ r. ⌜ ((m : Month) → Fits m → take 2388 (now (words .entry)) ≡ monthWords m → r ≡ m) ⌝ }
+        requires { ⌜ 2464 ≤ length (now words) ⌝ }
+        ensures { λ r. ⌜ ((m : Month) → Fits m → take 2464 (now (words .entry)) ≡ monthWords m → r ≡ m) ⌝ }
     {
         let running = lent::is_set(words[0]);
         let place = numbers::length(words[1]);
         let count = lent::wide(words[4], words[5]);
-        let quantum = Quantum::of_words(&words[6..528]);
-        let cells = lent::cells_in(&words[528..2388]);
+        let quantum = Quantum::of_words(&words[6..604]);
+        let cells = lent::cells_in(&words[604..2464]);
         Month {
             running,
             place,

@@ -2,7 +2,7 @@
 use Prim.Native.Nat.{ℕ, zero, suc, _≤_, _<_}
 use mathlib.Core.Path.{_≡_, refl, ap, sym, _∙_}
 use mathlib.Core.Bool.{Bool, true, false}
-use mathlib.Core.List.{List, [], _∷_}
+use mathlib.Core.List.{List, [], _∷_, _++_}
 use native.Mathlib.Omega.{arith}
 use lib.ListN.{length}
 use Rattle.rules.specs.declared.Row.{Row}
@@ -17,11 +17,13 @@ use Rattle.rules.specs.Orders.{live, applyAll}
 use Rattle.rules.specs.Causes.{Cause, cause, firstNumber, traderCauses, eventCauses, eventRefusal}
 use Rattle.rules.specs.Bounds.{EventBounds}
 use Rattle.book.specs.Table.{tableOf, Held}
+use Rattle.arrivals.specs.Notes.{notesOf}
 use Rattle.quantum.specs.declared.Duty.{Duty}
 use Rattle.quantum.specs.declared.Clock.{Clock}
 use Rattle.quantum.specs.declared.Stepped.{Stepped}
 use Rattle.quantum.specs.declared.Quantum.{Quantum}
-use Rattle.quantum.specs.Represents.{dutyOf, clockOf, quantumOf, taken, Reached, Answered, ReachedParts, Represents, Stepping}
+use Rattle.quantum.specs.Represents.{dutyOf, clockOf, tableAfter, quantumOf, taken, Reached, Answered, ReachedParts, Represents, Stepping}
+use Rattle.quantum.specs.Internal.{Accepts, Noting}
 use Rattle.quantum.proofs.Represents.{good-orders}
 
 -- ---- the numbers
@@ -97,10 +99,11 @@ held-in q r =
       is = represents-all (r .row) (r .sp) (r .events) q (r .is) (r .bounds) .table-is;
     }
 
-pub opened-is : (row : Row) (sp : SpreadRule) (duty : Duty) (clock : Clock) (table : List ℕ) → duty ≡ dutyOf row sp → clock ≡ clockOf row sp []
-    → table ≡ tableOf (row .minimum .0) [] → _≡_ {A = Quantum} (record { duty = duty; clock = clock; table = table }) (quantumOf row sp [])
+pub opened-is : (row : Row) (sp : SpreadRule) (duty : Duty) (clock : Clock) (table notes : List ℕ) → duty ≡ dutyOf row sp → clock ≡ clockOf row sp []
+    → table ≡ tableOf (row .minimum .0) [] → notes ≡ notesOf row sp []
+    → _≡_ {A = Quantum} (record { duty = duty; clock = clock; table = table; notes = notes }) (quantumOf row sp [])
 unfolding quantumOf live applyAll
-opened-is row sp duty clock table d c t = λ i. record { duty = d i; clock = c i; table = t i }
+opened-is row sp duty clock table notes d c t n = λ i. record { duty = d i; clock = c i; table = t i; notes = n i }
 
 -- ---- what an event's answer shows
 
@@ -112,14 +115,35 @@ module _ (q : Quantum) (e : Event) (exit : List ℕ) (r : Stepped) (h : Stepping
     taken-is : {n : ℕ} → r .refusal ≡ n → taken (eventRefusal row es e) es e ≡ taken n es e
     taken-is z = ap (λ (k : ℕ). taken k es e) (sym number-is ∙ z)
 
-  pub sent-accepted : r .refusal ≤ 0 → Answered q e (record { quantum = record { duty = q .duty; clock = r .clock; table = exit }; answer = Accepted })
+  -- what is left, where it is accepted
+  accepted-as : r .refusal ≤ 0 → (row : Row) (sp : SpreadRule) (es : List Event) → EventBounds row es → q ≡ quantumOf row sp es
+      → Accepts row sp es e (q .table) exit (q .notes)
   unfolding quantumOf
-  sent-accepted l =
+  accepted-as l row sp es g is =
+      let z : r .refusal ≡ 0 = omega arith in
+      let s = represents-all row sp es q is g in
+      record {
+        bounds = g;
+        accepted = sym (number-is row sp es g is) ∙ z;
+        before-is = s .table-is;
+        after-is = h .table-after row sp es s ∙ ap (tableAfter row) (taken-is row sp es g is z);
+        notes-are = ap (λ (x : Quantum). x .notes) is;
+      }
+
+  pub may-note : r .refusal ≤ 0 → Reached q → Noting (q .table) exit (q .notes) e
+  may-note l p = record { row = p .row; sp = p .sp; events = p .events; accepts = accepted-as l (p .row) (p .sp) (p .events) (p .bounds) (p .is) }
+
+  pub sent-accepted : (l : r .refusal ≤ 0) (notes : List ℕ)
+      → ((row : Row) (sp : SpreadRule) (es : List Event) → Accepts row sp es e (q .table) exit (q .notes) → notes ≡ notesOf row sp (live (es ++ (e ∷ []))))
+      → Answered q e (record { quantum = record { duty = q .duty; clock = r .clock; table = exit; notes = notes }; answer = Accepted })
+  unfolding quantumOf
+  sent-accepted l notes k =
       let z : r .refusal ≡ 0 = omega arith in
       record {
         quantum = λ row sp es g is.
             let s = represents-all row sp es q is g in
-            λ i. record { duty = s .duty-is i; clock = h .clock-after row sp es s i; table = h .table-after row sp es s i };
+            let n = k row sp es (accepted-as l row sp es g is) ∙ ap (λ (l : List Event). notesOf row sp (live l)) (sym (taken-is row sp es g is z)) in
+            λ i. record { duty = s .duty-is i; clock = h .clock-after row sp es s i; table = h .table-after row sp es s i; notes = n i };
         answer = λ row sp es g is. ap (λ (n : ℕ). outcomeBy n done) (sym z ∙ number-is row sp es g is);
       }
 

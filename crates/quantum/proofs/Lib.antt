@@ -3,3 +3,4 @@ pub mod Represents
 pub mod Steps
 pub mod Answers
 pub mod Words
+pub mod Noting

@@ -4,15 +4,17 @@ use native.Mathlib.Omega.{arith}
 use mathlib.Core.Path.{_≡_, refl, sym, ap, _∙_}
 use mathlib.Core.List.{List, [], _∷_, _++_, append-nil}
 use lib.ListN.{length, getD, take, drop, length-append, length-drop, drop-of-length-le}
-use lib.Seq.{take-all, drop-at, length-take-le}
+use lib.Seq.{take-all, take-at, drop-at, drop-drop, length-take-le}
 use Rattle.rules.specs.Units.{millis, contracts}
 use Rattle.book.proofs.Table.{held-length}
+use Rattle.rules.specs.Orders.{live}
+use Rattle.arrivals.proofs.Notes.{notes-length}
 use Rattle.lent.proofs.Parts.{next-part}
 use Rattle.quantum.specs.declared.Duty.{Duty}
 use Rattle.quantum.specs.declared.Clock.{Clock}
 use Rattle.quantum.specs.declared.Quantum.{Quantum}
-use Rattle.quantum.specs.Words.{dutyWords, clockWords, quantumWords}
-use Rattle.quantum.specs.Represents.{Reached}
+use Rattle.quantum.specs.Words.{dutyWords, clockWords, quantumWords, Sized}
+use Rattle.quantum.specs.Represents.{quantumOf, Reached}
 use Rattle.quantum.proofs.Answers.{held-in}
 
 pub duty-back : (ws : List ℕ) (d : Duty) → ws ≡ dutyWords d
@@ -34,30 +36,35 @@ module _ (ws : List ℕ) (q : Quantum) (e : ws ≡ quantumWords q) where
   unfolding quantumWords
   clock-part = ap (λ (l : List ℕ). take 5 (drop 3 l)) e
 
-  pub table-behind : drop 10 ws ≡ q .table
+  pub table-part : Sized q → take 512 (drop 10 ws) ≡ q .table
   unfolding quantumWords
-  table-behind = ap (drop 10) e
+  table-part s = ap (λ (l : List ℕ). take 512 (drop 10 l)) e ∙ take-at (q .table) (q .notes) 512 (s .table)
 
-  pub table-part : length ws ≡ 522 → take 512 (drop 10 ws) ≡ q .table
-  table-part h = take-all 512 (drop 10 ws) (omega (arith, length-drop 10 ws)) ∙ table-behind
+  pub notes-behind : Sized q → drop 522 ws ≡ q .notes
+  unfolding quantumWords
+  notes-behind s = sym (drop-drop 512 10 ws) ∙ ap (λ (l : List ℕ). drop 512 (drop 10 l)) e ∙ drop-at (q .table) (q .notes) 512 (s .table)
 
-pub quantum-length : (q : Quantum) → length (quantumWords q) ≡ 10 + length (q .table)
+  pub notes-part : Sized q → take 76 (drop 522 ws) ≡ q .notes
+  notes-part s = ap (take 76) (notes-behind s) ∙ take-all 76 (q .notes) (omega (arith, s .notes))
+
+pub quantum-length : (q : Quantum) → Sized q → length (quantumWords q) ≡ 598
 unfolding quantumWords
-quantum-length q = omega arith
+quantum-length q s = omega (arith, length-append (q .table) (q .notes), s .table, s .notes)
 
 -- no two quanta have the same words
-pub quantum-back : (p q : Quantum) → quantumWords p ≡ quantumWords q → p ≡ q
+pub quantum-back : (p q : Quantum) → Sized p → Sized q → quantumWords p ≡ quantumWords q → p ≡ q
 unfolding quantumWords
-quantum-back p q e = λ i.
+quantum-back p q s t e = λ i.
     record {
       duty = duty-back (take 3 (quantumWords p)) (q .duty) (duty-part (quantumWords p) q e) i;
       clock = clock-back (take 5 (drop 3 (quantumWords p))) (q .clock) (clock-part (quantumWords p) q e) i;
-      table = table-behind (quantumWords p) q e i;
+      table = (sym (table-part (quantumWords p) p refl s) ∙ table-part (quantumWords p) q e t) i;
+      notes = (sym (notes-behind (quantumWords p) p refl s) ∙ notes-behind (quantumWords p) q e t) i;
     }
 
--- ---- the four parts, written one behind the other
+-- ---- the five parts, written one behind the other
 
--- the words with the duty, the clock, and the zeros
+-- the words with the duty, the clock, the zeros, and the table
 abbrev pub one : List ℕ → List ℕ → List ℕ
 one ws duty = duty ++ drop 3 ws
 
@@ -67,7 +74,10 @@ two ws duty clock = take 3 (one ws duty) ++ (clock ++ drop 5 (drop 3 (one ws dut
 abbrev pub three : List ℕ → List ℕ → List ℕ → List ℕ → List ℕ
 three ws duty clock zeros = take 8 (two ws duty clock) ++ (zeros ++ drop 2 (drop 8 (two ws duty clock)))
 
-module _ (ws duty clock zeros : List ℕ) (size : length ws ≡ 522) (d : length duty ≡ 3) (k : length clock ≡ 5) (z : length zeros ≡ 2) where
+abbrev pub four : List ℕ → List ℕ → List ℕ → List ℕ → List ℕ → List ℕ
+four ws duty clock zeros table = take 10 (three ws duty clock zeros) ++ (table ++ drop 512 (drop 10 (three ws duty clock zeros)))
+
+module _ (ws duty clock zeros : List ℕ) (size : length ws ≡ 598) (d : length duty ≡ 3) (k : length clock ≡ 5) (z : length zeros ≡ 2) where
   two-is : two ws duty clock ≡ (duty ++ clock) ++ drop 5 (drop 3 ws)
   two-is = next-part (one ws duty) duty (drop 3 ws) clock 3 5 refl d
 
@@ -77,7 +87,7 @@ module _ (ws duty clock zeros : List ℕ) (size : length ws ≡ 522) (d : length
   front : length ((duty ++ clock) ++ zeros) ≡ 10
   front = length-append (duty ++ clock) zeros ∙ omega (arith, length-append duty clock)
 
-  left : length (drop 2 (drop 5 (drop 3 ws))) ≡ 512
+  left : length (drop 2 (drop 5 (drop 3 ws))) ≡ 588
   left = length-drop 2 (drop 5 (drop 3 ws)) ∙ omega (arith, length-drop 5 (drop 3 ws), length-drop 3 ws)
 
   pub room : length (take 512 (drop 10 (three ws duty clock zeros))) ≡ 512
@@ -86,20 +96,49 @@ module _ (ws duty clock zeros : List ℕ) (size : length ws ≡ 522) (d : length
       ∙ ap (λ (l : List ℕ). length (take 512 l)) (drop-at ((duty ++ clock) ++ zeros) (drop 2 (drop 5 (drop 3 ws))) 10 front)
       ∙ length-take-le 512 (drop 2 (drop 5 (drop 3 ws))) (omega (arith, left))
 
-  pub four : (table : List ℕ) → take 10 (three ws duty clock zeros) ++ (table ++ drop 512 (drop 10 (three ws duty clock zeros))) ≡ ((duty ++ clock) ++ zeros) ++ table
-  four table =
-      let none : length (drop 2 (drop 5 (drop 3 ws))) ≤ 512 = omega (arith, left) in
-      next-part (three ws duty clock zeros) ((duty ++ clock) ++ zeros) (drop 2 (drop 5 (drop 3 ws))) table 10 512 three-is front
-      ∙ ap (λ (l : List ℕ). (((duty ++ clock) ++ zeros) ++ table) ++ l) (drop-of-length-le (drop 2 (drop 5 (drop 3 ws))) none)
-      ∙ append-nil (((duty ++ clock) ++ zeros) ++ table)
+  module _ (table : List ℕ) (t : length table ≡ 512) where
+    abbrev rest : List ℕ
+    rest = drop 512 (drop 2 (drop 5 (drop 3 ws)))
 
-pub quantum-laid : (ws duty clock zeros table : List ℕ) (q : Quantum) → length ws ≡ 522 → (d : duty ≡ dutyWords (q .duty)) (k : clock ≡ clockWords (q .clock)) (z : zeros ≡ 0 ∷ 0 ∷ [])
-    → table ≡ q .table → take 10 (three ws duty clock zeros) ++ (table ++ drop 512 (drop 10 (three ws duty clock zeros))) ≡ quantumWords q
+    four-is : four ws duty clock zeros table ≡ (((duty ++ clock) ++ zeros) ++ table) ++ rest
+    four-is = next-part (three ws duty clock zeros) ((duty ++ clock) ++ zeros) (drop 2 (drop 5 (drop 3 ws))) table 10 512 three-is front
+
+    front-four : length (((duty ++ clock) ++ zeros) ++ table) ≡ 522
+    front-four = length-append ((duty ++ clock) ++ zeros) table ∙ omega (arith, front)
+
+    left-four : length rest ≡ 76
+    left-four = length-drop 512 (drop 2 (drop 5 (drop 3 ws))) ∙ omega (arith, left)
+
+    pub room-four : length (take 76 (drop 522 (four ws duty clock zeros table))) ≡ 76
+    room-four =
+        ap (λ (l : List ℕ). length (take 76 (drop 522 l))) four-is
+        ∙ ap (λ (l : List ℕ). length (take 76 l)) (drop-at (((duty ++ clock) ++ zeros) ++ table) rest 522 front-four)
+        ∙ length-take-le 76 rest (omega (arith, left-four))
+
+    pub five : (notes : List ℕ)
+        → take 522 (four ws duty clock zeros table) ++ (notes ++ drop 76 (drop 522 (four ws duty clock zeros table)))
+        ≡ (((duty ++ clock) ++ zeros) ++ table) ++ notes
+    five notes =
+        next-part (four ws duty clock zeros table) (((duty ++ clock) ++ zeros) ++ table) rest notes 522 76 four-is front-four
+        ∙ ap (λ (l : List ℕ). ((((duty ++ clock) ++ zeros) ++ table) ++ notes) ++ l) (drop-of-length-le rest {i = 76} (omega (arith, left-four)))
+        ∙ append-nil ((((duty ++ clock) ++ zeros) ++ table) ++ notes)
+
+pub quantum-laid : (ws duty clock zeros table notes : List ℕ) (q : Quantum) → length ws ≡ 598 → length (q .table) ≡ 512
+    → (d : duty ≡ dutyWords (q .duty)) (k : clock ≡ clockWords (q .clock)) (z : zeros ≡ 0 ∷ 0 ∷ []) → table ≡ q .table → notes ≡ q .notes
+    → take 522 (four ws duty clock zeros table) ++ (notes ++ drop 76 (drop 522 (four ws duty clock zeros table))) ≡ quantumWords q
 unfolding quantumWords
-quantum-laid ws duty clock zeros table q size d k z t =
-    four ws duty clock zeros size (ap length d) (ap length k) (ap length z) table
-    ∙ (λ i. ((d i ++ k i) ++ z i) ++ t i)
+quantum-laid ws duty clock zeros table notes q size long d k z t n =
+    five ws duty clock zeros size (ap length d) (ap length k) (ap length z) table (ap length t ∙ long) notes
+    ∙ (λ i. (((d i ++ k i) ++ z i) ++ t i) ++ n i)
 
 -- as many words as are lent, for a quantum that a call handed back
-pub quantum-size : (q : Quantum) → Reached q → length (quantumWords q) ≡ 522
-quantum-size q r = omega (arith, quantum-length q, held-length (q .table) (held-in q r))
+pub quantum-sized : (q : Quantum) → Reached q → Sized q
+unfolding quantumOf
+quantum-sized q r =
+    record {
+      table = held-length (q .table) (held-in q r);
+      notes = ap (λ (x : Quantum). length (x .notes)) (r .is) ∙ notes-length (r .row) (r .sp) (live (r .events)) (r .bounds .few);
+    }
+
+pub quantum-size : (q : Quantum) → Reached q → length (quantumWords q) ≡ 598
+quantum-size q r = quantum-length q (quantum-sized q r)

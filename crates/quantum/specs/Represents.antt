@@ -22,6 +22,7 @@ use Rattle.rules.specs.Bounds.{EventBounds}
 use Rattle.strike.specs.Widest.{widestOfStrike}
 use Rattle.quote.specs.Widest.{widestOf}
 use Rattle.book.specs.Table.{tableOf}
+use Rattle.arrivals.specs.Notes.{notesOf}
 use Rattle.quantum.specs.declared.Duty.{Duty}
 use Rattle.quantum.specs.declared.Clock.{Clock}
 use Rattle.quantum.specs.declared.Stepped.{Stepped}
@@ -54,7 +55,13 @@ abbrev pub tableAfter : Row → List Event → List ℕ
 tableAfter row events = tableOf (row .minimum .0) (live events)
 
 unfoldable pub quantumOf : Row → SpreadRule → List Event → Quantum
-quantumOf row sp events = record { duty = dutyOf row sp; clock = clockOf row sp events; table = tableAfter row events }
+quantumOf row sp events =
+    record {
+      duty = dutyOf row sp;
+      clock = clockOf row sp events;
+      table = tableAfter row events;
+      notes = notesOf row sp (live events);
+    }
 
 -- a quantum that a call handed back
 pub record Reached (q : Quantum) : Type 0 where

@@ -1,7 +1,7 @@
 // An open quantum: its duty, its clock (time, kept time, lapses, whether the quote is kept now) and the table of its live orders.
 // `step_fields` takes a record's fields on a lent table, for a run over many; a Quantum holds all three by value, for the month.
 ghost use mathlib.Core.Path.{_≡_};
-ghost use mathlib.Core.List.{List, []};
+ghost use mathlib.Core.List.{List, [], _∷_, _++_};
 ghost use mathlib.Core.Bool.{true, not, _&&_};
 ghost use Prim.Native.Nat.{_≤_};
 ghost use lib.Dec.{leb};
@@ -21,12 +21,13 @@ ghost use Rattle.rules.specs.Lapses.{lapsesBelow};
 ghost use Rattle.rules.specs.Causes.{goodSpreadRule};
 ghost use Rattle.rules.specs.Bounds.{EventBounds};
 ghost use Rattle.record.specs.Fields.{readFields};
+ghost use Rattle.arrivals.specs.Notes.{notesOf};
 ghost use Rattle.quantum.specs.Represents.{widestFor, dutyOf, clockOf, quantumOf, Reached, Answered, ReachedParts, Stepping, SteppingRead, Onward, startingBy, ranOn};
 ghost use Rattle.quantum.specs.declared.Duty.{Duty};
 ghost use Rattle.quantum.specs.declared.Clock.{Clock};
 ghost use Rattle.quantum.specs.declared.Quantum.{Quantum};
-ghost use Rattle.quantum.specs.Words.{dutyWords, clockWords, quantumWords};
-ghost use Rattle.quantum.specs.Internal.{InTime, untimelyBy, tickedBy};
+ghost use Rattle.quantum.specs.Words.{dutyWords, clockWords, quantumWords, Sized};
+ghost use Rattle.quantum.specs.Internal.{InTime, untimelyBy, tickedBy, Accepts, Noting};
 use record::Fields;
 use rules::Answer;
 use rules::Contracts;
@@ -66,10 +67,12 @@ pub struct Stepped {
     pub refusal: u32,
 }
 
+// The notes are what a view of the quantum shows and the others do not hold (crate `arrivals`).
 pub struct Quantum {
     duty: Duty,
     clock: Clock,
     table: [u32; 512],
+    notes: [u32; 76],
 }
 
 // What an event hands back of a quantum.
@@ -297,10 +300,23 @@ pub fn clock_in(words: &[u32]) -> Clock
 
 // ---- the quantum
 
+// The notes after an accepted event, by the tables before and after it.
+fn noted(old: [u32; 512], new: [u32; 512], notes: [u32; 76], e: Event) -> [u32; 76]
+    requires { ⌜ Noting old new notes e ⌝ }
+    ensures { λ r. ⌜ ((row : Row) (sp : SpreadRule) (events : List Event) → Accepts row sp events e old new notes → r ≡ notesOf row sp (liveOrders (events ++ (e ∷ [])))) ⌝ }
+{
+    let f = record::event_fields(e);
+    let had = book::count(&old);
+    let has = book::count(&new);
+    let mut next = notes;
+    arrivals::note(&mut next[0..64], had, has, f.id);
+    next
+}
+
 // An event on the table of a quantum, lent with hints that say nothing yet.
-fn stepped_on(duty: Duty, clock: Clock, table: [u32; 512], e: Event) -> Sent
-    requires { ⌜ Reached (record { duty = duty; clock = clock; table = table }) ⌝ }
-    ensures { λ r. ⌜ Answered (record { duty = duty; clock = clock; table = table }) e r ⌝ }
+fn stepped_on(duty: Duty, clock: Clock, table: [u32; 512], notes: [u32; 76], e: Event) -> Sent
+    requires { ⌜ Reached (record { duty = duty; clock = clock; table = table; notes = notes }) ⌝ }
+    ensures { λ r. ⌜ Answered (record { duty = duty; clock = clock; table = table; notes = notes }) e r ⌝ }
 {
     let mut next = table;
     let mut hints = [0u8; 2048];
@@ -309,15 +325,22 @@ fn stepped_on(duty: Duty, clock: Clock, table: [u32; 512], e: Event) -> Sent
     let n = stepped.refusal;
     if 0 < n {
         return Sent {
-            quantum: Quantum { duty, clock, table },
+            quantum: Quantum {
+                duty,
+                clock,
+                table,
+                notes,
+            },
             answer: Answer::Refused(rules::refusal_of(n)),
         };
     }
+    let notes = noted(table, next, notes, e);
     Sent {
         quantum: Quantum {
             duty,
             clock: after,
             table: next,
+            notes,
         },
         answer: Answer::Accepted,
     }
@@ -332,7 +355,13 @@ impl Quantum {
         let duty = duty_of(row, spread);
         let clock = started();
         let table = book::empty();
-        Quantum { duty, clock, table }
+        let notes = arrivals::opened(row, spread);
+        Quantum {
+            duty,
+            clock,
+            table,
+            notes,
+        }
     }
 
     // An event: taken, or refused with the quantum as it was.
@@ -343,7 +372,8 @@ impl Quantum {
         let duty = self.duty;
         let clock = self.clock;
         let table = self.table;
-        stepped_on(duty, clock, table, e)
+        let notes = self.notes;
+        stepped_on(duty, clock, table, notes, e)
     }
 
     // Kept time and lapses at the quantum's end.
@@ -444,14 +474,15 @@ impl Quantum {
         book::count(&table)
     }
 
-    // Its 522 words: the duty's, the clock's, two zeros, the table's.
+    // Its 598 words: the duty's, the clock's, two zeros, the table's, the notes'.
     pub fn to_words(self, words: &mut [u32])
-        requires { ⌜ length (now words) ≡ 522 ⌝ }
+        requires { ⌜ length (now words) ≡ 598 ⌝ }
         ensures { λ _. ⌜ now (words .exit) ≡ quantumWords self ⌝ }
     {
         let duty = self.duty;
         let clock = self.clock;
         let table = self.table;
+        let notes = self.notes;
         let length = duty.length;
         let minimum = duty.minimum;
         let three = [length.0, minimum.0, duty.widest];
@@ -460,17 +491,25 @@ impl Quantum {
         put_clock(clock, &mut words[3..8]);
         lent::copy(&zeros, &mut words[8..10]);
         lent::copy(&table, &mut words[10..522]);
+        lent::copy(&notes, &mut words[522..598]);
     }
 
     // The quantum whose words these are.
     pub fn of_words(words: &[u32]) -> Quantum
-        requires { ⌜ length (now words) ≡ 522 ⌝ }
-        ensures { λ r. ⌜ ((q : Quantum) → now (words .entry) ≡ quantumWords q → r ≡ q) ⌝ }
+        requires { ⌜ length (now words) ≡ 598 ⌝ }
+        ensures { λ r. ⌜ ((q : Quantum) → Sized q → now (words .entry) ≡ quantumWords q → r ≡ q) ⌝ }
     {
         let duty = duty_in(&words[0..3]);
         let clock = clock_in(&words[3..8]);
         let mut table = [0u32; 512];
+        let mut notes = [0u32; 76];
         lent::copy(&words[10..522], &mut table);
-        Quantum { duty, clock, table }
+        lent::copy(&words[522..598], &mut notes);
+        Quantum {
+            duty,
+            clock,
+            table,
+            notes,
+        }
     }
 }

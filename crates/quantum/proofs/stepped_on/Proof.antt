@@ -2,7 +2,7 @@
 use mathlib.Core.Path.{refl}
 use native.Mathlib.Omega.{arith}
 use Rattle.quantum.specs.declared.Quantum.{Quantum}
-use Rattle.quantum.proofs.Answers.{event-numbered, represents-all, reached-parts, sent-accepted, sent-refused}
+use Rattle.quantum.proofs.Answers.{event-numbered, represents-all, reached-parts, may-note, sent-accepted, sent-refused}
 use borrow.Author.Needs.{needs}
 use Rattle.quantum.proofs.stepped_on.Statement.{statement}
 use Rattle.quantum.proofs.stepped_on.Tie as tie
@@ -10,14 +10,14 @@ use Rattle.quantum.proofs.stepped_on.Tie as tie
 step-requires : tie.Need-step-requires
 step-requires c κs =
     let s = c .before .before in
-    reached-parts (record { duty = s .args .duty; clock = s .args .clock; table = s .args .table }) _ (s .pre) refl
+    reached-parts (record { duty = s .args .duty; clock = s .args .clock; table = s .args .table; notes = s .args .notes }) _ (s .pre) refl
 
 refusal-of-requires : tie.Need-refusal-of-requires
 refusal-of-requires c κs =
     let g = c .before .before .before .before in
     let s = g .before .before .before in
     let p = s .pre in
-    let q : Quantum = record { duty = s .args .duty; clock = s .args .clock; table = s .args .table } in
+    let q : Quantum = record { duty = s .args .duty; clock = s .args .clock; table = s .args .table; notes = s .args .notes } in
     let n = g .step .ensures .number (p .row) (p .sp) (p .events) (represents-all (p .row) (p .sp) (p .events) q (p .is) (p .bounds)) in
     let b = event-numbered (p .row) (p .events) (s .args .e) (omega (arith, n, c .if1 .taken)) in
     (omega (arith, n, b .0), omega (arith, n, b .1))
@@ -26,14 +26,22 @@ returns : tie.Need-returns
 returns c =
     let g = c .before .before .before .before .before in
     let s = g .before .before .before in
-    sent-refused (record { duty = s .args .duty; clock = s .args .clock; table = s .args .table }) (s .args .e) _ (g .step .result) (g .step .ensures)
+    sent-refused (record { duty = s .args .duty; clock = s .args .clock; table = s .args .table; notes = s .args .notes }) (s .args .e) _ (g .step .result) (g .step .ensures)
     (c .refusal-of .result) (c .before .if1 .taken) (c .refusal-of .ensures)
+
+noted-requires : tie.Need-noted-requires
+noted-requires c κs =
+    let g = c .before .before .before .before in
+    let s = g .before .before .before in
+    may-note (record { duty = s .args .duty; clock = s .args .clock; table = s .args .table; notes = s .args .notes }) (s .args .e) _ (g .step .result) (g .step .ensures)
+    (c .if1 .left) (s .pre)
 
 returns-2 : tie.Need-returns-2
 returns-2 c =
-    let g = c .before .before .before .before in
+    let g = c .before .before .before .before .before in
     let s = g .before .before .before in
-    sent-accepted (record { duty = s .args .duty; clock = s .args .clock; table = s .args .table }) (s .args .e) _ (g .step .result) (g .step .ensures) (c .if1 .left)
+    sent-accepted (record { duty = s .args .duty; clock = s .args .clock; table = s .args .table; notes = s .args .notes }) (s .args .e) _ (g .step .result) (g .step .ensures)
+    (c .before .if1 .left) (c .noted .result) (c .noted .ensures)
 
 pub stepped-on-spec : {M : Type 1} → statement M
 stepped-on-spec =
@@ -44,4 +52,5 @@ stepped-on-spec =
     step-requires
     refusal-of-requires
     returns
+    noted-requires
     returns-2)
