@@ -1,34 +1,35 @@
 -- The cells at the quantum's end: their bounds, and that they are those of the definition. Assumes nothing.
-use Prim.Native.Nat.{ℕ, zero, suc, _+_, _-_, _*_, _≤_, _<_}
+use Prim.Native.Nat.{ℕ, zero, suc, _+_, _-_, _*_, _≤_}
 use native.Mathlib.Omega.{arith}
-use mathlib.Core.Path.{_≡_, refl, sym, ap, _∙_}
-use mathlib.Core.List.{List}
-use mathlib.Core.Bool.{Bool, true, false, _&&_, _||_}
+use mathlib.Core.Path.{_≡_, refl, ap, _∙_}
+use mathlib.Core.List.{List, []}
+use mathlib.Core.Bool.{Bool, true, false, _||_}
 use lib.Dec.{leb, ltb, eqb}
-use lib.IntN.{pos}
+use lib.IntN.{ℤ, pos}
+use lib.Signed.{leZ}
 use lib.ListN.{length}
 use borrow.Author.Tests.{le-ltb}
-use Rattle.rules.specs.declared.Millis.{Millis}
 use Rattle.rules.specs.declared.Row.{Row}
+use Rattle.rules.specs.declared.SpreadRule.{SpreadRule}
 use Rattle.rules.specs.declared.Opening.{Opening}
 use Rattle.rules.specs.declared.Event.{Event}
 use Rattle.rules.specs.declared.Cell.{Cell}
-use Rattle.rules.specs.Lists.{if_then_else_, count}
+use Rattle.rules.specs.Lists.{if_then_else_}
 use Rattle.rules.specs.Terms.{paper}
 use Rattle.rules.specs.Units.{millis, kopecks}
 use Rattle.rules.specs.Orders.{present}
-use Rattle.rules.specs.Kept.{keptAt, keptBelow}
+use Rattle.rules.specs.Kept.{spreadWithin, keptAt, keptBelow}
 use Rattle.rules.specs.Runs.{before}
 use Rattle.rules.specs.Lapses.{lapses, lapsesBelow, begins}
-use Rattle.rules.specs.Bounds.{EventBounds, CellBounds}
-use Rattle.rules.specs.Outlook.{restingTill, canKeep, cellOf, cellResting}
-use Rattle.rules.proofs.Bounds.{read-bounds}
+use Rattle.rules.specs.Bounds.{CellBounds}
+use Rattle.rules.specs.Outlook.{canKeep, cellResting}
+use Rattle.rules.proofs.Bounds.{read-bounds, event-bounds-none}
 use Rattle.quantum.specs.declared.Duty.{Duty}
 use Rattle.quantum.specs.declared.Clock.{Clock}
-use Rattle.quantum.specs.Represents.{dutyOf, clockOf, tableAfter, Represents, startingBy, ranOn}
-use Rattle.quantum.proofs.Represents.{time-is, kept-is, last-is, onward, widest-is}
+use Rattle.quantum.specs.Represents.{dutyOf, clockOf, tableAfter}
+use Rattle.quantum.proofs.Represents.{time-is, onward, widest-is}
 use Rattle.outlook.specs.Stands.{Stands}
-use Rattle.outlook.specs.Internal.{Sound, withKeeps, cellAt, endingCell}
+use Rattle.outlook.specs.Internal.{Sound, endingCell}
 use Rattle.outlook.proofs.Resting.{oneIf, resting-count, resting-lapses}
 
 -- ---- bounds
@@ -38,21 +39,27 @@ at-most zero n h = omega arith
 at-most (suc zero) n h = omega arith
 at-most (suc (suc k)) n h = absurd (omega (arith, h))
 
-pub ending-bounds : (duty : Duty) (clock : Clock) (keeps share allowed : ℕ) → Sound duty clock share → keeps ≤ 1 → (end : Clock)
-    → end ≡ ranOn (withKeeps clock keeps) (duty .length) 0 → CellBounds paper (cellAt duty end share allowed)
-ending-bounds duty clock keeps share allowed s h end e =
+-- whatever the lapses
+pub ending-bounds : (duty : Duty) (clock : Clock) (keeps share allowed lapses kept : ℕ) → Sound duty clock share → keeps ≤ 1
+    → kept ≡ clock .kept .0 + keeps * (duty .length .0 - clock .time .0)
+    → CellBounds paper
+    (record {
+      filled = true;
+      kept = millis kept;
+      length = duty .length;
+      share = share;
+      allowed = allowed;
+      lapses = lapses;
+      active = kopecks 0;
+      passive = kopecks 0;
+    })
+ending-bounds duty clock keeps share allowed lapses kept s h e =
     record {
       length-least = s .length-least;
       length-most = s .length-most;
       share-least = s .share-least;
       share-most = s .share-most;
-      kept-most = omega (
-        arith,
-        ap (λ (c : Clock). c .kept .0) e,
-        at-most keeps (duty .length .0 - clock .time .0) h,
-        s .kept-most,
-        s .inside,
-      );
+      kept-most = omega (arith, at-most keeps (duty .length .0 - clock .time .0) h, s .kept-most, s .inside);
       active-most = omega arith;
       passive-most = omega arith;
     }
@@ -93,18 +100,22 @@ out : (b : Bool) (n m : ℕ) → (if b then n + m else n) ≡ n + (if b then m e
 out true n m = refl
 out false n m = omega arith
 
-module _ (row : Row) (opening : Opening) (es : List Event) (g : EventBounds row es) where
+-- the D within the limit are those up to the widest
+pub widest-law : (row : Row) (spread : SpreadRule) (d : ℤ) → leZ d (pos (dutyOf row spread .widest)) ≡ spreadWithin row spread d
+widest-law row spread d =
+    widest-is row spread [] (dutyOf row spread) (clockOf row spread []) (tableAfter row [])
+    (record { bounds = event-bounds-none row; duty-is = refl; clock-is = refl; table-is = refl }) d
+
+-- something can be kept where the widest D is 1 at least
+pub can-is : (row : Row) (spread : SpreadRule) → leb 1 (dutyOf row spread .widest) ≡ canKeep row spread
+can-is row spread = widest-law row spread (pos 1)
+
+module _ (row : Row) (opening : Opening) (es : List Event) where
   abbrev duty : Duty
   duty = dutyOf row (opening .spread)
 
   abbrev clock : Clock
   clock = clockOf row (opening .spread) es
-
-  -- something can be kept where the widest D is 1 at least
-  pub can-is : leb 1 (dutyOf row (opening .spread) .widest) ≡ canKeep row (opening .spread)
-  can-is =
-      widest-is row (opening .spread) es (dutyOf row (opening .spread)) (clockOf row (opening .spread) es) (tableAfter row es)
-      (record { bounds = g; duty-is = refl; clock-is = refl; table-is = refl }) (pos 1)
 
   abbrev kept : ℕ → Bool
   kept = keptAt row (opening .spread) es

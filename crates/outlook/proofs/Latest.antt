@@ -2,14 +2,14 @@
 use Prim.Native.Nat.{ℕ, zero, suc, _+_, _≤_, _<_}
 use native.Mathlib.Omega.{arith}
 use mathlib.Core.Path.{_≡_, refl, sym, ap, _∙_}
-use mathlib.Core.Bool.{Bool, true, false, true≢false}
+use mathlib.Core.Bool.{Bool, true, false}
 use lib.Dec.{eqb}
 use borrow.Author.Tests.{eqb-true, eqb-false}
 use Rattle.rules.specs.declared.Possible.{Possible}
 use Rattle.rules.specs.declared.Possible.the-variants.{Never, At}
 use Rattle.rules.specs.Lists.{if_then_else_}
 use Rattle.rules.specs.Units.{millis}
-use Rattle.rules.specs.Outlook.{latest, isNever}
+use Rattle.rules.specs.Outlook.{latest}
 
 pub latest-ext : (p q : ℕ → Bool) (t n : ℕ) → ((s : ℕ) → t ≤ s → s ≤ t + n → p s ≡ q s) → latest p t n ≡ latest q t n
 unfolding latest
@@ -41,7 +41,33 @@ latest-at p t (suc n) s l u e h =
         let last : s < t + suc n = omega (arith, other) in
         rw (h (t + suc n) last (omega arith)) (ih (omega arith))
 
--- what is found passes
-abbrev Found : (ℕ → Bool) → ℕ → ℕ → Possible → Type 0
+-- what is found passes, and where nothing is found none does
+abbrev pub Found : (ℕ → Bool) → ℕ → ℕ → Possible → Type 0
 Found p t n Never = (s : ℕ) → t ≤ s → s ≤ t + n → p s ≡ false
 Found p t n (At s) = (t ≤ s .0) × (s .0 ≤ t + n) × (p (s .0) ≡ true)
+
+found-more : (p : ℕ → Bool) (t n : ℕ) (o : Possible) → Found p t n o → p (t + suc n) ≡ false → Found p t (suc n) o
+found-more p t n Never h e = λ s l u. go s l u (eqb s (t + suc n)) refl
+  where
+    go : (s : ℕ) → t ≤ s → s ≤ t + suc n → (b : Bool) → eqb s (t + suc n) ≡ b → p s ≡ false
+    go s l u true f = ap p (eqb-true s (t + suc n) f) ∙ e
+    go s l u false f =
+        let other : (s ≡ t + suc n → ⊥) = eqb-false s (t + suc n) f in
+        h s l (omega (arith, other))
+found-more p t n (At s) h e = (h .0, omega (arith, h .1), h .2)
+
+found-last : (p : ℕ → Bool) (t n : ℕ) (b : Bool) → p (t + suc n) ≡ b → Found p t n (latest p t n)
+    → Found p t (suc n) (if b then At (millis (t + suc n)) else latest p t n)
+found-last p t n true e h = (omega arith, omega arith, e)
+found-last p t n false e h = found-more p t n (latest p t n) h e
+
+found-first : (p : ℕ → Bool) (t : ℕ) (b : Bool) → p t ≡ b → Found p t zero (if b then At (millis t) else Never)
+found-first p t true e = (omega arith, omega arith, e)
+found-first p t false e = λ s l u.
+    let same : s ≡ t = omega arith in
+    ap p same ∙ e
+
+pub latest-found : (p : ℕ → Bool) (t n : ℕ) → Found p t n (latest p t n)
+unfolding latest
+latest-found p t zero = found-first p t (p t) refl
+latest-found p t (suc n) = found-last p t n (p (t + suc n)) refl (latest-found p t n)

@@ -5,3 +5,4 @@ pub mod Resting
 pub mod Until
 pub mod Endings
 pub mod Outlooks
+pub mod Meaning

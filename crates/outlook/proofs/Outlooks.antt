@@ -1,10 +1,10 @@
 -- What the fields of the duty and the clock give is the outlook of the definition. Assumes nothing.
-use Prim.Native.Nat.{ℕ, _+_, _-_, _≤_}
+use Prim.Native.Nat.{ℕ, _-_, _≤_}
 use native.Mathlib.Omega.{arith}
-use mathlib.Core.Path.{_≡_, refl, sym, ap, _∙_}
+use mathlib.Core.Path.{_≡_, sym, ap, _∙_}
 use mathlib.Core.List.{List}
-use mathlib.Core.Bool.{Bool, true, false, _&&_, _||_}
-use lib.Dec.{leb, ltb, eqb}
+use mathlib.Core.Bool.{Bool, _&&_, _||_}
+use lib.Dec.{leb, eqb}
 use Rattle.rules.specs.declared.Row.{Row}
 use Rattle.rules.specs.declared.Opening.{Opening}
 use Rattle.rules.specs.declared.Event.{Event}
@@ -59,18 +59,25 @@ module _ (row : Row) (opening : Opening) (es : List Event) (g : EventBounds row 
   abbrev end : ℕ
   end = row .length .0
 
-  resting-end : cellResting row opening es end ≡ restingCell row opening es g end
-  resting-end = resting-is row opening es g end (g .ends) (omega arith)
+  resting-end : cellResting row opening es end ≡ restingCell row opening es end
+  resting-end = resting-is row opening es end (g .ends) (omega arith)
 
-  keeping-now : cellResting row opening es (present es) ≡ restingCell row opening es g (present es)
-  keeping-now = resting-is row opening es g (present es) (omega arith) (g .ends)
+  keeping-now : cellResting row opening es (present es) ≡ restingCell row opening es (present es)
+  keeping-now = resting-is row opening es (present es) (omega arith) (g .ends)
 
   may-is : (s : ℕ) → present es ≤ s → s ≤ end
       → maySo paper row opening es s
       ≡ testTill (keptBelow row (opening .spread) es (present es)) (lapsesBelow row (opening .spread) es (present es)) end (row .share) (opening .allowed)
-      (present es) (canKeep row (opening .spread)) (beginsNow row opening es g) s
+      (present es) (canKeep row (opening .spread)) (beginsNow row opening es) s
   unfolding maySo
-  may-is s l u = ap (λ (c : Cell). (eqb s end || canKeep row (opening .spread)) && cellMet paper c) (resting-is row opening es g s l u)
+  may-is s l u = ap (λ (c : Cell). (eqb s end || canKeep row (opening .spread)) && cellMet paper c) (resting-is row opening es s l u)
+
+  -- the latest of the definition, by numbers
+  pub latest-is : latestRest paper row opening es
+      ≡ latest (testTill (keptBelow row (opening .spread) es (present es)) (lapsesBelow row (opening .spread) es (present es)) end (row .share) (opening .allowed)
+      (present es) (canKeep row (opening .spread)) (beginsNow row opening es)) (present es) (end - present es)
+  unfolding latestRest
+  latest-is = latest-ext (maySo paper row opening es) _ (present es) (end - present es) (λ s l u. may-is s l (omega (arith, g .ends)))
 
   by-is : byWorked (dutyOf row (opening .spread)) (clockOf row (opening .spread) es) (row .share) (canKeep row (opening .spread))
       (cellResting row opening es end) (cellResting row opening es (present es))
@@ -79,11 +86,11 @@ module _ (row : Row) (opening : Opening) (es : List Event) (g : EventBounds row 
   by-is =
       ap (λ (c : Cell). byWorked (dutyOf row (opening .spread)) (clockOf row (opening .spread) es) (row .share) (canKeep row (opening .spread)) c
       (cellResting row opening es (present es))) resting-end
-      ∙ ap (byWorked (dutyOf row (opening .spread)) (clockOf row (opening .spread) es) (row .share) (canKeep row (opening .spread)) (restingCell row opening es g end))
+      ∙ ap (byWorked (dutyOf row (opening .spread)) (clockOf row (opening .spread) es) (row .share) (canKeep row (opening .spread)) (restingCell row opening es end))
       keeping-now
       ∙ by-law (keptBelow row (opening .spread) es (present es)) (lapsesBelow row (opening .spread) es (present es)) end (row .share) (opening .allowed)
-      (present es) (canKeep row (opening .spread)) (beginsNow row opening es g) (g .ends)
-      ∙ sym (latest-ext (maySo paper row opening es) _ (present es) (end - present es) (λ s l u. may-is s l (omega (arith, g .ends))))
+      (present es) (canKeep row (opening .spread)) (beginsNow row opening es) (g .ends)
+      ∙ sym latest-is
 
   whole : worked (dutyOf row (opening .spread)) (clockOf row (opening .spread) es) (row .share) (opening .allowed) (canKeep row (opening .spread))
       (cellResting row opening es end) (cellResting row opening es (present es))
@@ -113,8 +120,8 @@ worked-is row opening es duty clock share allowed s =
     (endingCell (s .duty-is i) (s .clock-is i) 0 (s .share-is i) (s .allowed-is i))
     (endingCell (s .duty-is i) (s .clock-is i) 1 (s .share-is i) (s .allowed-is i)))
     ∙ (λ i.
-    worked (dutyOf row (opening .spread)) (clockOf row (opening .spread) es) (row .share) (opening .allowed) (can-is row opening es g i)
-    ((end-resting row opening es g ∙ sym (resting-end row opening es g)) i) ((end-keeping row opening es g ∙ sym (keeping-now row opening es g)) i))
+    worked (dutyOf row (opening .spread)) (clockOf row (opening .spread) es) (row .share) (opening .allowed) (can-is row (opening .spread) i)
+    ((end-resting row opening es ∙ sym (resting-end row opening es g)) i) ((end-keeping row opening es ∙ sym (keeping-now row opening es g)) i))
     ∙ whole row opening es g
 
 -- ---- from the judged cells

@@ -1,14 +1,14 @@
 -- Kept time and lapses where nothing is kept from a time t up to s, and everything from s on. Assumes nothing.
 use Prim.Native.Nat.{ℕ, zero, suc, _+_, _-_, _≤_, _<_}
 use native.Mathlib.Omega.{arith}
-use mathlib.Core.Path.{_≡_, refl, sym, ap, _∙_}
-use mathlib.Core.Bool.{Bool, true, false, not, _&&_, _||_}
-use lib.Dec.{leb, ltb, eqb}
+use mathlib.Core.Path.{_≡_, refl, ap, _∙_}
+use mathlib.Core.Bool.{Bool, true, false}
+use lib.Dec.{ltb}
 use lib.ListN.{length}
 use borrow.Author.Tests.{le-leb, lt-leb, lt-ltb, le-ltb, ltb-true, ltb-false, ne-eqb}
 use Rattle.rules.specs.Lists.{if_then_else_, count}
 use Rattle.rules.specs.Runs.{before}
-use Rattle.rules.specs.Lapses.{missing, lapses, begins, lapseStarts}
+use Rattle.rules.specs.Lapses.{lapses, begins, lapseStarts}
 use Rattle.rules.specs.Outlook.{restingTill}
 use Rattle.rules.proofs.Counting.{count-ext, count-stretch}
 use Rattle.rules.proofs.Lapses.{lapses-counted}
@@ -66,17 +66,12 @@ module _ (kept : ℕ → Bool) (t s : ℕ) where
       let p = lapseStarts (restingTill kept t s) in
       let later = ltb-true t s e in
       let below : count p t ≡ count (lapseStarts kept) t = count-ext p (lapseStarts kept) t starts-earlier in
-      let one : count p (t + 1) ≡ count p t + oneIf (begins kept t) =
-      first (begins kept t) (count-stretch p t 1 (begins kept t) (λ m l u. at m (omega arith))) in
+      let one : count p (t + 1) ≡ count p t + oneIf (begins kept t) = count-stretch p t 1 (begins kept t) (λ m l u. at m (omega arith)) in
       let rest : count p (t + 1 + (s - (t + 1))) ≡ count p (t + 1) + 0 =
       count-stretch p (t + 1) (s - (t + 1)) false (λ m l u. starts-resting m (omega arith) (omega arith)) in
       let to-s : t + 1 + (s - (t + 1)) ≡ s = omega arith in
       omega (arith, ap (count p) to-s)
     where
-      first : (b : Bool) → count (lapseStarts (restingTill kept t s)) (t + 1) ≡ count (lapseStarts (restingTill kept t s)) t + (if b then 1 else 0)
-          → count (lapseStarts (restingTill kept t s)) (t + 1) ≡ count (lapseStarts (restingTill kept t s)) t + oneIf b
-      first b k = k
-
       at : (m : ℕ) → m ≡ t → lapseStarts (restingTill kept t s) m ≡ begins kept t
       at m f = ap (lapseStarts (restingTill kept t s)) f ∙ starts-now (ltb-true t s e)
   starts-resting-count false e h =

@@ -1,22 +1,22 @@
 -- Until when the maker may rest, by numbers: `byOf` is the latest time whose rest leaves a met cell. Assumes nothing.
-use Prim.Native.Nat.{ℕ, zero, suc, _+_, _-_, _≤_, _<_}
+use Prim.Native.Nat.{ℕ, _+_, _-_, _≤_, _<_}
 use native.Mathlib.Omega.{arith}
 use mathlib.Core.Path.{_≡_, refl, sym, ap, _∙_}
-use mathlib.Core.Bool.{Bool, true, false, true≢false, _&&_, _||_, and-false, or-true}
+use mathlib.Core.Bool.{Bool, true, false, true≢false, not, _&&_, _||_, and-false, or-true}
 use lib.Dec.{leb, ltb, eqb}
-use borrow.Author.Tests.{leb-true, leb-false, le-leb, lt-leb, lt-ltb, le-ltb, ltb-true, ltb-false, eqb-true, eq-eqb}
-use Rattle.rules.specs.declared.Possible.{Possible}
+use borrow.Author.Tests.{leb-true, leb-false, le-leb, lt-leb, lt-ltb, le-ltb, ltb-true, eqb-true, eq-eqb}
+use Rattle.rules.specs.declared.Millis.{Millis}
 use Rattle.rules.specs.declared.Possible.the-variants.{Never, At}
 use Rattle.rules.specs.Lists.{if_then_else_}
 use Rattle.rules.specs.Terms.{paper}
 use Rattle.rules.specs.Units.{millis}
 use Rattle.rules.specs.Lapses.{noLapseLimit, withinLapseLimit}
 use Rattle.rules.specs.Pay.{met}
-use Rattle.rules.specs.Outlook.{needOf, latest}
+use Rattle.rules.specs.Outlook.{needOf, latest, isNever}
 use Rattle.rules.proofs.Lists.{both, and}
 use Rattle.outlook.specs.Internal.{byOf}
 use Rattle.outlook.proofs.Latest.{latest-none, latest-at}
-use Rattle.outlook.proofs.Needs.{needed-enough, rounded-most}
+use Rattle.outlook.proofs.Needs.{needed-enough}
 use Rattle.outlook.proofs.Resting.{oneIf}
 
 -- no more lapses are within the limit where more are
@@ -141,3 +141,54 @@ module _ (kept lapses length share allowed t : ℕ) (can begins : Bool) where
         go false true false waits r a k w = sym (by-lost k)
         go false true true true r a k w = sym (by-needed a k w)
         go false true true false r a k w = sym (by-now a k w)
+
+    -- ---- never: keeping everything that is left does not help, nor does resting
+
+    never-is : (rest possible waits : Bool) (now end : Millis) (need : ℕ) → isNever (byOf rest possible waits now end need) ≡ not rest && not possible
+    never-is true possible waits now end need = refl
+    never-is false true true now end need = refl
+    never-is false true false now end need = refl
+    never-is false false waits now end need = refl
+
+    -- more is needed than is left, or lapses are over
+    abbrev over : Bool
+    over = ltb (length - t) (needOf paper kept length share) || not (withinLapseLimit allowed lapses)
+
+    over-is : not (verdictTill t) ≡ over
+    over-is =
+        ap (λ (b : Bool). not (b && withinLapseLimit allowed (lapses + moreTill t))) (met-till t)
+        ∙ ap (λ (n : ℕ). not (leb (needOf paper kept length share) (length - t) && withinLapseLimit allowed (lapses + n))) more-now
+        ∙ (λ i. not (leb (needOf paper kept length share) (length - t) && withinLapseLimit allowed (same i)))
+        ∙ either (leb (needOf paper kept length share) (length - t)) (withinLapseLimit allowed lapses) refl
+      where
+        same : lapses + 0 ≡ lapses
+        same = omega arith
+
+        either : (b c : Bool) → leb (needOf paper kept length share) (length - t) ≡ b
+            → not (b && c) ≡ ltb (length - t) (needOf paper kept length share) || not c
+        either true c e = ap (λ (x : Bool). x || not c) (sym (le-ltb (length - t) (needOf paper kept length share) (leb-true _ _ e)))
+        either false c e = ap (λ (x : Bool). x || not c) (sym (lt-ltb (length - t) (needOf paper kept length share) (leb-false _ _ e)))
+
+    -- or something is needed where nothing can be kept
+    pub never-law : (can ≡ false → 1 ≤ needOf paper kept length share)
+        → isNever (byOf (verdictTill length) (can && verdictTill t) (withinLapseLimit allowed (lapses + moreTill length)) (millis t) (millis length)
+        (needOf paper kept length share))
+        ≡ over || (ltb 0 (needOf paper kept length share) && not can)
+    never-law some =
+        never-is (verdictTill length) (can && verdictTill t) (withinLapseLimit allowed (lapses + moreTill length)) (millis t) (millis length)
+        (needOf paper kept length share)
+        ∙ go can (verdictTill t) refl refl
+        ∙ ap (λ (b : Bool). b || (ltb 0 (needOf paper kept length share) && not can)) over-is
+      where
+        go : (able keep : Bool) → can ≡ able → verdictTill t ≡ keep
+            → not (verdictTill length) && not (able && keep) ≡ not keep || (ltb 0 (needOf paper kept length share) && not able)
+        go true true a k = and-false (not (verdictTill length)) ∙ sym (and-false (ltb 0 (needOf paper kept length share)))
+        go true false a k =
+            ap (λ (b : Bool). not b && true) (not-so (verdictTill length) (verdictTill t) (verdict-earlier t length inside) k)
+        go false keep a k =
+            let needed = some a in
+            let failed : met paper (kept + (length - length)) length share ≡ false =
+            met-till length ∙ lt-leb (needOf paper kept length share) (length - length) (omega arith) in
+            ap (λ (b : Bool). not (b && withinLapseLimit allowed (lapses + moreTill length)) && true) failed
+            ∙ sym (or-true (not keep))
+            ∙ ap (λ (b : Bool). not keep || (b && true)) (sym (lt-ltb 0 (needOf paper kept length share) needed))

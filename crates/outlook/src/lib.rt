@@ -1,10 +1,8 @@
 // The outlook on an open quantum, from its duty and its clock: how much must still be kept, until when nothing need be, and what the cell
 // is worth if nothing more is kept or all that is left.
 ghost use mathlib.Core.Path.{_≡_};
-ghost use mathlib.Core.Bool.{_&&_, _||_};
 ghost use mathlib.Core.List.{List};
 ghost use Prim.Native.Nat.{_*_, _-_, _≤_};
-ghost use lib.Dec.{leb, eqb};
 ghost use Rattle.rules.specs.declared.Event.{Event};
 ghost use Rattle.rules.specs.declared.Opening.{Opening};
 ghost use Rattle.rules.specs.declared.Row.{Row};
@@ -53,17 +51,24 @@ fn ending(duty: Duty, clock: Clock, keeps: u32, share: u32, allowed: u32) -> Cel
     })
 }
 
+// a less b, or 0 where b is greater.
+fn less(a: u32, b: u32) -> u32
+    ensures { λ r. ⌜ r ≡ a - b ⌝ }
+{
+    if a <= b {
+        return 0;
+    }
+    a - b
+}
+
 // How many milliseconds more must be kept for a share in thousandths: the least whole number, so the division rounds up.
 fn needed(kept: Millis, length: Millis, share: u32) -> u32
     requires { ⌜ share ≤ 1000 ⌝ }
-    ensures { λ r. ⌜ (r ≡ needOf paper (kept .0) (length .0) share) × (r ≤ length .0) ⌝ }
+    ensures { λ r. ⌜ r ≡ needOf paper (kept .0) (length .0) share ⌝ }
 {
     let product = numbers::wide(share) * numbers::wide(length.0);
     let least = ((product + 999) / 1000) as u32;
-    if least <= kept.0 {
-        return 0;
-    }
-    least - kept.0
+    less(least, kept.0)
 }
 
 fn reachable(n: u32, left: Millis, within: bool, can: bool) -> bool
@@ -93,9 +98,15 @@ fn lapses_left(allowed: u32, lapses: u32) -> LapsesLeft
     LapsesLeft::Over
 }
 
+// The time from which all must be kept, where so many are needed.
+fn start(end: Millis, need: u32) -> Millis
+    ensures { λ r. ⌜ r .0 ≡ end .0 - need ⌝ }
+{
+    Millis(less(end.0, need))
+}
+
 // Until when the maker may rest. `possible`: keeping everything from now on leaves a met cell; `waits`: the lapse of resting is none too many.
 fn by(rest: bool, possible: bool, waits: bool, now: Millis, end: Millis, need: u32) -> Possible
-    requires { ⌜ need ≤ end .0 ⌝ }
     ensures { λ r. ⌜ r ≡ byOf rest possible waits now end need ⌝ }
 {
     if rest {
@@ -103,7 +114,7 @@ fn by(rest: bool, possible: bool, waits: bool, now: Millis, end: Millis, need: u
     }
     if possible {
         if waits {
-            return Possible::At(Millis(end.0 - need));
+            return Possible::At(start(end, need));
         }
         return Possible::At(now);
     }

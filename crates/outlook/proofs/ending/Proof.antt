@@ -13,7 +13,8 @@ view-requires : tie.Need-view-requires
 view-requires c κs =
     let s = c .before .before .before .before .before in
     let a = s .args in
-    ending-bounds (a .duty) (a .clock) (a .keeps) (a .share) (a .allowed) (s .pre .0) (s .pre .1) (c .before .onward .result) (c .before .onward .ensures)
+    ending-bounds (a .duty) (a .clock) (a .keeps) (a .share) (a .allowed) _ (c .before .onward .result .kept .0) (s .pre .0) (s .pre .1)
+    (ap (λ (end : Clock). end .kept .0) (c .before .onward .ensures))
 
 returns : tie.Need-returns
 returns c =

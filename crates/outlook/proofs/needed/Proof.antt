@@ -1,8 +1,9 @@
 -- The product fits 64 bits, and the rounded quotient is at most the length. Assumes nothing.
 use borrow.Author.Needs.{needs}
 use native.Mathlib.Omega.{arith}
+use mathlib.Core.Path.{_∙_}
 use Prim.Native.Nat.{_*_, _≤_}
-use Rattle.outlook.proofs.Needs.{product-is, needed-none, needed-some}
+use Rattle.outlook.proofs.Needs.{product-is, needed-is}
 use Rattle.outlook.proofs.needed.Statement.{statement}
 use Rattle.outlook.proofs.needed.Tie as tie
 
@@ -29,15 +30,10 @@ cast-least c =
 
 returns : tie.Need-returns
 returns c =
-    let s = c .before .before .before in
-    needed-none (s .before .args .kept .0) (s .before .args .length .0) (s .before .args .share) (s .wide .result) (c .before .before .wide2 .result)
-    (s .wide .ensures .0) (c .before .before .wide2 .ensures .0) (c .if1 .taken)
-
-returns-2 : tie.Need-returns-2
-returns-2 c =
-    let s = c .before .before .before .before in
-    needed-some (s .before .args .kept .0) (s .before .args .length .0) (s .before .args .share) (s .wide .result) (c .before .before .before .wide2 .result)
-    (s .wide .ensures .0) (c .before .before .before .wide2 .ensures .0) (s .before .pre)
+    let s = c .before .before in
+    let a = s .before .args in
+    c .less .ensures
+    ∙ needed-is (a .kept .0) (a .length .0) (a .share) (s .wide .result) (c .before .wide2 .result) (s .wide .ensures .0) (c .before .wide2 .ensures .0)
 
 pub needed-spec : {M : Type 1} → statement M
 needed-spec =
@@ -48,6 +44,5 @@ needed-spec =
     mul-product
     add-least
     cast-least
-    returns
-    (λ c. search needs)
-    returns-2)
+    (λ c κs. search needs)
+    returns)

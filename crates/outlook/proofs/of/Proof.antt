@@ -6,9 +6,9 @@ use Rattle.outlook.specs.Stands.{Outlooked}
 use Rattle.outlook.specs.Internal.{Sound}
 use Rattle.quantum.specs.declared.Duty.{Duty}
 use Rattle.quantum.specs.declared.Clock.{Clock}
-use Prim.Native.Nat.{ℕ, _≤_}
+use Prim.Native.Nat.{ℕ}
 use Rattle.outlook.proofs.Endings.{sound}
-use Rattle.outlook.proofs.Outlooks.{Called, called, worked-is}
+use Rattle.outlook.proofs.Outlooks.{called, worked-is}
 use Rattle.outlook.proofs.of.Statement.{statement}
 use Rattle.outlook.proofs.of.Tie as tie
 
@@ -39,8 +39,8 @@ returns c = λ row opening es s.
     (record {
       resting-is = k .before .ending .ensures;
       keeping-is = k .ending2 .ensures;
-      need-is = n .needed .ensures .0;
-      full-is = c .before .before .before .before .needed2 .ensures .0;
+      need-is = n .needed .ensures;
+      full-is = c .before .before .before .before .needed2 .ensures;
       within-is = b .before .before .before .within-lapse-limit .ensures;
       waits-is = b .before .before .within-lapse-limit2 .ensures;
       possible-is = b .before .both .ensures;
