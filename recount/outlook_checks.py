@@ -64,8 +64,8 @@ def hold(book: Book, said: OutlookView, left: int) -> None:
         assert not cell.met or sum(chosen) >= said.need, (said, chosen)
         if book.quoting.limit == NO_LIMIT and book.quoting.row.b:
             assert cell.met == (sum(chosen) >= said.need), (said, chosen)
-    if said.full is not None:
-        assert all(cell.weight in (0, 20_000) for chosen, cell in cells.items() if sum(chosen) >= said.full)
+    full = [sum(chosen) for chosen, cell in cells.items() if cell.weight == 20_000]
+    assert (said.full is None) == (not full) and all(kept >= said.full for kept in full), said
 
 
 def check_ways(rng: random.Random, cases: int) -> None:
