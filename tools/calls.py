@@ -23,6 +23,7 @@ The text, one call a line, # for comments:
     withdraw DAY EXPIRY QUANTUM
     look DAY EXPIRY QUANTUM
     report
+    outlook                                   how the open quantum stands, and whether the maker may rest
     ask T ID PRICE VOLUME                     what that amend would do, and a ticket for it
     commit T ID PRICE VOLUME ticket T ID PRICE VOLUME COUNT
     message START BYTES                       a FIX message, with the quantum's start in the form of 60;
@@ -44,8 +45,8 @@ sys.path.insert(0, str(Path(__file__).resolve().parent.parent))
 
 from recount import fix, programs
 from recount.book import (
-    EVENTS, NO_LIMIT, Add, Amend, Ask, Cancel, Charge, Close, Commit, Deal, Drop, Look, Message, Open, Report,
-    Strike, Tick, Ticket, Withdraw,
+    EVENTS, NO_LIMIT, Add, Amend, Ask, Cancel, Charge, Close, Commit, Deal, Drop, Look, Message, Open, Outlook,
+    Report, Strike, Tick, Ticket, Withdraw,
 )
 from tools import text
 
@@ -58,6 +59,7 @@ OTHER_COLUMNS = {
     "withdraw": (Withdraw, "day expiry quantum"),
     "look": (Look, "day expiry quantum"),
     "report": (Report, ""),
+    "outlook": (Outlook, ""),
 }
 
 
@@ -167,7 +169,8 @@ def call_words(call):
         return [7, *halves(call.active), *halves(call.passive)]
     if kind is Charge:
         return [9, *call[:3], *halves(call.active), *halves(call.passive)]
-    return [{Cancel: 4, Deal: 5, Tick: 6, Drop: 8, Withdraw: 10, Look: 11, Report: 12}[kind], *call]
+    kinds = {Cancel: 4, Deal: 5, Tick: 6, Drop: 8, Withdraw: 10, Look: 11, Report: 12, Outlook: 17}
+    return [kinds[kind], *call]
 
 
 def pack(words):
