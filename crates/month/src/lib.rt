@@ -9,12 +9,11 @@ ghost use Rattle.rules.specs.declared.Event.the-variants.{Add, Amend, Cancel, D
 ghost use Rattle.rules.specs.Terms.{paper};
 ghost use Rattle.rules.specs.declared.SpreadRule.the-variants.{OfStrike};
 ghost use Rattle.rules.specs.Rows.{goodRowFor, rowOf};
-ghost use Rattle.rules.specs.Cells.{goodCell, placeOf, blankCell, cellAt};
+ghost use Rattle.rules.specs.Cells.{goodCell, placeOf, cellAt};
 ghost use Rattle.rules.specs.Answers.{shownAnswer, shownLooked, shownAsked, shownReport, shownOutlook};
 ghost use Rattle.rules.specs.Calls.{Idle};
-ghost use Rattle.rules.specs.Changes.{charged};
 ghost use Rattle.rules.specs.Book.{after};
-ghost use Rattle.rules.specs.Causes.{goodCharges, otherSideIn};
+ghost use Rattle.rules.specs.Causes.{otherSideIn};
 ghost use Rattle.rules.specs.Bounds.{BookBounds};
 ghost use Rattle.rules.specs.Lists.{if_then_else_};
 ghost use Rattle.rules.specs.Dates.{Moment};
@@ -132,22 +131,6 @@ fn asked(month: Month, answer: Asked) -> AskedAbout
     AskedAbout { month, answer }
 }
 
-// A cell as it is at first, and after withdraw.
-fn blank_cell() -> Cell
-    ensures { λ r. ⌜ r ≡ blankCell ⌝ }
-{
-    Cell {
-        filled: false,
-        kept: Millis(0),
-        length: Millis(0),
-        share: 0,
-        allowed: 0,
-        lapses: 0,
-        active: Kopecks(0),
-        passive: Kopecks(0),
-    }
-}
-
 // What stands in the place of the quantum while none is open.
 fn idle() -> Quantum
     ensures { λ r. ⌜ r ≡ quantumIn Idle ⌝ }
@@ -170,23 +153,6 @@ fn place_of(day: u32, expiry: u32, quantum: u32) -> usize
     ensures { λ r. ⌜ r ≡ placeOf day expiry quantum ⌝ }
 {
     ((day - 1) * 6 + ((expiry - 1) * 3 + quantum)) as usize
-}
-
-// Whether A and P are in their range.
-fn both_charges(active: Kopecks, passive: Kopecks) -> bool
-    ensures { λ r. ⌜ r ≡ goodCharges paper active passive ⌝ }
-{
-    both(ranges::charge(active), ranges::charge(passive))
-}
-
-// A cell with new charges in place of its old ones.
-fn recharged(cell: Cell, active: Kopecks, passive: Kopecks) -> Cell
-    ensures { λ r. ⌜ r ≡ charged active passive cell ⌝ }
-{
-    let mut next = cell;
-    next.active = active;
-    next.passive = passive;
-    next
 }
 
 // What an accepted ask shows: the quotes of the quantum with the amendment taken, and the ticket.
@@ -221,7 +187,7 @@ impl Month {
     pub fn fresh() -> Month
         ensures { λ r. ⌜ r ≡ monthOf (after paper []) ⌝ }
     {
-        let blank = blank_cell();
+        let blank = cells::blank_cell();
         let quantum = idle();
         let cells = [blank; 186];
         Month {
@@ -597,7 +563,7 @@ impl Month {
         requires { ⌜ Reached self ⌝ }
         ensures { λ r. ⌜ Answered self (B.Close active passive) (r .month) (shownAnswer (r .answer)) ⌝ }
     {
-        if !both_charges(active, passive) {
+        if !cells::both_charges(active, passive) {
             return refused(self, Refusal::ArgumentOutOfRange);
         }
         if !self.running {
@@ -658,7 +624,7 @@ impl Month {
         requires { ⌜ Reached self ⌝ }
         ensures { λ r. ⌜ Answered self (B.Charge day expiry quantum active passive) (r .month) (shownAnswer (r .answer)) ⌝ }
     {
-        if !both_charges(active, passive) {
+        if !cells::both_charges(active, passive) {
             return refused(self, Refusal::ArgumentOutOfRange);
         }
         let found = self.named(day, expiry, quantum);
@@ -666,7 +632,7 @@ impl Month {
             Named::OutOfRange => refused(self, Refusal::ArgumentOutOfRange),
             Named::Blank => refused(self, Refusal::CellBlank),
             Named::Filled(place, cell) => {
-                accepted(self.with_cell(place, recharged(cell, active, passive)))
+                accepted(self.with_cell(place, cells::recharged(cell, active, passive)))
             }
         }
     }
@@ -680,7 +646,7 @@ impl Month {
         match found {
             Named::OutOfRange => refused(self, Refusal::ArgumentOutOfRange),
             Named::Blank => refused(self, Refusal::CellBlank),
-            Named::Filled(place, _) => accepted(self.with_cell(place, blank_cell())),
+            Named::Filled(place, _) => accepted(self.with_cell(place, cells::blank_cell())),
         }
     }
 

@@ -1,7 +1,7 @@
 -- Both tests. Assumes nothing.
 use borrow.Author.Needs.{needs}
-use Rattle.month.proofs.both_charges.Statement.{statement}
-use Rattle.month.proofs.both_charges.Tie as tie
+use Rattle.cells.proofs.both_charges.Statement.{statement}
+use Rattle.cells.proofs.both_charges.Tie as tie
 
 returns : tie.Need-returns
 returns c = cc
