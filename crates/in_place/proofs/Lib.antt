@@ -1,3 +1,4 @@
 -- What an event does to the words of a quantum, and to those of a month.
 pub mod Quanta
+pub mod Whole
 pub mod Months

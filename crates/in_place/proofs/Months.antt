@@ -22,7 +22,7 @@ use Rattle.quantum.specs.declared.Sent.{Sent}
 use Rattle.quantum.specs.Represents as S
 use Rattle.quantum.specs.Represents.{quantumOf, taken}
 use Rattle.quantum.specs.Words.{quantumWords}
-use Rattle.quantum.proofs.Words.{quantum-back}
+use Rattle.quantum.proofs.Words.{quantum-length, of-sized, taken-bounds, quantum-back}
 use Rattle.month.specs.declared.Month.{Month}
 use Rattle.month.specs.Represents.{monthOf, Answered}
 use Rattle.month.specs.Words.{monthWords, Fits}
@@ -35,7 +35,7 @@ use Rattle.in_place.specs.Events.{wordsAfter, HoldsQuantum, HoldsMonth, 
 
 -- the words with another quantum, and with another count
 abbrev pub stepped : List ℕ → List ℕ → List ℕ
-stepped ws quantum = take 6 ws ++ (quantum ++ drop 522 (drop 6 ws))
+stepped ws quantum = take 6 ws ++ (quantum ++ drop 598 (drop 6 ws))
 
 abbrev pub counting : List ℕ → List ℕ → List ℕ
 counting ws count = take 4 ws ++ (count ++ drop 2 (drop 4 ws))
@@ -51,7 +51,7 @@ flag-on false h = absurd (h refl)
 
 -- ---- the words of one list of calls
 
-module _ (ws : List ℕ) (calls : List Call) (is : take 2388 ws ≡ wordsAfter calls) where
+module _ (ws : List ℕ) (calls : List Call) (is : take 2464 ws ≡ wordsAfter calls) where
   abbrev month : Month
   month = monthOf (after paper calls)
 
@@ -61,27 +61,27 @@ module _ (ws : List ℕ) (calls : List Call) (is : take 2388 ws ≡ wordsAfter c
   fits : Fits month
   fits = month-fits calls
 
-  whole : ws ≡ wordsAfter calls ++ drop 2388 ws
-  whole = sym (take-append-drop 2388 ws) ∙ ap (λ (l : List ℕ). l ++ drop 2388 ws) is
+  whole : ws ≡ wordsAfter calls ++ drop 2464 ws
+  whole = sym (take-append-drop 2464 ws) ∙ ap (λ (l : List ℕ). l ++ drop 2464 ws) is
 
   flag-is : getD ws 0 0 ≡ flagWord (month .running)
   flag-is = word-in ws month fits is 0 (omega arith)
 
-  pub held : HoldsQuantum (take 522 (drop 6 ws))
+  pub held : HoldsQuantum (take 598 (drop 6 ws))
   held =
       record { quantum = month .quantum; reached = quantum-reached month (record { calls = calls; is = refl }); is = quantum-in ws month fits is }
 
   -- what the month answers without a change
-  kept : (e : Event) (n : ℕ) (o : Outcome Reply) → Answered month (Send e) month o → ws ≡ wordsAfter (calls ++ (Send e ∷ [])) ++ drop 2388 ws
-  kept e n o a = whole ∙ ap (λ (m : Month). monthWords m ++ drop 2388 ws) (a .month calls refl)
+  kept : (e : Event) (n : ℕ) (o : Outcome Reply) → Answered month (Send e) month o → ws ≡ wordsAfter (calls ++ (Send e ∷ [])) ++ drop 2464 ws
+  kept e n o a = whole ∙ ap (λ (m : Month). monthWords m ++ drop 2464 ws) (a .month calls refl)
 
   -- in their parts
-  in-parts : ws ≡ headOf month ++ (quantumWords (month .quantum) ++ (cellsWords (month .cells) ++ drop 2388 ws))
+  in-parts : ws ≡ headOf month ++ (quantumWords (month .quantum) ++ (cellsWords (month .cells) ++ drop 2464 ws))
   unfolding monthWords
-  in-parts = whole ∙ ap (λ (l : List ℕ). headOf month ++ l) (append-assoc (quantumWords (month .quantum)) (cellsWords (month .cells)) (drop 2388 ws))
+  in-parts = whole ∙ ap (λ (l : List ℕ). headOf month ++ l) (append-assoc (quantumWords (month .quantum)) (cellsWords (month .cells)) (drop 2464 ws))
 
-  module _ (on : month .running ≡ true) (e : Event) (quantum : List ℕ) (n : ℕ) (s : StepsWords (take 522 (drop 6 ws)) e quantum n) where
-    part-is : (b : Book) (p : Opened month b) → take 522 (drop 6 ws) ≡ quantumWords (quantumOf (p .row) (p .opening .spread) (p .events))
+  module _ (on : month .running ≡ true) (e : Event) (quantum : List ℕ) (n : ℕ) (s : StepsWords (take 598 (drop 6 ws)) e quantum n) where
+    part-is : (b : Book) (p : Opened month b) → take 598 (drop 6 ws) ≡ quantumWords (quantumOf (p .row) (p .opening .spread) (p .events))
     part-is b p = quantum-in ws month fits is ∙ ap quantumWords (p .quantum)
 
     number-is : (b : Book) (p : Opened month b) → n ≡ eventRefusal (p .row) (p .events) e
@@ -104,7 +104,7 @@ module _ (ws : List ℕ) (calls : List Call) (is : take 2388 ws ≡ wordsAfter c
       same-words : stepped ws quantum ≡ ws
       same-words =
           ap (stepped ws) (quantum-is ∙ ap (λ (i : ℕ). quantumWords (quantumOf (o .row) (o .opening .spread) (taken i (o .events) e))) k ∙ sym (part-is book o))
-          ∙ ap (λ (l : List ℕ). take 6 ws ++ l) (take-append-drop 522 (drop 6 ws))
+          ∙ ap (λ (l : List ℕ). take 6 ws ++ l) (take-append-drop 598 (drop 6 ws))
           ∙ take-append-drop 6 ws
 
       stops : Answered month (Send e) month (refused (suc j))
@@ -114,7 +114,7 @@ module _ (ws : List ℕ) (calls : List Call) (is : take 2388 ws ≡ wordsAfter c
           let p = opened month b g i on in
           ap (λ (x : ℕ). outcomeBy x done) (sym k ∙ number-is b p ∙ sym (send-refusal month b e p)))
 
-      refused-words : stepped ws quantum ≡ wordsAfter (calls ++ (Send e ∷ [])) ++ drop 2388 ws
+      refused-words : stepped ws quantum ≡ wordsAfter (calls ++ (Send e ∷ [])) ++ drop 2464 ws
       refused-words = same-words ∙ kept e (suc j) (refused (suc j)) stops
 
       refused-answer : outcomeBy n done ≡ answerOf paper book (Send e)
@@ -129,7 +129,10 @@ module _ (ws : List ℕ) (calls : List Call) (is : take 2388 ws ≡ wordsAfter c
       went-on : S.Answered (month .quantum) e sent
       went-on =
           record {
-            quantum = λ row sp es g i. quantum-back _ _ (sym quantum-is ∙ s .words-after row sp es g (quantum-in ws month fits is ∙ ap quantumWords i));
+            quantum = λ row sp es g i.
+                quantum-back _ _ (of-sized (o .row) (o .opening .spread) (taken n (o .events) e) (taken-bounds (o .row) (o .events) e n (o .bounds .events-good) (sym (number-is book o))))
+                (of-sized row sp (taken (eventRefusal row es e) es e) (taken-bounds row es e (eventRefusal row es e) g refl))
+                (sym quantum-is ∙ s .words-after row sp es g (quantum-in ws month fits is ∙ ap quantumWords i));
             answer = λ row sp es g i. ap (λ (x : ℕ). outcomeBy x done) (sym z ∙ s .number row sp es g (quantum-in ws month fits is ∙ ap quantumWords i));
           }
 
@@ -146,7 +149,7 @@ module _ (ws : List ℕ) (calls : List Call) (is : take 2388 ws ≡ wordsAfter c
 
       module _ (count : List ℕ) (c : count ≡ low (following (counted-by (stepped ws quantum))) ∷ high (following (counted-by (stepped ws quantum))) ∷ []) where
         abbrev behind : List ℕ
-        behind = cellsWords (month .cells) ++ drop 2388 ws
+        behind = cellsWords (month .cells) ++ drop 2464 ws
 
         abbrev four : List ℕ
         four = flagWord (month .running) ∷ month .place ∷ month .share ∷ month .allowed ∷ []
@@ -154,13 +157,13 @@ module _ (ws : List ℕ) (calls : List Call) (is : take 2388 ws ≡ wordsAfter c
         two : count ≡ low (following (month .count)) ∷ high (following (month .count)) ∷ []
         two = c ∙ ap (λ (x : ℕ). low (following x) ∷ high (following x) ∷ []) count-is
 
-        accepted-words : counting (stepped ws quantum) count ≡ wordsAfter (calls ++ (Send e ∷ [])) ++ drop 2388 ws
+        accepted-words : counting (stepped ws quantum) count ≡ wordsAfter (calls ++ (Send e ∷ [])) ++ drop 2464 ws
         unfolding monthWords
         accepted-words =
             ap (λ (l : List ℕ). counting (stepped l quantum) count) in-parts
-            ∙ (λ i. four ++ (two i ++ (quantum-is i ++ drop-at (quantumWords (month .quantum)) behind 522 (fits .quantum) i)))
-            ∙ ap (λ (l : List ℕ). four ++ (low (following (month .count)) ∷ high (following (month .count)) ∷ l)) (sym (append-assoc (quantumWords next) (cellsWords (month .cells)) (drop 2388 ws)))
-            ∙ ap (λ (m : Month). monthWords m ++ drop 2388 ws) (goes .month calls refl)
+            ∙ (λ i. four ++ (two i ++ (quantum-is i ++ drop-at (quantumWords (month .quantum)) behind 598 (quantum-length (month .quantum) (fits .quantum)) i)))
+            ∙ ap (λ (l : List ℕ). four ++ (low (following (month .count)) ∷ high (following (month .count)) ∷ l)) (sym (append-assoc (quantumWords next) (cellsWords (month .cells)) (drop 2464 ws)))
+            ∙ ap (λ (m : Month). monthWords m ++ drop 2464 ws) (goes .month calls refl)
 
         accepted-answer : outcomeBy 0 done ≡ answerOf paper book (Send e)
         accepted-answer = goes .answer calls refl
@@ -174,11 +177,11 @@ send-none ws e h =
       answer = λ calls is. idle calls is .answer calls refl;
     }
   where
-    idle : (calls : List Call) → take 2388 ws ≡ wordsAfter calls → Answered (monthOf (after paper calls)) (Send e) (monthOf (after paper calls)) (refused 7)
+    idle : (calls : List Call) → take 2464 ws ≡ wordsAfter calls → Answered (monthOf (after paper calls)) (Send e) (monthOf (after paper calls)) (refused 7)
     idle calls is = send-idle (monthOf (after paper calls)) e (flag-off _ (sym (flag-is ws calls is) ∙ h))
 
-module _ (ws : List ℕ) (h : getD ws 0 0 ≡ 0 → ⊥) (e : Event) (quantum : List ℕ) (n : ℕ) (s : StepsWords (take 522 (drop 6 ws)) e quantum n) where
-  on : (calls : List Call) → take 2388 ws ≡ wordsAfter calls → monthOf (after paper calls) .running ≡ true
+module _ (ws : List ℕ) (h : getD ws 0 0 ≡ 0 → ⊥) (e : Event) (quantum : List ℕ) (n : ℕ) (s : StepsWords (take 598 (drop 6 ws)) e quantum n) where
+  on : (calls : List Call) → take 2464 ws ≡ wordsAfter calls → monthOf (after paper calls) .running ≡ true
   on calls is = flag-on _ (λ z. h (flag-is ws calls is ∙ z))
 
   pub send-stops : 0 < n → Sends ws e (stepped ws quantum) n
@@ -204,5 +207,5 @@ module _ (ws : List ℕ) (h : getD ws 0 0 ≡ 0 → ⊥) (e : Event) (quantum : 
       }
 
 -- the quantum's words in the month's
-pub holds-quantum : (ws : List ℕ) → HoldsMonth ws → HoldsQuantum (take 522 (drop 6 ws))
+pub holds-quantum : (ws : List ℕ) → HoldsMonth ws → HoldsQuantum (take 598 (drop 6 ws))
 holds-quantum ws h = held ws (h .calls) (h .is)

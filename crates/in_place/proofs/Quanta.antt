@@ -1,10 +1,10 @@
 -- An event on the words of an open quantum: the table in place, then the clock. Assumes nothing.
-use Prim.Native.Nat.{ℕ, _≤_}
+use Prim.Native.Nat.{ℕ, _+_, _≤_}
 use native.Mathlib.Omega.{arith}
 use mathlib.Core.Path.{_≡_, refl, sym, ap, _∙_}
 use mathlib.Core.List.{List, [], _∷_, _++_, append-nil}
-use lib.ListN.{length, take, drop, length-append, drop-of-length-le}
-use lib.Seq.{length-take-le}
+use lib.ListN.{length, take, drop, length-append, length-drop, drop-of-length-le}
+use lib.Seq.{take-all, length-take-le}
 use Rattle.rules.specs.declared.Row.{Row}
 use Rattle.rules.specs.declared.SpreadRule.{SpreadRule}
 use Rattle.rules.specs.declared.Event.{Event}
@@ -15,10 +15,26 @@ use Rattle.quantum.specs.declared.Clock.{Clock}
 use Rattle.quantum.specs.declared.Stepped.{Stepped}
 use Rattle.quantum.specs.declared.Quantum.{Quantum}
 use Rattle.quantum.specs.Represents.{dutyOf, clockOf, quantumOf, tableAfter, taken, ReachedParts, Represents, Stepping}
-use Rattle.quantum.specs.Words.{dutyWords, clockWords, quantumWords}
+use Rattle.quantum.specs.Words.{dutyWords, clockWords}
 use Rattle.quantum.proofs.Answers.{represents-all}
-use Rattle.quantum.proofs.Words.{duty-part, clock-part, table-part, quantum-length}
-use Rattle.in_place.specs.Events.{HoldsQuantum, StepsWords}
+use Rattle.in_place.specs.Events.{frontWords, HoldsFront, StepsFront}
+
+-- ---- where the parts of a quantum stand before its notes
+
+module _ (ws : List ℕ) (q : Quantum) (e : ws ≡ frontWords q) where
+  duty-part : take 3 ws ≡ dutyWords (q .duty)
+  duty-part = ap (take 3) e
+
+  clock-part : take 5 (drop 3 ws) ≡ clockWords (q .clock)
+  clock-part = ap (λ (l : List ℕ). take 5 (drop 3 l)) e
+
+  pub table-part : length ws ≡ 522 → take 512 (drop 10 ws) ≡ q .table
+  table-part h = take-all 512 (drop 10 ws) (omega (arith, length-drop 10 ws)) ∙ ap (drop 10) e
+
+front-length : (q : Quantum) → length (frontWords q) ≡ 10 + length (q .table)
+front-length q = omega arith
+
+-- ---- written
 
 -- the words with another table, and then with another clock
 abbrev pub tabled : List ℕ → List ℕ → List ℕ
@@ -35,7 +51,7 @@ clock-room ws table h =
 module _ (ws : List ℕ) (duty : Duty) (clock : Clock) (size : length ws ≡ 522) (read-duty : (d : Duty) → take 3 ws ≡ dutyWords d → duty ≡ d)
     (read-clock : (k : Clock) → take 5 (drop 3 ws) ≡ clockWords k → clock ≡ k) where
   -- what was read are the parts of the quantum
-  pub parts-of : (row : Row) (sp : SpreadRule) (es : List Event) → EventBounds row es → (q : Quantum) → ws ≡ quantumWords q → q ≡ quantumOf row sp es
+  pub parts-of : (row : Row) (sp : SpreadRule) (es : List Event) → EventBounds row es → (q : Quantum) → ws ≡ frontWords q → q ≡ quantumOf row sp es
       → Represents row sp es duty clock (take 512 (drop 10 ws))
   parts-of row sp es g q e is =
       let s = represents-all row sp es q is g in
@@ -46,7 +62,7 @@ module _ (ws : List ℕ) (duty : Duty) (clock : Clock) (size : length ws ≡ 522
         table-is = table-part ws q e size ∙ s .table-is;
       }
 
-  pub parts-held : (hints : List ℕ) → HoldsQuantum ws → length hints ≡ 2048 → ReachedParts duty clock (take 512 (drop 10 ws)) hints
+  pub parts-held : (hints : List ℕ) → HoldsFront ws → length hints ≡ 2048 → ReachedParts duty clock (take 512 (drop 10 ws)) hints
   parts-held hints h n =
       let r = h .reached in
       let s = parts-of (r .row) (r .sp) (r .events) (r .bounds) (h .quantum) (h .is) (r .is) in
@@ -63,18 +79,17 @@ module _ (ws : List ℕ) (duty : Duty) (clock : Clock) (size : length ws ≡ 522
       }
 
   module _ (e : Event) (table clock′ : List ℕ) (r : Stepped) (stepped : Stepping duty clock e (take 512 (drop 10 ws)) table r) (put : clock′ ≡ clockWords (r .clock)) where
-    laid : (q : Quantum) → ws ≡ quantumWords q → clocked (tabled ws table) clock′ ≡ dutyWords (q .duty) ++ (clock′ ++ (0 ∷ 0 ∷ table))
-    unfolding quantumWords
+    laid : (q : Quantum) → ws ≡ frontWords q → clocked (tabled ws table) clock′ ≡ dutyWords (q .duty) ++ (clock′ ++ (0 ∷ 0 ∷ table))
     laid q is =
-        let short : length (q .table) ≤ 512 = omega (arith, ap length is, quantum-length q) in
+        let short : length (q .table) ≤ 512 = omega (arith, ap length is, front-length q) in
         let none : drop 512 (q .table) ≡ [] = drop-of-length-le (q .table) short in
         ap (λ (l : List ℕ). clocked (tabled l table) clock′) is
         ∙ ap (λ (l : List ℕ). dutyWords (q .duty) ++ (clock′ ++ (0 ∷ 0 ∷ (table ++ l)))) none
         ∙ ap (λ (l : List ℕ). dutyWords (q .duty) ++ (clock′ ++ (0 ∷ 0 ∷ l))) (append-nil table)
 
-    after-is : (row : Row) (sp : SpreadRule) (es : List Event) → EventBounds row es → ws ≡ quantumWords (quantumOf row sp es)
-        → clocked (tabled ws table) clock′ ≡ quantumWords (quantumOf row sp (taken (eventRefusal row es e) es e))
-    unfolding quantumWords quantumOf
+    after-is : (row : Row) (sp : SpreadRule) (es : List Event) → EventBounds row es → ws ≡ frontWords (quantumOf row sp es)
+        → clocked (tabled ws table) clock′ ≡ frontWords (quantumOf row sp (taken (eventRefusal row es e) es e))
+    unfolding quantumOf
     after-is row sp es g is =
         let s = parts-of row sp es g (quantumOf row sp es) is refl in
         laid (quantumOf row sp es) is
@@ -82,8 +97,8 @@ module _ (ws : List ℕ) (duty : Duty) (clock : Clock) (size : length ws ≡ 522
         ∙ ap (λ (k : Clock). dutyWords (dutyOf row sp) ++ (clockWords k ++ (0 ∷ 0 ∷ tableAfter row (taken (eventRefusal row es e) es e))))
         (stepped .clock-after row sp es s)
 
-    pub steps-words : StepsWords ws e (clocked (tabled ws table) clock′) (r .refusal)
-    steps-words =
+    pub steps-front : StepsFront ws e (clocked (tabled ws table) clock′) (r .refusal)
+    steps-front =
         record {
           number = λ row sp es g is. stepped .number row sp es (parts-of row sp es g (quantumOf row sp es) is refl);
           words-after = after-is;

@@ -16,7 +16,7 @@ use Rattle.record.specs.declared.Fields.{Fields}
 use Rattle.record.specs.Fields.{fieldsFor}
 use Rattle.quantum.specs.declared.Quantum.{Quantum}
 use Rattle.quantum.specs.Represents.{quantumOf, taken, Reached}
-use Rattle.quantum.specs.Words.{quantumWords}
+use Rattle.quantum.specs.Words.{dutyWords, clockWords, quantumWords}
 use Rattle.month.specs.Represents.{monthOf}
 use Rattle.month.specs.Words.{monthWords}
 
@@ -27,7 +27,7 @@ wordsAfter calls = monthWords (monthOf (after paper calls))
 -- "the words of a month": a fresh one's, or those that a call left
 pub record HoldsMonth (words : List ℕ) : Type 0 where
   pub calls : List Call
-  pub is : take 2388 words ≡ wordsAfter calls
+  pub is : take 2464 words ≡ wordsAfter calls
 
 -- the words of a quantum that a call handed back
 pub record HoldsQuantum (words : List ℕ) : Type 0 where
@@ -35,12 +35,28 @@ pub record HoldsQuantum (words : List ℕ) : Type 0 where
   pub reached : Reached quantum
   pub is : words ≡ quantumWords quantum
 
+-- its words before its notes, and those of a quantum that a call handed back
+abbrev pub frontWords : Quantum → List ℕ
+frontWords q = dutyWords (q .duty) ++ clockWords (q .clock) ++ (0 ∷ 0 ∷ q .table)
+
+pub record HoldsFront (words : List ℕ) : Type 0 where
+  pub quantum : Quantum
+  pub reached : Reached quantum
+  pub is : words ≡ frontWords quantum
+
 -- fields that say an event
 pub record SaysEvent (f : Fields) : Type 0 where
   pub event : Event
   pub is : f ≡ fieldsFor event
 
--- What an event promises of a quantum's words: for all accepted events that led to them, the book's number, and the words with this
+-- What an event promises of a quantum's words before its notes, ..
+pub record StepsFront (words : List ℕ) (e : Event) (words′ : List ℕ) (n : ℕ) : Type 0 where
+  pub number : (row : Row) (sp : SpreadRule) (events : List Event) → EventBounds row events → words ≡ frontWords (quantumOf row sp events)
+      → n ≡ eventRefusal row events e
+  pub words-after : (row : Row) (sp : SpreadRule) (events : List Event) → EventBounds row events → words ≡ frontWords (quantumOf row sp events)
+      → words′ ≡ frontWords (quantumOf row sp (taken (eventRefusal row events e) events e))
+
+-- .. and of all of them: for all accepted events that led to them, the book's number, and the words with this
 -- event taken or refused.
 pub record StepsWords (words : List ℕ) (e : Event) (words′ : List ℕ) (n : ℕ) : Type 0 where
   pub number : (row : Row) (sp : SpreadRule) (events : List Event) → EventBounds row events → words ≡ quantumWords (quantumOf row sp events)
@@ -51,5 +67,5 @@ pub record StepsWords (words : List ℕ) (e : Event) (words′ : List ℕ) (n : 
 -- What an event promises of a month's words: for every list of calls whose month they are, the words of the longer list, with what stands
 -- behind them kept, and the number by which the plain book refuses it, or 0.
 pub record Sends (words : List ℕ) (e : Event) (words′ : List ℕ) (n : ℕ) : Type 0 where
-  pub month : (calls : List Call) → take 2388 words ≡ wordsAfter calls → words′ ≡ wordsAfter (calls ++ (Send e ∷ [])) ++ drop 2388 words
-  pub answer : (calls : List Call) → take 2388 words ≡ wordsAfter calls → outcomeBy n done ≡ answerOf paper (after paper calls) (Send e)
+  pub month : (calls : List Call) → take 2464 words ≡ wordsAfter calls → words′ ≡ wordsAfter (calls ++ (Send e ∷ [])) ++ drop 2464 words
+  pub answer : (calls : List Call) → take 2464 words ≡ wordsAfter calls → outcomeBy n done ≡ answerOf paper (after paper calls) (Send e)

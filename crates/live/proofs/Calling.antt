@@ -59,7 +59,7 @@ no-call-not-done e = let z : _≡_ {A = ℕ} 0 1 = cc in omega arith
 
 -- nothing is changed, whatever the cause
 pub unchanged : (words : List ℕ) (hints : ℕ) (out bytes : List ℕ) (r : Called) → (r ≡ Done → ⊥)
-    → r ≡ calledBy (leb 2388 (length words)) (leb 2048 hints) (leb 20 (length out)) (isCall bytes) → Calling words hints out bytes words out r
+    → r ≡ calledBy (leb 2464 (length words)) (leb 2048 hints) (leb 20 (length out)) (isCall bytes) → Calling words hints out bytes words out r
 unchanged words hints out bytes r never e = record { called = e; done = λ d. absurd (never d); kept = λ d. (refl, refl) }
 
 -- ---- the call
@@ -85,8 +85,8 @@ shown-words (accepted (report r)) = refl
 shown-words (accepted (outlook o)) = refl
 shown-words (refused n) = refl
 
-module _ (words bytes : List ℕ) (m : Month) (read : (k : Month) → Fits k → take 2388 words ≡ monthWords k → m ≡ k) where
-  pub month-is : (calls : List Call) → take 2388 words ≡ wordsAfter calls → m ≡ monthOf (after paper calls)
+module _ (words bytes : List ℕ) (m : Month) (read : (k : Month) → Fits k → take 2464 words ≡ monthWords k → m ≡ k) where
+  pub month-is : (calls : List Call) → take 2464 words ≡ wordsAfter calls → m ≡ monthOf (after paper calls)
   month-is calls e = read (monthOf (after paper calls)) (month-fits calls) e
 
   pub month-reached : HoldsMonth words → Reached m
@@ -100,12 +100,12 @@ module _ (words bytes : List ℕ) (m : Month) (read : (k : Month) → Fits k →
     after-fits h =
         subst (λ (k : Month). Fits k) (sym (ran .month (h .calls) (month-is (h .calls) (h .is)))) (month-fits (h .calls ++ (callOf (wordsIn bytes) ∷ [])))
 
-    pub performs : (out words′ out′ : List ℕ) → words′ ≡ monthWords (r .month) ++ drop 2388 words
+    pub performs : (out words′ out′ : List ℕ) → words′ ≡ monthWords (r .month) ++ drop 2464 words
         → out′ ≡ wordsShown (r .shown .outcome) (r .shown .report)
         → Performs words out bytes words′ (out′ ++ drop 20 out)
     performs out words′ out′ w a =
         record {
-          month = λ calls e. w ∙ ap (λ (k : Month). monthWords k ++ drop 2388 words) (ran .month calls (month-is calls e));
+          month = λ calls e. w ∙ ap (λ (k : Month). monthWords k ++ drop 2464 words) (ran .month calls (month-is calls e));
           answer = λ calls e.
               ap (λ (l : List ℕ). l ++ drop 20 out)
               (a ∙ ap (λ (s : Shown). wordsShown (s .outcome) (s .report)) (ran .shown calls (month-is calls e)) ∙ shown-words (answerOf paper (after paper calls) (callOf (wordsIn bytes))));

@@ -155,6 +155,6 @@ says-event bytes f s = record { event = s .event; is = s .fields }
 pub event-performs : (ws out bytes ws′ out′ : List ℕ) (f : Fields) (s : SaysBlock bytes f) → SendsShown ws (s .event) ws′ out′ → Performs ws out bytes ws′ (out′ ++ drop 20 out)
 event-performs ws out bytes ws′ out′ f s d =
     record {
-      month = λ calls is. d .month calls is ∙ ap (λ (c : Call). wordsAfter (calls ++ (c ∷ [])) ++ drop 2388 ws) (sym (s .says));
+      month = λ calls is. d .month calls is ∙ ap (λ (c : Call). wordsAfter (calls ++ (c ∷ [])) ++ drop 2464 ws) (sym (s .says));
       answer = λ calls is. ap (λ (l : List ℕ). l ++ drop 20 out) (d .answer calls is ∙ ap (λ (c : Call). answerWords (answerOf paper (after paper calls) c)) (sym (s .says)));
     }

@@ -35,16 +35,16 @@ calledBy words hints answer call =
 -- For every list of calls whose month these words are: they are those of the longer list, and the answer's words are the plain book's
 -- answer, of refused calls too. What stands behind the words and behind the answer is kept.
 pub record Performs (words out bytes words′ out′ : List ℕ) : Type 0 where
-  pub month : (calls : List Call) → take 2388 words ≡ wordsAfter calls
-      → words′ ≡ wordsAfter (calls ++ (callOf (wordsIn bytes) ∷ [])) ++ drop 2388 words
-  pub answer : (calls : List Call) → take 2388 words ≡ wordsAfter calls
+  pub month : (calls : List Call) → take 2464 words ≡ wordsAfter calls
+      → words′ ≡ wordsAfter (calls ++ (callOf (wordsIn bytes) ∷ [])) ++ drop 2464 words
+  pub answer : (calls : List Call) → take 2464 words ≡ wordsAfter calls
       → out′ ≡ answerWords (answerOf paper (after paper calls) (callOf (wordsIn bytes))) ++ drop 20 out
 
 -- Too few words for a month, too few hints, too few words for an answer, and bytes that are no call, are answered as such, and then
 -- nothing is changed. The hints are no function of the month: of them only their number stands here, so what is answered and left is the
 -- same whatever they hold.
 pub record Calling (words : List ℕ) (hints : ℕ) (out bytes words′ out′ : List ℕ) (r : Called) : Type 0 where
-  pub called : r ≡ calledBy (leb 2388 (length words)) (leb 2048 hints) (leb 20 (length out)) (isCall bytes)
+  pub called : r ≡ calledBy (leb 2464 (length words)) (leb 2048 hints) (leb 20 (length out)) (isCall bytes)
   pub done : r ≡ Done → Performs words out bytes words′ out′
   pub kept : (r ≡ Done → ⊥) → (words′ ≡ words) × (out′ ≡ out)
 

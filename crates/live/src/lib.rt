@@ -27,7 +27,7 @@ use script::Outcome;
 use script::Shown;
 
 // How many words a month has, how many bytes its hints, and how many words an answer.
-pub const MONTH: usize = 2388;
+pub const MONTH: usize = 2464;
 
 pub const HINTS: usize = 2048;
 
@@ -45,7 +45,7 @@ pub enum Called {
 
 // The fresh month, where its words fit.
 pub fn fresh(words: &mut [u32]) -> bool
-    ensures { λ r. ⌜ (r ≡ leb 2388 (length (now (words .entry)))) × (now (words .exit) ≡ (if r then monthWords (monthOf (after paper [])) ++ drop 2388 (now (words .entry)) else now (words .entry))) ⌝ }
+    ensures { λ r. ⌜ (r ≡ leb 2464 (length (now (words .entry)))) × (now (words .exit) ≡ (if r then monthWords (monthOf (after paper [])) ++ drop 2464 (now (words .entry)) else now (words .entry))) ⌝ }
 {
     if words.len() < MONTH {
         return false;
@@ -81,7 +81,7 @@ fn put_answer(shown: Shown, answer: &mut [u32])
 
 // A call on the month, by value.
 fn perform(words: &mut [u32], bytes: &[u8], answer: &mut [u32])
-    requires { ⌜ HoldsMonth (now words) × (2388 ≤ length (now words)) × (20 ≤ length (now answer)) × (isCall (now bytes) ≡ true) ⌝ }
+    requires { ⌜ HoldsMonth (now words) × (2464 ≤ length (now words)) × (20 ≤ length (now answer)) × (isCall (now bytes) ≡ true) ⌝ }
     ensures { λ _. ⌜ Performs (now (words .entry)) (now (answer .entry)) (now (bytes .entry)) (now (words .exit)) (now (answer .exit)) ⌝ }
 {
     let month = Month::of_words(words);
@@ -221,7 +221,7 @@ fn event_in(bytes: &[u8]) -> Fields
 
 // An event, in place.
 fn send(words: &mut [u32], hints: &mut [u8], f: Fields, answer: &mut [u32])
-    requires { ⌜ HoldsMonth (now words) × (2388 ≤ length (now words)) × (length (now hints) ≡ 2048) × SaysEvent f × (length (now answer) ≡ 20) ⌝ }
+    requires { ⌜ HoldsMonth (now words) × (2464 ≤ length (now words)) × (length (now hints) ≡ 2048) × SaysEvent f × (length (now answer) ≡ 20) ⌝ }
     ensures { λ _. ⌜ ((e : Event) → f ≡ fieldsFor e → SendsShown (now (words .entry)) e (now (words .exit)) (now (answer .exit))) ⌝ }
 {
     let n = in_place::send(words, hints, f);
@@ -237,7 +237,7 @@ fn send(words: &mut [u32], hints: &mut [u8], f: Fields, answer: &mut [u32])
 // One call, on the month whose words these are. The hints only say where an id was last found: they may hold anything, and nothing that
 // is answered or left in the words depends on what they hold, so the contract reads their number alone and says nothing of them after.
 pub fn call(words: &mut [u32], hints: &mut [u8], bytes: &[u8], answer: &mut [u32]) -> Called
-    requires { ⌜ (2388 ≤ length (now words) → HoldsMonth (now words)) ⌝ }
+    requires { ⌜ (2464 ≤ length (now words) → HoldsMonth (now words)) ⌝ }
     ensures { λ r. ⌜ Calling (now (words .entry)) (length (now (hints .entry))) (now (answer .entry)) (now (bytes .entry)) (now (words .exit)) (now (answer .exit)) r ⌝ }
 {
     if words.len() < MONTH {

@@ -1,11 +1,17 @@
 -- The words of a quantum, written part by part and read back. Assumes nothing.
-use Prim.Native.Nat.{ℕ, _+_, _≤_}
+use Prim.Native.Nat.{ℕ, zero, suc}
 use native.Mathlib.Omega.{arith}
-use mathlib.Core.Path.{_≡_, refl, sym, ap, _∙_}
+use mathlib.Core.Path.{_≡_, refl, sym, ap, _∙_, subst}
 use mathlib.Core.List.{List, [], _∷_, _++_, append-nil}
 use lib.ListN.{length, getD, take, drop, length-append, length-drop, drop-of-length-le}
 use lib.Seq.{take-all, take-at, drop-at, drop-drop, length-take-le}
+use Rattle.rules.specs.declared.Row.{Row}
+use Rattle.rules.specs.declared.SpreadRule.{SpreadRule}
+use Rattle.rules.specs.declared.Event.{Event}
 use Rattle.rules.specs.Units.{millis, contracts}
+use Rattle.rules.specs.Causes.{eventRefusal}
+use Rattle.rules.specs.Bounds.{EventBounds}
+use Rattle.rules.proofs.Bounds.{event-bounds-more}
 use Rattle.book.proofs.Table.{held-length}
 use Rattle.rules.specs.Orders.{live}
 use Rattle.arrivals.proofs.Notes.{notes-length}
@@ -14,8 +20,8 @@ use Rattle.quantum.specs.declared.Duty.{Duty}
 use Rattle.quantum.specs.declared.Clock.{Clock}
 use Rattle.quantum.specs.declared.Quantum.{Quantum}
 use Rattle.quantum.specs.Words.{dutyWords, clockWords, quantumWords, Sized}
-use Rattle.quantum.specs.Represents.{quantumOf, Reached}
-use Rattle.quantum.proofs.Answers.{held-in}
+use Rattle.quantum.specs.Represents.{tableAfter, quantumOf, taken, Reached}
+use Rattle.quantum.proofs.Represents.{good-orders}
 
 pub duty-back : (ws : List ℕ) (d : Duty) → ws ≡ dutyWords d
     → _≡_ {A = Duty} (record { length = millis (getD ws 0 0); minimum = contracts (getD ws 1 0); widest = getD ws 2 0 }) d
@@ -131,14 +137,20 @@ quantum-laid ws duty clock zeros table notes q size long d k z t n =
     five ws duty clock zeros size (ap length d) (ap length k) (ap length z) table (ap length t ∙ long) notes
     ∙ (λ i. (((d i ++ k i) ++ z i) ++ t i) ++ n i)
 
--- as many words as are lent, for a quantum that a call handed back
-pub quantum-sized : (q : Quantum) → Reached q → Sized q
+-- ---- as many words as are lent, for a quantum that a call handed back
+
+pub of-sized : (row : Row) (sp : SpreadRule) (es : List Event) → EventBounds row es → Sized (quantumOf row sp es)
 unfolding quantumOf
-quantum-sized q r =
+of-sized row sp es g =
     record {
-      table = held-length (q .table) (held-in q r);
-      notes = ap (λ (x : Quantum). length (x .notes)) (r .is) ∙ notes-length (r .row) (r .sp) (live (r .events)) (r .bounds .few);
+      table = held-length (tableAfter row es) (record { minimum = row .minimum .0; live = live es; good = good-orders row es g; is = refl });
+      notes = notes-length row sp (live es) (g .few);
     }
 
-pub quantum-size : (q : Quantum) → Reached q → length (quantumWords q) ≡ 598
-quantum-size q r = quantum-length q (quantum-sized q r)
+pub quantum-sized : (q : Quantum) → Reached q → Sized q
+quantum-sized q r = subst Sized (sym (r .is)) (of-sized (r .row) (r .sp) (r .events) (r .bounds))
+
+-- an event taken or refused keeps the bounds, so that what it leaves is sized too
+pub taken-bounds : (row : Row) (es : List Event) (e : Event) (k : ℕ) → EventBounds row es → eventRefusal row es e ≡ k → EventBounds row (taken k es e)
+taken-bounds row es e zero g h = event-bounds-more row es e g h
+taken-bounds row es e (suc k) g h = g

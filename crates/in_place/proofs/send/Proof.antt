@@ -14,7 +14,7 @@ step-requires : tie.Need-step-requires
 step-requires c κs =
     let s = c .before .before .before .before .before .before in
     let ws = s .args .words .now in
-    (holds-quantum ws (s .pre .0), length-take-le 522 (drop 6 ws) (omega (arith, length-drop 6 ws, s .pre .1)), s .pre .2, s .pre .3)
+    (holds-quantum ws (s .pre .0), length-take-le 598 (drop 6 ws) (omega (arith, length-drop 6 ws, s .pre .1)), s .pre .2, s .pre .3)
 
 returns-2 : tie.Need-returns-2
 returns-2 c =

@@ -16,19 +16,19 @@ returns : tie.Need-returns
 returns c =
     let a = c .before .before .before .before .before .args in
     unchanged (a .words .now) (length (a .hints .now)) (a .answer .now) (a .bytes .now) WordsShort words-not-done
-    (words-short (leb 2388 (length (a .words .now))) (leb 2048 (length (a .hints .now))) (leb 20 (length (a .answer .now))) (isCall (a .bytes .now)) (lt-leb _ _ (c .if1 .taken)))
+    (words-short (leb 2464 (length (a .words .now))) (leb 2048 (length (a .hints .now))) (leb 20 (length (a .answer .now))) (isCall (a .bytes .now)) (lt-leb _ _ (c .if1 .taken)))
 
 returns-2 : tie.Need-returns-2
 returns-2 c =
     let a = c .before .before .before .before .before .before .args in
     unchanged (a .words .now) (length (a .hints .now)) (a .answer .now) (a .bytes .now) HintsShort hints-not-done
-    (hints-short (leb 2388 (length (a .words .now))) (leb 2048 (length (a .hints .now))) (leb 20 (length (a .answer .now))) (isCall (a .bytes .now)) (le-leb _ _ (c .before .if1 .left)) (lt-leb _ _ (c .if2 .taken)))
+    (hints-short (leb 2464 (length (a .words .now))) (leb 2048 (length (a .hints .now))) (leb 20 (length (a .answer .now))) (isCall (a .bytes .now)) (le-leb _ _ (c .before .if1 .left)) (lt-leb _ _ (c .if2 .taken)))
 
 returns-3 : tie.Need-returns-3
 returns-3 c =
     let a = c .before .before .before .before .before .before .before .args in
     unchanged (a .words .now) (length (a .hints .now)) (a .answer .now) (a .bytes .now) AnswerShort answer-not-done
-    (answer-short (leb 2388 (length (a .words .now))) (leb 2048 (length (a .hints .now))) (leb 20 (length (a .answer .now))) (isCall (a .bytes .now)) (le-leb _ _ (c .before .before .if1 .left)) (le-leb _ _ (c .before .if2 .left)) (lt-leb _ _ (c .if3 .taken)))
+    (answer-short (leb 2464 (length (a .words .now))) (leb 2048 (length (a .hints .now))) (leb 20 (length (a .answer .now))) (isCall (a .bytes .now)) (le-leb _ _ (c .before .before .if1 .left)) (le-leb _ _ (c .before .if2 .left)) (lt-leb _ _ (c .if3 .taken)))
 
 send-requires : tie.Need-send-requires
 send-requires c κs =
@@ -44,7 +44,7 @@ returns-4 c =
     let says = f .ensures (c .before .before .before .before .before .before .before .before .before .before .if4 .taken) in
     let x = c .before .before .before .before .before .before .send in
     record {
-      called = is-done (leb 2388 (length (a .words .now))) (leb 2048 (length (a .hints .now))) (leb 20 (length (a .answer .now))) (isCall (a .bytes .now)) (le-leb _ _ (c .before .before .before .before .before .before .before .before .before .before .before .before .before .before .before .if1 .left)) (le-leb _ _ (c .before .before .before .before .before .before .before .before .before .before .before .before .before .before .if2 .left)) (le-leb _ _ (c .before .before .before .before .before .before .before .before .before .before .before .before .before .if3 .left)) (says .is-call);
+      called = is-done (leb 2464 (length (a .words .now))) (leb 2048 (length (a .hints .now))) (leb 20 (length (a .answer .now))) (isCall (a .bytes .now)) (le-leb _ _ (c .before .before .before .before .before .before .before .before .before .before .before .before .before .before .before .if1 .left)) (le-leb _ _ (c .before .before .before .before .before .before .before .before .before .before .before .before .before .before .if2 .left)) (le-leb _ _ (c .before .before .before .before .before .before .before .before .before .before .before .before .before .if3 .left)) (says .is-call);
       done = λ e. event-performs (a .words .now) (a .answer .now) (a .bytes .now) (x .last .0) (x .last .1 .1 .1 .0) (f .result) says (x .ensures (says .event) (says .fields));
       kept = λ never. absurd (never refl);
     }
@@ -53,7 +53,7 @@ returns-5 : tie.Need-returns-5
 returns-5 c =
     let a = c .before .before .before .before .before .before .before .before .before .before .before .before .args in
     unchanged (a .words .now) (length (a .hints .now)) (a .answer .now) (a .bytes .now) NoCall no-call-not-done
-    (no-call (leb 2388 (length (a .words .now))) (leb 2048 (length (a .hints .now))) (leb 20 (length (a .answer .now))) (isCall (a .bytes .now)) (le-leb _ _ (c .before .before .before .before .before .before .before .if1 .left)) (le-leb _ _ (c .before .before .before .before .before .before .if2 .left)) (le-leb _ _ (c .before .before .before .before .before .if3 .left)) (sym (c .before .is-call .ensures) ∙ not-true _ (c .if5 .taken)))
+    (no-call (leb 2464 (length (a .words .now))) (leb 2048 (length (a .hints .now))) (leb 20 (length (a .answer .now))) (isCall (a .bytes .now)) (le-leb _ _ (c .before .before .before .before .before .before .before .if1 .left)) (le-leb _ _ (c .before .before .before .before .before .before .if2 .left)) (le-leb _ _ (c .before .before .before .before .before .if3 .left)) (sym (c .before .is-call .ensures) ∙ not-true _ (c .if5 .taken)))
 
 perform-requires : tie.Need-perform-requires
 perform-requires c κs =
@@ -64,7 +64,7 @@ returns-6 : tie.Need-returns-6
 returns-6 c =
     let a = c .before .before .before .before .before .before .before .before .before .before .before .before .before .before .before .before .before .before .before .args in
     record {
-      called = is-done (leb 2388 (length (a .words .now))) (leb 2048 (length (a .hints .now))) (leb 20 (length (a .answer .now))) (isCall (a .bytes .now)) (le-leb _ _ (c .before .before .before .before .before .before .before .before .before .before .before .before .before .before .if1 .left)) (le-leb _ _ (c .before .before .before .before .before .before .before .before .before .before .before .before .before .if2 .left)) (le-leb _ _ (c .before .before .before .before .before .before .before .before .before .before .before .before .if3 .left)) (sym (c .before .before .before .before .before .before .before .before .is-call .ensures) ∙ not-false _ (c .before .before .before .before .before .before .before .if5 .left));
+      called = is-done (leb 2464 (length (a .words .now))) (leb 2048 (length (a .hints .now))) (leb 20 (length (a .answer .now))) (isCall (a .bytes .now)) (le-leb _ _ (c .before .before .before .before .before .before .before .before .before .before .before .before .before .before .if1 .left)) (le-leb _ _ (c .before .before .before .before .before .before .before .before .before .before .before .before .before .if2 .left)) (le-leb _ _ (c .before .before .before .before .before .before .before .before .before .before .before .before .if3 .left)) (sym (c .before .before .before .before .before .before .before .before .is-call .ensures) ∙ not-false _ (c .before .before .before .before .before .before .before .if5 .left));
       done = λ e. c .before .before .before .before .perform .ensures;
       kept = λ never. absurd (never refl);
     }

@@ -25,7 +25,7 @@ same-length c = search needs
 returns-2 : tie.Need-returns-2
 returns-2 c =
     let ws = c .before .before .before .before .before .before .before .args .words .now in
-    (sym (le-leb _ _ (c .before .before .before .before .before .if1 .left)), c .before .before .to-words .ensures ∙ ap (λ (m : Month). monthWords m ++ drop 2388 ws) (c .before .before .before .before .fresh .ensures))
+    (sym (le-leb _ _ (c .before .before .before .before .before .if1 .left)), c .before .before .to-words .ensures ∙ ap (λ (m : Month). monthWords m ++ drop 2464 ws) (c .before .before .before .before .fresh .ensures))
 
 pub fresh-spec : {M : Type 1} → statement M
 fresh-spec = tie.close (tie.spec returns fresh-requires to-words-requires same-length returns-2)
