@@ -1,0 +1,6 @@
+pub mod Parts
+pub mod Growing
+pub mod Steps
+pub mod Runs
+pub mod Loop
+pub mod Endings
