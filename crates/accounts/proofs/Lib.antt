@@ -4,3 +4,5 @@ pub mod Steps
 pub mod Runs
 pub mod Loop
 pub mod Endings
+pub mod Theorems
+pub mod Few
