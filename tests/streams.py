@@ -1,7 +1,7 @@
 """`replay` on pipes: what it answers as its input comes, piece by piece, held against the recount.
 
     python3 tests/streams.py               (after the gate, or `rt check replay`)
-    python3 tests/streams.py --calls N     a list of N calls besides, with its time and memory
+    python3 tests/streams.py --calls N     only a list of N calls, and its time
 
 A call at a time, each answer read before the next call is written; input in pieces of one byte and of
 any length; a short list cut at every byte; blocks that are no call and blocks that are longer than the
@@ -87,7 +87,7 @@ def call_by_call(calls: list) -> None:
     same(stream.end(), programs.replay(so_far), "at the end of the input")
 
 
-def in_pieces(data: bytes, sizes: "list[int]", what: str) -> None:
+def in_pieces(data: bytes, sizes: list[int], what: str) -> None:
     """The answers are those of the whole, whatever the pieces."""
     stream, at = Stream(), 0
     for size in sizes:
@@ -163,14 +163,12 @@ def many_calls(count: int) -> None:
 
 
 def measured(count: int) -> None:
-    """By hand: seconds and memory of a long list, from a pipe and to one."""
+    """By hand: the seconds of a long list, from a pipe and to one."""
     data = long_list(count)
     began = time.monotonic()
-    child = subprocess.Popen([REPLAY], stdin=subprocess.PIPE, stdout=subprocess.PIPE)
-    out, _ = child.communicate(data)
+    out = subprocess.run([REPLAY], input=data, capture_output=True, check=True).stdout
     took = time.monotonic() - began
-    lines = out.count(b"\n")
-    print(f"{count} calls, {len(data)} bytes: {lines} lines in {took:.2f} s")
+    print(f"{len(data)} bytes, {out.count(bytes([10]))} lines in {took:.2f} s")
 
 
 def main() -> None:

@@ -5,7 +5,7 @@ use native.Mathlib.Numerals.{add-one}
 use mathlib.Core.Path.{_≡_, sym, ap, _∙_}
 use mathlib.Core.List.{List, _++_}
 use lib.ListN.{length, getD, take, drop, set, length-drop}
-use lib.Seq.{paste, paste-suc, length-paste, take-at, drop-at, take-add, length-take-le, getD-append-add, getD-drop}
+use lib.Seq.{paste, paste-suc, take-at, drop-at, take-add, length-take-le, getD-append-add, getD-drop}
 
 -- so many of the bytes from a place on have moved
 abbrev pub moved : List ℕ → ℕ → ℕ → List ℕ
@@ -17,9 +17,6 @@ module _ (l now : List ℕ) (from i : ℕ) (e : now ≡ moved l from i) where
 
   enough : from + i ≤ length l → i ≤ length (drop from l)
   enough h = let n = length-drop from l in omega arith
-
-  pub moved-length : from + i ≤ length l → length now ≡ length l
-  moved-length h = ap length e ∙ length-paste l 0 (drop from l) i (omega arith) (enough h)
 
   pub moved-front : from + i ≤ length l → take i now ≡ take i (drop from l)
   moved-front h = ap (take i) e ∙ take-at (take i (drop from l)) (drop (0 + i) l) i (length-take-le i (drop from l) (enough h))
@@ -41,6 +38,10 @@ module _ (l now : List ℕ) (from i : ℕ) (e : now ≡ moved l from i) where
       ∙ (λ k. set (e k) (zero-add k) (getD (drop from l) i 0))
       ∙ paste-suc l 0 (drop from l) i 0 (omega arith) (let n = length-drop from l in omega arith)
       ∙ ap (moved l from) (sym (add-one i))
+
+-- at the front they stand already
+pub unmoved-front : (l : List ℕ) (from n : ℕ) → from ≡ 0 → take n l ≡ take n (drop from l)
+unmoved-front l from n e = ap (λ (k : ℕ). take n (drop k l)) (sym e)
 
 -- from a place on, of the front up to an end
 pub part : (l : List ℕ) (from end : ℕ) → from ≤ end → end ≤ length l → take (end - from) (drop from l) ≡ drop from (take end l)

@@ -208,11 +208,14 @@ fn cut_short(held: usize, word: u64) {
     }
 }
 
-// Moves the bytes from a place to an end to the front.
+// Moves the bytes from a place to an end to the front. A block that stands there stays, so that a long one in small pieces moves once.
 fn to_front(bytes: &mut [u8], from: usize, end: usize)
     requires { ⌜ (from ≤ end) × (end ≤ length (now bytes)) ⌝ }
     ensures { λ _. ⌜ take (end - from) (now (bytes .exit)) ≡ take (end - from) (drop from (now (bytes .entry))) ⌝ }
 {
+    if from == 0 {
+        return;
+    }
     let n = end - from;
     let mut i: usize = 0;
     while i < n {

@@ -2,9 +2,9 @@
 use Prim.Native.Nat.{_-_, _+_, _≤_}
 use native.Mathlib.Omega.{arith}
 use mathlib.Core.Path.{_≡_, refl, ap, _∙_}
-use lib.ListN.{length, take, drop}
+use lib.ListN.{length, drop, length-set}
 use lib.Seq.{paste-zero}
-use Rattle.replay.proofs.Moving.{moved, moved-length, moved-front, moved-next}
+use Rattle.replay.proofs.Moving.{moved, moved-front, moved-next, unmoved-front}
 use Rattle.replay.proofs.to_front.Statement.{statement}
 use Rattle.replay.proofs.to_front.Tie as tie
 
@@ -14,22 +14,26 @@ Inv-loop bytes₀ from end n i₀ bytes i = (i ≤ n) × (length bytes ≡ lengt
 abbrev μ-loop : tie.MeasureT-loop
 μ-loop bytes₀ from end n i₀ bytes i = n - i
 
+returns : tie.Need-returns Inv-loop μ-loop
+returns c = let a = c .before .args in unmoved-front (a .bytes .now) (a .from) (a .end - a .from) (c .if1 .taken)
+
 loop-holds : tie.Need-loop-holds Inv-loop μ-loop
-loop-holds c = (omega arith, refl, paste-zero (c .args .bytes .now) 0 (drop (c .args .from) (c .args .bytes .now)))
+loop-holds c =
+    let a = c .before .args in
+    (omega arith, refl, paste-zero (a .bytes .now) 0 (drop (a .from) (a .bytes .now)))
 
 loop-again : tie.Need-loop-again Inv-loop μ-loop
 loop-again c =
-    let a = c .before .before .before .args in
-    let l = c .before .before .loop in
-    let next = moved-next (a .bytes .now) (l .bytes) (a .from) (l .i) (l .inv .2) (omega arith) in (
+    let a = c .before .before .before .before .args in
+    let l = c .before .before .loop in (
       omega arith,
-      moved-length (a .bytes .now) _ (a .from) (l .i + 1) next (omega arith),
-      next,
+      length-set (l .bytes) _ _ ∙ l .inv .1,
+      moved-next (a .bytes .now) (l .bytes) (a .from) (l .i) (l .inv .2) (omega arith),
     )
 
-returns : tie.Need-returns Inv-loop μ-loop
-returns c =
-    let a = c .before .before .args in
+returns-2 : tie.Need-returns-2 Inv-loop μ-loop
+returns-2 c =
+    let a = c .before .before .before .args in
     let l = c .before .loop in
     let end : l .i ≡ a .end - a .from = omega arith in
     moved-front (a .bytes .now) (l .bytes) (a .from) (a .end - a .from) (l .inv .2 ∙ ap (moved (a .bytes .now) (a .from)) end) (omega arith)
@@ -40,6 +44,7 @@ to-front-spec =
     (tie.spec
     Inv-loop
     μ-loop
+    returns
     (λ c. omega arith)
     loop-holds
     (λ c. omega arith)
@@ -49,4 +54,4 @@ to-front-spec =
     (λ c. omega arith)
     loop-again
     (λ c. c .before .loop .inv .1)
-    returns)
+    returns-2)
