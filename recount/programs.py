@@ -10,7 +10,7 @@ from recount.book import (
 )
 from recount.outlook import OutlookView
 
-REPLAY_BYTES = 262_144
+REPLAY_BLOCK = 65_536  # words
 SHEET_RECORDS = 1_600
 PROBE_BYTES = 1_048_576
 PROBE_BUFFER = 4_096
@@ -182,14 +182,27 @@ def verdict_text(is_met):
     return "met" if is_met else "failed"
 
 
-def replay(data):
-    if len(data) > REPLAY_BYTES:
-        return lines(["too long"])
-    calls, stop = read_calls(data)
-    book = Book()
-    out = [answer_line(book.call(call)) for call in calls]
-    if stop is not None:
-        out.append(f"stopped at word {stop + 1}")
+def is_too_long(words: list[int]) -> bool:
+    """Whether these words say that the block that they begin is longer than `replay` takes."""
+    kind, told = words[0], len(words)
+    if kind in (1, 13) and told > 1:
+        return words[1] + (5 if kind == 1 else 8) > REPLAY_BLOCK
+    return kind == 16 and told > 2 and 3 + (words[1] + words[2] + 3) // 4 > REPLAY_BLOCK
+
+
+def replay(data: bytes) -> str:
+    """A line a call, and a last one where what is left is no call; a block that is too long ends it, whole or not."""
+    words, at, book, out = to_words(data), 0, Book(), []
+    while at < len(words) and not is_too_long(words[at : at + 3]):
+        found = read_call(words, at)
+        if found is None:
+            break
+        call, at = found
+        out.append(answer_line(book.call(call)))
+    if at < len(words) and is_too_long(words[at : at + 3]):
+        out.append("too long")
+    elif 4 * at < len(data):
+        out.append(f"stopped at word {at + 1}")
     return lines(out)
 
 

@@ -159,12 +159,9 @@ class Replay(Program):
             for short in range(size):
                 yield good_open + words(kind, *[1] * short)
             yield good_open + words(kind, *[1] * size) + report
-        most = programs.REPLAY_BYTES
-        yield words(8) * (most // 4)
-        yield words(8) * (most // 4) + b"\0"
-        yield words(8) * (most // 4 - 1) + b"\0\0\0"
-        yield words(8) * (most // 4 - 1) + words(6)
-        yield words(8) * (most // 4 + 1)
+        most = programs.REPLAY_BLOCK
+        yield from [words(8) * (most - 1) + end for end in (b"\0\0\0", words(6))]
+        yield from [words(8) * most + end for end in (b"", b"\0", words(8), words(0))]
 
     def make(self, rng):
         name, calls = months.any_calls(rng)

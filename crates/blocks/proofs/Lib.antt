@@ -2,5 +2,6 @@
 pub mod Reading
 pub mod Sizes
 pub mod Loops
+pub mod Pieces
 pub mod Decoding
 pub mod Writing

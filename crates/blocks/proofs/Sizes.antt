@@ -5,6 +5,7 @@ use mathlib.Core.List.{List, [], _∷_}
 use borrow.Author.Tests.{ne-eqb}
 use lib.ListN.{getD}
 use Rattle.blocks.specs.Kinds.{addDue, due, dueAt}
+use Rattle.blocks.specs.Pieces.{telling}
 
 -- an add with another side than buy or sell
 pub other-side : (side : ℕ) → (side ≡ 1 → ⊥) → (side ≡ 2 → ⊥) → 0 ≡ addDue side
@@ -48,3 +49,10 @@ other-kind kind ws h =
 
 pub other-due : (ws : List ℕ) (kind : ℕ) → kind ≡ getD ws 0 0 → NoneOf kind (17 ∷ 16 ∷ 15 ∷ 14 ∷ 13 ∷ 12 ∷ 11 ∷ 10 ∷ 9 ∷ 8 ∷ 7 ∷ 6 ∷ 5 ∷ 4 ∷ 3 ∷ 2 ∷ 1 ∷ []) → 0 ≡ dueAt ws
 other-due ws kind e h = sym (other-kind kind ws h) ∙ ap (λ (j : ℕ). due j ws) e
+
+-- ---- the words that tell it
+
+pub other-telling : (kind : ℕ) → NoneOf kind (16 ∷ 13 ∷ 2 ∷ 1 ∷ []) → 1 ≡ telling kind
+unfolding telling
+other-telling kind h =
+    rw (ne-eqb kind 1 (h .0 .0 .0 .1), ne-eqb kind 2 (h .0 .0 .1), ne-eqb kind 13 (h .0 .1), ne-eqb kind 16 (h .1)) refl

@@ -10,6 +10,7 @@ ghost use lib.ListN.{length, getD, take, drop};
 ghost use Rattle.rules.specs.Units.{millis, contracts};
 ghost use Rattle.words.specs.Bytes.{wordsIn, bytesOf};
 ghost use Rattle.blocks.specs.Kinds.{addDue, dueAt, blockSize, rowAt, startAt, messageAt, stepsAt, openingAt, strikeAt, strikeOpeningAt, wideAt, chargeAt, amendmentAt, ticketAt, sideOf, callBy, callOf};
+ghost use Rattle.blocks.specs.Pieces.{telling, isTold};
 ghost use Rattle.blocks.specs.Measures.{Measures};
 ghost use Rattle.blocks.specs.Decoded.{callWith};
 ghost use Rattle.blocks.specs.Internal.{Place};
@@ -103,7 +104,7 @@ fn message_due(s: u32, m: u32) -> usize
 }
 
 // How many words the block at the front is due. The kinds:
-fn due_words(bytes: &[u8]) -> usize
+pub fn due_words(bytes: &[u8]) -> usize
     ensures { λ r. ⌜ r ≡ dueAt (wordsIn (now (bytes .entry))) ⌝ }
 {
     let kind = word(bytes, 0);
@@ -135,6 +136,26 @@ fn due_words(bytes: &[u8]) -> usize
         17 => 1,
         _ => 0,
     }
+}
+
+// How many words tell the length of a block of a kind: an open's second, an add's side, a message's two lengths.
+fn telling_words(kind: u32) -> usize
+    ensures { λ r. ⌜ r ≡ telling kind ⌝ }
+{
+    match kind {
+        1 => 2,
+        2 => 4,
+        13 => 2,
+        16 => 3,
+        _ => 1,
+    }
+}
+
+// Whether the words that are there tell how many the block at the front is due, whatever comes behind them.
+pub fn told(bytes: &[u8]) -> bool
+    ensures { λ r. ⌜ r ≡ isTold (wordsIn (now (bytes .entry))) ⌝ }
+{
+    telling_words(word(bytes, 0)) <= count(bytes)
 }
 
 // The number of words of the call at the front, 0 where there is none.

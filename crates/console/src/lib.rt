@@ -63,6 +63,17 @@ pub fn read(bytes: &mut [u8]) -> usize
     io::read_full(STDIN_FILENO, bytes)
 }
 
+// One read of standard input, into the bytes from a place on: how many have come, 0 at the end of the input. It waits only where none are
+// there yet.
+pub fn read_more(bytes: &mut [u8], from: usize) -> usize
+    requires { ⌜ from ≤ length (now bytes) ⌝ }
+    ensures { λ r. ⌜ from + r ≤ length (now (bytes .exit)) ⌝ }
+{
+    let room = &mut bytes[from..];
+    let got = libc::read(STDIN_FILENO, room);
+    io::count(got, room)
+}
+
 // Fills the lent words with those that start at a byte.
 pub fn read_words(bytes: &[u8], from: usize, words: &mut [u32])
     requires { ⌜ from + 4 * length (now words) ≤ length (now bytes) ⌝ }

@@ -1,9 +1,11 @@
-// Reads a list of calls from standard input, four bytes a word, low byte first, and writes a line for each call's answer.
+// Reads calls from standard input, four bytes a word, low byte first, as they come, and writes a line for each call's answer as soon as its
+// block is whole.
 ghost use mathlib.Core.Path.{_≡_};
-ghost use Prim.Native.Nat.{_*_, _≤_};
-ghost use lib.ListN.{length};
+ghost use Prim.Native.Nat.{_+_, _-_, _*_, _≤_};
+ghost use lib.ListN.{length, take, drop};
+ghost use Rattle.month.specs.Represents.{Reached};
 ghost use Rattle.words.specs.Bytes.{wordsIn};
-ghost use Rattle.blocks.specs.Reading.{wordsRead};
+ghost use Rattle.replay.specs.Pieces.{Plays, Answers, restOf};
 use console::field;
 use console::field_line;
 use console::number;
@@ -164,17 +166,31 @@ fn line(shown: Shown) {
     }
 }
 
-// Runs the calls from a fresh month, and answers how many words they have.
-fn play(bytes: &[u8]) -> usize
-    ensures { λ r. ⌜ (r ≡ wordsRead (wordsIn (now (bytes .entry)))) × (4 * r ≤ length (now (bytes .entry))) ⌝ }
+// What a piece of the input leaves: the month, and how many of its words are read.
+struct Played {
+    month: Month,
+    words: usize,
+}
+
+// What stands behind the calls that are read: what may become a call, what is none, or a block that is longer than the buffer.
+enum Rest {
+    More,
+    NoCall,
+    TooLong,
+}
+
+// Runs the calls of a piece on a month.
+fn play(from: Month, bytes: &[u8]) -> Played
+    requires { ⌜ Reached from ⌝ }
+    ensures { λ r. ⌜ Plays from (wordsIn (now (bytes .entry))) r × (4 * r .words ≤ length (now (bytes .entry))) ⌝ }
 {
-    let mut month = Month::fresh();
+    let mut month = from;
     let mut at: usize = 0;
     loop {
         let done = script::block(month, bytes, at);
         let next = done.next;
         if next == at {
-            return at;
+            return Played { month, words: at };
         }
         let shown = done.shown;
         line(shown);
@@ -183,22 +199,114 @@ fn play(bytes: &[u8]) -> usize
     }
 }
 
-// Room for all the bytes of the longest list, and one more.
-fn room() -> [u8; 262145]
-    ensures { λ r. ⌜ 262145 ≡ length r ⌝ }
+// What is left of a piece, in a buffer of so many words.
+fn rest_is(bytes: &[u8], room: usize) -> Rest
+    ensures { λ r. ⌜ r ≡ restOf room (wordsIn (now (bytes .entry))) ⌝ }
 {
-    [0; 262145]
+    if !blocks::told(bytes) {
+        return Rest::More;
+    }
+    let due = blocks::due_words(bytes);
+    if due == 0 {
+        return Rest::NoCall;
+    }
+    if room < due {
+        return Rest::TooLong;
+    }
+    Rest::More
+}
+
+fn stopped(word: u64) {
+    text(b"stopped at word ");
+    number(word);
+    text(b"\n");
+}
+
+// Whether what is left can't become a call; then the last line says so, with the word at which it begins.
+fn is_last(bytes: &[u8], room: usize, word: u64) -> bool {
+    let rest = rest_is(bytes, room);
+    match rest {
+        Rest::More => false,
+        Rest::NoCall => {
+            stopped(word);
+            true
+        }
+        Rest::TooLong => {
+            text(b"too long\n");
+            true
+        }
+    }
+}
+
+// At the end of the input: whether a block is cut short.
+fn cut_short(held: usize, word: u64) {
+    if 0 < held {
+        stopped(word);
+    }
+}
+
+// Moves the bytes from a place to an end to the front. A block that stands there stays, so that a long one in small pieces moves once.
+fn to_front(bytes: &mut [u8], from: usize, end: usize)
+    requires { ⌜ (from ≤ end) × (end ≤ length (now bytes)) ⌝ }
+    ensures { λ _. ⌜ take (end - from) (now (bytes .exit)) ≡ take (end - from) (drop from (now (bytes .entry))) ⌝ }
+{
+    if from == 0 {
+        return;
+    }
+    let n = end - from;
+    let mut i: usize = 0;
+    while i < n {
+        let b = bytes[from + i];
+        bytes[i] = b;
+        i += 1;
+    }
+}
+
+// Runs the calls that are whole among the bytes before an end, and moves what is left of those bytes to the front.
+fn answer(month: Month, bytes: &mut [u8], end: usize) -> Played
+    requires { ⌜ Reached month × (end ≤ length (now bytes)) ⌝ }
+    ensures { λ r. ⌜ Answers month end (now (bytes .entry)) (now (bytes .exit)) r ⌝ }
+{
+    let done = play(month, &bytes[..end]);
+    let read = done.words;
+    to_front(bytes, 4 * read, end);
+    done
+}
+
+// Reads what has come, behind what is held in the buffer and not answered yet, and answers the calls that are whole, to the end of the input
+// or to what is no call. `word` is the first word held, counted from 1. The loop ends for its bound alone only at 2^62 words, which no
+// input reaches.
+fn stream(bytes: &mut [u8]) {
+    let room = bytes.len() / 4;
+    let mut month = Month::fresh();
+    let mut held: usize = 0;
+    let mut word: u64 = 1;
+    while word < 4611686018427387904 {
+        let got = console::read_more(bytes, held);
+        if got == 0 {
+            cut_short(held, word);
+            return;
+        }
+        let end = held + got;
+        let done = answer(month, bytes, end);
+        let read = done.words;
+        month = done.month;
+        word += read as u64;
+        held = end - 4 * read;
+        if is_last(&bytes[..held], room, word) {
+            return;
+        }
+    }
+}
+
+// Room for the longest block.
+fn room() -> [u8; 262144]
+    ensures { λ r. ⌜ 262144 ≡ length r ⌝ }
+{
+    [0; 262144]
 }
 
 fn main() {
     let mut bytes = room();
-    let n = console::read(&mut bytes);
-    if 262144 < n {
-        text(b"too long\n");
-        return;
-    }
-    let read = play(&bytes[..n]);
-    if 4 * read < n {
-        field_line(b"stopped at word ", read as u32 + 1);
-    }
+    stream(&mut bytes);
 }

@@ -32,7 +32,7 @@ use Rattle.script.proofs.Outcomes.{outcomes-more, outcomes-length}
 -- ---- lists
 
 -- one more of a list, where it goes on with that element
-take-more : {A : Type 0} (l : List A) (k : ℕ) (a : A) (rest : List A) → drop k l ≡ a ∷ rest → take (k + 1) l ≡ take k l ++ (a ∷ [])
+pub take-more : {A : Type 0} (l : List A) (k : ℕ) (a : A) (rest : List A) → drop k l ≡ a ∷ rest → take (k + 1) l ≡ take k l ++ (a ∷ [])
 take-more l k a rest e = take-add k 1 l ∙ ap (λ t. take k l ++ take 1 t) e
 
 -- an element in place of the first one behind a front
