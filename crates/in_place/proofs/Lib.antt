@@ -2,3 +2,5 @@
 pub mod Quanta
 pub mod Whole
 pub mod Months
+-- What is shown of them.
+pub mod Looks

@@ -41,11 +41,11 @@ abbrev pub counting : List ℕ → List ℕ → List ℕ
 counting ws count = take 4 ws ++ (count ++ drop 2 (drop 4 ws))
 
 -- a flag's word that is 0, and one that is not
-flag-off : (b : Bool) → flagWord b ≡ 0 → b ≡ false
+pub flag-off : (b : Bool) → flagWord b ≡ 0 → b ≡ false
 flag-off true h = absurd (omega arith)
 flag-off false h = refl
 
-flag-on : (b : Bool) → (flagWord b ≡ 0 → ⊥) → b ≡ true
+pub flag-on : (b : Bool) → (flagWord b ≡ 0 → ⊥) → b ≡ true
 flag-on true h = refl
 flag-on false h = absurd (h refl)
 
@@ -61,10 +61,10 @@ module _ (ws : List ℕ) (calls : List Call) (is : take 2464 ws ≡ wordsAfter c
   fits : Fits month
   fits = month-fits calls
 
-  whole : ws ≡ wordsAfter calls ++ drop 2464 ws
+  pub whole : ws ≡ wordsAfter calls ++ drop 2464 ws
   whole = sym (take-append-drop 2464 ws) ∙ ap (λ (l : List ℕ). l ++ drop 2464 ws) is
 
-  flag-is : getD ws 0 0 ≡ flagWord (month .running)
+  pub flag-is : getD ws 0 0 ≡ flagWord (month .running)
   flag-is = word-in ws month fits is 0 (omega arith)
 
   pub held : HoldsQuantum (take 598 (drop 6 ws))

@@ -1,4 +1,4 @@
--- A block that is an event: its fields, and what becomes of the words and the answer. Assumes nothing.
+-- A block that is an event or a look: its fields, and what becomes of the words and the answer. Assumes nothing.
 use Prim.Native.Nat.{ℕ, zero, suc, _%_, _<_, _≤_}
 use native.Mathlib.Omega.{arith}
 use mathlib.Core.Path.{_≡_, refl, sym, ap, _∙_}
@@ -12,7 +12,7 @@ use Rattle.rules.specs.declared.Steps.{Steps}
 use Rattle.rules.specs.Lists.{if_then_else_}
 use Rattle.rules.specs.Terms.{paper}
 use Rattle.rules.specs.Units.{millis, contracts}
-use Rattle.rules.specs.Answers.{refused, accepted, done, outcomeBy}
+use Rattle.rules.specs.Answers.{Outcome, Reply, refused, accepted, done, outcomeBy}
 use Rattle.rules.specs.Records.{addKind}
 use Rattle.rules.specs.Calls.{Call, Send}
 use Rattle.rules.specs.Book.{after, answerOf}
@@ -23,9 +23,9 @@ use Rattle.record.specs.declared.Fields.{Fields}
 use Rattle.record.specs.Fields.{fieldsFor}
 use Rattle.blocks.specs.Kinds.{word, due, dueAt, addDue, stepsAt, sideOf, blockSize, callBy, callOf}
 use Rattle.answers.specs.Words.{answerWords}
-use Rattle.in_place.specs.Events.{wordsAfter, SaysEvent, Sends}
+use Rattle.in_place.specs.Events.{wordsAfter, SaysEvent, Sends, Shows}
 use Rattle.live.specs.Calling.{isCall, Performs}
-use Rattle.live.specs.Internal.{addIn, amendIn, cancelIn, dealIn, tickIn, SaysAdd, SaysBlock, SendsShown}
+use Rattle.live.specs.Internal.{addIn, amendIn, cancelIn, dealIn, tickIn, SaysAdd, SaysBlock, SendsShown, ShowsWords}
 
 -- ---- which event
 
@@ -157,4 +157,16 @@ event-performs ws out bytes ws′ out′ f s d =
     record {
       month = λ calls is. d .month calls is ∙ ap (λ (c : Call). wordsAfter (calls ++ (c ∷ [])) ++ drop 2464 ws) (sym (s .says));
       answer = λ calls is. ap (λ (l : List ℕ). l ++ drop 20 out) (d .answer calls is ∙ ap (λ (c : Call). answerWords (answerOf paper (after paper calls) c)) (sym (s .says)));
+    }
+
+-- ---- a call that changes nothing
+
+pub shows-words : (ws : List ℕ) (c : Call) (o : Outcome Reply) (out : List ℕ) → Shows ws c o → out ≡ answerWords o → ShowsWords ws c out
+shows-words ws c o out s a = record { month = s .month; answer = λ calls is. a ∙ ap answerWords (s .answer calls is) }
+
+pub shows-performs : (ws out bytes out′ : List ℕ) (c : Call) → c ≡ callOf (wordsIn bytes) → ShowsWords ws c out′ → Performs ws out bytes ws (out′ ++ drop 20 out)
+shows-performs ws out bytes out′ c e s =
+    record {
+      month = λ calls is. s .month calls is ∙ ap (λ (x : Call). wordsAfter (calls ++ (x ∷ [])) ++ drop 2464 ws) e;
+      answer = λ calls is. ap (λ (l : List ℕ). l ++ drop 20 out) (s .answer calls is ∙ ap (λ (x : Call). answerWords (answerOf paper (after paper calls) x)) e);
     }

@@ -51,3 +51,8 @@ pub record SaysBlock (bytes : List ℕ) (f : Fields) : Type 0 where
 pub record SendsShown (words : List ℕ) (e : Event) (words′ out : List ℕ) : Type 0 where
   pub month : (calls : List Call) → take 2464 words ≡ wordsAfter calls → words′ ≡ wordsAfter (calls ++ (Send e ∷ [])) ++ drop 2464 words
   pub answer : (calls : List Call) → take 2464 words ≡ wordsAfter calls → out ≡ answerWords (answerOf paper (after paper calls) (Send e))
+
+-- a call that changes nothing, with the words of its answer
+pub record ShowsWords (words : List ℕ) (c : Call) (out : List ℕ) : Type 0 where
+  pub month : (calls : List Call) → take 2464 words ≡ wordsAfter calls → words ≡ wordsAfter (calls ++ (c ∷ [])) ++ drop 2464 words
+  pub answer : (calls : List Call) → take 2464 words ≡ wordsAfter calls → out ≡ answerWords (answerOf paper (after paper calls) c)

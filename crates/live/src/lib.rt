@@ -9,6 +9,7 @@ ghost use lib.ListN.{length, drop, getD};
 ghost use Rattle.rules.specs.declared.Event.{Event};
 ghost use Rattle.rules.specs.Lists.{if_then_else_};
 ghost use Rattle.rules.specs.Terms.{paper};
+ghost use Rattle.rules.specs.Calls.{Look};
 ghost use Rattle.rules.specs.Book.{after};
 ghost use Rattle.month.specs.Represents.{monthOf};
 ghost use Rattle.month.specs.Words.{monthWords};
@@ -17,10 +18,12 @@ ghost use Rattle.words.specs.Bytes.{wordsIn};
 ghost use Rattle.blocks.specs.Kinds.{stepsAt};
 ghost use Rattle.in_place.specs.Events.{HoldsMonth, SaysEvent};
 ghost use Rattle.live.specs.Calling.{isCall, wordsShown, Calling, Performs};
-ghost use Rattle.live.specs.Internal.{amendIn, cancelIn, dealIn, tickIn, SaysAdd, SaysBlock, SendsShown};
+ghost use Rattle.live.specs.Internal.{amendIn, cancelIn, dealIn, tickIn, SaysAdd, SaysBlock, SendsShown, ShowsWords};
+use blocks::Decoded;
 use month::Month;
 use record::Fields;
 use rules::Contracts;
+use rules::Looked;
 use rules::Millis;
 use rules::Steps;
 use script::Outcome;
@@ -232,6 +235,36 @@ fn send(words: &mut [u32], hints: &mut [u8], f: Fields, answer: &mut [u32])
     answers::put_accepted(answer);
 }
 
+// ---- a call that is no event
+
+// A look, at the cell's words where they stand.
+fn look(words: &[u32], day: u32, expiry: u32, quantum: u32, answer: &mut [u32])
+    requires { ⌜ HoldsMonth (now words) × (2464 ≤ length (now words)) × (length (now answer) ≡ 20) ⌝ }
+    ensures { λ _. ⌜ ShowsWords (now (words .entry)) (Look day expiry quantum) (now (answer .exit)) ⌝ }
+{
+    let looked = in_place::look(words, day, expiry, quantum);
+    match looked {
+        Looked::Found(view) => answers::put_cell(view, answer),
+        Looked::Refused(r) => answers::put_refused(rules::number(r), answer),
+    }
+}
+
+// A look, or by value.
+fn other(words: &mut [u32], bytes: &[u8], answer: &mut [u32])
+    requires { ⌜ HoldsMonth (now words) × (2464 ≤ length (now words)) × (20 ≤ length (now answer)) × (isCall (now bytes) ≡ true) ⌝ }
+    ensures { λ _. ⌜ Performs (now (words .entry)) (now (answer .entry)) (now (bytes .entry)) (now (words .exit)) (now (answer .exit)) ⌝ }
+{
+    let said = blocks::decode(bytes);
+    match said {
+        Decoded::Look {
+            day,
+            expiry,
+            quantum,
+        } => look(words, day, expiry, quantum, &mut answer[0..20]),
+        _ => perform(words, bytes, answer),
+    }
+}
+
 // ---- a call
 
 // One call, on the month whose words these are. The hints only say where an id was last found: they may hold anything, and nothing that
@@ -257,6 +290,11 @@ pub fn call(words: &mut [u32], hints: &mut [u8], bytes: &[u8], answer: &mut [u32
     if !is_call(bytes) {
         return Called::NoCall;
     }
-    perform(words, bytes, answer);
+    // drop and report. A single call of `perform` the compiler would put in place, and its frame of 64 KB into each event's way
+    if bytes.len() == 4 {
+        perform(words, bytes, answer);
+        return Called::Done;
+    }
+    other(words, bytes, answer);
     Called::Done
 }

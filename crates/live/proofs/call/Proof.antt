@@ -1,4 +1,4 @@
--- Four early returns that change nothing, and two ways to run the call. Assumes nothing.
+-- Four early returns that change nothing, and the ways to run the call. Assumes nothing.
 use mathlib.Core.Path.{refl, sym, _∙_}
 use lib.Dec.{leb}
 use lib.ListN.{length}
@@ -57,15 +57,29 @@ returns-5 c =
 
 perform-requires : tie.Need-perform-requires
 perform-requires c κs =
-    let room = c .before .before .before .before .before .before .before .before .before .if1 .left in
-    (c .before .before .before .before .before .before .before .before .before .before .before .before .before .before .pre room, room, c .before .before .before .before .before .before .before .if3 .left, sym (c .before .before .before .is-call .ensures) ∙ not-false _ (c .before .before .if5 .left))
+    let room = c .before .before .before .before .before .before .before .before .before .before .if1 .left in
+    (c .before .before .before .before .before .before .before .before .before .before .before .before .before .before .before .pre room, room, c .before .before .before .before .before .before .before .before .if3 .left, sym (c .before .before .before .before .is-call .ensures) ∙ not-false _ (c .before .before .before .if5 .left))
 
 returns-6 : tie.Need-returns-6
 returns-6 c =
-    let a = c .before .before .before .before .before .before .before .before .before .before .before .before .before .before .before .before .before .before .before .args in
+    let a = c .before .before .before .before .before .before .before .before .before .before .before .before .before .before .before .before .before .before .before .before .args in
     record {
-      called = is-done (leb 2464 (length (a .words .now))) (leb 2048 (length (a .hints .now))) (leb 20 (length (a .answer .now))) (isCall (a .bytes .now)) (le-leb _ _ (c .before .before .before .before .before .before .before .before .before .before .before .before .before .before .if1 .left)) (le-leb _ _ (c .before .before .before .before .before .before .before .before .before .before .before .before .before .if2 .left)) (le-leb _ _ (c .before .before .before .before .before .before .before .before .before .before .before .before .if3 .left)) (sym (c .before .before .before .before .before .before .before .before .is-call .ensures) ∙ not-false _ (c .before .before .before .before .before .before .before .if5 .left));
+      called = is-done (leb 2464 (length (a .words .now))) (leb 2048 (length (a .hints .now))) (leb 20 (length (a .answer .now))) (isCall (a .bytes .now)) (le-leb _ _ (c .before .before .before .before .before .before .before .before .before .before .before .before .before .before .before .if1 .left)) (le-leb _ _ (c .before .before .before .before .before .before .before .before .before .before .before .before .before .before .if2 .left)) (le-leb _ _ (c .before .before .before .before .before .before .before .before .before .before .before .before .before .if3 .left)) (sym (c .before .before .before .before .before .before .before .before .before .is-call .ensures) ∙ not-false _ (c .before .before .before .before .before .before .before .before .if5 .left));
       done = λ e. c .before .before .before .before .perform .ensures;
+      kept = λ never. absurd (never refl);
+    }
+
+other-requires : tie.Need-other-requires
+other-requires c κs =
+    let room = c .before .before .before .before .before .before .before .before .before .before .if1 .left in
+    (c .before .before .before .before .before .before .before .before .before .before .before .before .before .before .before .pre room, room, c .before .before .before .before .before .before .before .before .if3 .left, sym (c .before .before .before .before .is-call .ensures) ∙ not-false _ (c .before .before .before .if5 .left))
+
+returns-7 : tie.Need-returns-7
+returns-7 c =
+    let a = c .before .before .before .before .before .before .before .before .before .before .before .before .before .before .before .before .before .before .before .before .args in
+    record {
+      called = is-done (leb 2464 (length (a .words .now))) (leb 2048 (length (a .hints .now))) (leb 20 (length (a .answer .now))) (isCall (a .bytes .now)) (le-leb _ _ (c .before .before .before .before .before .before .before .before .before .before .before .before .before .before .before .if1 .left)) (le-leb _ _ (c .before .before .before .before .before .before .before .before .before .before .before .before .before .before .if2 .left)) (le-leb _ _ (c .before .before .before .before .before .before .before .before .before .before .before .before .before .if3 .left)) (sym (c .before .before .before .before .before .before .before .before .before .is-call .ensures) ∙ not-false _ (c .before .before .before .before .before .before .before .before .if5 .left));
+      done = λ e. c .before .before .before .before .other .ensures;
       kept = λ never. absurd (never refl);
     }
 
@@ -93,4 +107,8 @@ call-spec =
     perform-requires
     (λ c. search needs)
     (λ c. search needs)
-    returns-6)
+    returns-6
+    other-requires
+    (λ c. search needs)
+    (λ c. search needs)
+    returns-7)
