@@ -59,14 +59,14 @@ pub fn fresh(words: &mut [u32]) -> bool
 }
 
 // Whether some bytes are one call's block, and nothing more.
-fn is_call(bytes: &[u8]) -> bool
+pub fn is_call(bytes: &[u8]) -> bool
     ensures { λ r. ⌜ r ≡ isCall (now (bytes .entry)) ⌝ }
 {
     let size = blocks::size(bytes);
     (size != 0) & (size == blocks::count(bytes)) & (bytes.len() % 4 == 0)
 }
 
-fn put_answer(shown: Shown, answer: &mut [u32])
+pub fn put_answer(shown: Shown, answer: &mut [u32])
     requires { ⌜ length (now answer) ≡ 20 ⌝ }
     ensures { λ _. ⌜ now (answer .exit) ≡ wordsShown (shown .outcome) (shown .report) ⌝ }
 {
