@@ -24,6 +24,7 @@ sys.path.insert(0, str(ROOT))
 
 from recount import fix, game, programs, standing, strikes, volatile
 from recount import session as run
+from recount.outlook import OutlookView
 from recount.book import NO_LIMIT, Accepted, Asked, Book, CellView, Message, Open, Refused, Report, choose, weight
 from tests import generate, known, message_lists, messages, months
 from tests import standing as standing_cases

@@ -25,7 +25,7 @@ use Rattle.rules.specs.Orders.{live}
 use Rattle.rules.specs.Quotes.{best, Means}
 use Rattle.rules.specs.Pay.{allFailures}
 use Rattle.rules.specs.Answers.{Outcome, outcomeBy, Reply}
-use Rattle.rules.specs.Calls.{Call, Open, Send, Message, Ask, Commit, Close, Drop, Charge, Withdraw, Look, Report, Running, Idle, Quoting, Book, amendOf}
+use Rattle.rules.specs.Calls.{Call, Open, Send, Message, Ask, Commit, Close, Drop, Charge, Withdraw, Look, Report, Outlook, Running, Idle, Quoting, Book, amendOf}
 use Rattle.rules.specs.Causes.{sendCauses, firstNumber, eventRefusal, causes, refusalOf}
 use Rattle.rules.specs.Changes.{noted}
 use Rattle.rules.specs.Replies.{bidIn, askIn, previewOf, reportOf, replyOf}
@@ -101,6 +101,7 @@ by-number b (Charge day expiry quantum active passive) zero e g = tt
 by-number b (Withdraw day expiry quantum) zero e g = tt
 by-number b (Look day expiry quantum) zero e g = tt
 by-number b Report zero e g = report-fits b g
+by-number b Outlook zero e g = tt
 
 -- the answer to any call after any list of calls
 pub answer-fits : (calls : List Call) (c : Call) → AnswerFits (answerOf paper (after paper calls) c)

@@ -91,7 +91,7 @@ module _ (ws more : List ℕ) where
         let a = come 1 (omega arith) in
         let b = come 2 (omega arith) in
         λ i. 3 + (a i + b i + 3) / 4)
-        refl)))))))))))))))
+        (if-same (eqb kind 17) (λ e. refl) refl))))))))))))))))
 
   pub told-stays : isTold ws ≡ true → dueAt (ws ++ more) ≡ dueAt ws
   unfolding isTold
@@ -347,7 +347,7 @@ module _ (ws more : List ℕ) (kind : ℕ) (d : due kind ws ≤ length ws) (some
       let b = amendment-stays 11 (has 15 e) 5 (omega arith) in
       let n = wide-stays 11 (has 15 e) 9 (omega arith) in
       λ j. Commit (a j) (record { amendment = b j; count = n j }))
-      (if-same (eqb kind 16) (λ e. message-call-stays (has 16 e)) refl))))))))))))))
+      (if-same (eqb kind 16) (λ e. message-call-stays (has 16 e)) (if-same (eqb kind 17) (λ e. refl) refl)))))))))))))))
 
 pub call-stays : (ws more : List ℕ) → (blockSize ws ≡ 0 → ⊥) → callOf (ws ++ more) ≡ callOf ws
 unfolding callOf
