@@ -143,7 +143,7 @@ class Replay(Program):
         report, wrong_open = words(12), words(1, 6, 1, 1, 10_000, 500, 100, 1, 1, 2_000, 5)
         good_open = words(1, 7, 1, 1, 10_000, 500, 100, 1, 600, 1, 2_000, 5)
         yield from [b"", b"\1", report + b"\0\0\0", report * 3]
-        yield from [words(0), words(17), words(18), words(2**32 - 1)]
+        yield from [words(0), words(18), words(19), words(2**32 - 1)]
         yield from [wrong_open, words(1), words(1, 0), words(1, 0, 1), words(1, 0, 1, 0),
                     words(1, 0, 1, 0, 0) + report]
         yield words(1, 2**32 - 1, 1, 2)
