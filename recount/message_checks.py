@@ -136,8 +136,12 @@ def check_block() -> None:
                 assert programs.read_calls(block[:short]) == ([], 0), short
             assert programs.read_calls(report + block[:-1])[1] == 1
     assert programs.replay(words(16, 0, 0) + report).startswith("refused 20\nreport")
-    for block in (words(16), words(16, 0), words(16, 0, 1), words(16, 2**32 - 1, 2**32 - 1), words(16, 4, 1, 0)):
+    for block in (words(16), words(16, 0), words(16, 0, 1), words(16, 2**32 - 1), words(16, 4, 1, 0)):
         assert programs.replay(block) == "stopped at word 1\n"
+    most = 4 * (programs.REPLAY_BLOCK - 3)  # bytes
+    for start, length in ((2**32 - 1, 2**32 - 1), (0, most + 1), (most, 1)):
+        assert programs.replay(words(16, start, length)) == "too long\n"
+    assert programs.replay(words(16, 1, most - 1)) == "stopped at word 1\n"
 
 
 def check() -> None:
