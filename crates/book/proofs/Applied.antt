@@ -24,7 +24,7 @@ use Rattle.rules.proofs.Refusals.{trader-passes}
 use Rattle.quote.proofs.Keys.{key-least, key-most}
 use Rattle.side.specs.declared.Change.{Change}
 use Rattle.side.specs.Slots.{Slot, blankSlot, slotOf, orderOf, sideOf, keptIn, GoodSlots}
-use Rattle.side.specs.Internal.{Changed, Sized, Stands, slotAt, Added, Put, Removed, Grows}
+use Rattle.side.specs.Internal.{Changed, Sized, HasOrder, slotAt, Added, Put, Removed, Grows}
 use Rattle.side.proofs.Words.{words-length, count-is}
 use Rattle.side.proofs.Stores.{read-is}
 use Rattle.side.proofs.Changes.{changed-added, changed-amended, changed-removed, GoodSlot, one-good, good-added, good-amended, good-removed, grows-none, grows-added, grows-amended, grows-removed}
@@ -175,7 +175,7 @@ module _ (t : Millis) (minimum : ℕ) (live : List Order) (table : List ℕ) (re
     its-good o e = ap (λ (x : Order). goodPrice (x .price .0)) e ∙ its-price live (represents .good) (sideAt (at / 64)) (at % 64) id has-slot
 
     -- its words, lent
-    pub stands : Stands (at % 64) (lent (at / 64) table)
+    pub stands : HasOrder (at % 64) (lent (at / 64) table)
     stands =
         let key = part-key table minimum live represents n small k (omega arith) in
         record {
@@ -278,7 +278,7 @@ module _ (t : Millis) (minimum : ℕ) (live : List Order) (table : List ℕ) (re
               );
         }
 
-    pub lent-removable : Sized (lent n table) × (k < getD (lent n table) 192 0) × Stands k (lent n table)
+    pub lent-removable : Sized (lent n table) × (k < getD (lent n table) 192 0) × HasOrder k (lent n table)
     lent-removable = (
       part-sized table minimum live represents n small,
       omega (arith, part-count table minimum live represents n small, has-slot .inside),

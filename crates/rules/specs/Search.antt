@@ -20,7 +20,8 @@ abbrev pub matched : Side → Order → Order → Bool
 matched side o q = atLeast side (q .price .0) (o .price .0)
 
 -- "to add up volumes for a live order only if its price is better than every one already found to qualify", and than the quote that the
--- search starts from: of all the orders that are searched, these are before it
+-- search starts from, which is none or was found to qualify too (`MayStart` in crates/quote/specs): of all the orders that are searched,
+-- these are before it
 unfoldable pub addsUp : Side → ℕ → Quote → List Order → List Order → Order → Bool
 addsUp side minimum start all before o =
     same side (o .side) && beats side (o .price .0) start && not (any (matched side o) (filter (qualifies side minimum all) before))

@@ -12,7 +12,7 @@ use Rattle.quote.specs.declared.Level.{Level}
 use Rattle.quote.specs.Keys.{keyIn}
 use Rattle.quote.proofs.Keys.{key-price, good-price}
 use Rattle.side.specs.Slots.{Slot, slot, blankSlot, orderOf, idsOf, keysOf, volumesOf, column, header, sideOf}
-use Rattle.side.specs.Internal.{Stands, change, slotAt, stored, shifted}
+use Rattle.side.specs.Internal.{HasOrder, change, slotAt, stored, shifted}
 use Rattle.side.proofs.Lists.{map-set, map-take, map-drop}
 use Rattle.side.proofs.Columns.{column-set, column-more, column-shifted, four, first-set, second-set, third-set, fourth-set, first-moved, second-moved, third-moved}
 use Rattle.side.proofs.Words.{field-length, count-is, id-at, key-at, volume-at}
@@ -118,7 +118,7 @@ pub read-is : (slots : List Slot) (level : Level) (place : ℕ) → length slots
 read-is slots level place few h words is =
     λ i. slot (id-at words slots level few is place h i) (key-at words slots level few is place h i) (volume-at words slots level few is place h i)
 
-module _ (place : ℕ) (words : List ℕ) (stands : Stands place words) (side : Side) (o : Order) (e : o ≡ orderOf side (slotAt place words)) where
+module _ (place : ℕ) (words : List ℕ) (stands : HasOrder place words) (side : Side) (o : Order) (e : o ≡ orderOf side (slotAt place words)) where
   pub read-good : goodPrice (o .price .0) ≡ true
   read-good =
       ap (λ (x : Order). goodPrice (x .price .0)) e ∙ good-price side (getD words (64 + place) 0) (stands .key-least) (stands .key-most)

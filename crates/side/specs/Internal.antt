@@ -39,7 +39,7 @@ pub record Sized (words : List ℕ) : Type 0 where
   pub few : getD words 192 0 ≤ 64
 
 -- words of a side's size, with an order at the place
-pub record Stands (place : ℕ) (words : List ℕ) : Type 0 where
+pub record HasOrder (place : ℕ) (words : List ℕ) : Type 0 where
   pub all : length words ≡ 256
   pub inside : place < 64
   pub key-least : 1 ≤ getD words (64 + place) 0

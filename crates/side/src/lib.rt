@@ -11,7 +11,7 @@ ghost use Rattle.rules.specs.Units.{goodPrice};
 ghost use Rattle.quote.specs.declared.Level.{Level};
 ghost use Rattle.quote.specs.Keys.{keyIn};
 ghost use Rattle.side.specs.Slots.{Slot, slotOf, orderOf, sideOf, seenFrom, seen};
-ghost use Rattle.side.specs.Internal.{Sized, Stands, Added, Put, Removed, slotAt, stored, shifted};
+ghost use Rattle.side.specs.Internal.{Sized, HasOrder, Added, Put, Removed, slotAt, stored, shifted};
 use rules::Contracts;
 use rules::Order;
 use rules::Side;
@@ -82,7 +82,7 @@ pub fn located(words: &[u32], id: u32) -> u32
 
 // The order at a place of a side: its price is that of its key.
 pub fn order_at(words: &[u32], side: Side, place: usize) -> Order
-    requires { ⌜ Stands place (now words) ⌝ }
+    requires { ⌜ HasOrder place (now words) ⌝ }
     ensures { λ r. ⌜ r ≡ orderOf side (slotAt place (now (words .entry))) ⌝ }
 {
     Order {
@@ -133,7 +133,7 @@ pub fn add(words: &mut [u32], order: Order) -> Change
 
 // An order in the place of the one that stands there: what its side loses and gains.
 pub fn put(words: &mut [u32], place: usize, order: Order) -> Change
-    requires { ⌜ Stands place (now words) × (goodPrice (order .price .0) ≡ true) ⌝ }
+    requires { ⌜ HasOrder place (now words) × (goodPrice (order .price .0) ≡ true) ⌝ }
     ensures { λ r. ⌜ Put place order (now (words .entry)) (now (words .exit)) r ⌝ }
 {
     let side = order.side;
@@ -165,7 +165,7 @@ pub fn shift(column: &mut [u32], place: usize, last: usize)
 
 // The order at a place goes; those behind it move up, so that the orders stay in the order in which they were added.
 pub fn remove(words: &mut [u32], side: Side, place: usize) -> Change
-    requires { ⌜ Sized (now words) × (place < getD (now words) 192 0) × Stands place (now words) ⌝ }
+    requires { ⌜ Sized (now words) × (place < getD (now words) 192 0) × HasOrder place (now words) ⌝ }
     ensures { λ r. ⌜ Removed place (now (words .entry)) (now (words .exit)) r ⌝ }
 {
     let order = order_at(words, side, place);
