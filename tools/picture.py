@@ -2,9 +2,10 @@
 
     python3 tools/picture.py FILE.session [LIMIT] > picture.svg
 
-Best bid and ask over time, the kept stretches shaded, and below them the share of the quantum that
-was kept beside the share that is required. Verdict and weight are in the title. The quotes are the
-recount's; the rest is what `sheet` prints (build it by `rt check sheet`).
+Best bid and ask over time, each stretch shaded by its state, and below them the share of the quantum
+that was kept beside the share that is required, the time of each state, and the ten longest stretches
+that were lost. Verdict and weight are in the title. The quotes are the recount's; the rest is what
+`sheet` and `account` print (build them by `rt check sheet account`).
 
 A session run has no lapse limit. With a LIMIT, 0 to 1,000, the lapses are counted against it, each
 is marked below the plot, and verdict and weight are those of a month's quantum with that limit.
@@ -25,12 +26,17 @@ from recount.book import (
 from tools import session as session_text
 from tools import text
 
-WIDTH, HEIGHT = 920, 470
+WIDTH = 920
 LEFT, RIGHT, TOP, BOTTOM = 100, 890, 96, 350  # the plot
 BAR_TOP, BAR_HEIGHT = 410, 20
+STATES_TOP, LOST_TOP, LOST_LINE, MOST_LOST = 480, 526, 18, 10
 
 BID, ASK = "#1f5fa8", "#b3381f"
-KEPT, INK, PALE = "#cfe8cf", "#222222", "#888888"
+INK, PALE = "#222222", "#888888"
+STATE_COLOURS = {
+    "kept": "#cfe8cf", "no-bid": "#bcd6f2", "no-ask": "#f6cdbf", "neither": "#dddddd", "crossed": "#d9c4ea",
+    "wide": "#f7e6a6",
+}
 MET_BAR, FAILED_BAR = "#6fb56f", "#d99a4e"
 
 SECOND, MINUTE, HOUR = 1_000, 60_000, 3_600_000
@@ -63,6 +69,16 @@ def sheet(data):
     return Sheet(int(lines[0][1]), verdict[1] == "met", int(weight[1]), pairs)
 
 
+Stretch = namedtuple("Stretch", "offset length state")
+
+
+def account(data):
+    """What `account` prints of a session that is not refused: its stretches, and each state's time."""
+    lines = [line.split() for line in text.ask("account", data).splitlines()]
+    stretches = [Stretch(int(line[1]), int(line[3]), line[4]) for line in lines if line[0] == "from"]
+    return stretches, {line[1]: int(line[2]) for line in lines if line[0] == "total"}
+
+
 def clock(ms):
     """h:mm:ss, with thousandths where there are any."""
     whole, rest = divmod(ms, SECOND)
@@ -89,8 +105,8 @@ def price_step(low, high):
 class Drawing:
     """Gathers SVG elements; times and prices are put where they belong."""
 
-    def __init__(self, length, low, high):
-        self.length, self.low, self.high = length, low, high
+    def __init__(self, length, low, high, height):
+        self.length, self.low, self.high, self.height = length, low, high, height
         self.items = []
 
     def x(self, t):
@@ -130,8 +146,8 @@ class Drawing:
 
     def svg(self):
         return (
-            f'<svg xmlns="http://www.w3.org/2000/svg" width="{WIDTH}" height="{HEIGHT}"'
-            f' viewBox="0 0 {WIDTH} {HEIGHT}" font-family="Helvetica, Arial, sans-serif">\n'
+            f'<svg xmlns="http://www.w3.org/2000/svg" width="{WIDTH}" height="{self.height}"'
+            f' viewBox="0 0 {WIDTH} {self.height}" font-family="Helvetica, Arial, sans-serif">\n'
             + "\n".join(self.items)
             + "\n</svg>\n"
         )
@@ -156,9 +172,35 @@ def draw_legend(d):
     d.text(LEFT + 32, y, "best ask")
     d.line(LEFT + 110, y - 4, LEFT + 136, y - 4, BID, ' stroke-width="2"')
     d.text(LEFT + 142, y, "best bid")
-    d.rect(LEFT + 222, y - 12, 26, 15, KEPT)
-    d.text(LEFT + 254, y, "kept")
     d.text(RIGHT, y, "price steps over the quantum's time", "end", 12, PALE)
+
+
+def draw_states(d, times):
+    """The states' colours, each with its time."""
+    for at, (state, time) in enumerate(times.items()):
+        x, y = LEFT + (RIGHT - LEFT) * (at % 3) // 3, STATES_TOP + 20 * (at // 3)
+        d.rect(x, y - 12, 26, 15, STATE_COLOURS[state])
+        d.text(x + 32, y, f"{state} {clock(time)}")
+
+
+def longest_lost(stretches):
+    """The longest stretches that were not kept, the earlier of two that are as long before the other."""
+    lost = [stretch for stretch in stretches if stretch.state != "kept"]
+    return sorted(lost, key=lambda stretch: -stretch.length)[:MOST_LOST]
+
+
+def draw_lost(d, lost):
+    """Those stretches as a table: from, to, how long, and why."""
+    d.text(LEFT, LOST_TOP, "longest stretches lost" if lost else "nothing was lost", more=' font-weight="bold"')
+    columns = (90, 200, 310)
+    for x, words in zip(columns, ("from", "to", "length") if lost else ()):
+        d.text(LEFT + x, LOST_TOP + LOST_LINE, words, "end", 12, PALE)
+    for at, stretch in enumerate(lost, start=2):
+        y = LOST_TOP + LOST_LINE * at
+        for x, time in zip(columns, (stretch.offset, stretch.offset + stretch.length, stretch.length)):
+            d.text(LEFT + x, y, clock(time), "end", 12)
+        d.rect(LEFT + 330, y - 10, 18, 12, STATE_COLOURS[stretch.state])
+        d.text(LEFT + 356, y, stretch.state, size=12)
 
 
 def draw_shares(d, row, done):
@@ -216,12 +258,15 @@ def picture(name, data, limit=NO_LIMIT):
     done = sheet(data)
     row = Row(*words)
     done = judged(done, row, limit)
+    stretches, times = account(data)
+    lost = longest_lost(stretches)
     shown = quotes(row, [records.read(record) for record in records.split(rest)])
     prices = [price for _, bid, ask in shown for price in (bid, ask) if price is not None] or [sp]
     margin = max(1, (max(prices) - min(prices)) // 12)
-    d = Drawing(row.length, min(prices) - margin, max(prices) + margin)
+    height = LOST_TOP + LOST_LINE * (len(lost) + 2)
+    d = Drawing(row.length, min(prices) - margin, max(prices) + margin, height)
 
-    d.rect(0, 0, WIDTH, HEIGHT, "#ffffff")
+    d.rect(0, 0, WIDTH, height, "#ffffff")
     title = f"{name}: {programs.verdict_text(done.met)}, weight {done.weight}"
     d.text(LEFT, 30, title, size=19, more=' font-weight="bold"')
     d.text(
@@ -229,13 +274,15 @@ def picture(name, data, limit=NO_LIMIT):
         f"kept {clock(done.kept)} of {clock(row.length)}, stretches: {len(done.pairs)};"
         f" SP {sp}, least volume {row.least}, spread at most {widest(row, sp)}",
     )
-    for offset, length in done.pairs:
-        d.rect(d.x(offset), TOP, d.x(offset + length) - d.x(offset), BOTTOM - TOP, KEPT)
+    for offset, length, state in stretches:
+        d.rect(d.x(offset), TOP, d.x(offset + length) - d.x(offset), BOTTOM - TOP, STATE_COLOURS[state])
     draw_axes(d)
     d.steps([(t, ask) for t, _, ask in shown], ASK)
     d.steps([(t, bid) for t, bid, _ in shown], BID)
     draw_legend(d)
     draw_shares(d, row, done)
+    draw_states(d, times)
+    draw_lost(d, lost)
     if limit != NO_LIMIT:
         draw_lapses(d, row, done, limit)
     return d.svg()
