@@ -13,11 +13,11 @@ use Rattle.rules.specs.Calls.{Call}
 use Rattle.rules.specs.Book.{after, answerOf}
 use Rattle.words.specs.Bytes.{wordsIn}
 use Rattle.blocks.specs.Kinds.{blockSize, callOf}
-use Rattle.month.specs.Represents.{monthOf}
-use Rattle.month.specs.Words.{monthWords}
 use Rattle.script.specs.declared.Outcome.{Outcome}
 use Rattle.script.specs.declared.Outcome.the-variants as O
 use Rattle.answers.specs.Words.{answerWords}
+-- "the words of a month": `fresh` wrote them, or a call
+pub use Rattle.in_place.specs.Events.{wordsAfter, HoldsMonth}
 use Rattle.live.specs.declared.Called.{Called}
 use Rattle.live.specs.declared.Called.the-variants.{Done, WordsShort, HintsShort, AnswerShort, NoCall}
 
@@ -26,15 +26,6 @@ unfoldable pub isCall : List ℕ → Bool
 isCall bytes =
     let size = blockSize (wordsIn bytes) in
     (not (eqb size 0) && eqb size (length (wordsIn bytes))) && eqb (length bytes % 4) 0
-
--- the month after some calls, as words
-abbrev pub wordsAfter : List Call → List ℕ
-wordsAfter calls = monthWords (monthOf (after paper calls))
-
--- "the words of a month": `fresh` wrote them, or a call
-pub record HoldsMonth (words : List ℕ) : Type 0 where
-  pub calls : List Call
-  pub is : take 2388 words ≡ wordsAfter calls
 
 -- what became of a call
 abbrev pub calledBy : Bool → Bool → Bool → Bool → Called

@@ -3,16 +3,29 @@
 ghost use mathlib.Core.Path.{_≡_};
 ghost use mathlib.Core.List.{[], _++_};
 ghost use mathlib.Core.Bool.{true};
-ghost use Prim.Native.Nat.{_≤_};
+ghost use Prim.Native.Nat.{_+_, _*_, _≤_, _<_};
 ghost use lib.Dec.{leb};
-ghost use lib.ListN.{length, drop};
+ghost use lib.ListN.{length, drop, getD};
+ghost use Rattle.rules.specs.declared.Event.{Event};
 ghost use Rattle.rules.specs.Lists.{if_then_else_};
 ghost use Rattle.rules.specs.Terms.{paper};
+ghost use Rattle.rules.specs.Calls.{Look};
 ghost use Rattle.rules.specs.Book.{after};
 ghost use Rattle.month.specs.Represents.{monthOf};
 ghost use Rattle.month.specs.Words.{monthWords};
-ghost use Rattle.live.specs.Calling.{isCall, wordsShown, HoldsMonth, Calling, Performs};
+ghost use Rattle.record.specs.Fields.{fieldsFor};
+ghost use Rattle.words.specs.Bytes.{wordsIn};
+ghost use Rattle.blocks.specs.Kinds.{stepsAt};
+ghost use Rattle.in_place.specs.Events.{HoldsMonth, SaysEvent};
+ghost use Rattle.live.specs.Calling.{isCall, wordsShown, Calling, Performs};
+ghost use Rattle.live.specs.Internal.{amendIn, cancelIn, dealIn, tickIn, SaysAdd, SaysBlock, SendsShown, ShowsWords};
+use blocks::Decoded;
 use month::Month;
+use record::Fields;
+use rules::Contracts;
+use rules::Looked;
+use rules::Millis;
+use rules::Steps;
 use script::Outcome;
 use script::Shown;
 
@@ -81,6 +94,178 @@ fn perform(words: &mut [u32], bytes: &[u8], answer: &mut [u32])
     put_answer(shown, &mut answer[0..20]);
 }
 
+// ---- an event
+
+// A word of a block that is long enough for it.
+fn word(bytes: &[u8], i: usize) -> u32
+    requires { ⌜ 4 * i + 4 ≤ length (now bytes) ⌝ }
+    ensures { λ r. ⌜ r ≡ getD (wordsIn (now (bytes .entry))) i 0 ⌝ }
+{
+    words::word_at(bytes, 4 * i)
+}
+
+fn steps(bytes: &[u8], i: usize) -> Steps
+    requires { ⌜ 4 * i + 4 ≤ length (now bytes) ⌝ }
+    ensures { λ r. ⌜ r ≡ stepsAt (wordsIn (now (bytes .entry))) i ⌝ }
+{
+    words::to_steps(word(bytes, i))
+}
+
+// Fields that say no event.
+fn no_event() -> Fields
+    ensures { λ r. ⌜ r .kind ≡ 0 ⌝ }
+{
+    Fields {
+        kind: 0,
+        t: Millis(0),
+        id: 0,
+        price: Steps(0),
+        volume: Contracts(0),
+    }
+}
+
+// An add's fields; another side than buy or sell is no event.
+fn add_in(bytes: &[u8]) -> Fields
+    requires { ⌜ length (now bytes) ≡ 24 ⌝ }
+    ensures { λ r. ⌜ (0 < r .kind → SaysAdd (wordsIn (now (bytes .entry))) r) ⌝ }
+{
+    let side = word(bytes, 3);
+    if (side == 1) | (side == 2) {
+        return Fields {
+            kind: side,
+            t: Millis(word(bytes, 1)),
+            id: word(bytes, 2),
+            price: steps(bytes, 4),
+            volume: Contracts(word(bytes, 5)),
+        };
+    }
+    no_event()
+}
+
+fn amend_in(bytes: &[u8]) -> Fields
+    requires { ⌜ length (now bytes) ≡ 20 ⌝ }
+    ensures { λ r. ⌜ r ≡ fieldsFor (amendIn (wordsIn (now (bytes .entry)))) ⌝ }
+{
+    Fields {
+        kind: 3,
+        t: Millis(word(bytes, 1)),
+        id: word(bytes, 2),
+        price: steps(bytes, 3),
+        volume: Contracts(word(bytes, 4)),
+    }
+}
+
+fn cancel_in(bytes: &[u8]) -> Fields
+    requires { ⌜ length (now bytes) ≡ 12 ⌝ }
+    ensures { λ r. ⌜ r ≡ fieldsFor (cancelIn (wordsIn (now (bytes .entry)))) ⌝ }
+{
+    Fields {
+        kind: 4,
+        t: Millis(word(bytes, 1)),
+        id: word(bytes, 2),
+        price: Steps(0),
+        volume: Contracts(0),
+    }
+}
+
+fn deal_in(bytes: &[u8]) -> Fields
+    requires { ⌜ length (now bytes) ≡ 16 ⌝ }
+    ensures { λ r. ⌜ r ≡ fieldsFor (dealIn (wordsIn (now (bytes .entry)))) ⌝ }
+{
+    Fields {
+        kind: 5,
+        t: Millis(word(bytes, 1)),
+        id: word(bytes, 2),
+        price: Steps(0),
+        volume: Contracts(word(bytes, 3)),
+    }
+}
+
+fn tick_in(bytes: &[u8]) -> Fields
+    requires { ⌜ length (now bytes) ≡ 8 ⌝ }
+    ensures { λ r. ⌜ r ≡ fieldsFor (tickIn (wordsIn (now (bytes .entry)))) ⌝ }
+{
+    Fields {
+        kind: 6,
+        t: Millis(word(bytes, 1)),
+        id: 0,
+        price: Steps(0),
+        volume: Contracts(0),
+    }
+}
+
+// The fields of the event that is all these bytes say; those of none where they say something else, which `perform` looks at.
+fn event_in(bytes: &[u8]) -> Fields
+    ensures { λ r. ⌜ (0 < r .kind → SaysBlock (now (bytes .entry)) r) ⌝ }
+{
+    let n = bytes.len();
+    if n < 8 {
+        return no_event();
+    }
+    let kind = word(bytes, 0);
+    if (kind == 3) & (n == 20) {
+        return amend_in(bytes);
+    }
+    if (kind == 6) & (n == 8) {
+        return tick_in(bytes);
+    }
+    if (kind == 2) & (n == 24) {
+        return add_in(bytes);
+    }
+    if (kind == 4) & (n == 12) {
+        return cancel_in(bytes);
+    }
+    if (kind == 5) & (n == 16) {
+        return deal_in(bytes);
+    }
+    no_event()
+}
+
+// An event, in place.
+fn send(words: &mut [u32], hints: &mut [u8], f: Fields, answer: &mut [u32])
+    requires { ⌜ HoldsMonth (now words) × (2388 ≤ length (now words)) × (length (now hints) ≡ 2048) × SaysEvent f × (length (now answer) ≡ 20) ⌝ }
+    ensures { λ _. ⌜ ((e : Event) → f ≡ fieldsFor e → SendsShown (now (words .entry)) e (now (words .exit)) (now (answer .exit))) ⌝ }
+{
+    let n = in_place::send(words, hints, f);
+    if 0 < n {
+        answers::put_refused(n, answer);
+        return;
+    }
+    answers::put_accepted(answer);
+}
+
+// ---- a call that is no event
+
+// A look, at the cell's words where they stand.
+fn look(words: &[u32], day: u32, expiry: u32, quantum: u32, answer: &mut [u32])
+    requires { ⌜ HoldsMonth (now words) × (2388 ≤ length (now words)) × (length (now answer) ≡ 20) ⌝ }
+    ensures { λ _. ⌜ ShowsWords (now (words .entry)) (Look day expiry quantum) (now (answer .exit)) ⌝ }
+{
+    let looked = in_place::look(words, day, expiry, quantum);
+    match looked {
+        Looked::Found(view) => answers::put_cell(view, answer),
+        Looked::Refused(r) => answers::put_refused(rules::number(r), answer),
+    }
+}
+
+// A look, or by value.
+fn other(words: &mut [u32], bytes: &[u8], answer: &mut [u32])
+    requires { ⌜ HoldsMonth (now words) × (2388 ≤ length (now words)) × (20 ≤ length (now answer)) × (isCall (now bytes) ≡ true) ⌝ }
+    ensures { λ _. ⌜ Performs (now (words .entry)) (now (answer .entry)) (now (bytes .entry)) (now (words .exit)) (now (answer .exit)) ⌝ }
+{
+    let said = blocks::decode(bytes);
+    match said {
+        Decoded::Look {
+            day,
+            expiry,
+            quantum,
+        } => look(words, day, expiry, quantum, &mut answer[0..20]),
+        _ => perform(words, bytes, answer),
+    }
+}
+
+// ---- a call
+
 // One call, on the month whose words these are. The hints only say where an id was last found: they may hold anything, and nothing that
 // is answered or left in the words depends on what they hold, so the contract reads their number alone and says nothing of them after.
 pub fn call(words: &mut [u32], hints: &mut [u8], bytes: &[u8], answer: &mut [u32]) -> Called
@@ -96,9 +281,19 @@ pub fn call(words: &mut [u32], hints: &mut [u8], bytes: &[u8], answer: &mut [u32
     if answer.len() < ANSWER {
         return Called::AnswerShort;
     }
+    let f = event_in(bytes);
+    if 0 < f.kind {
+        send(words, &mut hints[0..2048], f, &mut answer[0..20]);
+        return Called::Done;
+    }
     if !is_call(bytes) {
         return Called::NoCall;
     }
-    perform(words, bytes, answer);
+    // drop and report. A single call of `perform` the compiler would put in place, and its frame of 64 KB into each event's way
+    if bytes.len() == 4 {
+        perform(words, bytes, answer);
+        return Called::Done;
+    }
+    other(words, bytes, answer);
     Called::Done
 }

@@ -44,7 +44,8 @@ ghost use Rattle.quoting.specs.Months.{CallsMonth, AnswersCalls, wordsOu
 ghost use Rattle.quoting.specs.Standings.{countNumber, standingNumber, AnswersStanding};
 ghost use Rattle.makers.specs.Calls.{standing};
 ghost use Rattle.standing.specs.Words.{readable};
-ghost use Rattle.live.specs.Calling.{isCall, wordsAfter, HoldsMonth};
+ghost use Rattle.in_place.specs.Events.{wordsAfter, HoldsMonth};
+ghost use Rattle.live.specs.Calling.{isCall};
 
 // ---- answers
 

@@ -1,10 +1,12 @@
--- Four early returns that change nothing, then the call. Assumes nothing.
+-- Four early returns that change nothing, and the ways to run the call. Assumes nothing.
 use mathlib.Core.Path.{refl, sym, _∙_}
 use lib.Dec.{leb}
 use lib.ListN.{length}
+use lib.Seq.{length-take-le}
 use borrow.Author.Tests.{lt-leb, le-leb, not-true, not-false}
 use Rattle.live.specs.declared.Called.the-variants.{WordsShort, HintsShort, AnswerShort, NoCall}
 use Rattle.live.specs.Calling.{isCall}
+use Rattle.live.proofs.Events.{says-event, event-performs}
 use Rattle.live.proofs.Calling.{unchanged, words-short, hints-short, answer-short, no-call, is-done, words-not-done, hints-not-done, answer-not-done, no-call-not-done}
 use borrow.Author.Needs.{needs}
 use Rattle.live.proofs.call.Statement.{statement}
@@ -28,31 +30,56 @@ returns-3 c =
     unchanged (a .words .now) (length (a .hints .now)) (a .answer .now) (a .bytes .now) AnswerShort answer-not-done
     (answer-short (leb 2388 (length (a .words .now))) (leb 2048 (length (a .hints .now))) (leb 20 (length (a .answer .now))) (isCall (a .bytes .now)) (le-leb _ _ (c .before .before .if1 .left)) (le-leb _ _ (c .before .if2 .left)) (lt-leb _ _ (c .if3 .taken)))
 
-is-call-requires : tie.Need-is-call-requires
-is-call-requires c κs = search needs
+send-requires : tie.Need-send-requires
+send-requires c κs =
+    let s = c .before .before .before .before .before .before .before .before .before .before .before .before .before in
+    let f = c .before .before .before .before .before .event-in in
+    let room = c .before .before .before .before .before .before .before .before .if1 .left in
+    (s .pre room, room, length-take-le 2048 (s .args .hints .now) (c .before .before .before .before .before .before .before .if2 .left), says-event (s .args .bytes .now) (f .result) (f .ensures (c .before .before .before .if4 .taken)), length-take-le 20 (s .args .answer .now) (c .before .before .before .before .before .before .if3 .left))
 
 returns-4 : tie.Need-returns-4
 returns-4 c =
-    let a = c .before .before .before .before .before .before .before .before .before .args in
-    unchanged (a .words .now) (length (a .hints .now)) (a .answer .now) (a .bytes .now) NoCall no-call-not-done
-    (no-call (leb 2388 (length (a .words .now))) (leb 2048 (length (a .hints .now))) (leb 20 (length (a .answer .now))) (isCall (a .bytes .now)) (le-leb _ _ (c .before .before .before .before .if1 .left)) (le-leb _ _ (c .before .before .before .if2 .left)) (le-leb _ _ (c .before .before .if3 .left)) (sym (c .before .is-call .ensures) ∙ not-true _ (c .if4 .taken)))
-
-perform-requires : tie.Need-perform-requires
-perform-requires c κs =
-    (c .before .before .before .before .before .before .before .before .before .before .before .pre (c .before .before .before .before .before .before .if1 .left), c .before .before .before .before .before .before .if1 .left, c .before .before .before .before .if3 .left, sym (c .before .before .before .is-call .ensures) ∙ not-false _ (c .before .before .if4 .left))
-
-same-length : tie.Need-same-length
-same-length c = search needs
-
-same-length-2 : tie.Need-same-length-2
-same-length-2 c = search needs
+    let a = c .before .before .before .before .before .before .before .before .before .before .before .before .before .before .before .before .before .before .before .before .args in
+    let f = c .before .before .before .before .before .before .before .before .before .before .before .before .event-in in
+    let says = f .ensures (c .before .before .before .before .before .before .before .before .before .before .if4 .taken) in
+    let x = c .before .before .before .before .before .before .send in
+    record {
+      called = is-done (leb 2388 (length (a .words .now))) (leb 2048 (length (a .hints .now))) (leb 20 (length (a .answer .now))) (isCall (a .bytes .now)) (le-leb _ _ (c .before .before .before .before .before .before .before .before .before .before .before .before .before .before .before .if1 .left)) (le-leb _ _ (c .before .before .before .before .before .before .before .before .before .before .before .before .before .before .if2 .left)) (le-leb _ _ (c .before .before .before .before .before .before .before .before .before .before .before .before .before .if3 .left)) (says .is-call);
+      done = λ e. event-performs (a .words .now) (a .answer .now) (a .bytes .now) (x .last .0) (x .last .1 .1 .1 .0) (f .result) says (x .ensures (says .event) (says .fields));
+      kept = λ never. absurd (never refl);
+    }
 
 returns-5 : tie.Need-returns-5
 returns-5 c =
-    let a = c .before .before .before .before .before .before .before .before .before .before .before .before .before .before .before .before .args in
+    let a = c .before .before .before .before .before .before .before .before .before .before .before .before .args in
+    unchanged (a .words .now) (length (a .hints .now)) (a .answer .now) (a .bytes .now) NoCall no-call-not-done
+    (no-call (leb 2388 (length (a .words .now))) (leb 2048 (length (a .hints .now))) (leb 20 (length (a .answer .now))) (isCall (a .bytes .now)) (le-leb _ _ (c .before .before .before .before .before .before .before .if1 .left)) (le-leb _ _ (c .before .before .before .before .before .before .if2 .left)) (le-leb _ _ (c .before .before .before .before .before .if3 .left)) (sym (c .before .is-call .ensures) ∙ not-true _ (c .if5 .taken)))
+
+perform-requires : tie.Need-perform-requires
+perform-requires c κs =
+    let room = c .before .before .before .before .before .before .before .before .before .before .if1 .left in
+    (c .before .before .before .before .before .before .before .before .before .before .before .before .before .before .before .pre room, room, c .before .before .before .before .before .before .before .before .if3 .left, sym (c .before .before .before .before .is-call .ensures) ∙ not-false _ (c .before .before .before .if5 .left))
+
+returns-6 : tie.Need-returns-6
+returns-6 c =
+    let a = c .before .before .before .before .before .before .before .before .before .before .before .before .before .before .before .before .before .before .before .before .args in
     record {
-      called = is-done (leb 2388 (length (a .words .now))) (leb 2048 (length (a .hints .now))) (leb 20 (length (a .answer .now))) (isCall (a .bytes .now)) (le-leb _ _ (c .before .before .before .before .before .before .before .before .before .before .before .if1 .left)) (le-leb _ _ (c .before .before .before .before .before .before .before .before .before .before .if2 .left)) (le-leb _ _ (c .before .before .before .before .before .before .before .before .before .if3 .left)) (sym (c .before .before .before .before .before .before .before .before .is-call .ensures) ∙ not-false _ (c .before .before .before .before .before .before .before .if4 .left));
+      called = is-done (leb 2388 (length (a .words .now))) (leb 2048 (length (a .hints .now))) (leb 20 (length (a .answer .now))) (isCall (a .bytes .now)) (le-leb _ _ (c .before .before .before .before .before .before .before .before .before .before .before .before .before .before .before .if1 .left)) (le-leb _ _ (c .before .before .before .before .before .before .before .before .before .before .before .before .before .before .if2 .left)) (le-leb _ _ (c .before .before .before .before .before .before .before .before .before .before .before .before .before .if3 .left)) (sym (c .before .before .before .before .before .before .before .before .before .is-call .ensures) ∙ not-false _ (c .before .before .before .before .before .before .before .before .if5 .left));
       done = λ e. c .before .before .before .before .perform .ensures;
+      kept = λ never. absurd (never refl);
+    }
+
+other-requires : tie.Need-other-requires
+other-requires c κs =
+    let room = c .before .before .before .before .before .before .before .before .before .before .if1 .left in
+    (c .before .before .before .before .before .before .before .before .before .before .before .before .before .before .before .pre room, room, c .before .before .before .before .before .before .before .before .if3 .left, sym (c .before .before .before .before .is-call .ensures) ∙ not-false _ (c .before .before .before .if5 .left))
+
+returns-7 : tie.Need-returns-7
+returns-7 c =
+    let a = c .before .before .before .before .before .before .before .before .before .before .before .before .before .before .before .before .before .before .before .before .args in
+    record {
+      called = is-done (leb 2388 (length (a .words .now))) (leb 2048 (length (a .hints .now))) (leb 20 (length (a .answer .now))) (isCall (a .bytes .now)) (le-leb _ _ (c .before .before .before .before .before .before .before .before .before .before .before .before .before .before .before .if1 .left)) (le-leb _ _ (c .before .before .before .before .before .before .before .before .before .before .before .before .before .before .if2 .left)) (le-leb _ _ (c .before .before .before .before .before .before .before .before .before .before .before .before .before .if3 .left)) (sym (c .before .before .before .before .before .before .before .before .before .is-call .ensures) ∙ not-false _ (c .before .before .before .before .before .before .before .before .if5 .left));
+      done = λ e. c .before .before .before .before .other .ensures;
       kept = λ never. absurd (never refl);
     }
 
@@ -63,9 +90,25 @@ call-spec =
     returns
     returns-2
     returns-3
-    is-call-requires
+    (λ c κs. search needs)
+    (λ c. search needs)
+    (λ c. search needs)
+    (λ c. search needs)
+    (λ c. search needs)
+    (λ c. search needs)
+    (λ c. search needs)
+    send-requires
+    (λ c. search needs)
+    (λ c. search needs)
+    (λ c. search needs)
     returns-4
+    (λ c κs. search needs)
+    returns-5
     perform-requires
-    same-length
-    same-length-2
-    returns-5)
+    (λ c. search needs)
+    (λ c. search needs)
+    returns-6
+    other-requires
+    (λ c. search needs)
+    (λ c. search needs)
+    returns-7)

@@ -1,0 +1,5 @@
+-- What an event does to the words of a quantum, and to those of a month.
+pub mod Quanta
+pub mod Months
+-- What is shown of them.
+pub mod Looks

@@ -1,0 +1,61 @@
+-- The words of an open quantum and of a month, and what an event promises of them, in place.
+use Prim.Native.Nat.{ℕ}
+use mathlib.Core.Path.{_≡_}
+use mathlib.Core.List.{List, [], _∷_, _++_}
+use lib.ListN.{take, drop}
+use Rattle.rules.specs.declared.Row.{Row}
+use Rattle.rules.specs.declared.SpreadRule.{SpreadRule}
+use Rattle.rules.specs.declared.Event.{Event}
+use Rattle.rules.specs.Terms.{paper}
+use Rattle.rules.specs.Answers.{Outcome, Reply, outcomeBy, done}
+use Rattle.rules.specs.Calls.{Call, Send}
+use Rattle.rules.specs.Causes.{eventRefusal}
+use Rattle.rules.specs.Book.{after, answerOf}
+use Rattle.rules.specs.Bounds.{EventBounds}
+use Rattle.record.specs.declared.Fields.{Fields}
+use Rattle.record.specs.Fields.{fieldsFor}
+use Rattle.quantum.specs.declared.Quantum.{Quantum}
+use Rattle.quantum.specs.Represents.{quantumOf, taken, Reached}
+use Rattle.quantum.specs.Words.{quantumWords}
+use Rattle.month.specs.Represents.{monthOf}
+use Rattle.month.specs.Words.{monthWords}
+
+-- the month after some calls, as words
+abbrev pub wordsAfter : List Call → List ℕ
+wordsAfter calls = monthWords (monthOf (after paper calls))
+
+-- "the words of a month": a fresh one's, or those that a call left
+pub record HoldsMonth (words : List ℕ) : Type 0 where
+  pub calls : List Call
+  pub is : take 2388 words ≡ wordsAfter calls
+
+-- the words of a quantum that a call handed back
+pub record HoldsQuantum (words : List ℕ) : Type 0 where
+  pub quantum : Quantum
+  pub reached : Reached quantum
+  pub is : words ≡ quantumWords quantum
+
+-- fields that say an event
+pub record SaysEvent (f : Fields) : Type 0 where
+  pub event : Event
+  pub is : f ≡ fieldsFor event
+
+-- What an event promises of a quantum's words: for all accepted events that led to them, the book's number, and the words with this
+-- event taken or refused.
+pub record StepsWords (words : List ℕ) (e : Event) (words′ : List ℕ) (n : ℕ) : Type 0 where
+  pub number : (row : Row) (sp : SpreadRule) (events : List Event) → EventBounds row events → words ≡ quantumWords (quantumOf row sp events)
+      → n ≡ eventRefusal row events e
+  pub words-after : (row : Row) (sp : SpreadRule) (events : List Event) → EventBounds row events → words ≡ quantumWords (quantumOf row sp events)
+      → words′ ≡ quantumWords (quantumOf row sp (taken (eventRefusal row events e) events e))
+
+-- What an event promises of a month's words: for every list of calls whose month they are, the words of the longer list, with what stands
+-- behind them kept, and the number by which the plain book refuses it, or 0.
+pub record Sends (words : List ℕ) (e : Event) (words′ : List ℕ) (n : ℕ) : Type 0 where
+  pub month : (calls : List Call) → take 2388 words ≡ wordsAfter calls → words′ ≡ wordsAfter (calls ++ (Send e ∷ [])) ++ drop 2388 words
+  pub answer : (calls : List Call) → take 2388 words ≡ wordsAfter calls → outcomeBy n done ≡ answerOf paper (after paper calls) (Send e)
+
+-- What a call that changes nothing promises of a month's words: for every list of calls whose month they are, they are the words of the
+-- longer list too, and what it shows is the plain book's answer.
+pub record Shows (words : List ℕ) (c : Call) (shown : Outcome Reply) : Type 0 where
+  pub month : (calls : List Call) → take 2388 words ≡ wordsAfter calls → words ≡ wordsAfter (calls ++ (c ∷ [])) ++ drop 2388 words
+  pub answer : (calls : List Call) → take 2388 words ≡ wordsAfter calls → shown ≡ answerOf paper (after paper calls) c

@@ -1,0 +1,2 @@
+-- What a call on a month's words, in place, promises.
+pub mod Events

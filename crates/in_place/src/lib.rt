@@ -1,0 +1,94 @@
+// Calls on a month's words in place (month/specs/Words has their layout): an event changes the words of the open quantum and of the
+// count, a look reads the ten words of its cell, and an ask tries its amendment on a copy of the quantum's words. No cell is copied.
+ghost use mathlib.Core.Path.{_≡_};
+ghost use mathlib.Core.Bool.{true};
+ghost use mathlib.Core.List.{List, [], _∷_};
+ghost use Prim.Native.Nat.{_+_, _*_, _≤_};
+ghost use lib.ListN.{length, getD};
+ghost use Rattle.rules.specs.declared.Event.{Event};
+ghost use Rattle.rules.specs.declared.Cell.{Cell};
+ghost use Rattle.rules.specs.Cells.{goodCell, placeOf, cellAt};
+ghost use Rattle.rules.specs.Answers.{shownLooked};
+ghost use Rattle.rules.specs.Calls.{Look};
+ghost use Rattle.rules.specs.Changes.{following};
+ghost use Rattle.lent.specs.Words.{low, high, cellsWords};
+ghost use Rattle.record.specs.Fields.{fieldsFor};
+ghost use Rattle.in_place.specs.Events.{HoldsQuantum, HoldsMonth, SaysEvent, StepsWords, Sends, Shows};
+use record::Fields;
+use rules::Cell;
+use rules::Looked;
+use rules::Refusal;
+
+// An event, by its fields, on the 522 words of an open quantum: the clock's are put back, whether it is taken or not. Answers the
+// refusal's number, or 0.
+fn step(words: &mut [u32], hints: &mut [u8], f: Fields) -> u32
+    requires { ⌜ HoldsQuantum (now words) × (length (now words) ≡ 522) × (length (now hints) ≡ 2048) × SaysEvent f ⌝ }
+    ensures { λ r. ⌜ ((e : Event) → f ≡ fieldsFor e → StepsWords (now (words .entry)) e (now (words .exit)) r) ⌝ }
+{
+    let duty = quantum::duty_in(&words[0..3]);
+    let clock = quantum::clock_in(&words[3..8]);
+    let stepped = quantum::step_fields(duty, clock, &mut words[10..522], hints, f);
+    let after = stepped.clock;
+    let refusal = stepped.refusal;
+    quantum::put_clock(after, &mut words[3..8]);
+    refusal
+}
+
+// One more accepted call, in the count's two words.
+fn count_on(words: &mut [u32])
+    requires { ⌜ length (now words) ≡ 2 ⌝ }
+    ensures { λ _. ⌜ now (words .exit) ≡ low (following (getD (now (words .entry)) 0 0 + 4294967296 * getD (now (words .entry)) 1 0)) ∷ high (following (getD (now (words .entry)) 0 0 + 4294967296 * getD (now (words .entry)) 1 0)) ∷ [] ⌝ }
+{
+    let count = ticket::next(lent::wide(words[0], words[1]));
+    words[0] = lent::low(count);
+    words[1] = lent::high(count);
+}
+
+// An event, by its fields, on the words of a month: the refusal's number, or 0.
+pub fn send(words: &mut [u32], hints: &mut [u8], f: Fields) -> u32
+    requires { ⌜ HoldsMonth (now words) × (2388 ≤ length (now words)) × (length (now hints) ≡ 2048) × SaysEvent f ⌝ }
+    ensures { λ r. ⌜ ((e : Event) → f ≡ fieldsFor e → Sends (now (words .entry)) e (now (words .exit)) r) ⌝ }
+{
+    if words[0] == 0 {
+        return 7;
+    }
+    let n = step(&mut words[6..528], hints, f);
+    if 0 < n {
+        return n;
+    }
+    count_on(&mut words[4..6]);
+    0
+}
+
+// Where the words of a named cell start, among those of the cells.
+fn cell_start(day: u32, expiry: u32, quantum: u32) -> usize
+    requires { ⌜ goodCell day expiry quantum ≡ true ⌝ }
+    ensures { λ r. ⌜ r ≡ 10 * placeOf day expiry quantum ⌝ }
+{
+    10 * (((day - 1) * 6 + ((expiry - 1) * 3 + quantum)) as usize)
+}
+
+// The named cell, from the words of the cells.
+fn cell_named(words: &[u32], day: u32, expiry: u32, quantum: u32) -> Cell
+    requires { ⌜ (length (now words) ≡ 1860) × (goodCell day expiry quantum ≡ true) ⌝ }
+    ensures { λ r. ⌜ ((cells : List Cell) → now (words .entry) ≡ cellsWords cells → r ≡ cellAt cells (placeOf day expiry quantum)) ⌝ }
+{
+    let from = cell_start(day, expiry, quantum);
+    let to = from + 10;
+    lent::cell_in(&words[from..to])
+}
+
+// A look: the cell with verdict and weight. The words are as they were.
+pub fn look(words: &[u32], day: u32, expiry: u32, quantum: u32) -> Looked
+    requires { ⌜ HoldsMonth (now words) × (2388 ≤ length (now words)) ⌝ }
+    ensures { λ r. ⌜ Shows (now (words .entry)) (Look day expiry quantum) (shownLooked r) ⌝ }
+{
+    if !ranges::cell(day, expiry, quantum) {
+        return Looked::Refused(Refusal::ArgumentOutOfRange);
+    }
+    let cell = cell_named(&words[528..2388], day, expiry, quantum);
+    if cell.filled {
+        return Looked::Found(pay::view(cell));
+    }
+    Looked::Refused(Refusal::CellBlank)
+}

@@ -1,0 +1,17 @@
+-- A look, or what `perform` promises. Assumes nothing.
+use mathlib.Core.Path.{sym, ap, _∙_}
+use Rattle.words.specs.Bytes.{wordsIn}
+use Rattle.blocks.specs.Decoded.{callWith}
+use Rattle.live.proofs.Events.{shows-performs}
+use borrow.Author.Needs.{needs}
+use Rattle.live.proofs.other.Statement.{statement}
+use Rattle.live.proofs.other.Tie as tie
+
+returns : tie.Need-returns
+returns c =
+    let a = c .before .before .before .before .before .before .before .before .before .before .before .before .args in
+    shows-performs (a .words .now) (a .answer .now) (a .bytes .now) (c .before .before .look .last .1 .1 .1 .1 .0) _
+    (sym (ap (callWith (wordsIn (a .bytes .now))) (c .before .before .before .before .before .before .said .given .1)) ∙ c .before .before .before .before .before .before .before .before .decode .ensures) (c .before .before .look .ensures)
+
+pub other-spec : {M : Type 1} → statement M
+other-spec = tie.close (tie.spec (λ c κs. search needs) (λ c. search needs) (λ c. search needs) (λ c. search needs) (λ c. search needs) (λ c κs. search needs) (λ c κs. search needs) (λ c. search needs) (λ c. search needs) returns (λ c. search needs) (λ c. search needs) (λ c. search needs))
