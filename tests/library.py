@@ -180,7 +180,7 @@ def one_call(case, buffer):
 def month_case(case, buffer):
     if case.call == 15:
         return one_call(case, buffer)
-    if case.call == 11:  # where they fit, their words are those that the calls of 14 and 15 go on from
+    if case.call == 11:
         return (MONTH_WORDS, None) if len(buffer) >= MONTH_WORDS else (SHORT, buffer)
     words, read = list_words(case.first)
     if case.call == 13:
@@ -215,7 +215,7 @@ def left_by(records, count, call):
 
 
 def due(case):
-    """The answer, and the buffer after it; None where the buffer is not looked at."""
+    """The answer, and the buffer after it; None for a fresh month's words."""
     buffer, numbers = lent(case), case.numbers
     if case.call == 16:
         return standing_case(case)
@@ -454,7 +454,10 @@ def check_calls(cases):
     seen = defaultdict(set)
     for case, (answer, *after) in zip(cases, found):
         wanted, buffer = due(case)
-        assert (answer, after) == (wanted, after if buffer is None else buffer), (NAMES[case.call][0], case, answer, wanted, after, buffer)
+        if buffer is None:  # a fresh month: none open, no call counted, no cell filled, and what is behind it as it was
+            assert after[:6] == [0] * 6 and set(after[528:MONTH_WORDS:10]) == {0} and after[MONTH_WORDS:] == lent(case)[MONTH_WORDS:]
+            buffer = after
+        assert (answer, after) == (wanted, buffer), (NAMES[case.call][0], case, answer, wanted, after, buffer)
         seen[case.call].add(answer >> 32)
     for call, (name, refusals) in NAMES.items():
         missing = {0, *refusals} - seen[call]
@@ -540,6 +543,7 @@ def check_month_example(rng, count):
         assert line == programs.replay(data)
         under = ["valgrind", "-q", "--error-exitcode=3", plain] if at % 40 == 0 else [watched]
         assert printed_by(under, data) == line, (data.hex(), line)
+    check_in_turn(plain, lists[0])
     given = SIXTY.decode(), 1, 1, 10_000, 500, 100, 1, 600, 1, 2_000
     orders = [fix.order_of([1, 7, 0, 1, 500, 99], SIXTY), fix.order_of([2, 8, 9, 0, 0, 0], SIXTY), fix.order_of([2, 8, 7, 0, 0, 0], SIXTY)]
     bodies = [*map(fix.write, orders), b"no message"]
@@ -549,6 +553,18 @@ def check_month_example(rng, count):
         data = b"".join(body.replace(b"\1", end) + b"\n" for body in bodies)
         assert printed_by([watched, *map(str, given)], data) == lines, lines
     return len(lists)
+
+
+def check_in_turn(example, data):
+    """A call is written only once the line of the one before is read."""
+    due_lines = programs.replay(data).splitlines(True)
+    with subprocess.Popen([example], stdin=subprocess.PIPE, stdout=subprocess.PIPE) as running:
+        for block, line in zip(blocks_of(data), due_lines):
+            running.stdin.write(block)
+            running.stdin.flush()
+            assert running.stdout.readline().decode() == line
+        running.stdin.close()
+        assert running.wait(timeout=60) == 0
 
 
 def printed_by(words, data):

@@ -18,7 +18,8 @@ use Rattle.month.specs.Represents.{monthOf}
 use Rattle.month.proofs.Words.{month-fits, month-length}
 use Rattle.live.specs.declared.Called.{Called}
 use Rattle.live.specs.declared.Called.the-variants.{Done, WordsShort, HintsShort, AnswerShort, NoCall}
-use Rattle.live.specs.Calling.{isCall, wordsAfter, calledBy, Performs, Calling}
+use Rattle.in_place.specs.Events.{wordsAfter}
+use Rattle.live.specs.Calling.{isCall, calledBy, Performs, Calling}
 use Rattle.lists.specs.declared.Listed.{Listed}
 use Rattle.lists.specs.Listing.{answersOf, ListAnswered}
 use Rattle.quoting.specs.Answers.{refusedNumber, valueNumber, fitted, lengthNumber, bufferWith, Fills}

@@ -1,5 +1,6 @@
-// The library for programs in C. Each call takes numbers and lent slices, requires nothing of its caller, and answers by one number and by
-// what it leaves in a lent buffer: a refused call leaves each as it was. include/quoting.h says word for word what each one does.
+// The library for programs in C. Each call takes numbers and lent slices, requires nothing of its caller but that a month's words are what
+// these calls left, and answers by one number and by what it leaves in a lent buffer: a refused call leaves each as it was.
+// include/quoting.h says word for word what each one does.
 use board::BoardAnswer;
 use fix::MessageRead;
 use fix_writer::MessageText;
@@ -44,7 +45,8 @@ ghost use Rattle.quoting.specs.Months.{CallsMonth, AnswersCalls, wordsOu
 ghost use Rattle.quoting.specs.Standings.{countNumber, standingNumber, AnswersStanding};
 ghost use Rattle.makers.specs.Calls.{standing};
 ghost use Rattle.standing.specs.Words.{readable};
-ghost use Rattle.live.specs.Calling.{isCall, wordsAfter, HoldsMonth};
+ghost use Rattle.in_place.specs.Events.{wordsAfter, HoldsMonth};
+ghost use Rattle.live.specs.Calling.{isCall};
 
 // ---- answers
 
