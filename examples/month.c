@@ -70,6 +70,27 @@ static void print_report(const uint32_t *a) {
     printf(" fee %" PRIu64 "\n", wide(a + 17));
 }
 
+static void print_possible(const char *name, const uint32_t *words) {
+    if (words[0] == 0) {
+        printf(" %s never", name);
+    } else {
+        printf(" %s %" PRIu32, name, words[1]);
+    }
+}
+
+static void print_outlook(const uint32_t *a) {
+    printf("outlook need %" PRIu32 " left %" PRIu32, a[2], a[3]);
+    print_possible("by", a + 4);
+    print_possible("full", a + 6);
+    if (a[8] == 2) {
+        printf(" lapses %" PRIu32, a[9]);
+    } else {
+        printf(" lapses %s", a[8] == 0 ? "none" : "over");
+    }
+    printf(" rest %s lost %s", a[10] ? "yes" : "no", a[11] ? "yes" : "no");
+    printf(" weight %" PRIu32 " %" PRIu32 "\n", a[12], a[13]);
+}
+
 /* One call, of so many bytes of the block. False where they are none. */
 static int run_call(size_t bytes) {
     uint32_t a[QUOTING_ANSWER_WORDS];
@@ -84,6 +105,7 @@ static int run_call(size_t bytes) {
     case QUOTING_ANSWER_CELL: print_cell(a); break;
     case QUOTING_ANSWER_ASKED: print_asked(a); break;
     case QUOTING_ANSWER_REPORT: print_report(a); break;
+    case QUOTING_ANSWER_OUTLOOK: print_outlook(a); break;
     default: return 0;
     }
     fflush(stdout);

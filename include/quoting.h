@@ -78,7 +78,8 @@ enum quoting_answer {
     QUOTING_ANSWER_REFUSED = 1,
     QUOTING_ANSWER_CELL = 2,
     QUOTING_ANSWER_ASKED = 3,
-    QUOTING_ANSWER_REPORT = 4
+    QUOTING_ANSWER_REPORT = 4,
+    QUOTING_ANSWER_OUTLOOK = 5
 };
 
 /* The refusal of an answer, 0 where the call was accepted. */
@@ -248,7 +249,7 @@ uint64_t quoting_month_fresh(uint32_t *words, size_t words_length);
  *          call and later, and change nothing that is answered or left in the words; kept from call to call they save time. They are the
  *          only bytes of which is not said what the call leaves in them.
  * call     one block of a list of calls (docs/FORMATS.md, "A list of calls"), and nothing more: words of four bytes, low byte first, of
- *          which the first is the kind (1 open, 2 add, 3 amend, 4 cancel, 5 deal, 6 tick, 7 close ..). call_length is the number of bytes.
+ *          which the first is the kind (1 open, 2 add, 3 amend, 4 cancel, 5 deal, 6 tick, 7 close .. 17 outlook). call_length is the number of bytes.
  * answer   answer_length words, of which QUOTING_ANSWER_WORDS are written; those that the kind doesn't take are 0:
  *             0  kind, of enum quoting_answer     1  the refusal's number, of a refused call
  *          a cell (of a look), from word 2 on: filled, K, L, p, lapse limit (65535 for none), lapses, active charge (low word, high word),
@@ -257,6 +258,10 @@ uint64_t quoting_month_fresh(uint32_t *words, size_t words_length);
  *             id, price and volume, 10 and 11 its count (low, high)
  *          a report: 2 whether a quantum is open, 3 time, 4 live orders, 5 and 6 the best bid, 7 and 8 the best ask, 9 kept milliseconds,
  *             10 lapses, 11 to 16 the failed quanta of each series, 17 and 18 the fee (low, high)
+ *          an outlook: 2 milliseconds that must still be kept, 3 those that are left; 4 and 5 the latest time until which nothing need be
+ *             kept (whether there is one, the time), 6 and 7 milliseconds that must still be kept for the full weight (whether that can
+ *             be, how many); 8 and 9 lapses left (0 no limit, 1 over it, 2 and how many); 10 whether it is met if nothing more is kept;
+ *             11 whether it is failed whatever comes; 12 and 13 the weight if nothing more is kept, and if all that is left is
  *
  * Answers the number of words written, QUOTING_ANSWER_WORDS. Refused, with nothing changed, by
  *    3  the bytes are not one block of a call: of another kind, cut short, with an add's side other than 1 or 2, or with more behind it

@@ -482,7 +482,7 @@ def check_header():
     assert shown == declared, f"shown and not declared, or the other way round: {shown ^ declared}"
     dynamic = subprocess.run(["readelf", "-d", BUILT / "libquoting.so"], capture_output=True, text=True, check=True).stdout
     assert f"[libquoting.so.{version.split('.')[0]}]" in dynamic, "the soname is wrong"
-    for name, count in (("refusal", 27), ("answer", 5)):
+    for name, count in (("refusal", 27), ("answer", 6)):
         [enum] = re.findall(rf"^enum quoting_{name} {{(.*?)}}", header, re.M | re.S)
         assert re.findall(r" = (\d+)", enum) == [str(n) for n in range(count)], f"the numbers of enum quoting_{name}"
     for name, number in (("MONTH_WORDS", MONTH_WORDS), ("HINT_BYTES", HINT_BYTES), ("ANSWER_WORDS", ANSWER_WORDS)):
