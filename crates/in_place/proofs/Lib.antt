@@ -3,3 +3,4 @@ pub mod Quanta
 pub mod Months
 -- What is shown of them.
 pub mod Looks
+pub mod Asks
