@@ -4,3 +4,4 @@ pub mod Whole
 pub mod Months
 -- What is shown of them.
 pub mod Looks
+pub mod Asks

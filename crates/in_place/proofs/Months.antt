@@ -21,7 +21,7 @@ use Rattle.quantum.specs.declared.Quantum.{Quantum}
 use Rattle.quantum.specs.declared.Sent.{Sent}
 use Rattle.quantum.specs.Represents as S
 use Rattle.quantum.specs.Represents.{quantumOf, taken}
-use Rattle.quantum.specs.Words.{quantumWords}
+use Rattle.quantum.specs.Words.{quantumWords, Sized}
 use Rattle.quantum.proofs.Words.{quantum-length, of-sized, taken-bounds, quantum-back}
 use Rattle.month.specs.declared.Month.{Month}
 use Rattle.month.specs.Represents.{monthOf, Answered}
@@ -84,16 +84,19 @@ module _ (ws : List ℕ) (calls : List Call) (is : take 2464 ws ≡ wordsAfter c
     part-is : (b : Book) (p : Opened month b) → take 598 (drop 6 ws) ≡ quantumWords (quantumOf (p .row) (p .opening .spread) (p .events))
     part-is b p = quantum-in ws month fits is ∙ ap quantumWords (p .quantum)
 
-    number-is : (b : Book) (p : Opened month b) → n ≡ eventRefusal (p .row) (p .events) e
+    pub number-is : (b : Book) (p : Opened month b) → n ≡ eventRefusal (p .row) (p .events) e
     number-is b p = s .number (p .row) (p .opening .spread) (p .events) (p .bounds .events-good) (part-is b p)
 
-    o : Opened month book
+    pub o : Opened month book
     o = opened month book (bounds paper calls) refl on
 
-    abbrev next : Quantum
+    abbrev pub next : Quantum
     next = quantumOf (o .row) (o .opening .spread) (taken n (o .events) e)
 
-    quantum-is : quantum ≡ quantumWords next
+    pub next-sized : Sized next
+    next-sized = of-sized (o .row) (o .opening .spread) (taken n (o .events) e) (taken-bounds (o .row) (o .events) e n (o .bounds .events-good) (sym (number-is book o)))
+
+    pub quantum-is : quantum ≡ quantumWords next
     quantum-is =
         s .words-after (o .row) (o .opening .spread) (o .events) (o .bounds .events-good) (part-is book o)
         ∙ ap (λ (k : ℕ). quantumWords (quantumOf (o .row) (o .opening .spread) (taken k (o .events) e))) (sym (number-is book o))
@@ -123,14 +126,14 @@ module _ (ws : List ℕ) (calls : List Call) (is : take 2464 ws ≡ wordsAfter c
     -- ---- accepted
 
     module _ (z : n ≡ 0) where
-      abbrev sent : Sent
+      abbrev pub sent : Sent
       sent = record { quantum = next; answer = Accepted }
 
-      went-on : S.Answered (month .quantum) e sent
+      pub went-on : S.Answered (month .quantum) e sent
       went-on =
           record {
             quantum = λ row sp es g i.
-                quantum-back _ _ (of-sized (o .row) (o .opening .spread) (taken n (o .events) e) (taken-bounds (o .row) (o .events) e n (o .bounds .events-good) (sym (number-is book o))))
+                quantum-back _ _ next-sized
                 (of-sized row sp (taken (eventRefusal row es e) es e) (taken-bounds row es e (eventRefusal row es e) g refl))
                 (sym quantum-is ∙ s .words-after row sp es g (quantum-in ws month fits is ∙ ap quantumWords i));
             answer = λ row sp es g i. ap (λ (x : ℕ). outcomeBy x done) (sym z ∙ s .number row sp es g (quantum-in ws month fits is ∙ ap quantumWords i));

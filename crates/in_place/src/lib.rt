@@ -8,16 +8,24 @@ ghost use lib.ListN.{length, getD};
 ghost use Rattle.rules.specs.declared.Event.{Event};
 ghost use Rattle.rules.specs.declared.Cell.{Cell};
 ghost use Rattle.rules.specs.Cells.{goodCell, placeOf, cellAt};
-ghost use Rattle.rules.specs.Answers.{shownLooked};
-ghost use Rattle.rules.specs.Calls.{Look};
+ghost use Rattle.rules.specs.Answers.{shownLooked, shownAsked};
+ghost use Rattle.rules.specs.Calls.{Look, Ask, amendOf};
 ghost use Rattle.rules.specs.Changes.{following};
 ghost use Rattle.lent.specs.Words.{low, high, cellsWords};
 ghost use Rattle.record.specs.Fields.{fieldsFor};
+ghost use Rattle.quantum.specs.declared.Quantum.{Quantum};
+ghost use Rattle.quantum.specs.Words.{quantumWords, Sized};
+ghost use Rattle.month.specs.Internal.{Previewed};
 ghost use Rattle.in_place.specs.Events.{HoldsFront, HoldsQuantum, HoldsMonth, SaysEvent, StepsFront, StepsWords, Sends, Shows};
 use record::Fields;
+use rules::Amendment;
+use rules::Asked;
 use rules::Cell;
 use rules::Looked;
+use rules::Preview;
 use rules::Refusal;
+use rules::Side;
+use rules::Ticket;
 
 // An event, by its fields, on the 522 words of an open quantum that stand before its notes: the clock's are put back, whether it is taken
 // or not. Answers the refusal's number, or 0.
@@ -106,4 +114,55 @@ pub fn look(words: &[u32], day: u32, expiry: u32, quantum: u32) -> Looked
         return Looked::Found(pay::view(cell));
     }
     Looked::Refused(Refusal::CellBlank)
+}
+
+// The amendment as an event's fields.
+fn amend_fields(a: Amendment) -> Fields
+    ensures { λ r. ⌜ r ≡ fieldsFor (amendOf a) ⌝ }
+{
+    let t = a.t;
+    let price = a.price;
+    let volume = a.volume;
+    Fields {
+        kind: 3,
+        t,
+        id: a.id,
+        price,
+        volume,
+    }
+}
+
+// What an accepted ask shows: the best quotes in a quantum's words, and the ticket.
+fn preview(words: &[u32], a: Amendment, count: u64) -> Preview
+    requires { ⌜ HoldsQuantum (now words) × (length (now words) ≡ 598) ⌝ }
+    ensures { λ r. ⌜ ((q : Quantum) → Sized q → now (words .entry) ≡ quantumWords q → Previewed q a count r) ⌝ }
+{
+    let bid = book::best(&words[10..522], Side::Buy);
+    let ask = book::best(&words[10..522], Side::Sell);
+    Preview {
+        bid,
+        ask,
+        ticket: Ticket {
+            amendment: a,
+            count,
+        },
+    }
+}
+
+// An ask: the amendment is tried on a copy of the quantum's words. The month's words are as they were.
+pub fn ask(words: &[u32], hints: &mut [u8], a: Amendment) -> Asked
+    requires { ⌜ HoldsMonth (now words) × (2464 ≤ length (now words)) × (length (now hints) ≡ 2048) ⌝ }
+    ensures { λ r. ⌜ Shows (now (words .entry)) (Ask a) (shownAsked r) ⌝ }
+{
+    if words[0] == 0 {
+        return Asked::Refused(Refusal::NoQuantumOpen);
+    }
+    let count = lent::wide(words[4], words[5]);
+    let mut copy = [0u32; 598];
+    lent::copy(&words[6..604], &mut copy);
+    let n = step(&mut copy, hints, amend_fields(a));
+    if 0 < n {
+        return Asked::Refused(rules::refusal_of(n));
+    }
+    Asked::Shown(preview(&copy, a, count))
 }

@@ -9,7 +9,7 @@ ghost use lib.ListN.{length, drop, getD};
 ghost use Rattle.rules.specs.declared.Event.{Event};
 ghost use Rattle.rules.specs.Lists.{if_then_else_};
 ghost use Rattle.rules.specs.Terms.{paper};
-ghost use Rattle.rules.specs.Calls.{Look};
+ghost use Rattle.rules.specs.Calls.{Look, Ask};
 ghost use Rattle.rules.specs.Book.{after};
 ghost use Rattle.month.specs.Represents.{monthOf};
 ghost use Rattle.month.specs.Words.{monthWords};
@@ -22,6 +22,8 @@ ghost use Rattle.live.specs.Internal.{amendIn, cancelIn, dealIn, tickIn,
 use blocks::Decoded;
 use month::Month;
 use record::Fields;
+use rules::Amendment;
+use rules::Asked;
 use rules::Contracts;
 use rules::Looked;
 use rules::Millis;
@@ -249,9 +251,21 @@ fn look(words: &[u32], day: u32, expiry: u32, quantum: u32, answer: &mut [u32])
     }
 }
 
-// A look, or by value.
-fn other(words: &mut [u32], bytes: &[u8], answer: &mut [u32])
-    requires { ⌜ HoldsMonth (now words) × (2464 ≤ length (now words)) × (20 ≤ length (now answer)) × (isCall (now bytes) ≡ true) ⌝ }
+// An ask, on a copy of the quantum's words.
+fn ask(words: &[u32], hints: &mut [u8], a: Amendment, answer: &mut [u32])
+    requires { ⌜ HoldsMonth (now words) × (2464 ≤ length (now words)) × (length (now hints) ≡ 2048) × (length (now answer) ≡ 20) ⌝ }
+    ensures { λ _. ⌜ ShowsWords (now (words .entry)) (Ask a) (now (answer .exit)) ⌝ }
+{
+    let asked = in_place::ask(words, hints, a);
+    match asked {
+        Asked::Shown(preview) => answers::put_asked(preview, answer),
+        Asked::Refused(r) => answers::put_refused(rules::number(r), answer),
+    }
+}
+
+// A look, an ask, or by value.
+fn other(words: &mut [u32], hints: &mut [u8], bytes: &[u8], answer: &mut [u32])
+    requires { ⌜ HoldsMonth (now words) × (2464 ≤ length (now words)) × (length (now hints) ≡ 2048) × (20 ≤ length (now answer)) × (isCall (now bytes) ≡ true) ⌝ }
     ensures { λ _. ⌜ Performs (now (words .entry)) (now (answer .entry)) (now (bytes .entry)) (now (words .exit)) (now (answer .exit)) ⌝ }
 {
     let said = blocks::decode(bytes);
@@ -261,6 +275,7 @@ fn other(words: &mut [u32], bytes: &[u8], answer: &mut [u32])
             expiry,
             quantum,
         } => look(words, day, expiry, quantum, &mut answer[0..20]),
+        Decoded::Ask(a) => ask(words, hints, a, &mut answer[0..20]),
         _ => perform(words, bytes, answer),
     }
 }
@@ -295,6 +310,6 @@ pub fn call(words: &mut [u32], hints: &mut [u8], bytes: &[u8], answer: &mut [u32
         perform(words, bytes, answer);
         return Called::Done;
     }
-    other(words, bytes, answer);
+    other(words, &mut hints[0..2048], bytes, answer);
     Called::Done
 }

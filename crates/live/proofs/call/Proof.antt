@@ -71,15 +71,16 @@ returns-6 c =
 
 other-requires : tie.Need-other-requires
 other-requires c κs =
-    let room = c .before .before .before .before .before .before .before .before .before .before .if1 .left in
-    (c .before .before .before .before .before .before .before .before .before .before .before .before .before .before .before .pre room, room, c .before .before .before .before .before .before .before .before .if3 .left, sym (c .before .before .before .before .is-call .ensures) ∙ not-false _ (c .before .before .before .if5 .left))
+    let s = c .before .before .before .before .before .before .before .before .before .before .before .before .before .before .before .before in
+    let room = c .before .before .before .before .before .before .before .before .before .before .before .if1 .left in
+    (s .pre room, room, length-take-le 2048 (s .args .hints .now) (c .before .before .before .before .before .before .before .before .before .before .if2 .left), c .before .before .before .before .before .before .before .before .before .if3 .left, sym (c .before .before .before .before .before .is-call .ensures) ∙ not-false _ (c .before .before .before .before .if5 .left))
 
 returns-7 : tie.Need-returns-7
 returns-7 c =
-    let a = c .before .before .before .before .before .before .before .before .before .before .before .before .before .before .before .before .before .before .before .before .args in
+    let a = c .before .before .before .before .before .before .before .before .before .before .before .before .before .before .before .before .before .before .before .before .before .before .before .args in
     record {
-      called = is-done (leb 2464 (length (a .words .now))) (leb 2048 (length (a .hints .now))) (leb 20 (length (a .answer .now))) (isCall (a .bytes .now)) (le-leb _ _ (c .before .before .before .before .before .before .before .before .before .before .before .before .before .before .before .if1 .left)) (le-leb _ _ (c .before .before .before .before .before .before .before .before .before .before .before .before .before .before .if2 .left)) (le-leb _ _ (c .before .before .before .before .before .before .before .before .before .before .before .before .before .if3 .left)) (sym (c .before .before .before .before .before .before .before .before .before .is-call .ensures) ∙ not-false _ (c .before .before .before .before .before .before .before .before .if5 .left));
-      done = λ e. c .before .before .before .before .other .ensures;
+      called = is-done (leb 2464 (length (a .words .now))) (leb 2048 (length (a .hints .now))) (leb 20 (length (a .answer .now))) (isCall (a .bytes .now)) (le-leb _ _ (c .before .before .before .before .before .before .before .before .before .before .before .before .before .before .before .before .before .before .if1 .left)) (le-leb _ _ (c .before .before .before .before .before .before .before .before .before .before .before .before .before .before .before .before .before .if2 .left)) (le-leb _ _ (c .before .before .before .before .before .before .before .before .before .before .before .before .before .before .before .before .if3 .left)) (sym (c .before .before .before .before .before .before .before .before .before .before .before .before .is-call .ensures) ∙ not-false _ (c .before .before .before .before .before .before .before .before .before .before .before .if5 .left));
+      done = λ e. c .before .before .before .before .before .before .other .ensures;
       kept = λ never. absurd (never refl);
     }
 
@@ -108,7 +109,11 @@ call-spec =
     (λ c. search needs)
     (λ c. search needs)
     returns-6
+    (λ c. search needs)
+    (λ c. search needs)
+    (λ c. search needs)
     other-requires
+    (λ c. search needs)
     (λ c. search needs)
     (λ c. search needs)
     returns-7)

@@ -1,4 +1,4 @@
--- A look, or what `perform` promises. Assumes nothing.
+-- A look, an ask, or what `perform` promises. Assumes nothing.
 use mathlib.Core.Path.{sym, ap, _∙_}
 use Rattle.words.specs.Bytes.{wordsIn}
 use Rattle.blocks.specs.Decoded.{callWith}
@@ -9,9 +9,15 @@ use Rattle.live.proofs.other.Tie as tie
 
 returns : tie.Need-returns
 returns c =
-    let a = c .before .before .before .before .before .before .before .before .before .before .before .before .args in
+    let a = c .before .before .before .before .before .before .before .before .before .before .before .before .before .args in
     shows-performs (a .words .now) (a .answer .now) (a .bytes .now) (c .before .before .look .last .1 .1 .1 .1 .0) _
     (sym (ap (callWith (wordsIn (a .bytes .now))) (c .before .before .before .before .before .before .said .given .1)) ∙ c .before .before .before .before .before .before .before .before .decode .ensures) (c .before .before .look .ensures)
 
+returns-2 : tie.Need-returns-2
+returns-2 c =
+    let a = c .before .before .before .before .before .before .before .before .before .before .before .before .before .before .before .before .args in
+    shows-performs (a .words .now) (a .answer .now) (a .bytes .now) (c .before .before .before .before .ask .last .1 .1 .1 .0) _
+    (sym (ap (callWith (wordsIn (a .bytes .now))) (c .before .before .before .before .before .before .before .before .before .said2 .given .1)) ∙ c .before .before .before .before .before .before .before .before .before .before .before .decode .ensures) (c .before .before .before .before .ask .ensures)
+
 pub other-spec : {M : Type 1} → statement M
-other-spec = tie.close (tie.spec (λ c κs. search needs) (λ c. search needs) (λ c. search needs) (λ c. search needs) (λ c. search needs) (λ c κs. search needs) (λ c κs. search needs) (λ c. search needs) (λ c. search needs) returns (λ c. search needs) (λ c. search needs) (λ c. search needs))
+other-spec = tie.close (tie.spec (λ c κs. search needs) (λ c. search needs) (λ c. search needs) (λ c. search needs) (λ c. search needs) (λ c κs. search needs) (λ c. search needs) (λ c. search needs) (λ c. search needs) (λ c. search needs) (λ c κs. search needs) (λ c κs. search needs) (λ c. search needs) (λ c. search needs) returns (λ c. search needs) (λ c. search needs) (λ c. search needs) returns-2 (λ c. search needs) (λ c. search needs) (λ c. search needs))
