@@ -80,6 +80,7 @@ static uint64_t run(const struct item *it, void *buffer) {
     case 8: return quoting_volatile(prices, size / 4, n[0]);
     case 9: return quoting_ease(buffer, count, n[0], prices, size / 4, n[1]);
     case 10: return quoting_safe_minutes(n[0], n[1], n[2]);
+    case 11: return quoting_account(others, other / 4, words[0], words[1], words[2], words[3], words[4], words[5], a + 24, size - 24, buffer, count);
     default: stop("no such call"); return 0;
     }
 }

@@ -21,9 +21,10 @@ from pathlib import Path
 ROOT = Path(__file__).resolve().parent.parent
 sys.path.insert(0, str(ROOT))
 
+from recount import account as accounts
 from recount import fix, game, programs, strikes, volatile
 from recount import session as run
-from recount.book import choose, weight
+from recount.book import Strike, choose, weight
 from tests import generate, known, messages
 from tests import strikes as strike_cases
 from tests import volatile as volatile_cases
@@ -40,7 +41,7 @@ SIXTY = b"20261115-10:00:00.000"
 NAMES = {
     1: ("session", [1, 2, 3, *range(8, 16)]), 2: ("session_pairs", [1, 2, 3, *range(8, 17)]), 3: ("weight", [2, 3]),
     4: ("choose_row", [16]), 5: ("fix", [16, 20, 21]), 6: ("fix_write", [3, 16, 21]), 7: ("board", [18]), 8: ("volatile", [22]),
-    9: ("ease", [22]), 10: ("safe_minutes", [26]),
+    9: ("ease", [22]), 10: ("safe_minutes", [26]), 11: ("account", [1, 2, 3, *range(8, 17), 18]),
 }
 
 # A case: which call, the buffer's elements and the byte that fills them, numbers, two byte strings.
@@ -75,6 +76,13 @@ def session_pairs(case, buffer):
     if isinstance(answer, run.Stopped):
         return (answer.number << 32) + answer.place, buffer
     return writes([answer.kept, answer.weight, len(answer.pairs), *run.pair_words(answer.pairs)], buffer)
+
+
+def account(case, buffer):
+    """The first string has what the spread limit goes by, six words, then the records; the second is the row."""
+    strike, sp, *told = programs.to_words(case.first[:24])
+    spread = Strike(*told) if strike else programs.signed(sp)
+    return accounts.library(programs.to_words(case.second), spread, case.first[24:], buffer)
 
 
 def weighed(kept, length, share):
@@ -124,8 +132,8 @@ def due(case):
         row = programs.to_words(case.second)
         answer = inside(case.first, numbers[1])
         return answer, volatile.eased(row, numbers[0] != 0) if answer == 1 else row
-    if case.call in (2, 5, 6):
-        return {2: session_pairs, 5: read_fix, 6: written_fix}[case.call](case, buffer)
+    if case.call in (2, 5, 6, 11):
+        return {2: session_pairs, 5: read_fix, 6: written_fix, 11: account}[case.call](case, buffer)
     if case.call == 4:
         tables = programs.to_words(case.first), programs.to_words(case.second)
         return writes(choose(*tables, numbers[0] != 0, *numbers[1:3]), buffer)
@@ -163,6 +171,18 @@ def session_cases(rng, count):
         answer = run.run_bytes(head, data)
         needed = 5 if isinstance(answer, run.Stopped) else 3 + 2 * len(answer.pairs)
         yield Case(2, sizes(rng, needed), rng.randrange(256), first=head, second=data)
+
+
+def account_cases(rng, count):
+    for at in range(2 * count):
+        name, head, data = generate.any_session(rng)
+        row, strike = (packed(generate.wrong_row_words(rng)), 0) if len(head) < 32 else (head[:28], at % 2)
+        sp = 0 if len(head) < 32 else run.HEAD.unpack(head)[-1]
+        told = generate.wrong_strike(rng) if at % 20 == 1 else generate.any_strike(rng)
+        first = packed([strike * rng.choice([1, 2, 2**32 - 1]), sp, *told]) + data
+        answer = accounts.run(programs.to_words(row), told if strike else sp, data)
+        needed = 9 if isinstance(answer, run.Stopped) else 7 + 3 * len(answer.stretches)
+        yield Case(11, sizes(rng, needed), rng.randrange(256), first=first, second=row)
 
 
 def weight_cases(rng, count):
@@ -214,7 +234,7 @@ def other_cases(rng, count):
 
 
 def all_cases(rng, count):
-    for make in (session_cases, weight_cases, row_cases, fix_cases, other_cases):
+    for make in (session_cases, account_cases, weight_cases, row_cases, fix_cases, other_cases):
         yield from make(rng, count)
 
 
