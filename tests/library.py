@@ -174,10 +174,13 @@ def session_cases(rng, count):
 
 
 def account_cases(rng, count):
-    for at in range(2 * count):
-        name, head, data = generate.any_session(rng)
-        row, strike = (packed(generate.wrong_row_words(rng)), 0) if len(head) < 32 else (head[:28], at % 2)
-        sp = 0 if len(head) < 32 else run.HEAD.unpack(head)[-1]
+    """Known sessions by SP, and random ones by SP and by strikes in turn."""
+    sessions = list(known.sessions())
+    by_sp = len(sessions)
+    sessions += [generate.any_session(rng)[1:] for _ in range(2 * count)]
+    for at, (head, data) in enumerate(sessions):
+        row, sp = (head[:28], run.HEAD.unpack(head)[-1]) if len(head) == 32 else (head[:24], 0)
+        strike = at % 2 if at > by_sp else 0
         told = generate.wrong_strike(rng) if at % 20 == 1 else generate.any_strike(rng)
         first = packed([strike * rng.choice([1, 2, 2**32 - 1]), sp, *told]) + data
         answer = accounts.run(programs.to_words(row), told if strike else sp, data)
