@@ -130,6 +130,28 @@ uint64_t quoting_session_pairs(
     const uint8_t *head, size_t head_length, const uint8_t *records, size_t records_length, uint32_t *buffer, size_t buffer_length);
 
 /*
+ * Where the time of a session went. Runs its records as quoting_session does and writes to a lent buffer of words: the milliseconds of each
+ * of the six states, the number n of stretches, then the n stretches of one state, from 0 to L, as triples of offset, length and state, each
+ * as long as it can be. The states are 0 kept, 1 no best bid, 2 no best ask, 3 neither quote, 4 locked or crossed (D below 1), 5 too wide (D
+ * above the spread limit).
+ *
+ * row      row_length words, which should be seven: expiry, quantum, L, M, a, b, p.
+ * strike   0: the spread limit goes by sp and the row's a and b; a, difference, days and b are unread.
+ *          Any other number: it goes by a strike's a (in tenths), difference, days and b; sp and the row's a and b are unread.
+ * sp       SP in two's complement.
+ * records  records_length bytes.
+ * buffer   buffer_length words. It keeps its contents on a refusal, and behind what is written.
+ *
+ * Answers the number of words written, 7 + 3 n, or 4294967296 * refusal + place. The refusals are those of quoting_session, where 1 says
+ * that row_length is not 7, and at place 0:
+ *   18  a strike's number is outside its range
+ *   16  buffer_length is below 7 + 3 n; it comes after all records
+ */
+uint64_t quoting_account(
+    const uint32_t *row, size_t row_length, uint32_t strike, uint32_t sp, uint32_t a, uint32_t difference, uint32_t days, uint32_t b,
+    const uint8_t *records, size_t records_length, uint32_t *buffer, size_t buffer_length);
+
+/*
  * The weight w of a quantum with kept milliseconds K, length L and required share p in tenths of a percent, by the share alone, with no
  * lapse limit: 0 where it is failed, else 10,000 to 20,000. Refused by
  *    2  L or p is outside a row's range

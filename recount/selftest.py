@@ -2,13 +2,14 @@
 
 Kept time is counted in three ways: as the paper's sentence says it, for every millisecond from the
 whole list of events; millisecond by millisecond in one walk; and from event to event. Lapses are
-counted in two: millisecond by millisecond, and as the gaps that the kept stretches leave.
+counted in two: millisecond by millisecond, and as the gaps that the kept stretches leave. Accounts
+are made in two, millisecond by millisecond and from event to event.
 """
 
 import random
 
 from recount import (
-    fix_checks, game, message_checks, outlook_checks, programs, records, session, standing, strikes, volatile,
+    account, fix_checks, game, message_checks, outlook_checks, programs, records, session, standing, strikes, volatile,
 )
 from recount.book import (
     BUY, CHARGE_LIMIT, DAYS, EXPIRIES, NO_LIMIT, QUANTA, SELL, Accepted, Add, Amend, Ask, Book,
@@ -329,6 +330,13 @@ def stretches_as_said(row, sp, events, end):
     return [(start, stop - start) for start, stop in zip(starts, stops)]
 
 
+def check_account(row, sp, events, kept):
+    found = account.by_milliseconds(row, sp, events, row.length)
+    assert found == account.by_events(row, sp, events, row.length), (row, sp, events)
+    assert [(offset, length) for offset, length, state in found.stretches if state == 0] == kept, (row, sp, events)
+    assert sum(found.times) == sum(length for _, length, _ in found.stretches) == row.length, (row, sp, events)
+
+
 def check_counting(rng, cases, said):
     with_time = most_lapses = 0
     for case in range(cases):
@@ -352,6 +360,7 @@ def check_counting(rng, cases, said):
             if end == quoting.time:
                 shown = book.report()
                 assert (shown.kept, shown.lapses) == (kept_time(walked), gaps)
+        check_account(row, sp, events, walked)
         assert book.call(Close(1, 2)) == Accepted()
         view = book.call(Look(1, 1, 0))
         assert (view.kept, view.limit, view.lapses) == (kept_time(walked), limit, gaps)

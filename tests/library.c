@@ -137,6 +137,7 @@ static uint64_t run(const struct item *it, void *buffer) {
     case 14: return run_month(it, buffer);
     case 15: return run_one(it, buffer);
     case 16: return run_standing(it, buffer);
+    case 17: return quoting_account(others, other / 4, words[0], words[1], words[2], words[3], words[4], words[5], a + 24, size - 24, buffer, count);
     default: stop("no such call"); return 0;
     }
 }

@@ -22,10 +22,11 @@ from pathlib import Path
 ROOT = Path(__file__).resolve().parent.parent
 sys.path.insert(0, str(ROOT))
 
+from recount import account as accounts
 from recount import fix, game, programs, standing, strikes, volatile
 from recount import session as run
+from recount.book import NO_LIMIT, Accepted, Asked, Book, CellView, Message, Open, Refused, Report, Strike, choose, weight
 from recount.outlook import OutlookView
-from recount.book import NO_LIMIT, Accepted, Asked, Book, CellView, Message, Open, Refused, Report, choose, weight
 from tests import generate, known, message_lists, messages, months
 from tests import standing as standing_cases
 from tests import strikes as strike_cases
@@ -45,6 +46,7 @@ NAMES = {
     4: ("choose_row", [16]), 5: ("fix", [16, 20, 21]), 6: ("fix_write", [3, 16, 21]), 7: ("board", [18]), 8: ("volatile", [22]),
     9: ("ease", [22]), 10: ("safe_minutes", [26]), 11: ("month_fresh", [16]), 12: ("calls", [16]), 13: ("calls_words", []),
     14: ("month_call, a list", []), 15: ("month_call", [3, 16]), 16: ("standing", [3, 16]),
+    17: ("account", [1, 2, 3, *range(8, 17), 18]),
 }
 MONTH_WORDS, HINT_BYTES, ANSWER_WORDS = 2464, 2048, 20
 
@@ -80,6 +82,13 @@ def session_pairs(case, buffer):
     if isinstance(answer, run.Stopped):
         return (answer.number << 32) + answer.place, buffer
     return writes([answer.kept, answer.weight, len(answer.pairs), *run.pair_words(answer.pairs)], buffer)
+
+
+def account(case, buffer):
+    """The first string has what the spread limit goes by, six words, then the records; the second is the row."""
+    strike, sp, *told = programs.to_words(case.first[:24])
+    spread = Strike(*told) if strike else programs.signed(sp)
+    return accounts.library(programs.to_words(case.second), spread, case.first[24:], buffer)
 
 
 def weighed(kept, length, share):
@@ -225,8 +234,8 @@ def due(case):
         row = programs.to_words(case.second)
         answer = inside(case.first, numbers[1])
         return answer, volatile.eased(row, numbers[0] != 0) if answer == 1 else row
-    if case.call in (2, 5, 6):
-        return {2: session_pairs, 5: read_fix, 6: written_fix}[case.call](case, buffer)
+    if case.call in (2, 5, 6, 17):
+        return {2: session_pairs, 5: read_fix, 6: written_fix, 17: account}[case.call](case, buffer)
     if case.call == 4:
         tables = programs.to_words(case.first), programs.to_words(case.second)
         return writes(choose(*tables, numbers[0] != 0, *numbers[1:3]), buffer)
@@ -264,6 +273,21 @@ def session_cases(rng, count):
         answer = run.run_bytes(head, data)
         needed = 5 if isinstance(answer, run.Stopped) else 3 + 2 * len(answer.pairs)
         yield Case(2, sizes(rng, needed), rng.randrange(256), first=head, second=data)
+
+
+def account_cases(rng, count):
+    """Known sessions by SP, and random ones by SP and by strikes in turn."""
+    sessions = list(known.sessions())
+    by_sp = len(sessions)
+    sessions += [generate.any_session(rng)[1:] for _ in range(2 * count)]
+    for at, (head, data) in enumerate(sessions):
+        row, sp = (head[:28], run.HEAD.unpack(head)[-1]) if len(head) == 32 else (head[:24], 0)
+        strike = at % 2 if at > by_sp else 0
+        told = generate.wrong_strike(rng) if at % 20 == 1 else generate.any_strike(rng)
+        first = packed([strike * rng.choice([1, 2, 2**32 - 1]), sp, *told]) + data
+        answer = accounts.run(programs.to_words(row), told if strike else sp, data)
+        needed = 9 if isinstance(answer, run.Stopped) else 7 + 3 * len(answer.stretches)
+        yield Case(17, sizes(rng, needed), rng.randrange(256), first=first, second=row)
 
 
 def weight_cases(rng, count):
@@ -362,7 +386,7 @@ def maker_cases(rng, count):
 
 
 def all_cases(rng, count):
-    for make in (session_cases, weight_cases, row_cases, fix_cases, other_cases, list_cases, maker_cases):
+    for make in (session_cases, account_cases, weight_cases, row_cases, fix_cases, other_cases, list_cases, maker_cases):
         yield from make(rng, count)
 
 

@@ -3,6 +3,7 @@ ghost use mathlib.Core.Path.{_≡_};
 ghost use Prim.Native.Nat.{_+_, _*_, _≤_};
 ghost use lib.ListN.{length};
 
+mod accounted;
 mod boards;
 mod days;
 mod eased;
@@ -223,6 +224,9 @@ fn run_case(input: &[u8]) -> bool {
     }
     if kind == 8 {
         return safe::safe_case(input);
+    }
+    if kind == 15 {
+        return accounted::account_case(input);
     }
     if days::is_kind(kind) {
         return days::case(kind, input);

@@ -1,3 +1,4 @@
+pub mod Accounting
 pub mod Filling
 pub mod Months
 pub mod Pairs

@@ -1,3 +1,4 @@
+pub mod Accounts
 pub mod Answers
 pub mod Extras
 pub mod Internal
