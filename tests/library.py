@@ -228,7 +228,7 @@ def due(case):
     buffer, numbers = lent(case), case.numbers
     if case.call == 16:
         return standing_case(case)
-    if case.call > 10:
+    if 10 < case.call < 17:
         return month_case(case, buffer)
     if case.call == 9:
         row = programs.to_words(case.second)

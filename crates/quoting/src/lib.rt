@@ -571,6 +571,7 @@ pub extern "C" fn quoting_account(
         return account_short(row, spread, records);
     }
     run_account(row, spread, records, buffer)
+}
 
 // ---- months in lent words
 
