@@ -1,0 +1,147 @@
+"""What the month answers to a call, from its twenty words (docs/FORMATS.md), and the line that `replay` prints of it.
+
+>>> answer_of([1, 7] + 18 * [0])
+Refused(7, 0, 'no quantum is open')
+>>> line(answer_of([0] * 20))
+'accepted'
+"""
+
+from dataclasses import dataclass
+from typing import Optional, Sequence, Union
+
+from quoting.calls import NO_LIMIT, Ticket, long, signed
+from quoting.native import Refused
+from quoting.values import Tenths
+
+WORDS = 20
+
+
+@dataclass(frozen=True)
+class Accepted:
+    pass
+
+
+@dataclass(frozen=True)
+class Cell:
+    """A closed quantum: what it kept, its row's share, lapses against their limit (None: no limit), charges, verdict, weight."""
+
+    kept: int
+    length: int
+    share: Tenths
+    lapses: int
+    limit: Optional[int]
+    active: int
+    passive: int
+    met: bool
+    weight: int
+
+
+@dataclass(frozen=True)
+class Asked:
+    """Both best quotes after the amendment (None: there is none), and its ticket."""
+
+    bid: Optional[int]
+    ask: Optional[int]
+    ticket: Ticket
+
+
+@dataclass(frozen=True)
+class MonthReport:
+    """The open quantum (all 0 and None where none is), the failure counts of the six series, the fee in kopecks."""
+
+    is_open: bool
+    time: int
+    orders: int
+    bid: Optional[int]
+    ask: Optional[int]
+    kept: int
+    lapses: int
+    failed: tuple[int, ...]
+    fee: int
+
+
+Answer = Union[Accepted, Refused, Cell, Asked, MonthReport]
+
+
+def quote(there: int, price: int) -> Optional[int]:
+    return signed(price) if there else None
+
+
+def cell_of(w: Sequence[int]) -> Cell:
+    _, kept, length, share, limit, lapses, *charges = w[2:12]
+    active, passive = long(*charges[:2]), long(*charges[2:])
+    return Cell(kept, length, Tenths(share), lapses, None if limit == NO_LIMIT else limit, active, passive, w[12] == 1, w[13])
+
+
+def answer_of(w: Sequence[int]) -> Answer:
+    """The answer that twenty words are."""
+    if w[0] == 1:
+        return Refused.of(w[1])
+    if w[0] == 2:
+        return cell_of(w)
+    if w[0] == 3:
+        return Asked(quote(w[2], w[3]), quote(w[4], w[5]), Ticket(w[6], w[7], signed(w[8]), w[9], long(w[10], w[11])))
+    if w[0] == 4:
+        quotes = quote(w[5], w[6]), quote(w[7], w[8])
+        return MonthReport(w[2] == 1, w[3], w[4], *quotes, w[9], w[10], tuple(w[11:17]), long(w[17], w[18]))
+    return Accepted()
+
+
+# ---------------------------------------------------------------- as a line
+
+
+def quote_text(price: Optional[int]) -> str:
+    return "absent" if price is None else str(price)
+
+
+def verdict_text(met: bool) -> str:
+    return "met" if met else "failed"
+
+
+def line(answer: Answer) -> str:
+    """The line that `replay` prints of an answer."""
+    if isinstance(answer, Refused):
+        return f"refused {answer.number}"
+    if isinstance(answer, Cell):
+        limit = "none" if answer.limit is None else answer.limit
+        return (
+            f"cell kept {answer.kept} of {answer.length} share {int(answer.share)} lapses {answer.lapses} limit {limit}"
+            f" active {answer.active} passive {answer.passive} verdict {verdict_text(answer.met)} weight {answer.weight}"
+        )
+    if isinstance(answer, Asked):
+        t = answer.ticket
+        ticket = f"{t.t} {t.id} {t.price} {t.volume} count {t.count}"
+        return f"asked bid {quote_text(answer.bid)} ask {quote_text(answer.ask)} ticket {ticket}"
+    if isinstance(answer, MonthReport):
+        quotes = f"bid {quote_text(answer.bid)} ask {quote_text(answer.ask)}"
+        failed = " ".join(map(str, answer.failed))
+        return (
+            f"report open {'yes' if answer.is_open else 'no'} time {answer.time} orders {answer.orders} {quotes}"
+            f" kept {answer.kept} lapses {answer.lapses} failed {failed} fee {answer.fee}"
+        )
+    return "accepted"
+
+
+def answer_of_line(text: str) -> Answer:
+    """The answer that a line of `replay` is; other lines are a ValueError.
+
+    >>> answer_of_line("asked bid 3 ask absent ticket 1 2 -3 4 count 5")
+    Asked(bid=3, ask=None, ticket=Ticket(t=1, id=2, price=-3, volume=4, count=5))
+    """
+    w = text.split()
+    price = {"absent": None}
+    if w[:1] == ["accepted"]:
+        return Accepted()
+    if w[:1] == ["refused"]:
+        return Refused.of(int(w[1]))
+    if w[:1] == ["asked"]:
+        bid, ask = (price[word] if word in price else int(word) for word in (w[2], w[4]))
+        return Asked(bid, ask, Ticket(int(w[6]), int(w[7]), int(w[8]), int(w[9]), int(w[11])))
+    if w[:1] == ["cell"]:
+        limit = None if w[10] == "none" else int(w[10])
+        return Cell(int(w[2]), int(w[4]), Tenths(w[6]), int(w[8]), limit, int(w[12]), int(w[14]), w[16] == "met", int(w[18]))
+    if w[:1] == ["report"]:
+        bid, ask = (price[word] if word in price else int(word) for word in (w[8], w[10]))
+        failed = tuple(map(int, w[16:22]))
+        return MonthReport(w[2] == "yes", int(w[4]), int(w[6]), bid, ask, int(w[12]), int(w[14]), failed, int(w[23]))
+    raise ValueError(f"{text!r} is no answer")
