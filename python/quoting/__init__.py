@@ -5,10 +5,11 @@
 20000
 """
 
+from quoting import fix
 from quoting.answers import Accepted, Answer, Asked, Cell, MonthReport
 from quoting.calls import Strike, Ticket
 from quoting.events import Add, Amend, Cancel, Deal, Event, Tick
-from quoting.months import Month, answers
+from quoting.months import Month, answers_to
 from quoting.native import Missing, Refused, version
 from quoting.plain import board, choose_row, ease, safe_minutes, volatile_day, weight
 from quoting.rules import Row, Rule
@@ -17,6 +18,6 @@ from quoting.values import Tenths, milliseconds, tenths
 
 __all__ = [
     "Accepted", "Add", "Amend", "Answer", "Asked", "Cancel", "Cell", "Deal", "Event", "Missing", "Month", "MonthReport", "Refused", "Row",
-    "Rule", "Session", "Strike", "Tenths", "Tick", "Ticket", "answers", "board", "choose_row", "ease", "milliseconds", "safe_minutes",
+    "Rule", "Session", "Strike", "Tenths", "Tick", "Ticket", "answers_to", "board", "choose_row", "ease", "fix", "milliseconds", "safe_minutes",
     "session", "tenths", "version", "volatile_day", "weight",
 ]

@@ -118,7 +118,7 @@ class Month:
         self.call(c.Message(start.encode() if isinstance(start, str) else start, message))
 
 
-def answers(blocks: Iterable[bytes]) -> Iterator[Answer]:
+def answers_to(blocks: Iterable[bytes]) -> Iterator[Answer]:
     """What a fresh month answers to each block of a list. Until the library has the month's call, the proved program `replay` says
     it, which takes 65,536 words at most."""
     if not native.has("quoting_month_call"):

@@ -65,7 +65,7 @@ def is_terminal(name: Optional[str]) -> bool:
 
 
 def cell_text(value: object) -> str:
-    return "" if value is None else str(value)
+    return "-" if value is None else str(value)
 
 
 def plain_table(heads: Sequence[str], rows: Rows) -> str:

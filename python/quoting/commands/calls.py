@@ -13,7 +13,7 @@ import argparse
 from quoting import both, inputs, output, reading, texts
 from quoting.answers import Answer, line
 from quoting.inputs import CallList
-from quoting.months import answers
+from quoting.months import answers_to
 from quoting.native import Refused
 
 
@@ -33,7 +33,7 @@ def shown(answer: Answer) -> str:
 def run(args: argparse.Namespace) -> int:
     found = inputs.calls_of(args.file, reading.read_bytes(args.file), inputs.options_of(args))
     data = [placed.block for placed in found.blocks]
-    said = list(answers(data))
+    said = list(answers_to(data))
     behind = f"stopped at word {found.stop}\n" if found.stop else ""
     if args.both:
         behind += both.agreement([line(answer) for answer in said], both.answer_lines(b"".join(data)))

@@ -1,0 +1,34 @@
+"""A picture (SVG) of a session: both best quotes, the kept stretches, the share kept.
+
+A session run has no lapse limit. With --lapses the lapses are counted against one, each is marked, and verdict and weight are those of
+a month's quantum with that limit.
+
+examples:
+  quoting picture examples/brent.session -o brent.svg
+  quoting picture examples/brent.session --lapses 5 -o brent.svg
+"""
+
+import argparse
+
+from quoting import inputs, output, values
+from quoting.picture import picture
+
+
+def limit_of(word: str) -> int:
+    try:
+        return values.whole(word, (0, 1_000))
+    except ValueError as error:
+        raise argparse.ArgumentTypeError(str(error)) from None
+
+
+def add(parser: argparse.ArgumentParser) -> None:
+    parser.add_argument("file", metavar="FILE", help="a session, or - for standard input")
+    parser.add_argument("--lapses", type=limit_of, metavar="LIMIT", help="a lapse limit, 0 to 1,000")
+    inputs.add_session(parser)
+    inputs.add_output(parser, json=False)
+
+
+def run(args: argparse.Namespace) -> int:
+    source = inputs.session(args.file, args)
+    output.write(args.output, picture(source.stem, source.data, args.lapses))
+    return 0

@@ -1,0 +1,234 @@
+"""A picture (SVG) of a session's quantum: best bid and ask over time, the kept stretches shaded, the share kept beside the one required.
+
+Where kept stretches or gaps are shorter than a pixel, that pixel's column is filled by its share, so that many short gaps are seen.
+"""
+
+from bisect import bisect_left
+from typing import Iterator, Optional, Sequence
+
+from quoting import calls as c
+from quoting import drawing, months
+from quoting.answers import Cell, MonthReport, verdict_text
+from quoting.drawing import INK, PALE, Drawing
+from quoting.events import event_of, split
+from quoting.native import Refused
+from quoting.rules import HEAD, Row, Rule
+from quoting.sessions import session
+from quoting.values import HOUR, MINUTE, SECOND, clock, part_text, share_text
+
+WIDTH, HEIGHT = 920, 470
+LEFT, RIGHT, TOP, BOTTOM = 100, 890, 96, 350  # the plot
+BAR_TOP, BAR_HEIGHT = 410, 20
+COLUMNS = RIGHT - LEFT  # pixels of the quantum's time
+
+BID, ASK = "#1f5fa8", "#b3381f"
+KEPT, MET_BAR, FAILED_BAR = "#cfe8cf", "#6fb56f", "#d99a4e"
+
+TIME_STEPS = [
+    1, 2, 5, 10, 20, 50, 100, 200, 500, SECOND, 2 * SECOND, 5 * SECOND, 10 * SECOND, 30 * SECOND,
+    MINUTE, 2 * MINUTE, 5 * MINUTE, 10 * MINUTE, 30 * MINUTE, HOUR, 2 * HOUR, 3 * HOUR, 6 * HOUR,
+]
+
+Pairs = Sequence[tuple[int, int]]
+Quote = tuple[int, Optional[int], Optional[int]]  # time, bid, ask
+
+
+# ---------------------------------------------------------------- what is drawn
+
+
+def blocks_of(data: bytes, limit: int, reports: bool) -> Iterator[bytes]:
+    """The session as calls of a month: open, its events, close, look; with a report behind each event."""
+    rule = Rule.of_bytes(data[: HEAD.size])
+    yield c.block(c.Open(rule.row.words, 1, rule.sp, limit))
+    for each in split(data[HEAD.size :]):
+        event = event_of(each)
+        assert event is not None  # a session that is not refused has events alone
+        yield c.block(event)
+        if reports:
+            yield c.block(c.Report())
+    yield c.block(c.Close(0, 0))
+    yield c.block(c.Look(1, rule.row.expiry, rule.row.quantum))
+
+
+def quotes(data: bytes) -> list[Quote]:
+    """Both best quotes from each time on at which an event stands, and from 0, as the month reports them."""
+    found: dict[int, Quote] = {0: (0, None, None)}
+    for answer in months.answers_to(blocks_of(data, c.NO_LIMIT, True)):
+        if isinstance(answer, MonthReport):
+            found[answer.time] = (answer.time, answer.bid, answer.ask)
+    return list(found.values())
+
+
+def judged(data: bytes, limit: int) -> Cell:
+    """The closed quantum, by a lapse limit."""
+    *_, cell = months.answers_to(blocks_of(data, limit, False))
+    if isinstance(cell, Refused):
+        raise cell
+    assert isinstance(cell, Cell)
+    return cell
+
+
+# ---------------------------------------------------------------- kept stretches
+
+
+def crowded(pairs: Pairs, length: int) -> set[int]:
+    """The columns touched by a kept stretch or a gap that is shorter than a pixel."""
+    pixel, before = length / COLUMNS, 0
+    found: set[int] = set()
+    for offset, size in [*pairs, (length, 0)]:
+        gap = offset - before
+        if before and 0 < gap < pixel:
+            found.update((int(before / pixel), int((offset - 1) / pixel)))
+        if 0 < size < pixel:
+            found.update((int(offset / pixel), int((offset + size - 1) / pixel)))
+        before = offset + size
+    return found
+
+
+def column_shares(pairs: Pairs, length: int, columns: Sequence[int]) -> dict[int, float]:
+    """The share of each of these columns that is kept."""
+    pixel, shares = length / COLUMNS, dict.fromkeys(columns, 0.0)
+    for offset, size in pairs:
+        first, last = int(offset / pixel), int((offset + size - 1) / pixel)
+        for column in range(first, last + 1) if last - first < 3 else filter(lambda at: first <= at <= last, shares):
+            if column in shares:
+                inside = min(offset + size, (column + 1) * pixel) - max(offset, column * pixel)
+                shares[column] += max(0.0, inside) / pixel
+    return shares
+
+
+def outside(pair: tuple[int, int], length: int, columns: list[int]) -> Iterator[tuple[float, float]]:
+    """The parts of a kept stretch that lie in no crowded column, as start and end in pixels."""
+    start, end = pair[0] * COLUMNS / length, (pair[0] + pair[1]) * COLUMNS / length
+    for column in columns[bisect_left(columns, int(start)) : bisect_left(columns, end)]:
+        if start < column:
+            yield start, column
+        start = max(start, column + 1)
+    if start < end:
+        yield start, end
+
+
+def draw_kept(d: Drawing, pairs: Pairs, length: int) -> None:
+    columns = sorted(crowded(pairs, length))
+    tall = BOTTOM - TOP
+    for start, end in (part for pair in pairs for part in outside(pair, length, columns)):
+        d.rect(LEFT + start, TOP, end - start, tall, KEPT)
+    for column, share in column_shares(pairs, length, columns).items():
+        d.rect(LEFT + column, BOTTOM - tall * share, 1, tall * share, KEPT)
+
+
+# ---------------------------------------------------------------- axes, lines, bars
+
+
+class Plot:
+    """Where times and prices stand."""
+
+    def __init__(self, length: int, low: int, high: int) -> None:
+        self.length, self.low, self.high = length, low, high
+
+    def x(self, t: float) -> float:
+        return LEFT + COLUMNS * t / self.length
+
+    def y(self, price: float) -> float:
+        return BOTTOM - (BOTTOM - TOP) * (price - self.low) / (self.high - self.low)
+
+
+def tick_label(ms: int, step: int) -> str:
+    if step >= MINUTE:
+        return f"{ms // HOUR}:{ms // MINUTE % 60:02}"
+    return f"{ms // SECOND} s" if step >= SECOND else f"{ms} ms"
+
+
+def draw_axes(d: Drawing, plot: Plot) -> None:
+    step = next((each for each in TIME_STEPS if plot.length / each <= 10), TIME_STEPS[-1])
+    for t in range(0, plot.length + 1, step):
+        d.line(plot.x(t), BOTTOM, plot.x(t), BOTTOM + 5, PALE)
+        d.text(plot.x(t), BOTTOM + 20, tick_label(t, step), "middle", 12)
+    draw_prices(d, plot)
+    d.line(LEFT, BOTTOM, RIGHT, BOTTOM, INK)
+    d.line(LEFT, TOP, LEFT, BOTTOM, INK)
+
+
+def draw_prices(d: Drawing, plot: Plot) -> None:
+    step = drawing.rounded_step(plot.high - plot.low, 6)
+    for price in range(-(-plot.low // step) * step, plot.high + 1, step):
+        d.line(LEFT, plot.y(price), RIGHT, plot.y(price), PALE, ' stroke-opacity="0.35"')
+        d.text(LEFT - 8, plot.y(price) + 4, str(price), "end", 12)
+
+
+def steps(plot: Plot, points: Sequence[tuple[int, Optional[int]]]) -> Iterator[str]:
+    """A line of steps through (time, price); it breaks where the price is None. Of points within a quarter of a pixel the last is drawn."""
+    before: Optional[int] = None
+    ends = [*(t for t, _ in points[1:]), plot.length]
+    for (t, price), until in zip(points, ends):
+        if int(4 * plot.x(t)) == int(4 * plot.x(until)):
+            continue
+        if price is not None:
+            number = drawing.number
+            yield f"M{number(plot.x(t))} {number(plot.y(price))}" if before is None else f"V{number(plot.y(price))}"
+            yield f"H{number(plot.x(until))}"
+        before = price
+
+
+def draw_legend(d: Drawing) -> None:
+    y = TOP - 16
+    d.line(LEFT, y - 4, LEFT + 26, y - 4, ASK, ' stroke-width="2"')
+    d.text(LEFT + 32, y, "best ask")
+    d.line(LEFT + 110, y - 4, LEFT + 136, y - 4, BID, ' stroke-width="2"')
+    d.text(LEFT + 142, y, "best bid")
+    d.rect(LEFT + 222, y - 12, 26, 15, KEPT)
+    d.text(LEFT + 254, y, "kept")
+    d.text(RIGHT, y, "price steps over the quantum's time", "end", 12, PALE)
+
+
+def draw_shares(d: Drawing, cell: Cell) -> None:
+    """The share kept as a bar, the required share and the full weight's as marks."""
+    d.rect(LEFT, BAR_TOP, COLUMNS, BAR_HEIGHT, "#eeeeee")
+    d.rect(LEFT, BAR_TOP, COLUMNS * cell.kept / cell.length, BAR_HEIGHT, MET_BAR if cell.met else FAILED_BAR)
+    d.text(LEFT, BAR_TOP - 7, f"kept {part_text(cell.kept, cell.length)}")
+    required = (cell.share, f"required {share_text(cell.share)}", "start" if cell.share < 200 else "end")
+    for share, label, anchor in (required, (800, "full weight from 80%", "start")):
+        x = LEFT + COLUMNS * share / 1_000
+        d.line(x, BAR_TOP - 5, x, BAR_TOP + BAR_HEIGHT + 5, INK, ' stroke-width="1.5"')
+        d.text(x + (-5 if anchor == "end" else 5), BAR_TOP + BAR_HEIGHT + 18, label, anchor, 12)
+
+
+def draw_lapses(d: Drawing, plot: Plot, pairs: Pairs, cell: Cell) -> None:
+    """Each lapse as a mark below the plot, and their count against the limit."""
+    colour = INK if cell.lapses <= (cell.limit or 0) else ASK
+    ends = [0, *(offset + size for offset, size in pairs)]
+    starts = [*(offset for offset, _ in pairs), plot.length]
+    for stop, start in zip(ends, starts):
+        if stop < start:
+            d.rect(plot.x(stop), BOTTOM + 1, max(1, plot.x(start) - plot.x(stop)), 4, colour)
+    d.text(RIGHT, BAR_TOP - 7, f"lapses {cell.lapses}, at most {cell.limit}", "end", colour=colour, more=' font-weight="bold"')
+
+
+def widest(row: Row, sp: int) -> int:
+    """The greatest spread that is within, for the line under the title."""
+    return max(row.b, row.a * max(sp, 0) // 100_000)
+
+
+def picture(name: str, data: bytes, limit: Optional[int] = None) -> str:
+    """The SVG of a session's bytes, with verdict and weight by a lapse limit, where there is one; a refused session raises `Refused`."""
+    done = session(data[: HEAD.size], data[HEAD.size :])
+    cell, shown, row, sp = judged(data, c.NO_LIMIT if limit is None else limit), quotes(data), done.rule.row, done.rule.sp
+    prices = [price for _, bid, ask in shown for price in (bid, ask) if price is not None] or [sp]
+    margin = max(1, (max(prices) - min(prices)) // 12)
+    plot, d = Plot(done.length, min(prices) - margin, max(prices) + margin), Drawing(WIDTH, HEIGHT)
+    title = f"{drawing.short(name)}: {verdict_text(cell.met)}, weight {cell.weight}"
+    d.text(LEFT, 30, title, size=19, more=' font-weight="bold"')
+    kept = f"kept {clock(cell.kept)} of {clock(cell.length)}, stretches: {len(done.pairs)}"
+    d.text(LEFT, 52, f"{kept}; SP {sp}, least volume {row.minimum}, spread at most {widest(row, sp)}")
+    draw_kept(d, done.pairs, done.length)
+    draw_axes(d, plot)
+    d.path(steps(plot, [(t, ask) for t, _, ask in shown]), ASK)
+    d.path(steps(plot, [(t, bid) for t, bid, _ in shown]), BID)
+    draw_legend(d)
+    draw_shares(d, cell)
+    if limit is not None:
+        draw_lapses(d, plot, done.pairs, cell)
+    return d.svg()
+
+
+
