@@ -3,7 +3,8 @@
  *
  * What holds of every call
  *   - It answers one number of 64 bits. Below 4294967296 it is the answer; from there on the call is refused, by the refusal
- *     quoting_refusal_of(answer), at the place answer & 4294967295 (a record counted from 1 in a session, else 0).
+ *     quoting_refusal_of(answer), at the place answer & 4294967295 (a record counted from 1 in a session, a lent buffer counted from 1 in
+ *     quoting_month_call, else 0).
  *   - Of the causes that apply, the refusal is the lowest number, but 16, a buffer too short, comes after all others.
  *   - A refused call leaves every lent buffer as it was. What an accepted call writes stands at the front of the buffer; what is behind it
  *     keeps its contents.
@@ -11,6 +12,8 @@
  *     nothing else. A pointer may be null only if its length is 0.
  *   - A length counts what the pointer points to: bytes, words of 32 bits, prices or strikes, not bytes alone.
  *   - Nothing is allocated and no state is kept between calls, so calls from several threads don't disturb each other.
+ *   - The words of a month are written by quoting_month_fresh and quoting_month_call alone: a caller may keep, copy and store them, and hands
+ *     quoting_month_call no others.
  * Nothing else is asked of the caller: whatever numbers, bytes and words are handed over, each call ends and answers as is said here. That
  * is proved of every call but quoting_refusal_text and quoting_version, which are plain C.
  *
@@ -23,11 +26,16 @@
 #include <stddef.h>
 #include <stdint.h>
 
-#define QUOTING_VERSION "1.0.0"
+#define QUOTING_VERSION "1.1.0"
 
 /* The longest FIX message that quoting_fix_write writes, in bytes, and the words of one that quoting_fix reads. */
 #define QUOTING_FIX_BYTES 114
 #define QUOTING_FIX_WORDS 13
+
+/* The words of a month, the bytes of its hints, and the words of an answer to one of its calls. */
+#define QUOTING_MONTH_WORDS 2388
+#define QUOTING_HINT_BYTES 2048
+#define QUOTING_ANSWER_WORDS 20
 
 #ifdef __cplusplus
 extern "C" {
@@ -62,6 +70,15 @@ enum quoting_refusal {
     QUOTING_MAKER_PRESENT_OR_ABSENT = 24,
     QUOTING_STANDING_FULL = 25,
     QUOTING_ABOVE_SIXTY = 26
+};
+
+/* The kinds of an answer to a month's call: its word 0. */
+enum quoting_answer {
+    QUOTING_ANSWER_ACCEPTED = 0,
+    QUOTING_ANSWER_REFUSED = 1,
+    QUOTING_ANSWER_CELL = 2,
+    QUOTING_ANSWER_ASKED = 3,
+    QUOTING_ANSWER_REPORT = 4
 };
 
 /* The refusal of an answer, 0 where the call was accepted. */
@@ -209,6 +226,67 @@ uint64_t quoting_ease(uint32_t *row, size_t row_length, uint32_t strike, const i
  *   26  a number above 60
  */
 uint64_t quoting_safe_minutes(uint32_t m, uint32_t h, uint32_t k);
+
+/*
+ * A month of one side's quanta lives in words that the caller owns: 2,388 of them, every one fixed by the month, the same on every machine.
+ *
+ * Writes the fresh month, in which no call was made.
+ *
+ * words    words_length words; QUOTING_MONTH_WORDS are written.
+ *
+ * Answers the number of words written, QUOTING_MONTH_WORDS. Refused by
+ *   16  words_length is below QUOTING_MONTH_WORDS
+ */
+uint64_t quoting_month_fresh(uint32_t *words, size_t words_length);
+
+/*
+ * Takes one call on a month, leaves the words of the month after it, and writes its answer. A call that the month refuses leaves the words
+ * as they were and is answered like any other: this number says only whether a call was made, and the answer's kind says the rest.
+ *
+ * words    the words of a month, as quoting_month_fresh or this call left them; those behind QUOTING_MONTH_WORDS are not looked at.
+ * hints    at least QUOTING_HINT_BYTES bytes, in which the call may leave where an order was found. They may hold anything, at the first
+ *          call and later, and change nothing that is answered or left in the words; kept from call to call they save time. They are the
+ *          only bytes of which is not said what the call leaves in them.
+ * call     one block of a list of calls (docs/FORMATS.md, "A list of calls"), and nothing more: words of four bytes, low byte first, of
+ *          which the first is the kind (1 open, 2 add, 3 amend, 4 cancel, 5 deal, 6 tick, 7 close ..). call_length is the number of bytes.
+ * answer   answer_length words, of which QUOTING_ANSWER_WORDS are written; those that the kind doesn't take are 0:
+ *             0  kind, of enum quoting_answer     1  the refusal's number, of a refused call
+ *          a cell (of a look), from word 2 on: filled, K, L, p, lapse limit (65535 for none), lapses, active charge (low word, high word),
+ *             passive charge (low, high); 12 whether it is met; 13 its weight
+ *          what is asked (of an ask): 2 and 3 the best bid (whether there is one, its price), 4 and 5 the best ask; the ticket, 6 to 9 t,
+ *             id, price and volume, 10 and 11 its count (low, high)
+ *          a report: 2 whether a quantum is open, 3 time, 4 live orders, 5 and 6 the best bid, 7 and 8 the best ask, 9 kept milliseconds,
+ *             10 lapses, 11 to 16 the failed quanta of each series, 17 and 18 the fee (low, high)
+ *
+ * Answers the number of words written, QUOTING_ANSWER_WORDS. Refused, with nothing changed, by
+ *    3  the bytes are not one block of a call: of another kind, cut short, with an add's side other than 1 or 2, or with more behind it
+ *   16  at place 1, words_length is below QUOTING_MONTH_WORDS; at place 2, hints_length is below QUOTING_HINT_BYTES; at place 3,
+ *       answer_length is below QUOTING_ANSWER_WORDS; the first of them that applies
+ */
+uint64_t quoting_month_call(
+    uint32_t *words, size_t words_length, uint8_t *hints, size_t hints_length, const uint8_t *call, size_t call_length, uint32_t *answer,
+    size_t answer_length);
+
+/*
+ * Runs a whole list of calls from a fresh month, each on the month that the one before left, and writes each call's answer, as
+ * quoting_month_call does, one behind the other. It stops where the words are no call: what is left is not looked at further, and
+ * quoting_calls_words says where that is.
+ *
+ * calls    the blocks, one directly behind the other. calls_length is the number of bytes.
+ * answers  answers_length words, QUOTING_ANSWER_WORDS for each call. A block has a word at least, so 5 * calls_length are always enough.
+ *
+ * Answers the number of calls that were made. Refused by
+ *    3  calls_length is 17179869184 or above
+ *   16  answers_length is below QUOTING_ANSWER_WORDS times the number of calls
+ */
+uint64_t quoting_calls(const uint8_t *calls, size_t calls_length, uint32_t *answers, size_t answers_length);
+
+/*
+ * The number of words, from the first on, that are calls one behind the other. Where four times that is calls_length, all of the bytes are
+ * calls; else no call begins behind it. Refused by
+ *    3  calls_length is 17179869184 or above
+ */
+uint64_t quoting_calls_words(const uint8_t *calls, size_t calls_length);
 
 #ifdef __cplusplus
 }

@@ -27,8 +27,8 @@ from recount.book import choose, weight
 from tests import generate, known, messages
 from tests import strikes as strike_cases
 from tests import volatile as volatile_cases
-from tools import calls as calls_text
-from tools import session as session_text
+from tests import calls_text
+from tests import session_text
 
 TARGET = ROOT / "target"
 BUILT = TARGET / "library"

@@ -2,7 +2,12 @@
 
 import sys
 
-from quoting.cli import main
-
 if __name__ == "__main__":
-    sys.exit(main())
+    try:
+        from quoting.cli import main
+
+        status = main()
+    except KeyboardInterrupt:  # before the command has begun
+        sys.stderr.write("quoting: stopped\n")
+        status = 130
+    sys.exit(status)

@@ -77,16 +77,31 @@ def messages(data: bytes) -> list[Found]:
     return found
 
 
+class Sides:
+    """The side of each order that was sent: a replace of the other side is refused, as the month refuses it."""
+
+    def __init__(self) -> None:
+        self.known: dict[int, Optional[str]] = {}
+
+    def check(self, order: fix.Order) -> None:
+        if order.kind == "G" and self.known.get(order.refers, order.side) != order.side:
+            raise Refused(21, 0, f"order {order.refers} is a {self.known[order.refers]}, and this replaces it by a {order.side}")
+        if order.kind != "F":
+            self.known[order.id] = order.side
+
+
 def read(data: bytes, start: str) -> Log:
     """The messages of a log, taken in a quantum that starts then (the form of 60)."""
     fix.moment(start)
-    log = Log([], [], [])
+    log, sides = Log([], [], []), Sides()
     for found in messages(data):
         if found.kind is not None and found.kind not in TAKEN:
             log.passed.append(found)
             continue
         try:
-            log.taken.append(Taken(found, fix.events_of(fix.read(found.data), start)))
+            order = fix.read(found.data)
+            sides.check(order)
+            log.taken.append(Taken(found, fix.events_of(order, start)))
         except (Refused, ValueError) as error:
             log.refused.append(Left(found, str(error)))
     return log

@@ -21,6 +21,7 @@ from quoting.values import Time
 
 MOST_WORDS = 65_536  # more than a month has
 HINT_BYTES = 2_048
+NO_CALL = 3  # the library's refusal of bytes that are not one block
 
 
 class Month:
@@ -46,8 +47,10 @@ class Month:
             raise ValueError("the month has ended with its block")
         lent = [part for each in (self._words, self._hints) for part in (native.address(each), len(each))]
         lent += [native.address(data), len(data), native.address(self._answer), WORDS]
-        if native.call("quoting_month_call", *lent) == 0:
-            raise ValueError("these bytes are no call")
+        try:
+            native.call("quoting_month_call", *lent)
+        except Refused as refused:
+            raise ValueError("these bytes are not one call") if refused.number == NO_CALL else refused from None
         return answer_of(list(self._answer))
 
     def call(self, call: c.Call) -> Answer:

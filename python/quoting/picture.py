@@ -77,7 +77,7 @@ def crowded(pairs: Pairs, length: int) -> set[int]:
     found: set[int] = set()
     for offset, size in [*pairs, (length, 0)]:
         gap = offset - before
-        if before and 0 < gap < pixel:
+        if 0 < gap < pixel:
             found.update((int(before / pixel), int((offset - 1) / pixel)))
         if 0 < size < pixel:
             found.update((int(offset / pixel), int((offset + size - 1) / pixel)))

@@ -5,6 +5,8 @@
 >>> done = session(rule, [Add(0, 1, "buy", 99, 500), Add(0, 2, "sell", 101, 500), Cancel(6000, 1)])
 >>> done.kept, done.met, done.weight, done.pairs
 (6000, True, 10000, [(0, 6000)])
+>>> session(rule, "t,kind,id,side,price,volume\\n0,add,1,buy,99,500\\n0,add,2,sell,101,500\\n").kept
+10000
 >>> session(rule, [Cancel("0:00:01", 7)])
 Traceback (most recent call last):
 quoting.native.Refused: refused 11 at 1: no order with this id is live
@@ -15,11 +17,11 @@ from functools import cached_property
 from typing import Any, Iterable, Union
 
 from quoting import events as lists
-from quoting import native
+from quoting import native, texts
 from quoting.events import Event
 from quoting.rules import HEAD, Rule
 
-Events = Union[bytes, bytearray, memoryview, Iterable[Event]]
+Events = Union[str, bytes, bytearray, memoryview, Iterable[Event]]
 FRONT = 3  # words before the pairs: K, the weight, the number of pairs
 
 
@@ -62,8 +64,8 @@ class Session:
 
 
 def session(rule: Union[Rule, bytes], events: Events) -> Session:
-    """Runs one session. `events` are a list of events, bytes of records, or a numpy array of `events.dtype()`, whose memory is
-    handed over as it stands. A refusal is raised as `Refused`; its place is the record counted from 1."""
+    """Runs one session. `events` are a list of events, a text of CSV, bytes of records, or a numpy array of `events.dtype()`, whose
+    memory is handed over as it stands. A refusal is raised as `Refused`; its place is the record counted from 1."""
     head = rule.head if isinstance(rule, Rule) else bytes(rule)
     data, size, _lent = lent(events)
     most = FRONT + 2 * ((-(-size // lists.SIZE) + 1) // 2)  # a run of n records has at most (n + 1) / 2 kept stretches
@@ -78,6 +80,8 @@ def lent(events: Events) -> tuple[Any, int, Any]:
         return array_lent(events)
     if isinstance(events, bytes):
         data = events
+    elif isinstance(events, str):
+        data = texts.csv_bytes(events, head=b"")
     elif isinstance(events, (bytearray, memoryview)):
         data = bytes(events)
     else:

@@ -192,7 +192,7 @@ def csv_bytes(text: str, options: Options = PLAIN, head: Optional[bytes] = None)
             raise
     if reader.names is None:
         raise TextError(f"there is no line with the columns {','.join(CSV_COLUMNS)}")
-    return (head or head_bytes(reader.row, reader.sp)) + b"".join(out)
+    return (head_bytes(reader.row, reader.sp) if head is None else head) + b"".join(out)
 
 
 # ---------------------------------------------------------------- messages in a text

@@ -25,25 +25,31 @@ use Rattle.script.specs.declared.Done.{Done as Ended}
 use Rattle.script.specs.Blocks.{shownOf, Performed, Stepped}
 use Rattle.answers.specs.Words.{answerWords}
 use Rattle.live.specs.declared.Called.{Called}
-use Rattle.live.specs.declared.Called.the-variants.{Done, WordsShort, AnswerShort, NoCall}
+use Rattle.live.specs.declared.Called.the-variants.{Done, WordsShort, HintsShort, AnswerShort, NoCall}
 use Rattle.live.specs.Calling.{isCall, wordsAfter, calledBy, HoldsMonth, Performs, Calling, wordsShown}
 
 -- ---- what became of it
 
-pub words-short : (w a c : Bool) → w ≡ false → WordsShort ≡ calledBy w a c
-words-short w a c p = ap (λ (b : Bool). calledBy b a c) (sym p)
+pub words-short : (w h a c : Bool) → w ≡ false → WordsShort ≡ calledBy w h a c
+words-short w h a c p = ap (λ (b : Bool). calledBy b h a c) (sym p)
 
-pub answer-short : (w a c : Bool) → w ≡ true → a ≡ false → AnswerShort ≡ calledBy w a c
-answer-short w a c p q = λ i. calledBy (sym p i) (sym q i) c
+pub hints-short : (w h a c : Bool) → w ≡ true → h ≡ false → HintsShort ≡ calledBy w h a c
+hints-short w h a c p q = λ i. calledBy (sym p i) (sym q i) a c
 
-pub no-call : (w a c : Bool) → w ≡ true → a ≡ true → c ≡ false → NoCall ≡ calledBy w a c
-no-call w a c p q r = λ i. calledBy (sym p i) (sym q i) (sym r i)
+pub answer-short : (w h a c : Bool) → w ≡ true → h ≡ true → a ≡ false → AnswerShort ≡ calledBy w h a c
+answer-short w h a c p q r = λ i. calledBy (sym p i) (sym q i) (sym r i) c
 
-pub is-done : (w a c : Bool) → w ≡ true → a ≡ true → c ≡ true → Done ≡ calledBy w a c
-is-done w a c p q r = λ i. calledBy (sym p i) (sym q i) (sym r i)
+pub no-call : (w h a c : Bool) → w ≡ true → h ≡ true → a ≡ true → c ≡ false → NoCall ≡ calledBy w h a c
+no-call w h a c p q r s = λ i. calledBy (sym p i) (sym q i) (sym r i) (sym s i)
+
+pub is-done : (w h a c : Bool) → w ≡ true → h ≡ true → a ≡ true → c ≡ true → Done ≡ calledBy w h a c
+is-done w h a c p q r s = λ i. calledBy (sym p i) (sym q i) (sym r i) (sym s i)
 
 pub words-not-done : WordsShort ≡ Done → ⊥
 words-not-done e = let z : _≡_ {A = ℕ} 0 1 = cc in omega arith
+
+pub hints-not-done : HintsShort ≡ Done → ⊥
+hints-not-done e = let z : _≡_ {A = ℕ} 0 1 = cc in omega arith
 
 pub answer-not-done : AnswerShort ≡ Done → ⊥
 answer-not-done e = let z : _≡_ {A = ℕ} 0 1 = cc in omega arith
@@ -52,9 +58,9 @@ pub no-call-not-done : NoCall ≡ Done → ⊥
 no-call-not-done e = let z : _≡_ {A = ℕ} 0 1 = cc in omega arith
 
 -- nothing is changed, whatever the cause
-pub unchanged : (words out bytes : List ℕ) (r : Called) → (r ≡ Done → ⊥) → r ≡ calledBy (leb 2388 (length words)) (leb 20 (length out)) (isCall bytes)
-    → Calling words out bytes words out r
-unchanged words out bytes r never e = record { called = e; done = λ d. absurd (never d); kept = λ d. (refl, refl) }
+pub unchanged : (words : List ℕ) (hints : ℕ) (out bytes : List ℕ) (r : Called) → (r ≡ Done → ⊥)
+    → r ≡ calledBy (leb 2388 (length words)) (leb 2048 hints) (leb 20 (length out)) (isCall bytes) → Calling words hints out bytes words out r
+unchanged words hints out bytes r never e = record { called = e; done = λ d. absurd (never d); kept = λ d. (refl, refl) }
 
 -- ---- the call
 

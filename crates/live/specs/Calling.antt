@@ -19,7 +19,7 @@ use Rattle.script.specs.declared.Outcome.{Outcome}
 use Rattle.script.specs.declared.Outcome.the-variants as O
 use Rattle.answers.specs.Words.{answerWords}
 use Rattle.live.specs.declared.Called.{Called}
-use Rattle.live.specs.declared.Called.the-variants.{Done, WordsShort, AnswerShort, NoCall}
+use Rattle.live.specs.declared.Called.the-variants.{Done, WordsShort, HintsShort, AnswerShort, NoCall}
 
 -- one call's block, and nothing more
 unfoldable pub isCall : List ℕ → Bool
@@ -37,8 +37,9 @@ pub record HoldsMonth (words : List ℕ) : Type 0 where
   pub is : take 2388 words ≡ wordsAfter calls
 
 -- what became of a call
-abbrev pub calledBy : Bool → Bool → Bool → Called
-calledBy words answer call = if words then (if answer then (if call then Done else NoCall) else AnswerShort) else WordsShort
+abbrev pub calledBy : Bool → Bool → Bool → Bool → Called
+calledBy words hints answer call =
+    if words then (if hints then (if answer then (if call then Done else NoCall) else AnswerShort) else HintsShort) else WordsShort
 
 -- For every list of calls whose month these words are: they are those of the longer list, and the answer's words are the plain book's
 -- answer, of refused calls too. What stands behind the words and behind the answer is kept.
@@ -48,9 +49,11 @@ pub record Performs (words out bytes words′ out′ : List ℕ) : Type 0 where
   pub answer : (calls : List Call) → take 2388 words ≡ wordsAfter calls
       → out′ ≡ answerWords (answerOf paper (after paper calls) (callOf (wordsIn bytes))) ++ drop 20 out
 
--- Too few words for a month or an answer, and bytes that are no call, are answered as such, and then nothing is changed.
-pub record Calling (words out bytes words′ out′ : List ℕ) (r : Called) : Type 0 where
-  pub called : r ≡ calledBy (leb 2388 (length words)) (leb 20 (length out)) (isCall bytes)
+-- Too few words for a month, too few hints, too few words for an answer, and bytes that are no call, are answered as such, and then
+-- nothing is changed. The hints are no function of the month: of them only their number stands here, so what is answered and left is the
+-- same whatever they hold.
+pub record Calling (words : List ℕ) (hints : ℕ) (out bytes words′ out′ : List ℕ) (r : Called) : Type 0 where
+  pub called : r ≡ calledBy (leb 2388 (length words)) (leb 2048 hints) (leb 20 (length out)) (isCall bytes)
   pub done : r ≡ Done → Performs words out bytes words′ out′
   pub kept : (r ≡ Done → ⊥) → (words′ ≡ words) × (out′ ≡ out)
 

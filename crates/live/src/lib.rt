@@ -16,16 +16,19 @@ use month::Month;
 use script::Outcome;
 use script::Shown;
 
-// How many words a month has, and an answer.
+// How many words a month has, how many bytes its hints, and how many words an answer.
 pub const MONTH: usize = 2388;
+
+pub const HINTS: usize = 2048;
 
 pub const ANSWER: usize = 20;
 
-// What became of a call: done, accepted or refused; or the lent words or the answer's are too few, or the bytes are no call, and then
-// nothing is changed.
+// What became of a call: done, accepted or refused; or the lent words, the hints or the answer's words are too few, or the bytes are no
+// call, and then nothing is changed.
 pub enum Called {
     Done,
     WordsShort,
+    HintsShort,
     AnswerShort,
     NoCall,
 }
@@ -43,14 +46,14 @@ pub fn fresh(words: &mut [u32]) -> bool
 }
 
 // Whether some bytes are one call's block, and nothing more.
-fn is_call(bytes: &[u8]) -> bool
+pub fn is_call(bytes: &[u8]) -> bool
     ensures { λ r. ⌜ r ≡ isCall (now (bytes .entry)) ⌝ }
 {
     let size = blocks::size(bytes);
     (size != 0) & (size == blocks::count(bytes)) & (bytes.len() % 4 == 0)
 }
 
-fn put_answer(shown: Shown, answer: &mut [u32])
+pub fn put_answer(shown: Shown, answer: &mut [u32])
     requires { ⌜ length (now answer) ≡ 20 ⌝ }
     ensures { λ _. ⌜ now (answer .exit) ≡ wordsShown (shown .outcome) (shown .report) ⌝ }
 {
@@ -78,13 +81,17 @@ fn perform(words: &mut [u32], bytes: &[u8], answer: &mut [u32])
     put_answer(shown, &mut answer[0..20]);
 }
 
-// One call, on the month whose words these are.
-pub fn call(words: &mut [u32], bytes: &[u8], answer: &mut [u32]) -> Called
+// One call, on the month whose words these are. The hints only say where an id was last found: they may hold anything, and nothing that
+// is answered or left in the words depends on what they hold, so the contract reads their number alone and says nothing of them after.
+pub fn call(words: &mut [u32], hints: &mut [u8], bytes: &[u8], answer: &mut [u32]) -> Called
     requires { ⌜ (2388 ≤ length (now words) → HoldsMonth (now words)) ⌝ }
-    ensures { λ r. ⌜ Calling (now (words .entry)) (now (answer .entry)) (now (bytes .entry)) (now (words .exit)) (now (answer .exit)) r ⌝ }
+    ensures { λ r. ⌜ Calling (now (words .entry)) (length (now (hints .entry))) (now (answer .entry)) (now (bytes .entry)) (now (words .exit)) (now (answer .exit)) r ⌝ }
 {
     if words.len() < MONTH {
         return Called::WordsShort;
+    }
+    if hints.len() < HINTS {
+        return Called::HintsShort;
     }
     if answer.len() < ANSWER {
         return Called::AnswerShort;

@@ -1,4 +1,5 @@
 pub mod Filling
+pub mod Months
 pub mod Pairs
 pub mod Texts
 pub mod Weighing

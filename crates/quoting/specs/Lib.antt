@@ -2,4 +2,5 @@ pub mod Answers
 pub mod Extras
 pub mod Internal
 pub mod Messages
+pub mod Months
 pub mod Sessions

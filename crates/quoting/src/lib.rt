@@ -4,6 +4,7 @@ use board::BoardAnswer;
 use fix::MessageRead;
 use fix_writer::MessageText;
 use game::SafeAnswer;
+use live::Called;
 use rules::Contracts;
 use rules::Millis;
 use rules::SessionAnswer;
@@ -15,10 +16,11 @@ use rules::Timestamp;
 use volatile::DayAnswer;
 ghost use mathlib.Core.Path.{_≡_};
 ghost use mathlib.Core.Bool.{true, not};
-ghost use mathlib.Core.List.{_∷_, _++_};
-ghost use Prim.Native.Nat.{ℕ, _≤_, _<_};
+ghost use mathlib.Core.List.{[], _∷_, _++_};
+ghost use Prim.Native.Nat.{ℕ, _+_, _≤_, _<_};
 ghost use lib.Dec.{eqb};
 ghost use lib.ListN.{length, take, drop};
+ghost use Rattle.rules.specs.Lists.{if_then_else_};
 ghost use Rattle.rules.specs.Terms.{paper};
 ghost use Rattle.rules.specs.Answers.{accepted, shownSession};
 ghost use Rattle.rules.specs.Choosing.{chosenRow};
@@ -35,7 +37,9 @@ ghost use Rattle.quoting.specs.Answers.{refusedNumber, valueNumber, test
 ghost use Rattle.quoting.specs.Messages.{sideWord, sideOf, timeWords, readWords, messageFor, textFor};
 ghost use Rattle.quoting.specs.Extras.{weighed, spreadFor};
 ghost use Rattle.quoting.specs.Sessions.{pairsNumber, FillsPairs};
-ghost use Rattle.quoting.specs.Internal.{shortNumber, ranNumber, headed};
+ghost use Rattle.quoting.specs.Internal.{shortNumber, ranNumber, headed, calledNumber};
+ghost use Rattle.quoting.specs.Months.{CallsMonth, AnswersCalls, wordsOutcome};
+ghost use Rattle.live.specs.Calling.{isCall, wordsAfter, HoldsMonth};
 
 // ---- answers
 
@@ -461,4 +465,81 @@ pub extern "C" fn quoting_session_pairs(head: &[u8], records: &[u8], buffer: &mu
         return run_short(&row, sp, records);
     }
     run_pairs(&row, sp, records, buffer)
+}
+
+// ---- months in lent words
+
+// The fresh month.
+#[no_mangle]
+pub extern "C" fn quoting_month_fresh(words: &mut [u32]) -> u64
+    ensures { λ r. ⌜ Fills (accepted (wordsAfter [])) (now (words .entry)) (now (words .exit)) r ⌝ }
+{
+    if !live::fresh(words) {
+        return refused(16);
+    }
+    2388
+}
+
+// A buffer that is too short, unless the bytes are no call.
+fn short_at(place: u32, call: &[u8]) -> u64
+    ensures { λ r. ⌜ r ≡ (if isCall (now (call .entry)) then refusedNumber 16 + place else refusedNumber 3) ⌝ }
+{
+    if live::is_call(call) {
+        return refused(16) + (place as u64);
+    }
+    refused(3)
+}
+
+fn called_number(called: Called, call: &[u8]) -> u64
+    ensures { λ r. ⌜ r ≡ calledNumber called (isCall (now (call .entry))) ⌝ }
+{
+    match called {
+        Called::Done => 20,
+        Called::WordsShort => short_at(1, call),
+        Called::HintsShort => short_at(2, call),
+        Called::AnswerShort => short_at(3, call),
+        Called::NoCall => refused(3),
+    }
+}
+
+// One call on the month whose words these are.
+#[no_mangle]
+pub extern "C" fn quoting_month_call(
+    words: &mut [u32],
+    hints: &mut [u8],
+    call: &[u8],
+    answer: &mut [u32],
+) -> u64
+    requires { ⌜ (2388 ≤ length (now words) → HoldsMonth (now words)) ⌝ }
+    ensures { λ r. ⌜ CallsMonth (now (words .entry)) (length (now (hints .entry))) (now (answer .entry)) (now (call .entry)) (now (words .exit)) (now (answer .exit)) r ⌝ }
+{
+    let called = live::call(words, hints, call, answer);
+    called_number(called, call)
+}
+
+// A whole list of calls from a fresh month.
+#[no_mangle]
+pub extern "C" fn quoting_calls(calls: &[u8], answers: &mut [u32]) -> u64
+    ensures { λ r. ⌜ AnswersCalls (now (calls .entry)) (now (answers .entry)) (now (answers .exit)) r ⌝ }
+{
+    if 17179869184 <= calls.len() {
+        return refused(3);
+    }
+    let list = lists::run(calls, answers);
+    if !list.fits {
+        return refused(16);
+    }
+    list.calls as u64
+}
+
+// How many words of a list are calls, from the first on.
+#[no_mangle]
+pub extern "C" fn quoting_calls_words(calls: &[u8]) -> u64
+    ensures { λ r. ⌜ r ≡ valueNumber (wordsOutcome (now (calls .entry))) ⌝ }
+{
+    if 17179869184 <= calls.len() {
+        return refused(3);
+    }
+    let list = blocks::measure(calls);
+    list.words as u64
 }

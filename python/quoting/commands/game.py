@@ -69,11 +69,9 @@ def typed(minutes: int, lines: Iterable[str], is_asked: bool) -> Taker:
 def taker_of(args: argparse.Namespace, minutes: int, doubles: int) -> Taker:
     if args.play is None:
         return best_taker(minutes, doubles)
-    if args.play != STANDARD:
-        return typed(minutes, reading.split_lines(reading.decoded(reading.read_bytes(args.play))), False)
-    if sys.stdin is None:
-        raise TextError("standard input is closed")
-    return typed(minutes, sys.stdin, sys.stdin.isatty())
+    if args.play == STANDARD and sys.stdin is not None and sys.stdin.isatty():
+        return typed(minutes, map(reading.decoded, sys.stdin.buffer), True)
+    return typed(minutes, reading.split_lines(reading.decoded(reading.read_bytes(args.play))), False)
 
 
 # ---------------------------------------------------------------- a play

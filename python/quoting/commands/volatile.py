@@ -31,7 +31,7 @@ def add(parser: argparse.ArgumentParser) -> None:
 
 
 def rows(days: list[Day], judged: Judged) -> list[list[object]]:
-    inside = [None for _ in days] if judged.inside is None else ["yes" if flag else "no" for flag in judged.inside]
+    inside = ["-" if judged.inside is None else "yes" if judged.inside[at] else "no" for at in range(len(days))]
     return [[at, day.name, day.price, judged.sigmas[at], inside[at]] for at, day in enumerate(days)]
 
 

@@ -1,14 +1,15 @@
-"""Writes the constants of the weight card: `python3 tools/card_table.py`.
+"""Writes the constants of the weight card: `python3 tools/dev/card_table.py`.
 
 They stand in `crates/weights/src/table.rt`, and once more, for the proofs, in
 `crates/weights/proofs/Constants.antt`. The numbers are the recount's; that each is the weight by the
 definitions is proved in `weights`.
 """
 
+import argparse
 import sys
 from pathlib import Path
 
-ROOT = Path(__file__).resolve().parent.parent
+ROOT = Path(__file__).resolve().parent.parent.parent
 sys.path.insert(0, str(ROOT))
 
 from recount import card
@@ -46,6 +47,11 @@ FILES = {
 }
 
 
-if __name__ == "__main__":
+def main():
+    argparse.ArgumentParser(description=__doc__, formatter_class=argparse.RawDescriptionHelpFormatter).parse_args()
     for path, text in FILES.items():
         path.write_text(text(), encoding="utf-8")
+
+
+if __name__ == "__main__":
+    main()

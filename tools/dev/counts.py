@@ -1,9 +1,10 @@
-"""Counts functions and lines, crate by crate: `python3 tools/counts.py`. Blank lines and comments are left out."""
+"""Counts functions and lines, crate by crate: `python3 tools/dev/counts.py`. Blank lines and comments are left out."""
 
+import argparse
 import re
 from pathlib import Path
 
-ROOT = Path(__file__).resolve().parent.parent
+ROOT = Path(__file__).resolve().parent.parent.parent
 
 
 def lines(files):
@@ -35,6 +36,7 @@ def row(name, cells):
 
 
 def main():
+    argparse.ArgumentParser(description=__doc__).parse_args()
     listed = (ROOT / "crates.txt").read_text(encoding="utf-8").splitlines()
     names = [line.split(":")[0] for line in listed if line.strip() and not line.startswith("#")]
     table = [counts(ROOT / "crates" / name) for name in names]

@@ -1,0 +1,2 @@
+-- The loop over a whole list.
+pub mod Listing

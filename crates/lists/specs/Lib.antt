@@ -1,0 +1,2 @@
+-- What is promised of a whole list of calls.
+pub mod Listing

@@ -1,0 +1,45 @@
+// A whole list of calls run from a fresh month, each call's whole answer in twenty words of a lent buffer (answers/specs/Words).
+ghost use mathlib.Core.Path.{_≡_};
+ghost use Rattle.words.specs.Bytes.{wordsIn};
+ghost use Rattle.lists.specs.Listing.{ListAnswered};
+use month::Month;
+
+// How many calls and words of the list were read, and whether their answers fit the lent buffer.
+pub struct Listed {
+    pub calls: usize,
+    pub words: usize,
+    pub fits: bool,
+}
+
+// Each call goes to the month that the one before handed back, and its answer behind those before it.
+pub fn run(bytes: &[u8], answers: &mut [u32]) -> Listed
+    ensures { λ r. ⌜ ListAnswered (wordsIn (now (bytes .entry))) (now (answers .entry)) (now (answers .exit)) r ⌝ }
+{
+    let list = blocks::measure(bytes);
+    let calls = list.calls;
+    let words = list.words;
+    if answers.len() / 20 < calls {
+        return Listed {
+            calls,
+            words,
+            fits: false,
+        };
+    }
+    let mut month = Month::fresh();
+    let mut at: usize = 0;
+    let mut k: usize = 0;
+    while k < calls {
+        let done = script::block(month, bytes, at);
+        let shown = done.shown;
+        let from = 20 * k;
+        live::put_answer(shown, &mut answers[from..from + 20]);
+        month = done.month;
+        at = done.next;
+        k += 1;
+    }
+    Listed {
+        calls,
+        words,
+        fits: true,
+    }
+}

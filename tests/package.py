@@ -1,0 +1,270 @@
+"""The package `quoting`: its types, its examples, its calls against the recount, and against the header.
+
+    /usr/bin/python3 tests/package.py
+
+Needs libquoting (make library), and mypy, pyflakes and numpy (tests/packages).
+"""
+
+import doctest
+import os
+import random
+import re
+import subprocess
+import sys
+import threading
+from importlib import import_module
+from pathlib import Path
+from pkgutil import walk_packages
+
+ROOT = Path(__file__).resolve().parent.parent
+sys.path[:0] = [str(ROOT), str(ROOT / "python")]
+
+import numpy
+
+import quoting
+from quoting import Add, Amend, Cancel, Deal, Refused, Row, Rule, Tenths, Tick, events, fix, inputs, native, refusals, texts
+from recount import game, records, strikes, volatile
+from recount import fix as recount_fix
+from recount import session as run
+from recount.book import Row as RecountRow
+from recount.book import choose, weight
+from tests import generate, known, messages
+from tests import strikes as strike_cases
+from tests import volatile as volatile_cases
+
+PACKAGE = ROOT / "python" / "quoting"
+PYTHON = os.environ.get("PYTHON", "/usr/bin/python3")
+
+
+# ---------------------------------------------------------------- types, examples, the header
+
+
+def check_types():
+    for words in (["-m", "mypy", "--strict", "--no-error-summary", PACKAGE], ["-m", "pyflakes", PACKAGE, ROOT / "tests", ROOT / "tools"]):
+        done = subprocess.run([PYTHON, *words], cwd=ROOT / "target", capture_output=True, text=True)
+        assert done.returncode == 0, done.stdout + done.stderr
+
+
+def modules():
+    names = [module.name for module in walk_packages(quoting.__path__, "quoting.")]
+    return [import_module(name) for name in ["quoting", *names] if not name.endswith("__main__")]
+
+
+def check_docstrings():
+    """Every example in a docstring holds; every module says what it is."""
+    tried = 0
+    for module in modules():
+        assert module.__doc__, f"{module.__name__} says nothing of itself"
+        done = doctest.testmod(module)
+        assert not done.failed, module.__name__
+        tried += done.attempted
+    assert tried > 40, tried
+
+
+TYPES = {"size_t": native.SIZE, "uint32_t": native.WORD}
+
+
+def check_header():
+    """The types of each call are those of the header."""
+    header = re.sub(r"/\*.*?\*/", "", (ROOT / "include" / "quoting.h").read_text(), flags=re.S)
+    declared = re.findall(r"^uint64_t (quoting_\w+)\(([^)]*)\);", header, re.M)
+    assert len(declared) >= 10, declared
+    for name, arguments in declared:
+        words = [" ".join(argument.split()[:-1] + argument.split()[-1:]) for argument in arguments.split(",")]
+        due = [native.BYTES if "*" in word else TYPES[word.split()[0]] for word in words]
+        assert native.CALLS.get(name) == due, name
+    assert quoting.version() == (ROOT / "VERSION").read_text().strip()
+
+
+def check_refusals():
+    assert (ROOT / "docs" / "REFUSALS.md").read_text() == refusals.page(), "docs/REFUSALS.md is old"
+    assert list(refusals.HELP) == list(range(1, 27))
+    assert len({each.sentence for each in refusals.all_of_them()}) == 26
+
+
+# ---------------------------------------------------------------- sessions
+
+
+def as_event(event):
+    """The package's event of the recount's."""
+    kinds = {"Add": Add, "Amend": Amend, "Cancel": Cancel, "Deal": Deal, "Tick": Tick}
+    values = event._asdict()
+    if "side" in values:
+        values["side"] = {1: "buy", 2: "sell"}[values["side"]]
+    return kinds[type(event).__name__](**values)
+
+
+def answer_of(rule, given):
+    try:
+        done = quoting.session(rule, given)
+    except Refused as refused:
+        assert refused.sentence == native.sentence_of(refused.number)
+        return run.Stopped(refused.number, refused.place)
+    assert done.array().tolist() == [list(pair) for pair in done.pairs]
+    return run.Done(done.kept, done.weight, done.met, done.length, done.pairs)
+
+
+def forms(data):
+    """The records as bytes, as a bytearray, as an array, and, where all are records, as events and CSV."""
+    yield data
+    yield bytearray(data)
+    if len(data) % 20 == 0:
+        yield numpy.frombuffer(data, dtype=events.dtype())
+    found = [records.read(record) for record in records.split(data)]
+    if None not in found:
+        listed = [as_event(event) for event in found]
+        yield listed
+        yield csv_of(listed)
+
+
+def csv_of(listed):
+    """Columns in another order than the documents', blank where an event takes none."""
+    lines = ["kind,t,volume,price,side,id"]
+    for event in listed:
+        cells = {"kind": type(event).__name__.lower(), **vars(event)}
+        lines.append(",".join(str(cells.get(name, "")) for name in lines[0].split(",")))
+    return "\r\n".join(lines)
+
+
+def check_sessions(rng):
+    sessions = [*known.sessions(), *(generate.any_session(rng)[1:] for _ in range(120))]
+    seen = set()
+    for head, data in sessions:
+        if len(data) > 200_000 or len(head) != 32:
+            continue
+        due = run.run_bytes(head, data)
+        for given in forms(data):
+            found = answer_of(head, given)
+            assert found == due, (head, data, type(given), found, due)
+        assert answer_of(Rule.of_bytes(head), data) == due
+        seen.add(due.number if isinstance(due, run.Stopped) else 0)
+    assert seen >= {0, 2, 3, 8, 9, 10, 11, 12, 14, 15}, seen
+
+
+def check_arrays():
+    """An array of another dtype or of scattered records is refused; a large one is not copied, and other threads run meanwhile."""
+    rule = Rule(Row(1, 1, "24:00:00", 1, 100, 1, "60%"), 2000)
+    ticks = numpy.zeros(2_000_000, dtype=events.dtype())
+    ticks["kind"], ticks["t"] = 6, numpy.arange(2_000_000)
+    assert quoting.session(rule, ticks).kept == 0
+    for wrong, said in ((ticks[::2], "numpy.ascontiguousarray"), (ticks["t"], "dtype"), (ticks.reshape(2, -1), "one dimension")):
+        try:
+            quoting.session(rule, wrong)
+        except ValueError as error:
+            assert said in str(error), error
+        else:
+            raise AssertionError("an array that does not fit was taken")
+    seen, done = 0, threading.Event()
+    worker = threading.Thread(target=lambda: [quoting.session(rule, ticks), done.set()])
+    worker.start()
+    while not done.is_set():
+        seen += 1
+    worker.join()
+    assert seen > 10, f"{seen} turns of this thread while the other ran a session"
+
+
+def check_rows(rng):
+    for _ in range(300):
+        _, holiday, expiry, quantum, u, h, *words = generate.any_tables(rng)
+        words = words[: u // 7 * 7] + words[u : u + h // 7 * 7]
+        rows = [Row.of_words(words[at : at + 7]) for at in range(0, len(words), 7)]
+        usual, others = rows[: u // 7], rows[u // 7 :]
+        tables = [[word for row in table for word in row.words] for table in (usual, others)]
+        found = quoting.choose_row(usual, others, bool(holiday), expiry, quantum)
+        assert (found.words if found else []) == choose(*tables, bool(holiday), expiry, quantum)
+
+
+# ---------------------------------------------------------------- the other calls
+
+
+def refused_or(call):
+    try:
+        return call()
+    except Refused as refused:
+        return refused.number
+
+
+def due_weight(kept, length, share):
+    if length % 1_000 or not 1_000 <= length <= 86_400_000 or not 1 <= share <= 799:
+        return 2
+    return 3 if kept > length else weight(kept, length, share)
+
+
+def check_others(rng):
+    for _ in range(500):
+        length, share = rng.choice([1_000, 31_500_000, 1_500, 0]), rng.choice([1, 600, 725, 799, 800])
+        kept = rng.choice([0, length * share // 1000, length, length + 1, rng.randrange(length + 1)])
+        assert refused_or(lambda: quoting.weight(kept, length, Tenths(share))) == due_weight(kept, length, share)
+        m, h, k = (rng.randrange(62) for _ in range(3))
+        assert refused_or(lambda: quoting.safe_minutes(m, h, k)) == (26 if max(m, h, k) > 60 else game.closed(m, h, k))
+        first, second, board = (strike_cases.spoiled if rng.random() < 0.3 else strike_cases.planned)(rng)
+        due = {18: 18, "met": True, "failed": False}[strikes.board(first, second, board)]
+        assert refused_or(lambda: quoting.board(board, first, second)) == due
+
+
+def check_volatile(rng):
+    for _ in range(200):
+        prices, threshold = rng.choice([volatile_cases.walk, volatile_cases.repeated, volatile_cases.rough])(rng)
+        due = {"inside yes": True, "inside no": False, "refused 22": 22}[volatile.answer(prices, threshold)]
+        assert refused_or(lambda: quoting.volatile_day(prices, threshold)) == due
+        row = Row(1, 1, "8:45:00", rng.randrange(100_002), rng.randrange(100_001), rng.randrange(1_000_001), "60%")
+        for is_strike in (False, True):
+            eased = refused_or(lambda: quoting.ease(row, prices, threshold, is_strike))
+            wanted = volatile.eased(row.words, is_strike) if due is True else row.words
+            assert eased == (22 if due == 22 else Row.of_words(wanted)), (row, eased)
+
+
+def check_fix(rng):
+    seen = set()
+    for _ in range(800):
+        data = messages.any_message(rng)[1] if rng.random() < 0.5 else messages.good(rng)
+        try:
+            due = recount_fix.read(data)
+        except recount_fix.Unread as unread:
+            assert refused_or(lambda: fix.read(data)) == unread.number, data
+            seen.add(unread.number)
+            continue
+        order = fix.read(data)
+        assert (order.kind, order.id, order.time.encode()) == (due.kind, due.numbers[11], due.time), data
+        assert fix.read(fix.write(order)) == order and fix.write(order) == recount_fix.write(due), data
+        seen.add(order.kind)
+    assert seen == {20, 21, "D", "F", "G"}, seen
+
+
+# ---------------------------------------------------------------- units and files
+
+
+def check_units():
+    """A share without its unit is refused with both readings; times and shares are read as they are written."""
+    for bare in (60, "60", 600):
+        try:
+            Row(1, 1, 10_000, 500, 100, 1, bare)
+        except ValueError as error:
+            assert f"write {bare}% (" in str(error) and f"or {bare} tenths (" in str(error), error
+        else:
+            raise AssertionError(f"a bare share of {bare!r} was taken")
+    row = Row(1, 1, "0:00:10", 500, 100, 1, "72.5%")
+    assert row == Row(1, 1, 10_000, 500, 100, 1, Tenths(725)) == Row(1, 1, 10_000, 500, 100, 1, "725 tenths")
+    assert RecountRow(*row.words).share == 725
+    wall = inputs.reading.Options(start=36_000_000, step=inputs.Decimal("0.01"))
+    line = texts.session_bytes("row 1 1 8:45:00 1000 150 3 60%\nsp 84.52\nadd 10:00:30 1 buy 84.47 600", wall)
+    assert line == texts.session_bytes("row 1 1 8:45:00 1000 150 3 60%\nsp 8452\nadd 0:00:30 1 buy 8447 600")
+
+
+def main():
+    check_types()
+    check_docstrings()
+    check_header()
+    check_refusals()
+    check_sessions(random.Random(1))
+    check_arrays()
+    check_rows(random.Random(2))
+    check_others(random.Random(3))
+    check_volatile(random.Random(4))
+    check_fix(random.Random(5))
+    check_units()
+    print("package: types, examples, header, sessions, arrays and the other calls are right")
+
+
+if __name__ == "__main__":
+    main()
