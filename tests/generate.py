@@ -18,8 +18,11 @@ from tests import session_text
 LONGEST = 86_400_000
 WORD_END = 2**32
 
-ROWS = Path(__file__).resolve().parent.parent / "examples" / "programmes.rows"
-PROGRAMMES = [session_text.row_words(words) for _, _, words in session_text.lines(ROWS.read_text())]
+ROWS = Path(__file__).resolve().parent.parent / "examples" / "programmes"
+FUTURES = ("003-brent-gold-silver", "004-mini-metals", "001-stock-futures-on-holidays")  # of options the rows have no spread
+PROGRAMMES = [
+    session_text.row_words(words) for name in FUTURES for _, _, words in session_text.lines((ROWS / f"{name}.rows").read_text())
+]
 
 
 def clamp(value, low, high):

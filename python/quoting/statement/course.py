@@ -7,7 +7,7 @@ from dataclasses import dataclass, field
 from itertools import zip_longest
 from typing import Optional, Sequence
 
-from quoting import both, texts
+from quoting import both, fix, texts
 from quoting import calls as c
 from quoting.answers import Answer, Cell, MonthReport, answer_of_line, line
 from quoting.events import Add, Amend, Cancel, Deal, Tick
@@ -20,6 +20,7 @@ CELLS = [(day, *series) for day in DAYS for series in SERIES]
 LOOKS = [c.block(c.Look(*cell)) for cell in CELLS] + [c.block(c.Report())]
 Place = tuple[int, ...]  # day, expiry and quantum; without the day, a series
 EVENTS = (Add, Amend, Cancel, Deal, Tick, c.Commit, c.Message)
+USED = (b"35", b"11", b"41", b"54", b"38", b"44", b"60", b"10")  # tags of a message
 
 KEPT, NO_BID, NO_ASK, NEITHER, CROSSED, WIDE = STATES = ("kept", "no bid", "no ask", "neither quote", "locked or crossed", "too wide")
 
@@ -107,6 +108,15 @@ class Bad:
     refused: Refused
 
 
+def call_text(block: bytes) -> str:
+    """A call's line; of a message the fields that are read, and its checksum."""
+    call = c.call_of(block)
+    if not isinstance(call, c.Message):
+        return texts.block_line(block)
+    fields = [texts.message_text(each) for each in call.bytes.split(fix.END) if each.split(b"=")[0] in USED]
+    return " ".join(["message", *fields])
+
+
 @dataclass
 class Reading:
     """What one reading answers: to each call of the month, then to a look at each cell, then to a report."""
@@ -138,7 +148,7 @@ class Course:
         """Follows a call and its answer."""
         if isinstance(answer, Refused):
             cell = self.opened.cell if self.opened else None
-            self.bad.append(Bad(number, sent.place, texts.block_line(sent.block), cell, answer))
+            self.bad.append(Bad(number, sent.place, call_text(sent.block), cell, answer))
             return
         call = c.call_of(sent.block)
         if isinstance(call, c.Open):

@@ -12,7 +12,7 @@ from quoting.statement.course import DAYS, SERIES, Bad, Course, Reading, by_mete
 from quoting.statement.figures import Fee, Shown
 from quoting.statement.picture import KEYS
 from quoting.statement.sources import Listed
-from quoting.values import clock, part_text, share_text
+from quoting.values import clock, part_text
 
 TEMPLATE = Path(__file__).resolve().parent / "page.html"
 MOST_SIGNS = 96  # of a refused call, as it is listed
@@ -66,6 +66,12 @@ def brief(text: str) -> str:
     return text if len(text) <= MOST_SIGNS else text[:MOST_SIGNS] + " .."
 
 
+def small(time: str) -> str:
+    """A time with its thousandths in small."""
+    whole, _, rest = time.partition(".")
+    return f"{whole}<small>.{rest}</small>" if rest else whole
+
+
 def place_text(bad: Bad) -> str:
     return "day {}, expiry {}, quantum {}".format(*bad.cell) if bad.cell else "no quantum open"
 
@@ -90,9 +96,11 @@ def template() -> Any:
         jinja: Any = import_module("jinja2")
     except ImportError:
         raise Missing("statement needs Jinja2: apt-get install python3-jinja2") from None
+    mark = jinja.utils.markupsafe.Markup
     made = jinja.Environment(autoescape=True, trim_blocks=True, lstrip_blocks=True, undefined=jinja.StrictUndefined)
     made.filters.update(
-        n=figures.thousands, roubles=figures.roubles, clock=clock, share=share_text, brief=brief, depth=depth, safe_svg=jinja.utils.markupsafe.Markup)
+        n=figures.thousands, roubles=figures.roubles, clock=clock, brief=brief, depth=depth, safe_svg=mark,
+        small=lambda time: mark(small(time)), exact=lambda time: mark(small(clock(time))))
     return made.from_string(TEMPLATE.read_text(encoding="utf-8"))
 
 
@@ -110,7 +118,7 @@ def html(made: Statement) -> str:
 
 
 def foot_text(made: Statement) -> str:
-    """The foot of each printed page, a string of CSS: only letters, digits and plain signs of the title go into it."""
-    title = "".join(sign for sign in made.title if sign.isalnum() or sign in " .,-")
+    """The foot of each printed page, a string of CSS: signs that could end it stay away."""
+    title = "".join(sign for sign in made.title if sign.isprintable() and sign not in "\"'\\<>&{}")
     fee = "Not settled: the readings differ" if made.differs else f"Fee {figures.roubles(made.meter.report.fee)}"
     return f"Statement: {title}. {fee}."
