@@ -37,6 +37,9 @@ class Tenths(int):
     def __repr__(self) -> str:
         return f"Tenths({int(self)})"
 
+    def __str__(self) -> str:
+        return str(int(self))
+
 
 Time = Union[int, str]
 Share = Union[Tenths, str]
