@@ -25,9 +25,9 @@ sys.path[:0] = [str(ROOT), str(ROOT / "python")]
 import numpy
 
 import quoting
-from quoting import Add, Amend, Cancel, Deal, Refused, Row, Rule, Tenths, Tick, events, fix, inputs, native, refusals, texts
+from quoting import Add, Amend, Cancel, Deal, Refused, Row, Rule, Tenths, Tick, events, fix, inputs, native, refusals, standings, texts
 from quoting.answers import line
-from recount import game, programs, records, strikes, volatile
+from recount import game, programs, records, standing, strikes, volatile
 from recount import fix as recount_fix
 from recount import session as run
 from recount.book import Book
@@ -283,6 +283,21 @@ def check_others(rng):
         assert refused_or(lambda: quoting.board(board, first, second)) == due
 
 
+def check_standings(rng):
+    """After any list of calls the places are those of the makers and ratings that the recount has, and so are the refusals."""
+    seen = set()
+    for _ in range(200):
+        size = rng.choice((1, 2, 4, 9))
+        calls = [(rng.choice(tuple(standings.KINDS)), rng.randrange(7), rng.randrange(4)) for _ in range(rng.randrange(30))]
+        calls = [(name, maker, 0 if name == "leave" else rating) for name, maker, rating in calls]
+        ratings, due = standing.after(size, [(standings.KINDS[name], maker, rating) for name, maker, rating in calls])
+        made = quoting.Standing(records=size)
+        found = [refused_or(lambda: made.call(*call)) or 0 for call in calls]
+        assert found == due and made.places == standing.in_order(ratings.items()), (size, calls)
+        seen.update(found)
+    assert seen == {0, 24, 25}, seen
+
+
 def check_volatile(rng):
     for _ in range(200):
         prices, threshold = rng.choice([volatile_cases.walk, volatile_cases.repeated, volatile_cases.rough])(rng)
@@ -343,6 +358,7 @@ def main():
     check_month_methods()
     check_rows(random.Random(2))
     check_others(random.Random(3))
+    check_standings(random.Random(7))
     check_volatile(random.Random(4))
     check_fix(random.Random(5))
     check_units()
