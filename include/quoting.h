@@ -10,15 +10,16 @@
  *     keeps its contents.
  *   - Lent strings, tables and buffers are looked at only during the call. What is only read may overlap; what is written may overlap
  *     nothing else. A pointer may be null only if its length is 0.
- *   - A length counts what the pointer points to: bytes, words of 32 bits, prices or strikes, not bytes alone.
+ *   - A length counts what the pointer points to: bytes, words of 32 bits, prices, strikes or records, not bytes alone.
  *   - Nothing is allocated and no state is kept between calls, so calls from several threads don't disturb each other.
- *   - The words of a month are written by quoting_month_fresh and quoting_month_call alone: a caller may keep, copy and store them, and hands
- *     quoting_month_call no others.
+ *   - The words of a month are written by quoting_month_fresh and quoting_month_call alone: a caller may keep, copy and store them, and
+ *     hands quoting_month_call no others.
  * Nothing else is asked of the caller: whatever numbers, bytes and words are handed over, each call ends and answers as is said here. That
  * is proved of every call but quoting_refusal_text and quoting_version, which are plain C.
  *
  * A row is seven words: expiry (1 or 2), quantum (0 to 2), L (a multiple of 1,000 from 1,000 to 86,400,000), M (1 to 100,000), a (0 to
- * 100,000), b (0 to 1,000,000) and p in tenths of a percent (1 to 799). A price is signed, in two's complement where it is a word.
+ * 100,000), b (0 to 1,000,000) and p in tenths of a percent (1 to 799): 600 is 60%, and 60 is 6%, which is met with a tenth of the time that
+ * 60% asks for. A price is signed, in two's complement where it is a word.
  */
 #ifndef QUOTING_H
 #define QUOTING_H
@@ -287,6 +288,35 @@ uint64_t quoting_calls(const uint8_t *calls, size_t calls_length, uint32_t *answ
  *    3  calls_length is 17179869184 or above
  */
 uint64_t quoting_calls_words(const uint8_t *calls, size_t calls_length);
+
+/* A record of the standing: a maker's number and rating. */
+struct quoting_maker {
+    uint32_t number;
+    uint32_t rating;
+};
+
+/*
+ * Makes a list of calls on the standing of makers, each on the records and the count that the one before left. The used records are the
+ * first ones: by rating downwards, equal ratings by lower number, each maker once.
+ *
+ * records   records_length records, of which the first `count` are used, altered in place. A record past the count may hold anything; the
+ *           one that a leave gives up then holds the maker who left, with the rating 0.
+ * calls     three words a call: 1 join, 2 change or 3 leave; the maker's number; the rating, 0 for a leave. calls_length is the number of
+ *           words.
+ * outcomes  outcomes_length words, of which one for each call is written: 0 where it is accepted, else the number that refuses it:
+ *             23  count is above records_length, or the used records are out of order or have a maker twice
+ *             24  join of a present maker, change or leave of an absent one
+ *             25  join with every record used
+ *           A refused call leaves the records and the count as they were.
+ *
+ * Answers the count after the calls, or 4294967295 where it is greater (it can be only with as many records, or where it was before).
+ * Refused, with no call made, by
+ *    3  the words are no list of calls: of another kind, a leave with a rating, or not three words a call
+ *   16  outcomes_length is below the number of calls
+ */
+uint64_t quoting_standing(
+    struct quoting_maker *records, size_t records_length, size_t count, const uint32_t *calls, size_t calls_length, uint32_t *outcomes,
+    size_t outcomes_length);
 
 #ifdef __cplusplus
 }

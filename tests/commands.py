@@ -66,6 +66,8 @@ def check_sheet():
     wall = "t,kind,id,side,price,volume\n10:00:30,add,1,buy,84.46,1000\n10:00:30,add,2,sell,84.58,1000\n"
     options = ["--row", "1 1 8:45:00 1000 150 3 60%", "--sp", "84.52", "--step", "0.01", "--start", "10:00:00"]
     assert command.run("sheet", "-", *options, given=wall).printed.startswith("kept 31470000 of 31500000\npair 30000 31470000\n")
+    for wrong in (["--row", "1 1"], ["--row", "1 1", "--sp", "1"], ["--sp", "5"], ["--step", "1e-99999"], ["--step", "0"], ["--start", "9:99:99"]):
+        assert command.run("sheet", "-", *wrong, given=wall).status == 2, wrong
     off = command.run("sheet", "-", *options, given=wall.replace("84.46", "84.465"))
     assert off.status == 1 and "line 2: price: 84.465 is between two steps of 0.01" in off.complaint, off
 

@@ -9,9 +9,12 @@ import doctest
 import os
 import random
 import re
+import shutil
 import subprocess
 import sys
+import tempfile
 import threading
+from concurrent.futures import ThreadPoolExecutor
 from importlib import import_module
 from pathlib import Path
 from pkgutil import walk_packages
@@ -22,13 +25,15 @@ sys.path[:0] = [str(ROOT), str(ROOT / "python")]
 import numpy
 
 import quoting
-from quoting import Add, Amend, Cancel, Deal, Refused, Row, Rule, Tenths, Tick, events, fix, inputs, native, refusals, texts
-from recount import game, records, strikes, volatile
+from quoting import Add, Amend, Cancel, Deal, Refused, Row, Rule, Tenths, Tick, events, fix, inputs, native, refusals, standings, texts
+from quoting.answers import line
+from recount import game, programs, records, standing, strikes, volatile
 from recount import fix as recount_fix
 from recount import session as run
+from recount.book import Book
 from recount.book import Row as RecountRow
 from recount.book import choose, weight
-from tests import generate, known, messages
+from tests import calls_text, generate, known, message_lists, messages, months
 from tests import strikes as strike_cases
 from tests import volatile as volatile_cases
 
@@ -69,10 +74,10 @@ def check_header():
     header = re.sub(r"/\*.*?\*/", "", (ROOT / "include" / "quoting.h").read_text(), flags=re.S)
     declared = re.findall(r"^uint64_t (quoting_\w+)\(([^)]*)\);", header, re.M)
     assert len(declared) >= 10, declared
-    for name, arguments in declared:
-        words = [" ".join(argument.split()[:-1] + argument.split()[-1:]) for argument in arguments.split(",")]
-        due = [native.BYTES if "*" in word else TYPES[word.split()[0]] for word in words]
-        assert native.CALLS.get(name) == due, name
+    types = {
+        name: [native.BYTES if "*" in argument else TYPES[argument.split()[0]] for argument in arguments.split(",")] for name, arguments in declared
+    }
+    assert types == native.CALLS, "the package's types are not the header's"
     assert quoting.version() == (ROOT / "VERSION").read_text().strip()
 
 
@@ -80,6 +85,23 @@ def check_refusals():
     assert (ROOT / "docs" / "REFUSALS.md").read_text() == refusals.page(), "docs/REFUSALS.md is old"
     assert list(refusals.HELP) == list(range(1, 27))
     assert len({each.sentence for each in refusals.all_of_them()}) == 26
+
+
+def check_installed():
+    """pip puts the package with the library into a venv with system packages, without a network."""
+    with tempfile.TemporaryDirectory() as folder:
+        tree, venv = Path(folder) / "tree", Path(folder) / "venv"
+        for name in ("python", "target/library"):
+            shutil.copytree(ROOT / name, tree / name, symlinks=True)
+        for name in ("pyproject.toml", "setup.py", "VERSION"):
+            shutil.copy(ROOT / name, tree / name)
+        plain = {name: value for name, value in os.environ.items() if name not in ("QUOTING_LIBRARY", "PYTHONPATH")}
+        subprocess.run([PYTHON, "-m", "venv", "--system-site-packages", venv], check=True)
+        subprocess.run([venv / "bin" / "pip", "install", "-q", "--no-index", "--no-build-isolation", tree], check=True, capture_output=True)
+        done = subprocess.run([venv / "bin" / "quoting", "sheet", ROOT / "examples" / "document01.session"], cwd=folder, env=plain, capture_output=True, text=True)
+        assert done.stdout.startswith("kept 6000 of 10000\n"), done
+        where = subprocess.run([venv / "bin" / "python", "-c", "import quoting; print(quoting.native.candidates()[0])"], cwd=folder, env=plain, capture_output=True, text=True)
+        assert where.stdout.strip().startswith(str(venv)), where
 
 
 # ---------------------------------------------------------------- sessions
@@ -174,6 +196,65 @@ def check_rows(rng):
         assert (found.words if found else []) == choose(*tables, bool(holiday), expiry, quantum)
 
 
+# ---------------------------------------------------------------- months
+
+
+def lists(rng, count):
+    """The tests' lists of calls, as blocks, with the recount's answers."""
+    for make in (months.any_calls, message_lists.any_calls):
+        for _ in range(count):
+            calls, book = make(rng)[1], Book()
+            yield [calls_text.calls_bytes([call]) for call in calls], [programs.answer_line(book.call(call)) for call in calls]
+
+
+def check_months(rng):
+    """Every answer of a list, call by call, is the recount's; four threads with a month each have the same."""
+    seen, given = set(), list(lists(rng, 40))
+    for blocks, due in given:
+        found = [line(answer) for answer in quoting.answers_to(blocks)]
+        assert found == due, next(pair for pair in zip(found, due) if pair[0] != pair[1])
+        seen.update(found_line.split()[0] for found_line in found)
+    assert seen == {"accepted", "refused", "cell", "report", "asked"}, seen
+    with ThreadPoolExecutor(4) as pool:
+        again = pool.map(lambda blocks: [line(answer) for answer in quoting.answers_to(blocks)], [blocks for blocks, _ in given])
+        assert list(again) == [due for _, due in given]
+
+
+def check_month_methods():
+    """Each call by its method; a refusal is raised and leaves the month; after its block a month is at an end."""
+    with quoting.Month() as month:
+        month.open(Row(1, 1, "0:00:10", 500, 100, 1, "60%"), 1, 2000, lapses=3)
+        month.add(0, 1, "buy", 99, 500)
+        assert refused_or(lambda: month.add(0, 1, "buy", 99, 500)) == 10 and month.report().orders == 1
+        month.message("20261116-10:00:00.000", fix.write(fix.Order("D", 2, 0, "sell", 600, 101, "20261116-10:00:00.000")))
+        month.deal(1_000, 2, 100)
+        month.amend(2_000, 1, 99, 700)
+        month.tick("0:00:03")
+        assert refused_or(lambda: month.commit(3_000, 1, 100, 1, quoting.Ticket(3_000, 1, 100, 1, 99))) == 19
+        month.cancel(6_000, 1)
+        month.close(5, 7)
+        cell = month.look(1, 1, 1)
+        assert (cell.kept, cell.met, cell.limit, cell.lapses, cell.active, cell.passive) == (6_000, True, 3, 1, 5, 7), cell
+        month.charge(1, 1, 1, 50, 70)
+        assert month.look(1, 1, 1).passive == 70
+        month.withdraw(1, 1, 1)
+        assert refused_or(lambda: month.look(1, 1, 1)) == 5
+        month.open([1, 1, 10_000, 500, 0, 0, 600], 2, quoting.Strike(75, 40, 365, 0))
+        month.drop()
+        for wrong in (b"", b"123", bytes(4), 2 * texts.c.block(texts.c.Drop())):
+            try:
+                month.block(wrong)
+            except ValueError as error:
+                assert "not one call" in str(error)
+            else:
+                raise AssertionError(wrong)
+    try:
+        month.report()
+    except ValueError:
+        return
+    raise AssertionError("a month was called behind its block")
+
+
 # ---------------------------------------------------------------- the other calls
 
 
@@ -200,6 +281,21 @@ def check_others(rng):
         first, second, board = (strike_cases.spoiled if rng.random() < 0.3 else strike_cases.planned)(rng)
         due = {18: 18, "met": True, "failed": False}[strikes.board(first, second, board)]
         assert refused_or(lambda: quoting.board(board, first, second)) == due
+
+
+def check_standings(rng):
+    """After any list of calls the places are those of the makers and ratings that the recount has, and so are the refusals."""
+    seen = set()
+    for _ in range(200):
+        size = rng.choice((1, 2, 4, 9))
+        calls = [(rng.choice(tuple(standings.KINDS)), rng.randrange(7), rng.randrange(4)) for _ in range(rng.randrange(30))]
+        calls = [(name, maker, 0 if name == "leave" else rating) for name, maker, rating in calls]
+        ratings, due = standing.after(size, [(standings.KINDS[name], maker, rating) for name, maker, rating in calls])
+        made = quoting.Standing(records=size)
+        found = [refused_or(lambda: made.call(*call)) or 0 for call in calls]
+        assert found == due and made.places == standing.in_order(ratings.items()), (size, calls)
+        seen.update(found)
+    assert seen == {0, 24, 25}, seen
 
 
 def check_volatile(rng):
@@ -258,12 +354,16 @@ def main():
     check_refusals()
     check_sessions(random.Random(1))
     check_arrays()
+    check_months(random.Random(6))
+    check_month_methods()
     check_rows(random.Random(2))
     check_others(random.Random(3))
+    check_standings(random.Random(7))
     check_volatile(random.Random(4))
     check_fix(random.Random(5))
     check_units()
-    print("package: types, examples, header, sessions, arrays and the other calls are right")
+    check_installed()
+    print("package: types, examples, header, sessions, arrays, months, the other calls and the installed package are right")
 
 
 if __name__ == "__main__":

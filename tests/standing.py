@@ -198,8 +198,8 @@ def check_command(seen):
     assert (status, printed) == (1, KNOWN), printed
     status, printed, _ = command("join 3 5 # the only one\n")
     assert (status, printed) == (0, "place  maker  rating\n    1      3       5\n"), printed
-    wrong = ["jion 1 2", "join 1", "leave 1 0", "join 1 4294967296", "join x 1", "records 513",
-             "join 1 2\nrecords 3", "records", "join 1 1\n" * (LIMIT + 1)]
+    wrong = ["jion 1 2", "join 1", "leave 1 0", "join 1 4294967296", "join x 1", "records 1000001",
+             "join 1 2\nrecords 3", "records"]
     for source in wrong:
         status, printed, complaint = command(source)
         assert status == 1 and not printed and ":" in complaint, (source, printed, complaint)

@@ -14,10 +14,11 @@ from quoting.native import Missing, Refused, version
 from quoting.plain import board, choose_row, ease, safe_minutes, volatile_day, weight
 from quoting.rules import Row, Rule
 from quoting.sessions import Session, session
+from quoting.standings import Standing
 from quoting.values import Tenths, milliseconds, tenths
 
 __all__ = [
     "Accepted", "Add", "Amend", "Answer", "Asked", "Cancel", "Cell", "Deal", "Event", "Missing", "Month", "MonthReport", "Refused", "Row",
-    "Rule", "Session", "Strike", "Tenths", "Tick", "Ticket", "answers_to", "board", "choose_row", "ease", "fix", "milliseconds", "safe_minutes",
+    "Rule", "Session", "Standing", "Strike", "Tenths", "Tick", "Ticket", "answers_to", "board", "choose_row", "ease", "fix", "milliseconds", "safe_minutes",
     "session", "tenths", "version", "volatile_day", "weight",
 ]

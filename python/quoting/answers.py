@@ -120,28 +120,3 @@ def line(answer: Answer) -> str:
             f" kept {answer.kept} lapses {answer.lapses} failed {failed} fee {answer.fee}"
         )
     return "accepted"
-
-
-def answer_of_line(text: str) -> Answer:
-    """The answer that a line of `replay` is; other lines are a ValueError.
-
-    >>> answer_of_line("asked bid 3 ask absent ticket 1 2 -3 4 count 5")
-    Asked(bid=3, ask=None, ticket=Ticket(t=1, id=2, price=-3, volume=4, count=5))
-    """
-    w = text.split()
-    price = {"absent": None}
-    if w[:1] == ["accepted"]:
-        return Accepted()
-    if w[:1] == ["refused"]:
-        return Refused.of(int(w[1]))
-    if w[:1] == ["asked"]:
-        bid, ask = (price[word] if word in price else int(word) for word in (w[2], w[4]))
-        return Asked(bid, ask, Ticket(int(w[6]), int(w[7]), int(w[8]), int(w[9]), int(w[11])))
-    if w[:1] == ["cell"]:
-        limit = None if w[10] == "none" else int(w[10])
-        return Cell(int(w[2]), int(w[4]), Tenths(w[6]), int(w[8]), limit, int(w[12]), int(w[14]), w[16] == "met", int(w[18]))
-    if w[:1] == ["report"]:
-        bid, ask = (price[word] if word in price else int(word) for word in (w[8], w[10]))
-        failed = tuple(map(int, w[16:22]))
-        return MonthReport(w[2] == "yes", int(w[4]), int(w[6]), bid, ask, int(w[12]), int(w[14]), failed, int(w[23]))
-    raise ValueError(f"{text!r} is no answer")

@@ -7,7 +7,7 @@ from importlib import import_module
 from pkgutil import iter_modules
 from typing import Optional, Sequence
 
-from quoting import commands, native, output
+from quoting import commands, inputs, native, output
 from quoting.reading import TextError
 
 EPILOG = "Exit status: 0; 1 for a refusal or a failed check; 2 for wrong use. `quoting SUBCOMMAND --help` has examples."
@@ -43,6 +43,9 @@ def run(args: argparse.Namespace) -> int:
     except KeyboardInterrupt:
         output.complain("stopped")
         return 130
+    except inputs.WrongUse as error:
+        output.complain(str(error))
+        return 2
     except (native.Refused, native.Missing, output.Closed, ValueError) as error:
         output.complain(str(error))
     return 1

@@ -55,8 +55,8 @@ class Drawing:
         place = f'x="{number(x)}" y="{number(y)}" text-anchor="{anchor}" font-size="{size}"'
         self.items.append(f'<text {place} fill="{colour}"{more}>{escape(words)}</text>')
 
-    def path(self, parts: Iterable[str], colour: str, width: float = 2) -> None:
-        self.items.append(f'<path d="{"".join(parts)}" fill="none" stroke="{colour}" stroke-width="{width}"/>')
+    def path(self, parts: Iterable[str], colour: str, more: str = "") -> None:
+        self.items.append(f'<path d="{"".join(parts)}" fill="none" stroke="{colour}" stroke-width="2"{more}/>')
 
     def svg(self) -> str:
         size = f'width="{self.width}" height="{self.height}" viewBox="0 0 {self.width} {self.height}"'

@@ -10,6 +10,7 @@ Traceback (most recent call last):
 quoting.native.Refused: refused 20: the frame, length, checksum or type of the message is wrong
 """
 
+import re
 from dataclasses import dataclass
 from datetime import datetime, timedelta
 from typing import Optional
@@ -23,6 +24,7 @@ SIDES: dict[int, Side] = {1: "buy", 2: "sell"}
 SIDE_NUMBERS = {None: 0, "buy": 1, "sell": 2}
 WORDS, MOST_BYTES = 13, 114
 END = b"\x01"
+TIME = re.compile(r"[0-9]{8}-[0-9]{2}:[0-9]{2}:[0-9]{2}\.[0-9]{3}")
 
 
 @dataclass(frozen=True)
@@ -70,7 +72,7 @@ def framed(body: bytes) -> bytes:
 
 def moment(time: str) -> datetime:
     """A time of the form YYYYMMDD-HH:MM:SS.sss."""
-    if len(time) != 21:
+    if not TIME.fullmatch(time):
         raise ValueError(f"{time!r} is not a time YYYYMMDD-HH:MM:SS.sss")
     try:
         return datetime.strptime(time, "%Y%m%d-%H:%M:%S.%f")

@@ -2,7 +2,7 @@
 
 import argparse
 from dataclasses import dataclass
-from decimal import Decimal, InvalidOperation
+from decimal import Decimal
 from pathlib import Path
 from typing import Callable, Optional
 
@@ -12,6 +12,11 @@ from quoting.reading import STANDARD, Options, TextError
 from quoting.rules import HEAD
 
 FORMATS = ("text", "csv", "bytes")
+FRONT = 65_536  # bytes of a file that are looked at to tell what it is
+
+
+class WrongUse(Exception):
+    """Arguments that do not go together, or can't be read: status 2."""
 
 
 @dataclass(frozen=True)
@@ -38,13 +43,9 @@ def start_of(word: str) -> int:
 
 
 def step_of(word: str) -> Decimal:
-    try:
-        step = Decimal(word)
-    except InvalidOperation:
-        step = Decimal(0)
-    if not step.is_finite() or step <= 0:
-        raise argparse.ArgumentTypeError(f"{word!r} is not a step above 0")
-    return step
+    if not values.DECIMAL.fullmatch(word) or len(word) > values.MOST_DIGITS or Decimal(word) <= 0:
+        raise argparse.ArgumentTypeError(f"{values.brief(word)!r} is not a step above 0, as 0.01")
+    return Decimal(word)
 
 
 def add_output(parser: argparse.ArgumentParser, json: bool = True) -> None:
@@ -75,9 +76,12 @@ def head_of(args: argparse.Namespace) -> Optional[bytes]:
     if args.row is None and args.sp is None:
         return None
     if args.row is None or args.sp is None:
-        raise TextError("--row and --sp are given together")
-    row = reading.seven_words(reading.words_of(args.row), options_of(args))
-    return HEAD.pack(*row, reading.price(args.sp, "--sp", options_of(args)))
+        raise WrongUse("--row and --sp are given together")
+    try:
+        row = reading.seven_words(reading.words_of(args.row), options_of(args))
+        return HEAD.pack(*row, reading.price(args.sp, "SP", options_of(args)))
+    except TextError as error:
+        raise WrongUse(f"--row and --sp: {error}") from None
 
 
 # ---------------------------------------------------------------- sessions
@@ -92,7 +96,7 @@ def format_of(name: str, data: bytes) -> str:
 
 def is_csv(data: bytes) -> bool:
     """Whether the first line that says something has a comma where the first word ends."""
-    for _, name, _ in reading.lines(data.decode("utf-8-sig", "replace")):
+    for _, name, _ in reading.lines(data[:FRONT].decode("utf-8-sig", "replace")):
         return "," in name
     return False
 

@@ -2,18 +2,23 @@
 
 A method a call: it answers what the month shows, or raises `Refused`, and a refused call leaves the month as it was.
 
-    with Month() as month:
-        month.open(Row(1, 1, "8:45:00", 1000, 150, 3, "60%"), day=1, sp=8452)
-        month.add("0:00:10", 1, "buy", 8446, 1000)
-        print(month.report().bid)
+>>> with Month() as month:
+...     month.open(Row(1, 1, "8:45:00", 1000, 150, 3, "60%"), day=1, sp=8452)
+...     month.add("0:00:10", 1, "buy", 8446, 1000)
+...     month.add("0:00:10", 2, "sell", 8458, 1000)
+...     asked = month.ask("4:00:00", 1, 8447, 1500)
+...     month.commit("4:00:00", 1, 8447, 1500, asked.ticket)
+...     month.close(active=10_000, passive=20_000)
+...     month.look(1, 1, 1).weight, month.report().fee
+(20000, 20000)
 """
 
 from types import TracebackType
 from typing import Iterable, Iterator, Optional, Sequence, Union
 
 from quoting import calls as c
-from quoting import native, programs
-from quoting.answers import WORDS, Answer, Asked, Cell, MonthReport, answer_of, answer_of_line
+from quoting import native
+from quoting.answers import WORDS, Answer, Asked, Cell, MonthReport, answer_of
 from quoting.events import Add, Amend, Cancel, Deal, Side, Tick
 from quoting.native import Refused
 from quoting.rules import Row
@@ -33,6 +38,8 @@ class Month:
         self._words = (native.WORD * size)(*room[:size])
         self._hints = native.bytes_of(HINT_BYTES)
         self._answer = native.words(WORDS)
+        self._month = [part for each in (self._words, self._hints) for part in (native.address(each), len(each))]
+        self._shown = [native.address(self._answer), WORDS]
         self._ended = False
 
     def __enter__(self) -> "Month":
@@ -45,10 +52,8 @@ class Month:
         """What the month answers to a call's block, a refusal as a value."""
         if self._ended:
             raise ValueError("the month has ended with its block")
-        lent = [part for each in (self._words, self._hints) for part in (native.address(each), len(each))]
-        lent += [native.address(data), len(data), native.address(self._answer), WORDS]
         try:
-            native.call("quoting_month_call", *lent)
+            native.call("quoting_month_call", *self._month, native.address(data), len(data), *self._shown)
         except Refused as refused:
             raise ValueError("these bytes are not one call") if refused.number == NO_CALL else refused from None
         return answer_of(list(self._answer))
@@ -122,10 +127,10 @@ class Month:
 
 
 def answers_to(blocks: Iterable[bytes]) -> Iterator[Answer]:
-    """What a fresh month answers to each block of a list. Until the library has the month's call, the proved program `replay` says
-    it, which takes 65,536 words at most."""
-    if not native.has("quoting_month_call"):
-        yield from map(answer_of_line, programs.printed("replay", b"".join(blocks)).splitlines())
-        return
+    """What a fresh month answers to each block of a list, a refusal as a value.
+
+    >>> list(answers_to([c.block(c.Drop())]))
+    [Refused(7, 0, 'no quantum is open')]
+    """
     with Month() as month:
         yield from map(month.block, blocks)

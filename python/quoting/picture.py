@@ -8,18 +8,19 @@ from typing import Iterator, Optional, Sequence
 
 from quoting import calls as c
 from quoting import drawing, months
-from quoting.answers import Cell, MonthReport, verdict_text
+from quoting.answers import Answer, Cell, MonthReport, verdict_text
 from quoting.drawing import INK, PALE, Drawing
 from quoting.events import event_of, split
 from quoting.native import Refused
 from quoting.rules import HEAD, Row, Rule
 from quoting.sessions import session
-from quoting.values import HOUR, MINUTE, SECOND, clock, part_text, share_text
+from quoting.values import HOUR, MINUTE, SECOND, clock, milliseconds, part_text, share_text
 
 WIDTH, HEIGHT = 920, 470
 LEFT, RIGHT, TOP, BOTTOM = 100, 890, 96, 350  # the plot
 BAR_TOP, BAR_HEIGHT = 410, 20
 COLUMNS = RIGHT - LEFT  # pixels of the quantum's time
+CROWD = 300  # quotes, from which on their lines are pale, so that the shading is seen
 
 BID, ASK = "#1f5fa8", "#b3381f"
 KEPT, MET_BAR, FAILED_BAR = "#cfe8cf", "#6fb56f", "#d99a4e"
@@ -36,36 +37,35 @@ Quote = tuple[int, Optional[int], Optional[int]]  # time, bid, ask
 # ---------------------------------------------------------------- what is drawn
 
 
-def blocks_of(data: bytes, limit: int, reports: bool) -> Iterator[bytes]:
-    """The session as calls of a month: open, its events, close, look; with a report behind each event."""
+def quarter(t: int, length: int) -> int:
+    """The quarter of a pixel in which a time stands."""
+    return 4 * COLUMNS * t // length
+
+
+def blocks_of(data: bytes, limit: int) -> Iterator[bytes]:
+    """The session as calls of a month: open, its events, close, look; with a report behind the last event of a quarter of a pixel."""
     rule = Rule.of_bytes(data[: HEAD.size])
     yield c.block(c.Open(rule.row.words, 1, rule.sp, limit))
-    for each in split(data[HEAD.size :]):
-        event = event_of(each)
-        assert event is not None  # a session that is not refused has events alone
+    found = [event for event in map(event_of, split(data[HEAD.size :])) if event is not None]
+    places = [quarter(milliseconds(event.t), milliseconds(rule.row.length)) for event in found]
+    for event, place, behind in zip(found, places, [*places[1:], -1]):
         yield c.block(event)
-        if reports:
+        if place != behind:
             yield c.block(c.Report())
     yield c.block(c.Close(0, 0))
     yield c.block(c.Look(1, rule.row.expiry, rule.row.quantum))
 
 
-def quotes(data: bytes) -> list[Quote]:
-    """Both best quotes from each time on at which an event stands, and from 0, as the month reports them."""
+def played(data: bytes, limit: int) -> tuple[list[Quote], Cell]:
+    """Both best quotes, from the time on at which they are reported and from 0, and the closed quantum, as the month answers them."""
     found: dict[int, Quote] = {0: (0, None, None)}
-    for answer in months.answers_to(blocks_of(data, c.NO_LIMIT, True)):
+    answer: Optional[Answer] = None
+    for answer in months.answers_to(blocks_of(data, limit)):
         if isinstance(answer, MonthReport):
             found[answer.time] = (answer.time, answer.bid, answer.ask)
-    return list(found.values())
-
-
-def judged(data: bytes, limit: int) -> Cell:
-    """The closed quantum, by a lapse limit."""
-    *_, cell = months.answers_to(blocks_of(data, limit, False))
-    if isinstance(cell, Refused):
-        raise cell
-    assert isinstance(cell, Cell)
-    return cell
+    if not isinstance(answer, Cell):
+        raise answer if isinstance(answer, Refused) else ValueError("the month showed no cell")
+    return list(found.values()), answer
 
 
 # ---------------------------------------------------------------- kept stretches
@@ -161,7 +161,7 @@ def steps(plot: Plot, points: Sequence[tuple[int, Optional[int]]]) -> Iterator[s
     before: Optional[int] = None
     ends = [*(t for t, _ in points[1:]), plot.length]
     for (t, price), until in zip(points, ends):
-        if int(4 * plot.x(t)) == int(4 * plot.x(until)):
+        if quarter(t, plot.length) == quarter(until, plot.length):
             continue
         if price is not None:
             number = drawing.number
@@ -212,7 +212,8 @@ def widest(row: Row, sp: int) -> int:
 def picture(name: str, data: bytes, limit: Optional[int] = None) -> str:
     """The SVG of a session's bytes, with verdict and weight by a lapse limit, where there is one; a refused session raises `Refused`."""
     done = session(data[: HEAD.size], data[HEAD.size :])
-    cell, shown, row, sp = judged(data, c.NO_LIMIT if limit is None else limit), quotes(data), done.rule.row, done.rule.sp
+    shown, cell = played(data, c.NO_LIMIT if limit is None else limit)
+    row, sp = done.rule.row, done.rule.sp
     prices = [price for _, bid, ask in shown for price in (bid, ask) if price is not None] or [sp]
     margin = max(1, (max(prices) - min(prices)) // 12)
     plot, d = Plot(done.length, min(prices) - margin, max(prices) + margin), Drawing(WIDTH, HEIGHT)
@@ -222,8 +223,9 @@ def picture(name: str, data: bytes, limit: Optional[int] = None) -> str:
     d.text(LEFT, 52, f"{kept}; SP {sp}, least volume {row.minimum}, spread at most {widest(row, sp)}")
     draw_kept(d, done.pairs, done.length)
     draw_axes(d, plot)
-    d.path(steps(plot, [(t, ask) for t, _, ask in shown]), ASK)
-    d.path(steps(plot, [(t, bid) for t, bid, _ in shown]), BID)
+    pale = ' stroke-opacity="0.35"' if len(shown) >= CROWD else ""
+    d.path(steps(plot, [(t, ask) for t, _, ask in shown]), ASK, pale)
+    d.path(steps(plot, [(t, bid) for t, bid, _ in shown]), BID, pale)
     draw_legend(d)
     draw_shares(d, cell)
     if limit is not None:

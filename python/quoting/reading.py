@@ -142,7 +142,7 @@ def share(word: str, what: str = "p", options: Options = PLAIN) -> int:
     try:
         if options.old_months and "%" not in word and "tenths" not in word:
             return 10 * values.whole(word, (0, values.WORD[1] // 10))
-        return values.tenths(word)
+        return int(values.tenths(word))
     except ValueError as error:
         raise TextError(f"{what}: {error}") from None
 

@@ -14,6 +14,7 @@ ValueError: 60 has no unit: write 60% (600 tenths of a percent) or 60 tenths (6%
 
 import re
 from decimal import Decimal
+from fractions import Fraction
 from typing import Union
 
 Span = tuple[int, int]
@@ -36,6 +37,9 @@ class Tenths(int):
 
     def __repr__(self) -> str:
         return f"Tenths({int(self)})"
+
+    def __str__(self) -> str:
+        return str(int(self))
 
 
 Time = Union[int, str]
@@ -136,7 +140,7 @@ def steps(word: str, step: Union[Decimal, None]) -> int:
         return whole(word, SIGNED)
     if not DECIMAL.fullmatch(word) or len(word) > MOST_DIGITS:
         raise ValueError(f"{brief(word)!r} is not a price")
-    count = Decimal(word.replace("_", "")) / step
-    if count != count.to_integral_value():
+    count = Fraction(word.replace("_", "")) / Fraction(step)
+    if count.denominator != 1:
         raise ValueError(f"{word} is between two steps of {step}")
-    return whole(str(int(count)), SIGNED)
+    return whole(str(count.numerator), SIGNED)

@@ -9,6 +9,7 @@ ghost use Rattle.makers.specs.Order.{above};
 ghost use Rattle.makers.specs.Calls.{callOf};
 ghost use Rattle.makers.specs.Internal.{lookOf, backTo, marked, isBehind, checkOf, nearer, recordOf, judged, accepted, planned};
 
+#[repr(C)]
 pub struct Maker {
     pub number: u32,
     pub rating: u32,

@@ -1,5 +1,6 @@
 pub mod Filling
 pub mod Months
 pub mod Pairs
+pub mod Standings
 pub mod Texts
 pub mod Weighing

@@ -4,3 +4,4 @@ pub mod Internal
 pub mod Messages
 pub mod Months
 pub mod Sessions
+pub mod Standings

@@ -5,6 +5,7 @@ use fix::MessageRead;
 use fix_writer::MessageText;
 use game::SafeAnswer;
 use live::Called;
+use makers::Maker;
 use rules::Contracts;
 use rules::Millis;
 use rules::SessionAnswer;
@@ -13,6 +14,7 @@ use rules::SpreadRule;
 use rules::Steps;
 use rules::Strike;
 use rules::Timestamp;
+use standing::Ran;
 use volatile::DayAnswer;
 ghost use mathlib.Core.Path.{_≡_};
 ghost use mathlib.Core.Bool.{true, not};
@@ -39,6 +41,9 @@ ghost use Rattle.quoting.specs.Extras.{weighed, spreadFor};
 ghost use Rattle.quoting.specs.Sessions.{pairsNumber, FillsPairs};
 ghost use Rattle.quoting.specs.Internal.{shortNumber, ranNumber, headed, calledNumber};
 ghost use Rattle.quoting.specs.Months.{CallsMonth, AnswersCalls, wordsOutcome};
+ghost use Rattle.quoting.specs.Standings.{countNumber, standingNumber, AnswersStanding};
+ghost use Rattle.makers.specs.Calls.{standing};
+ghost use Rattle.standing.specs.Words.{readable};
 ghost use Rattle.live.specs.Calling.{isCall, wordsAfter, HoldsMonth};
 
 // ---- answers
@@ -542,4 +547,43 @@ pub extern "C" fn quoting_calls_words(calls: &[u8]) -> u64
     }
     let list = blocks::measure(calls);
     list.words as u64
+}
+
+// ---- the standing of makers
+
+// The count, or the greatest number that is no refusal.
+fn count_number(count: usize) -> u64
+    ensures { λ r. ⌜ r ≡ countNumber count ⌝ }
+{
+    if 4294967295 < count {
+        return 4294967295;
+    }
+    count as u64
+}
+
+fn standing_number(calls: &[u32], ran: Ran) -> u64
+    ensures { λ r. ⌜ r ≡ standingNumber (readable (now (calls .entry))) (ran .fits) (ran .count) ⌝ }
+{
+    if ran.fits {
+        return count_number(ran.count);
+    }
+    if standing::is_list(calls) {
+        return refused(16);
+    }
+    refused(3)
+}
+
+// A list of calls on lent records, of which the first ones are used. It is proved by a walk of its code, by hand, as is every function that
+// takes the records.
+#[no_mangle]
+pub extern "C" fn quoting_standing(
+    records: &mut [Maker],
+    count: usize,
+    calls: &[u32],
+    outcomes: &mut [u32],
+) -> u64
+    ensures { λ r. ⌜ AnswersStanding (now (calls .entry)) (standing (now (records .entry)) count) (now (outcomes .entry)) (now (records .exit)) (now (outcomes .exit)) r ⌝ }
+{
+    let ran = standing::run(records, count, calls, outcomes);
+    standing_number(calls, ran)
 }

@@ -5,7 +5,7 @@ ghost use Prim.Native.Nat.{_+_, _*_, _≤_, _<_};
 ghost use lib.ListN.{length, set};
 ghost use Rattle.makers.specs.Calls.{Join, Change, Leave, callOf, standing, wrong, step, answerOf};
 ghost use Rattle.makers.specs.Internal.{seenIn, shifted};
-ghost use Rattle.standing.specs.Words.{isCall};
+ghost use Rattle.standing.specs.Words.{isCall, readable};
 ghost use Rattle.standing.specs.Claim.{ListAnswers};
 ghost use Rattle.standing.specs.Internal.{measured, askedAt, readyOf};
 use makers::Answer;
@@ -201,6 +201,14 @@ fn measure(words: &[u32]) -> Measured
         calls,
         whole: at == words.len(),
     }
+}
+
+// Whether some words are a list of calls.
+pub fn is_list(words: &[u32]) -> bool
+    ensures { λ r. ⌜ r ≡ readable (now (words .entry)) ⌝ }
+{
+    let m = measure(words);
+    m.whole
 }
 
 // Whether a list of calls can run, with a word for each outcome.

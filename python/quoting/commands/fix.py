@@ -12,7 +12,7 @@ examples:
 import argparse
 from collections import Counter
 
-from quoting import inputs, logs, output, reading, texts, values
+from quoting import fix, inputs, logs, output, reading, texts, values
 from quoting.calls import Message
 from quoting.reading import TextError
 
@@ -24,9 +24,17 @@ def number_of(word: str) -> int:
         raise argparse.ArgumentTypeError(str(error)) from None
 
 
+def start_of(word: str) -> str:
+    try:
+        fix.moment(word)
+    except ValueError as error:
+        raise argparse.ArgumentTypeError(str(error)) from None
+    return word
+
+
 def add(parser: argparse.ArgumentParser) -> None:
     parser.add_argument("file", metavar="LOG", help="a log, or - for standard input")
-    parser.add_argument("--start", required=True, metavar="TIME", help="the quantum's start, YYYYMMDD-HH:MM:SS.sss")
+    parser.add_argument("--start", required=True, type=start_of, metavar="TIME", help="the quantum's start, YYYYMMDD-HH:MM:SS.sss")
     parser.add_argument("--row", metavar="ROW", help='the quantum\'s row, as "1 1 8:45:00 1000 150 3 60%%"')
     parser.add_argument("--sp", metavar="SP", help="the settlement price")
     parser.add_argument("--day", type=number_of, metavar="DAY", help="write a list of calls for this day, the messages as they stand")
@@ -37,9 +45,12 @@ def add(parser: argparse.ArgumentParser) -> None:
 def head_lines(args: argparse.Namespace) -> tuple[str, str]:
     """The row and SP, looked at and as they stand in a text."""
     if args.row is None or args.sp is None:
-        raise TextError("--row and --sp are needed for a session or an open")
-    row = reading.seven_words(reading.words_of(args.row))
-    return reading.row_text(row), str(reading.number(args.sp, values.SIGNED, "--sp"))
+        raise inputs.WrongUse("--row and --sp are needed for a session or an open")
+    try:
+        row = reading.seven_words(reading.words_of(args.row))
+        return reading.row_text(row), str(reading.number(args.sp, values.SIGNED, "SP"))
+    except TextError as error:
+        raise inputs.WrongUse(f"--row and --sp: {error}") from None
 
 
 def session_lines(args: argparse.Namespace, log: logs.Log) -> list[str]:

@@ -31,7 +31,7 @@ def run(args: argparse.Namespace) -> int:
     except reading.TextError as error:
         error.file = args.file
         raise
-    found = standings.standing(given)
+    found = standings.played(given)
     agreed = both.agreement([f"{maker} {rating}" for maker, rating in found.places], theirs(given)) if args.both else ""
     if args.json:
         refused = [{"line": call.line, "call": str(call), **vars(why)} for call, why in found.refused]
