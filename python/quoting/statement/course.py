@@ -9,11 +9,12 @@ from typing import Optional, Sequence
 
 from quoting import both, fix, texts
 from quoting import calls as c
-from quoting.answers import Answer, Cell, MonthReport, answer_of_line, line
+from quoting.answers import Answer, Cell, MonthReport, line
 from quoting.events import Add, Amend, Cancel, Deal, Tick
 from quoting.months import Month
 from quoting.native import Refused
 from quoting.statement.sources import Listed, Sent
+from quoting.values import Tenths
 
 DAYS, SERIES = range(1, 32), [(expiry, quantum) for expiry in (1, 2) for quantum in (0, 1, 2)]
 CELLS = [(day, *series) for day in DAYS for series in SERIES]
@@ -97,6 +98,20 @@ def lapses_of(stretches: Sequence[Stretch]) -> list[list[Stretch]]:
 # ---------------------------------------------------------------- a reading
 
 
+def cell_of(text: str) -> Cell:
+    """The cell of a line of `replay`, which the recount answers in too."""
+    w = text.split()
+    limit = None if w[10] == "none" else int(w[10])
+    return Cell(int(w[2]), int(w[4]), Tenths(w[6]), int(w[8]), limit, int(w[12]), int(w[14]), w[16] == "met", int(w[18]))
+
+
+def report_of(text: str) -> MonthReport:
+    """The report of a line."""
+    w = text.split()
+    bid, ask = (None if word == "absent" else int(word) for word in (w[8], w[10]))
+    return MonthReport(w[2] == "yes", int(w[4]), int(w[6]), bid, ask, int(w[12]), int(w[14]), tuple(map(int, w[16:22])), int(w[23]))
+
+
 @dataclass(frozen=True)
 class Bad:
     """A refused call: its number, its place, its line, the cell that was open, the refusal."""
@@ -127,9 +142,9 @@ class Reading:
 
     @classmethod
     def of(cls, answers: list[str]) -> "Reading":
-        *looks, report = map(answer_of_line, answers[-len(LOOKS) :])
-        assert isinstance(report, MonthReport)
-        return cls(answers, {cell: look for cell, look in zip(CELLS, looks) if isinstance(look, Cell)}, report)
+        *looks, report = answers[-len(LOOKS) :]
+        cells: dict[Place, Cell] = {place: cell_of(look) for place, look in zip(CELLS, looks) if look.startswith("cell")}
+        return cls(answers, cells, report_of(report))
 
     @property
     def refused(self) -> int:
