@@ -151,14 +151,23 @@ def wait_for(path, size, process):
     raise AssertionError(f"{path} did not grow to {size} bytes before the run ended")
 
 
+def left_off(folder, how):
+    """The status and complaints of a run that a signal ended, with its part left."""
+    part = folder.parent / "on.csv.part"
+    part.unlink(missing_ok=True)
+    run = subprocess.Popen([QUOTING, "settle", folder.name, "-o", "on.csv", "--threads", "1"], cwd=folder.parent, stderr=subprocess.PIPE)
+    wait_for(part, 400, run)
+    run.send_signal(how)
+    said = run.communicate()[1].decode()
+    return run.returncode, said
+
+
 def check_resume(folder, made):
-    """A run that was killed goes on behind its last whole row, and the table is the same."""
+    """A run that was ended goes on behind its last whole row, and the table is the same."""
     here, part = folder.parent, folder.parent / "on.csv.part"
     whole = (here / "one.csv").read_bytes()
-    run = subprocess.Popen([QUOTING, "settle", folder.name, "-o", "on.csv", "--threads", "1"], cwd=here, stderr=subprocess.PIPE)
-    wait_for(part, 400, run)
-    run.send_signal(signal.SIGKILL)
-    run.communicate()
+    assert left_off(folder, signal.SIGINT) == (130, "quoting: stopped\n") and whole.startswith(part.read_bytes())
+    left_off(folder, signal.SIGKILL)
     left = part.read_bytes()
     assert whole.startswith(left) and len(left) < len(whole) and not (here / "on.csv").exists()
     part.write_bytes(left[:-3])  # the last row is cut

@@ -20,6 +20,7 @@ from concurrent.futures import ThreadPoolExecutor
 from contextlib import contextmanager
 from importlib import import_module
 from pathlib import Path
+from time import monotonic
 from typing import Any, Callable, Iterator, Optional, Sequence
 
 from quoting import inputs, output, settling
@@ -81,24 +82,40 @@ def cluster(address: str) -> Iterator[Any]:
 # ---------------------------------------------------------------- what is seen of it
 
 
+class Watched:
+    """What is seen meanwhile: on a terminal a bar with rate and time left, moved at most ten times a second; else the complaints alone."""
+
+    def __init__(self, bar: Any, total: int, done: int) -> None:
+        self.bar, self.waiting, self.moved = bar, 0, monotonic()
+        self.task = bar.add_task("settled", total=total, completed=done, speed="") if bar else None
+
+    def step(self) -> None:
+        self.waiting += 1
+        if self.bar is not None and monotonic() - self.moved > 0.1:
+            self.move()
+
+    def move(self) -> None:
+        speed = self.bar.tasks[0].speed
+        self.bar.update(self.task, advance=self.waiting, speed=f"{speed:.0f} sessions/s" if speed else "")
+        self.waiting, self.moved = 0, monotonic()
+
+    def say(self, line: str) -> None:
+        if self.bar is None:
+            output.complain(line)
+        else:
+            self.bar.console.print(f"quoting: {line}", markup=False, highlight=False)
+
+
 @contextmanager
-def watched(total: int, done: int) -> Iterator[tuple[Callable[[], None], Callable[[str], None]]]:
-    """A step forward and a line on standard error, under a bar with rate and time left where standard error is a terminal."""
+def watched(total: int, done: int) -> Iterator[Watched]:
     bar = progress() if sys.stderr is not None and sys.stderr.isatty() else None
+    made = Watched(bar, total, done)
     if bar is None:
-        yield (lambda: None), output.complain
+        yield made
         return
     with bar:
-        task = bar.add_task("settled", total=total, completed=done, speed="")
-
-        def step() -> None:
-            speed = bar.tasks[0].speed
-            bar.update(task, advance=1, speed=f"{speed:.0f} sessions/s" if speed else "")
-
-        def say(line: str) -> None:
-            bar.console.print(f"quoting: {line}", markup=False, highlight=False)
-
-        yield step, say
+        yield made
+        made.move()
 
 
 def progress() -> Any:
@@ -163,10 +180,10 @@ def to_stream(args: argparse.Namespace, names: list[str], manner: Manner, path: 
 
 def settle(args: argparse.Namespace, names: Sequence[str], manner: Manner, summary: Summary, write: Callable[[Settled], None]) -> None:
     done = summary.sessions
-    with rows(args, names, manner) as found, watched(done + len(names), done) as (step, say):
+    with rows(args, names, manner) as found, watched(done + len(names), done) as seen:
         for row in found:
             write(row)
             summary.take(row)
-            step()
+            seen.step()
             if row.complaint:
-                say(row.complaint)
+                seen.say(row.complaint)

@@ -8,7 +8,7 @@ from typing import Any, Optional
 from quoting import native
 from quoting.native import Missing
 from quoting.statement import figures
-from quoting.statement.course import DAYS, SERIES, Bad, Course, Reading, by_meter, by_recount, parting
+from quoting.statement.course import CELLS, DAYS, SERIES, Bad, Course, Reading, by_meter, by_recount, parting
 from quoting.statement.figures import Fee, Shown
 from quoting.statement.picture import KEYS
 from quoting.statement.sources import Listed
@@ -87,7 +87,12 @@ def parting_text(made: Statement) -> str:
         return ""
     number, ours, theirs = made.parting
     calls = made.listed.calls
-    place = f"call {number:,}, {calls[number - 1].place}" if number <= len(calls) else "what the month shows at the end"
+    if number <= len(calls):
+        place = f"call {number:,}, {calls[number - 1].place}"
+    elif number <= len(calls) + len(CELLS):
+        place = "the cell of day {}, expiry {}, quantum {}".format(*CELLS[number - len(calls) - 1])
+    else:
+        place = "the report at the end"
     return f"They part at {place}: the meter answers “{ours}”, the recount “{theirs}”."
 
 
