@@ -16,7 +16,7 @@ sys.path[:0] = [str(ROOT), str(ROOT / "python")]
 
 from quoting import both, reading, texts
 from quoting import calls as c
-from quoting.statement import picture, sources
+from quoting.statement import course, figures, picture, sources
 from recount import book, programs
 from tests import command
 
@@ -211,7 +211,21 @@ def check_difference():
         both.answer_lines = right
     assert page.text.index("The two readings differ. This statement settles nothing.") < page.text.index("Fee of the month")
     assert "not settled" in page.text and "Both readings agree" not in page.text and "DIFFER" in done.complaint
+    assert "They part at call 10, line 13: the meter answers “cell kept 31490000 of" in page.text
     assert page.tables["both"][1][0] == "≠ time kept, all quanta" and page.tables["both"][1][3] == "differs", page.tables["both"][:3]
+
+
+def check_misfit():
+    """So is a page whose own figures do not add up: a stretch too long, and the divisor taken wrongly."""
+    rights = course.Quantum.stretches, figures.DIVISOR
+    course.Quantum.stretches = lambda self, cell: [picture.Stretch(0, cell.length, "kept")]
+    figures.DIVISOR = 79_000
+    try:
+        page, done = made(EXAMPLES / "month.calls", status=1)
+    finally:
+        course.Quantum.stretches, figures.DIVISOR = rights
+    assert "The figures do not fit together. This statement settles nothing." in page.text and "not settled" in page.text
+    assert done.complaint.count("THE FIGURES DO NOT FIT TOGETHER") == 5, done.complaint
 
 
 # ---------------------------------------------------------------- odd months
@@ -308,6 +322,7 @@ def main():
         quanta = check_lists()
         check_replay()
         check_difference()
+        check_misfit()
         check_odd(here)
         check_crowded()
         check_sessions(here)

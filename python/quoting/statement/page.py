@@ -125,5 +125,5 @@ def html(made: Statement) -> str:
 def foot_text(made: Statement) -> str:
     """The foot of each printed page, a string of CSS: signs that could end it stay away."""
     title = "".join(sign for sign in made.title if sign.isprintable() and sign not in "\"'\\<>&{}")
-    fee = "Not settled: the readings differ" if made.differs else f"Fee {figures.roubles(made.meter.report.fee)}"
+    fee = "Not settled" if made.differs else f"Fee {figures.roubles(made.meter.report.fee)}"
     return f"Statement: {title}. {fee}."
