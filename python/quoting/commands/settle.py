@@ -38,9 +38,10 @@ def count_of(word: str) -> int:
 
 
 def add(parser: argparse.ArgumentParser) -> None:
-    parser.add_argument("where", metavar="FOLDER|LIST", help="a folder of sessions, or a list of their names, or - for a list on standard input")
+    parser.add_argument("where", metavar="FOLDER|LIST", help="a folder of sessions, or a list of their names; - is a list on standard input")
     parser.add_argument("--resume", action="store_true", help="go on where FILE.part was left off; needs -o")
-    parser.add_argument("--threads", type=count_of, default=os.cpu_count() or 1, metavar="N", help="sessions at a time (the machine's processors)")
+    most = os.cpu_count() or 1
+    parser.add_argument("--threads", type=count_of, default=most, metavar="N", help=f"sessions at a time ({most}, this machine's processors)")
     parser.add_argument("--scheduler", metavar="ADDRESS", help="the scheduler of a Dask cluster, as tcp://10.0.0.5:8786")
     inputs.add_session(parser)
     inputs.add_output(parser, json=False)

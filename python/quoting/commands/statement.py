@@ -20,6 +20,7 @@ examples:
 
 import argparse
 from pathlib import Path
+from typing import Iterator
 
 from quoting import inputs, output
 from quoting.reading import STANDARD
@@ -49,17 +50,21 @@ def listed_of(args: argparse.Namespace) -> sources.Listed:
     return sources.from_sessions(args.sessions, args.charges, inputs.options_of(args))
 
 
+def complaints(made: page.Statement) -> Iterator[str]:
+    """What is wrong with a month, a line each."""
+    yield from made.listed.left
+    yield from (f"THE FIGURES DO NOT FIT TOGETHER: {fault}" for fault in made.faults)
+    if made.parting is not None:
+        yield f"THE PROVED METER AND THE RECOUNT DIFFER: {page.parting_text(made)}"
+    if made.course.bad:
+        yield f"{len(made.course.bad)} of {len(made.listed.calls)} calls are refused: they are listed on the page"
+
+
 def run(args: argparse.Namespace) -> int:
     listed = listed_of(args)
     name = args.sessions or args.file
     made = page.statement(args.title or ("input" if name == STANDARD else Path(name).stem), listed)
     output.write(args.output, page.html(made))
-    for left in listed.left:
-        output.complain(left)
-    for fault in made.faults:
-        output.complain(f"THE FIGURES DO NOT FIT TOGETHER: {fault}")
-    if made.parting is not None:
-        output.complain(f"THE PROVED METER AND THE RECOUNT DIFFER: {page.parting_text(made)}")
-    if made.course.bad:
-        output.complain(f"{len(made.course.bad)} of {len(listed.calls)} calls are refused: they are listed on the page")
+    for each in complaints(made):
+        output.complain(each)
     return int(not made.is_whole)

@@ -54,8 +54,8 @@ def rules(scale: Scale) -> Iterator[str]:
     """Lines at round prices."""
     step = drawing.rounded_step(scale.high - scale.low, 4)
     for price in range(-(-scale.low // step) * step, scale.high + 1, step):
-        y = number(scale.y(price))
-        yield f'<path class="rule" d="M{LEFT} {y}H{RIGHT}"/><text x="{LEFT - 3}" y="{number(scale.y(price) + 3)}" text-anchor="end">{price}</text>'
+        yield f'<path class="rule" d="M{LEFT} {number(scale.y(price))}H{RIGHT}"/>'
+        yield f'<text x="{LEFT - 3}" y="{number(scale.y(price) + 3)}" text-anchor="end">{price}</text>'
 
 
 def steps(scale: Scale, points: Sequence[tuple[int, Optional[int]]]) -> Iterator[str]:
@@ -90,21 +90,30 @@ def strip(scale: Scale, stretches: Sequence[Stretch]) -> Iterator[str]:
 
 
 def columns(scale: Scale, stretches: Sequence[Stretch]) -> Iterator[str]:
-    """Each pixel's column by the shares of the states, what is kept at the bottom."""
+    """Each pixel's column by the shares of the states."""
     pixel = scale.length / (RIGHT - LEFT)
-    parts: list[dict[str, float]] = [{} for _ in range(RIGHT - LEFT)]
+    shares: list[dict[str, float]] = [{} for _ in range(RIGHT - LEFT)]
     for stretch in stretches:
-        first, last = int(stretch.start / pixel), int((stretch.start + stretch.length - 1) / pixel)
-        for column in range(first, min(last, len(parts) - 1) + 1):
-            inside = min(stretch.start + stretch.length, (column + 1) * pixel) - max(stretch.start, column * pixel)
-            parts[column][stretch.state] = parts[column].get(stretch.state, 0) + max(0, inside) / pixel
-    for column, shares in enumerate(parts):
-        bottom: float = STRIP + STRIP_HEIGHT
-        for state in STATES:
-            tall = STRIP_HEIGHT * shares.get(state, 0)
-            bottom -= tall
-            if tall > 0.05:
-                yield rect(LEFT + column, bottom, 1, tall, f'fill="{fill(state)}"')
+        share_out(shares, stretch, pixel)
+    return (part for column, each in enumerate(shares) for part in stacked(LEFT + column, each))
+
+
+def share_out(shares: list[dict[str, float]], stretch: Stretch, pixel: float) -> None:
+    """Adds what a stretch has of each column."""
+    end = stretch.start + stretch.length
+    for column in range(int(stretch.start / pixel), min(int((end - 1) / pixel) + 1, len(shares))):
+        inside = min(end, (column + 1) * pixel) - max(stretch.start, column * pixel)
+        shares[column][stretch.state] = shares[column].get(stretch.state, 0) + max(0, inside) / pixel
+
+
+def stacked(x: int, shares: dict[str, float]) -> Iterator[str]:
+    """A column, what is kept at the bottom."""
+    bottom: float = STRIP + STRIP_HEIGHT
+    for state in STATES:
+        tall = STRIP_HEIGHT * shares.get(state, 0)
+        bottom -= tall
+        if tall > 0.05:
+            yield rect(x, bottom, 1, tall, f'fill="{fill(state)}"')
 
 
 def ticks(scale: Scale, start: Optional[str]) -> Iterator[str]:

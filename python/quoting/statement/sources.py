@@ -66,6 +66,14 @@ class ListReader:
         self.started: Optional[tuple[str, Optional[bytes]]] = None
         self.spans: dict[int, Span] = {}  # by the number of calls up to the open
 
+    def read(self, text: str) -> None:
+        for at, name, words in reading.lines(text):
+            try:
+                self.take(at, name, words)
+            except TextError as error:
+                error.line, error.file = error.line or at, self.listed.name
+                raise
+
     def take(self, at: int, name: str, words: list[str]) -> None:
         if name == "start":
             self.started = start_of(words)
@@ -110,12 +118,7 @@ def span_of(start: str, symbol: Optional[bytes], opened: Optional[c.Call]) -> Sp
 
 def text_list(name: str, text: str, options: Options, log_names: Sequence[str]) -> Listed:
     reader = ListReader(name, options)
-    for at, word, words in reading.lines(text):
-        try:
-            reader.take(at, word, words)
-        except TextError as error:
-            error.line, error.file = error.line or at, name
-            raise
+    reader.read(text)
     for log in log_names:
         place_messages(reader, log, reading.read_bytes(log))
     return reader.with_messages()
