@@ -25,7 +25,7 @@ from tests import command
 
 QUOTING = ROOT / "quoting"
 EXAMPLES = ROOT / "examples"
-NAMES = ["bytes", "board", "calls", "card", "fix", "game", "picture", "refusal", "settle", "sheet", "standing", "statement", "text", "volatile"]
+NAMES = ["bytes", "board", "calls", "card", "fix", "game", "picture", "refusal", "sheet", "standing", "text", "volatile"]
 ROW = ["--row", "1 1 8:45:00 1000 150 3 60%", "--sp", "8452"]
 START = ["--start", "20261116-10:00:00.000"]
 

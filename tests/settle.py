@@ -135,6 +135,8 @@ def check_refusals(folder, made):
         (folder / name).unlink()
     assert settle(folder.name, "-o", "/dev/full", cwd=folder.parent)[0] == 1
     assert settle(folder.name, "--resume", cwd=folder.parent)[0] == 2
+    status, told, _ = settle("--help", cwd=folder.parent)
+    assert status == 0 and "examples:" in told and "quoting settle" in told
     assert settle("absent", "-o", "no.csv", cwd=folder.parent)[0] == 1 and not (folder.parent / "no.csv").exists()
 
 

@@ -294,6 +294,8 @@ def check_sessions(here):
     (folder / "charges.csv").write_text(charges)
     (folder / "02-1-1.session").rename(folder / "02-1-2.session")
     assert command.run("statement", "--sessions", folder).status == 1
+    told = command.run("statement", "--help")
+    assert told.status == 0 and "examples:" in told.printed and "quoting statement" in told.printed
     assert command.run("statement").status == command.run("statement", "x", "--sessions", "y").status == 2
 
 
