@@ -60,5 +60,7 @@ class Rule:
 
     @classmethod
     def of_bytes(cls, head: bytes) -> "Rule":
+        if len(head) != HEAD.size:
+            raise ValueError(f"a session begins with {HEAD.size} bytes, and here are {len(head)}")
         *words, sp = HEAD.unpack(head)
         return cls(Row.of_words(words), sp)
