@@ -61,7 +61,7 @@ dist: library
 	$(MAKE) -s install DESTDIR=$(CURDIR)/target/dist PREFIX=/quoting-$(VERSION)
 	sed -e 's|@PREFIX@|$${pcfiledir}/../..|' -e 's|@VERSION@|$(VERSION)|' lib/quoting.pc.in > target/dist/quoting-$(VERSION)/lib/pkgconfig/quoting.pc
 	{ echo "version $(VERSION)"; echo "commit $$(git describe --always --dirty --abbrev=40 --exclude '*')"; echo "kit $$(rt version)"; } > target/dist/quoting-$(VERSION)/BUILT
-	cp docs/FORMATS.md examples/client.c examples/pairs.cpp target/dist/quoting-$(VERSION)/
+	cp docs/FORMATS.md CHANGELOG.md examples/client.c examples/month.c examples/pairs.cpp target/dist/quoting-$(VERSION)/
 	tar -C target/dist --sort=name --owner=0 --group=0 --numeric-owner -czf target/quoting-$(VERSION).tar.gz quoting-$(VERSION)
 
 # The proved meter's C call against two meters in Rust, and the proved reader of FIX messages against two in Rust.

@@ -12,8 +12,8 @@
  *     nothing else. A pointer may be null only if its length is 0.
  *   - A length counts what the pointer points to: bytes, words of 32 bits, prices, strikes or records, not bytes alone.
  *   - Nothing is allocated and no state is kept between calls, so calls from several threads don't disturb each other.
- *   - The words of a month are written by quoting_month_fresh and quoting_month_call alone: a caller may keep, copy and store them, and hands
- *     quoting_month_call no others.
+ *   - The words of a month are written by quoting_month_fresh and quoting_month_call alone: a caller may keep, copy and store them, and
+ *     hands quoting_month_call no others.
  * Nothing else is asked of the caller: whatever numbers, bytes and words are handed over, each call ends and answers as is said here. That
  * is proved of every call but quoting_refusal_text and quoting_version, which are plain C.
  *
@@ -296,8 +296,8 @@ struct quoting_maker {
 };
 
 /*
- * Makes a list of calls on the standing of makers, each on the records and the count that the one before left. The used records are the first
- * ones: by rating downwards, equal ratings by lower number, each maker once.
+ * Makes a list of calls on the standing of makers, each on the records and the count that the one before left. The used records are the
+ * first ones: by rating downwards, equal ratings by lower number, each maker once.
  *
  * records   records_length records, of which the first `count` are used, altered in place. A record past the count may hold anything; the
  *           one that a leave gives up then holds the maker who left, with the rating 0.

@@ -62,6 +62,57 @@ static size_t element(const struct item *it) {
     return it->call == 6 ? 1 : 4;
 }
 
+/* A list of calls one by one on a month of its own, each answer behind the one before. The second string has each call's length. */
+static uint64_t run_month(const struct item *it, uint32_t *answers) {
+    uint32_t *words = room(QUOTING_MONTH_WORDS * sizeof *words);
+    uint8_t *hints = room(QUOTING_HINT_BYTES);
+    const uint32_t *lengths = (const uint32_t *) (const void *) it->parts[1];
+    const uint8_t *call = it->parts[0];
+    memset(hints, (int) it->fill, QUOTING_HINT_BYTES);
+    uint64_t answer = quoting_month_fresh(words, QUOTING_MONTH_WORDS);
+    for (size_t k = 0; answer < 4294967296 && k < it->sizes[1] / 4; k++) {
+        uint32_t *out = answers + QUOTING_ANSWER_WORDS * k;
+        answer = quoting_month_call(words, QUOTING_MONTH_WORDS, hints, QUOTING_HINT_BYTES, call, lengths[k], out, QUOTING_ANSWER_WORDS);
+        call += lengths[k];
+    }
+    free(words);
+    free(hints);
+    return answer;
+}
+
+/* One call on a fresh month in memory of n[0] words and n[1] bytes of hints. Words that are too few for a month must stay as they are. */
+static uint64_t run_one(const struct item *it, uint32_t *answer) {
+    const uint32_t *n = it->numbers;
+    uint32_t *words = room(n[0] * sizeof *words);
+    uint8_t *hints = room(n[1]);
+    if (n[0] != 0) memset(words, (int) it->fill, n[0] * sizeof *words);
+    if (n[1] != 0) memset(hints, (int) it->fill, n[1]);
+    uint64_t fresh = quoting_month_fresh(words, n[0]);
+    uint64_t made = quoting_month_call(words, n[0], hints, n[1], it->parts[0], it->sizes[0], answer, it->count);
+    for (size_t i = 0; fresh >= 4294967296 && i < n[0]; i++) {
+        if (words[i] != it->fill * 0x01010101u) stop("words too few for a month were written");
+    }
+    free(words);
+    free(hints);
+    return made;
+}
+
+/* Calls on n[0] records with the count n[1]. The buffer has the records and behind them the outcomes. */
+static uint64_t run_standing(const struct item *it, uint32_t *buffer) {
+    size_t size = it->numbers[0], rest = it->count - 2 * size;
+    struct quoting_maker *records = room(size * sizeof *records);
+    uint32_t *outcomes = room(rest * sizeof *outcomes);
+    if (size != 0) memcpy(records, buffer, size * sizeof *records);
+    if (rest != 0) memcpy(outcomes, buffer + 2 * size, rest * sizeof *outcomes);
+    const uint32_t *calls = (const uint32_t *) (const void *) it->parts[0];
+    uint64_t answer = quoting_standing(records, size, it->numbers[1], calls, it->sizes[0] / 4, outcomes, rest);
+    if (size != 0) memcpy(buffer, records, size * sizeof *records);
+    if (rest != 0) memcpy(buffer + 2 * size, outcomes, rest * sizeof *outcomes);
+    free(records);
+    free(outcomes);
+    return answer;
+}
+
 /* One call. The buffer is of `count` elements. */
 static uint64_t run(const struct item *it, void *buffer) {
     const uint32_t *n = it->numbers;
@@ -80,17 +131,23 @@ static uint64_t run(const struct item *it, void *buffer) {
     case 8: return quoting_volatile(prices, size / 4, n[0]);
     case 9: return quoting_ease(buffer, count, n[0], prices, size / 4, n[1]);
     case 10: return quoting_safe_minutes(n[0], n[1], n[2]);
+    case 11: return quoting_month_fresh(buffer, count);
+    case 12: return quoting_calls(a, size, buffer, count);
+    case 13: return quoting_calls_words(a, size);
+    case 14: return run_month(it, buffer);
+    case 15: return run_one(it, buffer);
+    case 16: return run_standing(it, buffer);
     default: stop("no such call"); return 0;
     }
 }
 
-/* A buffer as it is lent: filled with one byte, but a row to be eased is the second string. */
+/* A buffer as it is lent: filled with one byte, but a row to be eased, and a standing's records, are the second string. */
 static void *lent(const struct item *it) {
     size_t size = it->count * element(it);
     void *buffer = room(size);
     if (size == 0) return buffer;
     memset(buffer, (int) it->fill, size);
-    if (it->call == 9) memcpy(buffer, it->parts[1], size < it->sizes[1] ? size : it->sizes[1]);
+    if (it->call == 9 || (it->call == 16 && it->sizes[1] != 0)) memcpy(buffer, it->parts[1], size < it->sizes[1] ? size : it->sizes[1]);
     return buffer;
 }
 

@@ -5,8 +5,9 @@
 
 What `make library` has built in target/library is taken. tests/library.c runs the cases twice: linked with the archive, its own side
 compiled with the address and undefined-behaviour sanitizers, and with the shared library; each time once in turn and once on four threads.
-Then the header as C and as C++, the C++ example, what the shared library shows, and an installed copy through pkg-config. It fails where
-an answer or a buffer differs, and where a refusal that a call can give never came.
+A month's calls run one by one on words of the caller's, and as a whole list. Then the header as C and as C++, the C++ example, the C example
+that holds a month (with the sanitizers, and under valgrind) against `replay`, what the shared library shows, and an installed copy through
+pkg-config. It fails where an answer or a buffer differs, and where a refusal that a call can give never came.
 """
 
 import argparse
@@ -21,10 +22,11 @@ from pathlib import Path
 ROOT = Path(__file__).resolve().parent.parent
 sys.path.insert(0, str(ROOT))
 
-from recount import fix, game, programs, strikes, volatile
+from recount import fix, game, programs, standing, strikes, volatile
 from recount import session as run
-from recount.book import choose, weight
-from tests import generate, known, messages
+from recount.book import NO_LIMIT, Accepted, Asked, Book, CellView, Message, Open, Refused, Report, choose, weight
+from tests import generate, known, message_lists, messages, months
+from tests import standing as standing_cases
 from tests import strikes as strike_cases
 from tests import volatile as volatile_cases
 from tests import calls_text
@@ -40,8 +42,10 @@ SIXTY = b"20261115-10:00:00.000"
 NAMES = {
     1: ("session", [1, 2, 3, *range(8, 16)]), 2: ("session_pairs", [1, 2, 3, *range(8, 17)]), 3: ("weight", [2, 3]),
     4: ("choose_row", [16]), 5: ("fix", [16, 20, 21]), 6: ("fix_write", [3, 16, 21]), 7: ("board", [18]), 8: ("volatile", [22]),
-    9: ("ease", [22]), 10: ("safe_minutes", [26]),
+    9: ("ease", [22]), 10: ("safe_minutes", [26]), 11: ("month_fresh", [16]), 12: ("calls", [16]), 13: ("calls_words", []),
+    14: ("month_call, a list", []), 15: ("month_call", [3, 16]), 16: ("standing", [3, 16]),
 }
+MONTH_WORDS, HINT_BYTES, ANSWER_WORDS = 2388, 2048, 20
 
 # A case: which call, the buffer's elements and the byte that fills them, numbers, two byte strings.
 Case = namedtuple("Case", "call count fill numbers first second", defaults=[0, 0, (), b"", b""])
@@ -117,9 +121,93 @@ def inside(data, threshold):
         return 22 << 32
 
 
+def wide(number):
+    return [number % 2**32, number >> 32]
+
+
+def quote_words(quote):
+    return [0, 0] if quote is None else [1, quote % 2**32]
+
+
+def answer_words(answer):
+    """An answer of the book, as the twenty words that FORMATS.md lays out."""
+    if isinstance(answer, Accepted):
+        words = [0, 0]
+    elif isinstance(answer, Refused):
+        words = [1, answer.number]
+    elif isinstance(answer, CellView):
+        cell = [1, answer.kept, answer.length, answer.share, answer.limit, answer.lapses, *wide(answer.active), *wide(answer.passive)]
+        words = [2, 0, *cell, int(answer.met), answer.weight]
+    elif isinstance(answer, Asked):
+        t, id, price, volume, count = answer.ticket
+        words = [3, 0, *quote_words(answer.bid), *quote_words(answer.ask), t, id, price % 2**32, volume, *wide(count)]
+    else:
+        words = [4, 0, int(answer.is_open), answer.time, answer.orders, *quote_words(answer.bid), *quote_words(answer.ask), answer.kept]
+        words += [answer.lapses, *answer.failed, *wide(answer.fee)]
+    return words + [0] * (ANSWER_WORDS - len(words))
+
+
+def list_words(data):
+    """Each answer's words, one behind the other, and how many words of the list are calls."""
+    calls, stop = programs.read_calls(data)
+    book = Book()
+    return [word for call in calls for word in answer_words(book.call(call))], len(data) // 4 if stop is None else stop
+
+
+def one_call(case, buffer):
+    calls, stop = programs.read_calls(case.first)
+    if len(calls) != 1 or stop is not None:
+        return 3 << 32, buffer
+    for place, (size, needed) in enumerate(zip((*case.numbers, case.count), (MONTH_WORDS, HINT_BYTES, ANSWER_WORDS))):
+        if size < needed:
+            return SHORT + place + 1, buffer
+    return writes(list_words(case.first)[0], buffer)
+
+
+def month_case(case, buffer):
+    if case.call == 15:
+        return one_call(case, buffer)
+    if case.call == 11:  # where they fit, their words are those that the calls of 14 and 15 go on from
+        return (MONTH_WORDS, None) if len(buffer) >= MONTH_WORDS else (SHORT, buffer)
+    words, read = list_words(case.first)
+    if case.call == 13:
+        return read, buffer
+    answer, after = writes(words, buffer)
+    if case.call == 14:
+        return (ANSWER_WORDS if case.second else MONTH_WORDS), after
+    return (answer if answer == SHORT else answer // ANSWER_WORDS), after
+
+
+def standing_case(case):
+    """The count, and the records and outcomes after the calls."""
+    size, count = case.numbers
+    flat, words = programs.to_words(case.second), programs.to_words(case.first)
+    records, outcomes = list(zip(flat[: 2 * size : 2], flat[1 : 2 * size : 2])), flat[2 * size :]
+    calls = list(zip(words[::3], words[1::3], words[2::3]))
+    if len(words) % 3 or not all(standing.is_call(kind, rating) for kind, _, rating in calls):
+        return 3 << 32, flat
+    if len(outcomes) < len(calls):
+        return SHORT, flat
+    for k, call in enumerate(calls):
+        outcomes[k], records, count = left_by(records, count, call)
+    return count, [*(word for record in records for word in record), *outcomes]
+
+
+def left_by(records, count, call):
+    """The recount's step; the record that a leave gives up holds the maker who left, with no rating."""
+    refused, after, counted = standing.step(records, count, call)
+    if not refused and call[0] == standing.LEAVE:
+        after = [*after[:counted], (call[1], 0), *records[count:]]
+    return refused, after, counted
+
+
 def due(case):
-    """The answer, and the buffer after it."""
+    """The answer, and the buffer after it; None where the buffer is not looked at."""
     buffer, numbers = lent(case), case.numbers
+    if case.call == 16:
+        return standing_case(case)
+    if case.call > 10:
+        return month_case(case, buffer)
     if case.call == 9:
         row = programs.to_words(case.second)
         answer = inside(case.first, numbers[1])
@@ -213,8 +301,55 @@ def other_cases(rng, count):
         yield Case(10, numbers=tuple(rng.choice([*(rng.randrange(61) for _ in range(8)), 61, 2**32 - 1]) for _ in range(3)))
 
 
+def some_lists(rng, count):
+    """Lists of calls as bytes: known ones, random ones, and such that stop being calls."""
+    calls = [known.paper_calls(), known.greatest_charges(), known.every_refusal(), known.lapse_calls(), known.strike_calls(), known.ask_calls()]
+    calls += [months.any_calls(rng)[1] for _ in range(count)] + [message_lists.any_calls(rng)[1] for _ in range(count)]
+    lists = [calls_text.calls_bytes(some) for some in calls]
+    yield from lists
+    yield from [b"", b"\1", packed([12]) + b"\0\0\0", packed([0]), packed([12, 12, 2, 0, 1, 3, 0, 1]), packed([1, 2**32 - 1, 1])]
+    for data in lists[: count // 3]:
+        at = rng.randrange(len(data) + 1)
+        yield data[:at]
+        yield data[: at // 4 * 4] + packed([rng.choice([0, 99, 2**32 - 1])]) + data[at // 4 * 4 :]
+
+
+def blocks_of(data):
+    """The bytes of each call's block."""
+    words, at, blocks = programs.to_words(data), 0, []
+    while at < len(words) and (found := programs.read_call(words, at)) is not None:
+        blocks.append(data[4 * at : 4 * found[1]])
+        at = found[1]
+    return blocks
+
+
+def list_cases(rng, count):
+    for size in (0, 1, MONTH_WORDS - 1, MONTH_WORDS, MONTH_WORDS + 3):
+        yield Case(11, size, rng.randrange(256))
+    for data in some_lists(rng, count // 5):
+        blocks = blocks_of(data)
+        needed = ANSWER_WORDS * len(blocks)
+        yield Case(12, sizes(rng, needed), rng.randrange(256), first=data)
+        yield Case(13, first=data)
+        yield Case(14, needed, rng.randrange(256), (), b"".join(blocks), packed(list(map(len, blocks))))
+        call = rng.choice([*blocks, data, b"", b"".join(blocks[:2]), *(block[:-1] for block in blocks[:3])])
+        shape = rng.choice([MONTH_WORDS] * 5 + [MONTH_WORDS + 1, MONTH_WORDS - 1, 0]), rng.choice([HINT_BYTES] * 5 + [HINT_BYTES + 1, HINT_BYTES - 1])
+        yield Case(15, rng.choice([ANSWER_WORDS] * 5 + [ANSWER_WORDS + 4, ANSWER_WORDS - 1]), rng.randrange(256), shape, call)
+
+
+def maker_cases(rng, count):
+    for at in range(count):
+        words = programs.to_words((standing_cases.from_nothing if at % 2 else standing_cases.from_records)(rng))
+        size, given = words[1:3]
+        records, calls = words[3 : 3 + 2 * size], words[4 + 2 * size :]
+        if rng.random() < 0.1:
+            calls = [*calls, *rng.choice([(1,), (1, 2), (0, 1, 1), (3, 1, 1), (4, 0, 0)])]
+        room = [rng.randrange(2**32)] * sizes(rng, len(calls) // 3)
+        yield Case(16, len(records) + len(room), 0, (size, given), packed(calls), packed([*records, *room]))
+
+
 def all_cases(rng, count):
-    for make in (session_cases, weight_cases, row_cases, fix_cases, other_cases):
+    for make in (session_cases, weight_cases, row_cases, fix_cases, other_cases, list_cases, maker_cases):
         yield from make(rng, count)
 
 
@@ -249,6 +384,15 @@ def said_by_probe(case):
     if case.call == 8:
         line = program("probe", packed([5, case.numbers[0], len(words)]) + data)
         return {"inside yes\n": 1, "inside no\n": 0, "refused 22\n": 22 << 32}.get(line), []
+    if case.call == 16 and due(case)[0] < SHORT and len(words) <= 3 * 512:
+        size, calls = case.numbers[0], len(words) // 3
+        flat = programs.to_words(case.second)
+        *lines, last = program("probe", packed([7, *case.numbers, *flat[: 2 * size], calls]) + data).splitlines()
+        outcomes = [0 if line.startswith("accepted") else int(line.split()[1]) for line in lines]
+        used = numbers_in(last)
+        behind = due(case)[1][len(used) : 2 * size]  # the program prints the used records alone
+        count = len(used) // 2 if case.numbers[1] <= size else case.numbers[1]
+        return count, [*used, *behind, *outcomes, *flat[2 * size + calls :]]
     if case.call == 10:
         name, number = program("probe", packed([8, *case.numbers[:3]])).split()
         return (26 << 32 if name == "refused" else int(number)), []
@@ -260,7 +404,7 @@ def check_programs(rng, cases, count):
     by_call = defaultdict(list)
     for case in cases:
         by_call[case.call].append(case)
-    for call in (2, 4, 7, 8, 10):
+    for call in (2, 4, 7, 8, 10, 16):
         for case in rng.sample(by_call[call], min(count, len(by_call[call]))):
             said = said_by_probe(case)
             if said is not None and said[0] is not None:
@@ -297,7 +441,7 @@ def check_calls(cases):
     seen = defaultdict(set)
     for case, (answer, *after) in zip(cases, found):
         wanted, buffer = due(case)
-        assert (answer, after) == (wanted, buffer), (NAMES[case.call][0], case, answer, wanted, after, buffer)
+        assert (answer, after) == (wanted, after if buffer is None else buffer), (NAMES[case.call][0], case, answer, wanted, after, buffer)
         seen[case.call].add(answer >> 32)
     for call, (name, refusals) in NAMES.items():
         missing = {0, *refusals} - seen[call]
@@ -322,8 +466,11 @@ def check_header():
     assert shown == declared, f"shown and not declared, or the other way round: {shown ^ declared}"
     dynamic = subprocess.run(["readelf", "-d", BUILT / "libquoting.so"], capture_output=True, text=True, check=True).stdout
     assert f"[libquoting.so.{version.split('.')[0]}]" in dynamic, "the soname is wrong"
-    numbers = re.findall(r"^    QUOTING_\w+ = (\d+)", header, re.M)
-    assert numbers == [str(n) for n in range(27)], "the refusals' numbers"
+    for name, count in (("refusal", 27), ("answer", 5)):
+        [enum] = re.findall(rf"^enum quoting_{name} {{(.*?)}}", header, re.M | re.S)
+        assert re.findall(r" = (\d+)", enum) == [str(n) for n in range(count)], f"the numbers of enum quoting_{name}"
+    for name, number in (("MONTH_WORDS", MONTH_WORDS), ("HINT_BYTES", HINT_BYTES), ("ANSWER_WORDS", ANSWER_WORDS)):
+        assert f"#define QUOTING_{name} {number}\n" in header, name
 
 
 TEXTS = """#include <stdio.h>
@@ -368,6 +515,35 @@ def check_example():
                 assert printed == due_lines, printed
 
 
+def check_month_example(rng, count):
+    """The C example that holds a month: on lists of calls the lines of `replay`, on a FIX message a line those of the same calls."""
+    source = [ROOT / "examples" / "month.c", BUILT / "libquoting.a"]
+    plain = compiled(TARGET / "month", "cc", "-std=c11", "-g", "-O2", *STRICT, *source)
+    watched = compiled(
+        TARGET / "month_watched", "cc", "-std=c11", "-g", "-O1", *STRICT, "-fsanitize=address,undefined", "-fno-sanitize-recover=all", *source)
+    lists = [data for data in some_lists(rng, count) if len(data) <= programs.REPLAY_BYTES]
+    for at, data in enumerate(lists):
+        line = program("replay", data)
+        assert line == programs.replay(data)
+        under = ["valgrind", "-q", "--error-exitcode=3", plain] if at % 40 == 0 else [watched]
+        assert printed_by(under, data) == line, (data.hex(), line)
+    given = SIXTY.decode(), 1, 1, 10_000, 500, 100, 1, 600, 1, 2_000
+    orders = [fix.order_of([1, 7, 0, 1, 500, 99], SIXTY), fix.order_of([2, 8, 9, 0, 0, 0], SIXTY), fix.order_of([2, 8, 7, 0, 0, 0], SIXTY)]
+    bodies = [*map(fix.write, orders), b"no message"]
+    calls = [Open(list(given[1:8]), given[8], given[9], NO_LIMIT), *(Message(SIXTY, body) for body in bodies), Report()]
+    lines = programs.replay(calls_text.calls_bytes(calls))
+    for end in (b"\1", b"|"):
+        data = b"".join(body.replace(b"\1", end) + b"\n" for body in bodies)
+        assert printed_by([watched, *map(str, given)], data) == lines, lines
+    return len(lists)
+
+
+def printed_by(words, data):
+    done = subprocess.run(words, input=data, capture_output=True, timeout=600)
+    assert done.returncode == 0, (words, done.returncode, done.stderr.decode()[-2000:])
+    return done.stdout.decode()
+
+
 def main():
     parser = argparse.ArgumentParser(description=__doc__.splitlines()[0])
     parser.add_argument("--quick", action="store_true", help="a tenth of the random cases")
@@ -381,7 +557,8 @@ def main():
     check_header()
     check_installed()
     check_example()
-    print(f"library: {len(cases)} cases, each on four threads too, and {checked} of them by probe: all as the recount")
+    lists = check_month_example(rng, count // 10)
+    print(f"library: {len(cases)} cases, each on four threads too, and {checked} of them by probe: all as the recount; {lists} lists by replay")
 
 
 if __name__ == "__main__":
