@@ -11,6 +11,7 @@ import struct
 from dataclasses import dataclass
 from typing import Sequence
 
+from quoting.native import Refused
 from quoting.values import Share, Tenths, Time, milliseconds, tenths
 
 HEAD = struct.Struct("<7Ii")  # the row's seven words, then SP
@@ -61,6 +62,6 @@ class Rule:
     @classmethod
     def of_bytes(cls, head: bytes) -> "Rule":
         if len(head) != HEAD.size:
-            raise ValueError(f"a session begins with {HEAD.size} bytes, and here are {len(head)}")
+            raise Refused.of(1)
         *words, sp = HEAD.unpack(head)
         return cls(Row.of_words(words), sp)
