@@ -1,5 +1,5 @@
 """The plain book of document 01 and of document 02, W1, W2, W4, W5, W6 and W11, written from the papers:
-calls, refusals, quotes, kept time, lapses, pay.
+calls, refusals, quotes, kept time, lapses, pay; and the outlook, which is no call of theirs.
 
 Open is told SP, or a strike in its place (W4): wherever `sp` stands, a Strike may.
 
@@ -10,6 +10,7 @@ counts and fee are worked out from the book each time they are asked for.
 from collections import namedtuple
 
 from recount import fix
+from recount.outlook import Ahead, Judged, OutlookView, Pairs, outlook
 from recount.strikes import Strike, strike_fits, strike_limit
 
 BUY, SELL = 1, 2
@@ -89,12 +90,13 @@ Charge = namedtuple("Charge", "day expiry quantum active passive")
 Withdraw = namedtuple("Withdraw", "day expiry quantum")
 Look = namedtuple("Look", "day expiry quantum")
 Report = namedtuple("Report", "")
+Outlook = namedtuple("Outlook", "")  # no call of the papers: may the maker rest?
 Ask = namedtuple("Ask", "t id price volume")
 Commit = namedtuple("Commit", "t id price volume ticket")
 Message = namedtuple("Message", "start bytes")  # the quantum's start, given with the message
 
 EVENTS = (Add, Amend, Cancel, Deal, Tick)
-UNCOUNTED = (Ask, Look, Report)  # they alter nothing
+UNCOUNTED = (Ask, Look, Report, Outlook)  # they alter nothing
 
 # An amendment and the book's count when it was asked for.
 Ticket = namedtuple("Ticket", "t id price volume count")
@@ -357,7 +359,7 @@ class Quoting:
 
 class Book:
     """The plain book: at most one open quantum, the filled cells of 186, and the count of the
-    accepted calls other than asks, looks and reports, modulo 2^64."""
+    accepted calls other than asks, looks, reports and outlooks, modulo 2^64."""
 
     def __init__(self):
         self.quoting = None
@@ -424,7 +426,7 @@ class Book:
                 found.append(3)
             if self.quoting is None:
                 found.append(7)
-        elif kind is Drop:
+        elif kind in (Drop, Outlook):
             if self.quoting is None:
                 found.append(7)
         elif kind in (Charge, Withdraw, Look):
@@ -508,6 +510,8 @@ class Book:
             return self.look((call.day, call.expiry, call.quantum))
         elif kind is Report:
             return self.report()
+        elif kind is Outlook:
+            return self.outlook()
         elif kind is Ask:
             return self.ask(Amend(*call))
         elif kind is Commit:
@@ -539,3 +543,23 @@ class Book:
             failed,
             due,
         )
+
+    def outlook(self) -> OutlookView:
+        """How the open quantum stands, by trying what may follow."""
+        q, row = self.quoting, self.quoting.row
+
+        def judge(pairs: Pairs) -> Judged:
+            lapsed = lapses_by_stretches(pairs, row.length)
+            cell = Cell(kept_time(pairs), row.length, row.share, q.limit, lapsed, 0, 0)
+            return Judged(cell_met(cell), cell_weight(cell))
+
+        ahead = Ahead(
+            past=q.pairs(q.time),
+            now=q.time,
+            length=row.length,
+            can_keep=widest(row, q.sp) >= 1,
+            judge=judge,
+            enough=lambda kept: met(kept, row.length, row.share),
+            full=lambda kept: met(kept, row.length, 800),
+        )
+        return outlook(ahead, None if q.limit == NO_LIMIT else q.limit, q.lapses(q.time))

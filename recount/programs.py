@@ -5,8 +5,9 @@ import struct
 from recount import fix, game, records, session, standing, strikes, volatile
 from recount.book import (
     BUY, NO_LIMIT, SELL, Accepted, Add, Amend, Ask, Asked, Cancel, CellView, Charge, Close, Commit, Deal,
-    Drop, Look, Message, Open, Refused, Report, Strike, Tick, Ticket, Withdraw, Book, choose,
+    Drop, Look, Message, Open, Outlook, Refused, Report, Strike, Tick, Ticket, Withdraw, Book, choose,
 )
+from recount.outlook import OutlookView
 
 REPLAY_BYTES = 262_144
 SHEET_RECORDS = 1_600
@@ -52,7 +53,7 @@ def read_call(words, at):
         return Open(block[1 : 1 + count], day, sp, limit), at + count + told + 2
     if kind == 16:
         return read_message(words, at)
-    sizes = {2: 5, 3: 4, 4: 2, 5: 3, 6: 1, 7: 4, 8: 0, 9: 7, 10: 3, 11: 3, 12: 0, 14: 4, 15: 10}
+    sizes = {2: 5, 3: 4, 4: 2, 5: 3, 6: 1, 7: 4, 8: 0, 9: 7, 10: 3, 11: 3, 12: 0, 14: 4, 15: 10, 17: 0}
     block = take(sizes[kind]) if kind in sizes else None
     if block is None:
         return None
@@ -85,7 +86,7 @@ def read_call(words, at):
         low, high = block[8:]
         ticket = Ticket(*amendment(block[4:8]), low + (high << 32))
         return Commit(*amendment(block[:4]), ticket), behind
-    return Report(), behind
+    return Outlook() if kind == 17 else Report(), behind
 
 
 def read_message(words: list[int], at: int) -> tuple[Message, int] | None:
@@ -145,12 +146,31 @@ def answer_line(answer):
             f"asked bid {quote_text(answer.bid)} ask {quote_text(answer.ask)}"
             f" ticket {' '.join(map(str, named))} count {count}"
         )
+    if isinstance(answer, OutlookView):
+        return outlook_line(answer)
     return (
         f"report open {'yes' if answer.is_open else 'no'} time {answer.time}"
         f" orders {answer.orders} bid {quote_text(answer.bid)} ask {quote_text(answer.ask)}"
         f" kept {answer.kept} lapses {answer.lapses}"
         f" failed {' '.join(map(str, answer.failed))} fee {answer.fee}"
     )
+
+
+def outlook_line(answer: OutlookView) -> str:
+    return (
+        f"outlook need {answer.need} left {answer.left}"
+        f" by {possible_text(answer.by)} full {possible_text(answer.full)} lapses {answer.lapses}"
+        f" rest {yes_or_no(answer.rest)} lost {yes_or_no(answer.lost)}"
+        f" weight {answer.weight_rest} {answer.weight_keep}"
+    )
+
+
+def possible_text(number: int | None) -> str:
+    return "never" if number is None else str(number)
+
+
+def yes_or_no(is_so: bool) -> str:
+    return "yes" if is_so else "no"
 
 
 def limit_text(limit):

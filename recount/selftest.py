@@ -7,7 +7,9 @@ counted in two: millisecond by millisecond, and as the gaps that the kept stretc
 
 import random
 
-from recount import fix_checks, game, message_checks, programs, records, session, standing, strikes, volatile
+from recount import (
+    fix_checks, game, message_checks, outlook_checks, programs, records, session, standing, strikes, volatile,
+)
 from recount.book import (
     BUY, CHARGE_LIMIT, DAYS, EXPIRIES, NO_LIMIT, QUANTA, SELL, Accepted, Add, Amend, Ask, Book,
     Cancel, Cell, Charge, Close, Commit, Deal, Look, Open, Order, Refused, Report, Row, Strike,
@@ -424,6 +426,7 @@ def main():
     strikes.check()
     fix_checks.check()
     message_checks.check()
+    outlook_checks.check()
     check_counting(rng, 400, 40)
     print("recount: agrees with the paper's checks and with itself")
     return 0

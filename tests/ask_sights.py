@@ -5,10 +5,10 @@ The count that a ticket must have is taken from the lines alone: the accepted ca
 
 import re
 
-from recount.book import UNCOUNTED, Ask, Commit, Look, Report, Tick, Ticket
+from recount.book import UNCOUNTED, Ask, Commit, Look, Outlook, Report, Tick, Ticket
 
 OWN = (7, 8, 9, 11, 12)  # amend's refusals
-GOOD_BEHIND = {Report: "a report", Look: "a look", Ask: "another ask"}
+GOOD_BEHIND = {Report: "a report", Look: "a look", Outlook: "an outlook", Ask: "another ask"}
 
 MUST_SHOW = [
     "an answered ask",

@@ -9,7 +9,7 @@ sys.path.insert(0, str(Path(__file__).resolve().parent.parent / "python"))
 from quoting import texts
 from recount import programs
 from recount.book import (
-    Add, Amend, Ask, Cancel, Charge, Close, Commit, Deal, Drop, Look, Message, Open, Report, Strike, Tick, Withdraw,
+    Add, Amend, Ask, Cancel, Charge, Close, Commit, Deal, Drop, Look, Message, Open, Outlook, Report, Strike, Tick, Withdraw,
 )
 
 to_bytes, to_text = texts.calls_bytes, texts.calls_text
@@ -47,7 +47,8 @@ def call_words(call):
         return [7, *halves(call.active), *halves(call.passive)]
     if kind is Charge:
         return [9, *call[:3], *halves(call.active), *halves(call.passive)]
-    return [{Cancel: 4, Deal: 5, Tick: 6, Drop: 8, Withdraw: 10, Look: 11, Report: 12}[kind], *call]
+    kinds = {Cancel: 4, Deal: 5, Tick: 6, Drop: 8, Withdraw: 10, Look: 11, Report: 12, Outlook: 17}
+    return [kinds[kind], *call]
 
 
 def pack(words):

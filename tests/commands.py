@@ -25,7 +25,7 @@ from tests import command
 
 QUOTING = ROOT / "quoting"
 EXAMPLES = ROOT / "examples"
-NAMES = ["bytes", "board", "calls", "card", "fix", "game", "picture", "refusal", "sheet", "standing", "text", "volatile"]
+NAMES = ["bytes", "board", "calls", "card", "fix", "game", "outlook", "picture", "refusal", "sheet", "standing", "text", "volatile"]
 ROW = ["--row", "1 1 8:45:00 1000 150 3 60%", "--sp", "8452"]
 START = ["--start", "20261116-10:00:00.000"]
 
@@ -87,6 +87,19 @@ def check_refused():
         lines = command.run("calls", EXAMPLES / f"{name}.calls", "--lines").printed
         assert name != "fix" or lines == (EXAMPLES / "fix.answers").read_text()
         assert len(json.loads(command.run("calls", EXAMPLES / f"{name}.calls", "--json").printed)["calls"]) == len(lines.splitlines())
+
+
+def check_outlook():
+    """A quantum of ten seconds, quoted from its start: after two of them four more are due, and the maker may wait until 0:00:06."""
+    text = "row 1 1 0:00:10 500 100 1 60%\nsp 2000\nadd 0 1 buy 99 500\nadd 0 2 sell 101 500\n"
+    done = command.run("outlook", "-", "--at", "2000", "--json", given=text)
+    assert done.status == 0 and json.loads(done.printed) == {
+        "need": 4_000, "left": 8_000, "by": 6_000, "full": 6_000, "lapses": None, "rest": False, "lost": False,
+        "weight_resting": 0, "weight_keeping": 20_000}, done
+    shown = command.run("outlook", "-", "--at", "10:00:02", "--start", "10:00:00", "--lapses", "0", given=text)
+    assert "nothing need be kept until 10:00:02; lapses left 0; the maker may not rest for good" in shown.printed, shown
+    refused = command.run("outlook", "-", given=text + "cancel 5 9\n")
+    assert refused.status == 1 and "line 5: refused 11 at 3: " in refused.complaint, refused
 
 
 def check_old_months():
@@ -191,6 +204,7 @@ def good_files():
         yield words, (EXAMPLES / name).read_bytes()
     session = texts.session_bytes((EXAMPLES / "document01.session").read_text())
     yield ["sheet", "-"], session
+    yield ["outlook", "-"], session
     yield ["text", "-"], session
     yield ["calls", "-"], texts.calls_bytes((EXAMPLES / "ask.calls").read_text())
     yield ["text", "-"], texts.calls_bytes((EXAMPLES / "fix.calls").read_text())
@@ -230,6 +244,7 @@ def main():
     check_help()
     check_sheet()
     check_refused()
+    check_outlook()
     check_old_months()
     check_fix_log()
     check_streams()

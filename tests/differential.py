@@ -30,7 +30,7 @@ sys.path.insert(0, str(ROOT))
 from recount import book, programs, records
 from recount import session as run
 from recount.book import BUY, SELL, Add, Cancel, Tick
-from tests import ask_sights, crossed, generate, known, months, strike_sights
+from tests import ask_sights, crossed, generate, known, months, outlook_sights, strike_sights
 from tests import volatile as volatile_cases
 from tests import calls_text
 from tests import session_text
@@ -112,7 +112,7 @@ class Replay(Program):
     name = "replay"
     cases = 2_500
     refusals = [*range(1, 15), 17, 18, 19]
-    must_sight = [*strike_sights.MUST_SHOW, *ask_sights.MUST_SHOW]
+    must_sight = [*strike_sights.MUST_SHOW, *ask_sights.MUST_SHOW, *outlook_sights.MUST_SHOW]
     must_show = {
         "15 failed cells and a fee": r"failed (\d+ )*15 .*fee [1-9]",
         "16 failed cells and no fee": r"failed (\d+ )*16 .*fee 0$",
@@ -133,7 +133,7 @@ class Replay(Program):
     def special(self):
         for calls in (
             known.paper_calls, known.greatest_charges, known.every_refusal, known.edge_calls, known.lapse_calls, known.strike_calls,
-            known.ask_calls, known.share_calls,
+            known.ask_calls, known.share_calls, known.outlook_calls,
         ):
             yield calls_text.calls_bytes(calls())
         for path in sorted((ROOT / "examples").glob("*.calls")):
@@ -142,7 +142,7 @@ class Replay(Program):
         report, wrong_open = words(12), words(1, 6, 1, 1, 10_000, 500, 100, 1, 1, 2_000, 5)
         good_open = words(1, 7, 1, 1, 10_000, 500, 100, 1, 600, 1, 2_000, 5)
         yield from [b"", b"\1", report + b"\0\0\0", report * 3]
-        yield from [words(0), words(17), words(2**32 - 1)]
+        yield from [words(0), words(17), words(18), words(2**32 - 1)]
         yield from [wrong_open, words(1), words(1, 0), words(1, 0, 1), words(1, 0, 1, 0),
                     words(1, 0, 1, 0, 0) + report]
         yield words(1, 2**32 - 1, 1, 2)
@@ -170,7 +170,7 @@ class Replay(Program):
         data = calls_text.calls_bytes(calls)
         if rng.random() < 0.15:
             name, at = "damaged_words", rng.randrange(len(data) + 1)
-            noise, kind = rng.randbytes(rng.randrange(9)), words(rng.choice([0, 17, 99]))
+            noise, kind = rng.randbytes(rng.randrange(9)), words(rng.choice([0, 18, 99]))
             rest = data[at:] if rng.random() < 0.5 else b""
             data = data[:at] + rng.choice([b"", noise, kind]) + rest
         return name, data
@@ -180,7 +180,8 @@ class Replay(Program):
 
     def sights_in(self, data, answer):
         (calls, _), lines = programs.read_calls(data), answer.splitlines()
-        return [*strike_sights.sights(calls, lines), *ask_sights.sights(calls, lines)]
+        found = [part.sights(calls, lines) for part in (strike_sights, ask_sights, outlook_sights)]
+        return [sight for part in found for sight in part]
 
     def parts(self, data):
         calls, stop = programs.read_calls(data)

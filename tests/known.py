@@ -3,7 +3,8 @@
 from recount import records
 from recount.book import (
     BUY, CHARGE_LIMIT, COUNTS, MOST_LAPSES, NO_LIMIT, PRICE_LIMIT, SELL, VOLUME_LIMIT, Add, Amend, Ask,
-    Cancel, Charge, Close, Commit, Deal, Drop, Look, Open, Report, Row, Strike, Tick, Ticket, Withdraw, widest,
+    Cancel, Charge, Close, Commit, Deal, Drop, Look, Open, Outlook, Report, Row, Strike, Tick, Ticket,
+    Withdraw, widest,
 )
 from tests.generate import LONGEST, STRIKE_LIMITS, WORD_END, session
 
@@ -220,6 +221,30 @@ def lapse_calls():
             calls += [Cancel(86_399_990, 2)]
         calls += [Report(), Close(10, 10), Look(day, 1, 1), Charge(day, 1, 1, 1, 1)]
         calls += [Look(day, 1, 1), Report()]
+    return calls
+
+
+def outlook_calls():
+    """Quanta of 10,000 ms with a share of 60%, each by its lapse limit, from when to when it is quoted, and
+    when the maker asks whether he may rest; the last one has a spread limit below 1."""
+    row, calls = Row(1, 1, 10_000, 500, 0, 1, 600), [Outlook()]
+    for day, (limit, start, stop, times) in enumerate([
+        (0, 0, 10_000, (0, 5_999, 6_000, 6_001, 9_995, 10_000)),
+        (1, 0, 6_001, (6_000, 6_001, 6_500, 9_999, 10_000)),
+        (0, 0, 6_000, (6_000, 6_001)),
+        (2, 1, 5_000, (1, 5_000, 8_999, 9_000, 9_001)),
+        (NO_LIMIT, 4_000, 10_000, (2_000, 2_001, 4_000, 9_999)),
+        (NO_LIMIT, 4_001, 10_000, (4_000, 4_001, 4_002, 10_000)),
+        (NO_LIMIT, 0, 10_000, (6_999, 7_000, 7_999, 8_000)),
+        (MOST_LAPSES, 500, 9_000, (499, 500, 6_500, 9_500)),
+        (NO_LIMIT, 0, 10_000, (0, 4_000, 10_000)),
+    ], start=1):
+        words = row._replace(b=0) if day == 9 else row
+        calls += [Open(list(words), day, 2_000, limit), Outlook()]
+        events = [*kept_events(start, stop), *map(Tick, times)]
+        for event in sorted(events, key=lambda event: event.t):
+            calls += [event, Outlook()]
+        calls += [Close(10, 10), Outlook(), Look(day, 1, 1)]
     return calls
 
 

@@ -3,7 +3,7 @@
 from recount import records
 from recount.book import (
     BUY, CHARGE_LIMIT, COUNTS, PRICE_LIMIT, SELL, Add, Amend, Ask, Book, Cancel, Charge, Close, Commit,
-    Deal, Drop, Look, Open, Report, Tick, Ticket, Withdraw, widest,
+    Deal, Drop, Look, Open, Outlook, Report, Tick, Ticket, Withdraw, widest,
 )
 from recount.session import HEAD
 from tests.generate import (
@@ -45,7 +45,7 @@ class Month:
         return self.rng.choice([CHARGE_LIMIT + 1, 24 * WORD_END, 24 * WORD_END + 5, 2**64 - 1])
 
     def events(self, count, wrong):
-        """Events into the open quantum, with wrong ones and reports among them."""
+        """Events into the open quantum, with wrong ones, reports and outlooks among them."""
         s = Feed(self.rng, self.book, count)
         s.calls = self.calls
         if count:
@@ -57,6 +57,8 @@ class Month:
                 s.step()
             if self.rng.random() < 0.2:
                 self.send(Report())
+            if self.rng.random() < 0.1:
+                self.send(Outlook())
             if self.rng.random() < 0.1:
                 self.ask_and_commit(s)
 
@@ -82,7 +84,8 @@ class Month:
         ticket, how = Ticket(*amend, self.book.count), rng.randrange(8)
         if how == 0:  # what leaves the ticket good
             other = Ask(*self.amendment(s))
-            self.send(rng.choice([Report(), Look(*self.cell()), other, Tick(WORD_END - 1), Open([], 0, 0)]))
+            wrong = rng.choice([Tick(WORD_END - 1), Open([], 0, 0)])
+            self.send(rng.choice([Report(), Look(*self.cell()), Outlook(), other, wrong]))
         elif how == 1:  # what makes it old
             self.send(rng.choice([Tick(s.now), amend]))
         elif how == 2:
@@ -187,7 +190,7 @@ def mixed_calls(rng):
         elif how == 6:
             m.send(Look(*m.cell()))
         elif how == 7:
-            m.send(Report())
+            m.send(rng.choice([Report(), Outlook()]))
         else:
             m.look_round()
     m.look_round()
@@ -331,6 +334,34 @@ def lapsing(rng):
     return m.calls
 
 
+def resting(rng):
+    """Quanta quoted on and off, with an outlook at every turn: few lapses allowed, the share at its edge,
+    at times a spread limit below 1, and a few milliseconds left at the end."""
+    m = Month(rng)
+    for day in range(1, rng.randrange(3, 7)):
+        row = keeping_a_step(rng.choice([short_row, short_row, long_row])(rng))
+        if rng.random() < 0.15:
+            row = row._replace(a=0, b=0)
+        m.send(Open(list(row), day, any_sp(rng), rng.choice([1, 2, any_limit(rng)])))
+        share, t = -(-row.share * row.length // 1_000), rng.choice([0, 0, 0, row.length // 5])
+        m.send(Outlook())
+        m.send(Add(t, 1, BUY, 100, row.least))
+        m.send(Add(t, 2, SELL, 101, row.least))
+        for price in [100_000_000, 101] * rng.randrange(4):
+            m.send(Outlook())
+            t += rng.choice([1, 10, row.length // 10, share, share - 1, row.length - share])
+            if t >= row.length:
+                break
+            m.send(Amend(t, 2, price, row.least))
+        last = max(m.book.quoting.time, rng.choice([row.length - share, row.length - share + 1, share]))
+        for t in sorted({last, max(last, row.length - rng.randrange(9)), row.length}):
+            m.send(Tick(t))
+            m.send(Outlook())
+        m.send(Close(m.charge(), m.charge()))
+    m.look_round()
+    return m.calls
+
+
 def strike_month(rng):
     """A strike's meter: quotes as wide as the limit, a step less and a step more."""
     m = Month(rng)
@@ -389,6 +420,7 @@ def reported_session(rng):
 CALLS = [
     (mixed_calls, 8), (reported_session, 8), (makers_month, 3), (failures, 2), (whole_month, 1),
     (fee_limits, 2), (crowded, 2), (lapsing, 3), (strike_month, 4), (asking, 4),
+    (resting, 4),
 ]
 
 

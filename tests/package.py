@@ -214,7 +214,7 @@ def check_months(rng):
         found = [line(answer) for answer in quoting.answers_to(blocks)]
         assert found == due, next(pair for pair in zip(found, due) if pair[0] != pair[1])
         seen.update(found_line.split()[0] for found_line in found)
-    assert seen == {"accepted", "refused", "cell", "report", "asked"}, seen
+    assert seen == {"accepted", "refused", "cell", "report", "asked", "outlook"}, seen
     with ThreadPoolExecutor(4) as pool:
         again = pool.map(lambda blocks: [line(answer) for answer in quoting.answers_to(blocks)], [blocks for blocks, _ in given])
         assert list(again) == [due for _, due in given]

@@ -235,13 +235,13 @@ def check_calls(rng):
     """The package's block of a call is the tests' own, and its line reads back, for all lists that the tests make."""
     seen = set()
     for _ in range(60):
-        for call in [*months.any_calls(rng)[1], *known.ask_calls(), *message_lists.any_calls(rng)[1]]:
+        for call in [*months.any_calls(rng)[1], *known.ask_calls(), *known.outlook_calls(), *message_lists.any_calls(rng)[1]]:
             block = calls.calls_bytes([call])
             found, stop = package_calls.read_list(block)
             assert stop == len(block) and package_calls.block(found[0]) == block, call
             assert calls.to_bytes(texts.block_line(block)) == block, call
             seen.add(type(call).__name__)
-    assert len(seen) == 15, seen
+    assert len(seen) == 16, seen
 
 
 def main():

@@ -6,7 +6,8 @@
 """
 
 from quoting import fix
-from quoting.answers import Accepted, Answer, Asked, Cell, MonthReport
+from quoting.accounts import Account, Stretch, account
+from quoting.answers import Accepted, Answer, Asked, Cell, MonthReport, Outlook
 from quoting.calls import Strike, Ticket
 from quoting.events import Add, Amend, Cancel, Deal, Event, Tick
 from quoting.months import Month, answers_to
@@ -18,7 +19,7 @@ from quoting.standings import Standing
 from quoting.values import Tenths, milliseconds, tenths
 
 __all__ = [
-    "Accepted", "Add", "Amend", "Answer", "Asked", "Cancel", "Cell", "Deal", "Event", "Missing", "Month", "MonthReport", "Refused", "Row",
-    "Rule", "Session", "Standing", "Strike", "Tenths", "Tick", "Ticket", "answers_to", "board", "choose_row", "ease", "fix", "milliseconds", "safe_minutes",
+    "Accepted", "Account", "Add", "Amend", "Answer", "Asked", "Cancel", "Cell", "Deal", "Event", "Missing", "Month", "MonthReport", "Outlook", "Refused", "Row",
+    "Rule", "Session", "Standing", "Stretch", "Strike", "Tenths", "Tick", "Ticket", "account", "answers_to", "board", "choose_row", "ease", "fix", "milliseconds", "safe_minutes",
     "session", "tenths", "version", "volatile_day", "weight",
 ]

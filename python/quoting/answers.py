@@ -14,6 +14,7 @@ from quoting.native import Refused
 from quoting.values import Tenths
 
 WORDS = 20
+OVER = -1  # lapses left, where there were too many
 
 
 @dataclass(frozen=True)
@@ -60,7 +61,24 @@ class MonthReport:
     fee: int
 
 
-Answer = Union[Accepted, Refused, Cell, Asked, MonthReport]
+@dataclass(frozen=True)
+class Outlook:
+    """How the open quantum stands: milliseconds that must still be kept and that are left; until when nothing need be kept (None: never)
+    and what the full weight still needs (None: it can't be had); the lapses left (None: no limit, -1: over it); whether the maker may
+    rest, whether the quantum is lost; the weight if nothing more is kept, and if all that is left is."""
+
+    need: int
+    left: int
+    by: Optional[int]
+    full: Optional[int]
+    lapses: Optional[int]
+    rest: bool
+    lost: bool
+    weight_resting: int
+    weight_keeping: int
+
+
+Answer = Union[Accepted, Refused, Cell, Asked, MonthReport, Outlook]
 
 
 def quote(there: int, price: int) -> Optional[int]:
@@ -71,6 +89,12 @@ def cell_of(w: Sequence[int]) -> Cell:
     _, kept, length, share, limit, lapses, *charges = w[2:12]
     active, passive = long(*charges[:2]), long(*charges[2:])
     return Cell(kept, length, Tenths(share), lapses, None if limit == NO_LIMIT else limit, active, passive, w[12] == 1, w[13])
+
+
+def outlook_of(w: Sequence[int]) -> Outlook:
+    by, full = (time if there else None for there, time in (w[4:6], w[6:8]))
+    lapses = {0: None, 1: OVER}.get(w[8], w[9])
+    return Outlook(w[2], w[3], by, full, lapses, w[10] == 1, w[11] == 1, w[12], w[13])
 
 
 def answer_of(w: Sequence[int]) -> Answer:
@@ -84,7 +108,7 @@ def answer_of(w: Sequence[int]) -> Answer:
     if w[0] == 4:
         quotes = quote(w[5], w[6]), quote(w[7], w[8])
         return MonthReport(w[2] == 1, w[3], w[4], *quotes, w[9], w[10], tuple(w[11:17]), long(w[17], w[18]))
-    return Accepted()
+    return outlook_of(w) if w[0] == 5 else Accepted()
 
 
 # ---------------------------------------------------------------- as a line
@@ -96,6 +120,14 @@ def quote_text(price: Optional[int]) -> str:
 
 def verdict_text(met: bool) -> str:
     return "met" if met else "failed"
+
+
+def outlook_line(answer: Outlook) -> str:
+    by, full = ("never" if number is None else number for number in (answer.by, answer.full))
+    lapses = {None: "none", OVER: "over"}.get(answer.lapses, answer.lapses)
+    flags = f"rest {'yes' if answer.rest else 'no'} lost {'yes' if answer.lost else 'no'}"
+    weights = f"weight {answer.weight_resting} {answer.weight_keeping}"
+    return f"outlook need {answer.need} left {answer.left} by {by} full {full} lapses {lapses} {flags} {weights}"
 
 
 def line(answer: Answer) -> str:
@@ -119,4 +151,4 @@ def line(answer: Answer) -> str:
             f"report open {'yes' if answer.is_open else 'no'} time {answer.time} orders {answer.orders} {quotes}"
             f" kept {answer.kept} lapses {answer.lapses} failed {failed} fee {answer.fee}"
         )
-    return "accepted"
+    return outlook_line(answer) if isinstance(answer, Outlook) else "accepted"

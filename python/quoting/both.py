@@ -26,6 +26,17 @@ def session_lines(data: bytes) -> list[str]:
     return [f"kept {answer.kept} of {answer.length}", *pairs, f"verdict {programs.verdict_text(answer.met)}", f"weight {answer.weight}"]
 
 
+def account_lines(data: bytes) -> list[str]:
+    """The recount's lines of an account, as the program `account` prints them."""
+    run, accounts, programs = recount("session"), recount("account"), recount("programs")
+    *words, sp = run.HEAD.unpack(data[: run.HEAD.size])
+    answer = accounts.run(words, sp, data[run.HEAD.size :])
+    if isinstance(answer, run.Stopped):
+        return [str(programs.refused_at(answer))]
+    stretches = [f"from {offset} for {length} {accounts.STATES[state]}" for offset, length, state in answer.stretches]
+    return [*stretches, *(f"total {state} {time}" for state, time in zip(accounts.STATES, answer.times))]
+
+
 def answer_lines(data: bytes) -> list[str]:
     """The recount's answers to a list of calls, as `replay` prints them."""
     programs, book = recount("programs"), recount("book").Book()

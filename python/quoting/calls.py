@@ -77,6 +77,11 @@ class Report:
 
 
 @dataclass(frozen=True)
+class Outlook:
+    """How the open quantum stands, and whether the maker may rest."""
+
+
+@dataclass(frozen=True)
 class Ask:
     t: Time
     id: int
@@ -112,7 +117,7 @@ class Message:
     bytes: bytes
 
 
-Call = Union[Open, Event, Close, Drop, Charge, Withdraw, Look, Report, Ask, Commit, Message]
+Call = Union[Open, Event, Close, Drop, Charge, Withdraw, Look, Report, Outlook, Ask, Commit, Message]
 
 # ---------------------------------------------------------------- written
 
@@ -159,7 +164,7 @@ def words_of(call: Call) -> list[int]:
         return [14, *amendment(call)]
     if isinstance(call, Commit):
         return [15, *amendment(call), *amendment(call.ticket), *halves(call.ticket.count)]
-    return [8 if isinstance(call, Drop) else 12]
+    return [{Drop: 8, Report: 12, Outlook: 17}[type(call)]]
 
 
 def pack(words: Sequence[int]) -> bytes:
@@ -212,6 +217,7 @@ FIXED: dict[int, tuple[int, Callable[[Sequence[int]], Optional[Call]]]] = {
     11: (3, lambda w: Look(*w)),
     12: (0, lambda w: Report()),
     14: (4, lambda w: Ask(*amended(w))),
+    17: (0, lambda w: Outlook()),
     15: (10, lambda w: Commit(*amended(w[:4]), Ticket(*amended(w[4:8]), long(w[8], w[9])))),
 }
 

@@ -48,6 +48,14 @@ def step_of(word: str) -> Decimal:
     return Decimal(word)
 
 
+def limit_of(word: str) -> int:
+    """A lapse limit."""
+    try:
+        return values.whole(word, (0, 1_000))
+    except ValueError as error:
+        raise argparse.ArgumentTypeError(str(error)) from None
+
+
 def add_output(parser: argparse.ArgumentParser, json: bool = True) -> None:
     parser.add_argument("-o", "--output", metavar="FILE", help="write to FILE (standard output otherwise)")
     if json:

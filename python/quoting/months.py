@@ -18,7 +18,7 @@ from typing import Iterable, Iterator, Optional, Sequence, Union
 
 from quoting import calls as c
 from quoting import native
-from quoting.answers import WORDS, Answer, Asked, Cell, MonthReport, answer_of
+from quoting.answers import WORDS, Answer, Asked, Cell, MonthReport, Outlook, answer_of
 from quoting.events import Add, Amend, Cancel, Deal, Side, Tick
 from quoting.native import Refused
 from quoting.rules import Row
@@ -109,6 +109,12 @@ class Month:
     def report(self) -> MonthReport:
         answer = self.call(c.Report())
         assert isinstance(answer, MonthReport)
+        return answer
+
+    def outlook(self) -> Outlook:
+        """How the open quantum stands, and whether the maker may rest."""
+        answer = self.call(c.Outlook())
+        assert isinstance(answer, Outlook)
         return answer
 
     def ask(self, t: Time, id: int, price: int, volume: int) -> Asked:

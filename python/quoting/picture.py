@@ -1,6 +1,7 @@
-"""A picture (SVG) of a session's quantum: best bid and ask over time, the kept stretches shaded, the share kept beside the one required.
+"""A picture (SVG) of a session's quantum: best bid and ask over time, coloured by the state of each stretch of time, the share kept beside
+the one required, what each state took, and the longest stretches that were not kept.
 
-Where kept stretches or gaps are shorter than a pixel, that pixel's column is filled by its share, so that many short gaps are seen.
+Where stretches are shorter than a pixel, that pixel's column is filled by the states' shares, so that many short gaps are seen.
 """
 
 from bisect import bisect_left
@@ -8,6 +9,7 @@ from typing import Iterator, Optional, Sequence
 
 from quoting import calls as c
 from quoting import drawing, months
+from quoting.accounts import STATES, Account, Stretch, account
 from quoting.answers import Answer, Cell, MonthReport, verdict_text
 from quoting.drawing import INK, PALE, Drawing
 from quoting.events import event_of, split
@@ -16,14 +18,17 @@ from quoting.rules import HEAD, Row, Rule
 from quoting.sessions import session
 from quoting.values import HOUR, MINUTE, SECOND, clock, milliseconds, part_text, share_text
 
-WIDTH, HEIGHT = 920, 470
+WIDTH, HEIGHT = 920, 650
 LEFT, RIGHT, TOP, BOTTOM = 100, 890, 96, 350  # the plot
 BAR_TOP, BAR_HEIGHT = 410, 20
+STATES_TOP, LOST_TOP, LONGEST = 480, 534, 10  # each state's time, and the table of the longest that were lost
 COLUMNS = RIGHT - LEFT  # pixels of the quantum's time
 CROWD = 300  # quotes, from which on their lines are pale, so that the shading is seen
 
 BID, ASK = "#1f5fa8", "#b3381f"
-KEPT, MET_BAR, FAILED_BAR = "#cfe8cf", "#6fb56f", "#d99a4e"
+MET_BAR, FAILED_BAR = "#6fb56f", "#d99a4e"
+COLOURS = {"kept": "#cfe8cf", "no-bid": "#cfdff2", "no-ask": "#f4d3cb", "neither": "#e2e2e2", "crossed": "#e3d0ee", "wide": "#fbe6b8"}
+WORDS = {"kept": "kept", "no-bid": "no bid", "no-ask": "no ask", "neither": "neither", "crossed": "crossed", "wide": "too wide"}
 
 TIME_STEPS = [
     1, 2, 5, 10, 20, 50, 100, 200, 500, SECOND, 2 * SECOND, 5 * SECOND, 10 * SECOND, 30 * SECOND,
@@ -68,38 +73,33 @@ def played(data: bytes, limit: int) -> tuple[list[Quote], Cell]:
     return list(found.values()), answer
 
 
-# ---------------------------------------------------------------- kept stretches
+# ---------------------------------------------------------------- stretches of one state
 
 
-def crowded(pairs: Pairs, length: int) -> set[int]:
-    """The columns touched by a kept stretch or a gap that is shorter than a pixel."""
-    pixel, before = length / COLUMNS, 0
+def crowded(stretches: Sequence[Stretch], length: int) -> list[int]:
+    """The columns touched by a stretch that is shorter than a pixel."""
+    pixel = length / COLUMNS
     found: set[int] = set()
-    for offset, size in [*pairs, (length, 0)]:
-        gap = offset - before
-        if 0 < gap < pixel:
-            found.update((int(before / pixel), int((offset - 1) / pixel)))
-        if 0 < size < pixel:
-            found.update((int(offset / pixel), int((offset + size - 1) / pixel)))
-        before = offset + size
-    return found
+    for each in stretches:
+        if each.length < pixel:
+            found.update((int(each.offset / pixel), int((each.offset + each.length - 1) / pixel)))
+    return sorted(found)
 
 
-def column_shares(pairs: Pairs, length: int, columns: Sequence[int]) -> dict[int, float]:
-    """The share of each of these columns that is kept."""
-    pixel, shares = length / COLUMNS, dict.fromkeys(columns, 0.0)
-    for offset, size in pairs:
-        first, last = int(offset / pixel), int((offset + size - 1) / pixel)
-        for column in range(first, last + 1) if last - first < 3 else filter(lambda at: first <= at <= last, shares):
-            if column in shares:
-                inside = min(offset + size, (column + 1) * pixel) - max(offset, column * pixel)
-                shares[column] += max(0.0, inside) / pixel
+def column_shares(stretches: Sequence[Stretch], length: int, columns: Sequence[int]) -> dict[int, dict[str, float]]:
+    """What part of each of these columns each state has."""
+    pixel, shares = length / COLUMNS, {column: dict.fromkeys(STATES, 0.0) for column in columns}
+    for each in stretches:
+        start, end = each.offset, each.offset + each.length
+        for column in columns[bisect_left(columns, int(start / pixel)) : bisect_left(columns, end / pixel)]:
+            inside = min(end, (column + 1) * pixel) - max(start, column * pixel)
+            shares[column][each.state] += max(0.0, inside) / pixel
     return shares
 
 
-def outside(pair: tuple[int, int], length: int, columns: list[int]) -> Iterator[tuple[float, float]]:
-    """The parts of a kept stretch that lie in no crowded column, as start and end in pixels."""
-    start, end = pair[0] * COLUMNS / length, (pair[0] + pair[1]) * COLUMNS / length
+def outside(each: Stretch, length: int, columns: Sequence[int]) -> Iterator[tuple[float, float]]:
+    """The parts of a stretch that lie in no crowded column, as start and end in pixels."""
+    start, end = each.offset * COLUMNS / length, (each.offset + each.length) * COLUMNS / length
     for column in columns[bisect_left(columns, int(start)) : bisect_left(columns, end)]:
         if start < column:
             yield start, column
@@ -108,13 +108,41 @@ def outside(pair: tuple[int, int], length: int, columns: list[int]) -> Iterator[
         yield start, end
 
 
-def draw_kept(d: Drawing, pairs: Pairs, length: int) -> None:
-    columns = sorted(crowded(pairs, length))
-    tall = BOTTOM - TOP
-    for start, end in (part for pair in pairs for part in outside(pair, length, columns)):
-        d.rect(LEFT + start, TOP, end - start, tall, KEPT)
-    for column, share in column_shares(pairs, length, columns).items():
-        d.rect(LEFT + column, BOTTOM - tall * share, 1, tall * share, KEPT)
+def draw_column(d: Drawing, column: int, shares: dict[str, float]) -> None:
+    """A crowded column: the states' parts one upon the other, what was kept at the bottom."""
+    bottom = float(BOTTOM)
+    for state, share in shares.items():
+        tall = (BOTTOM - TOP) * share
+        if share:
+            d.rect(LEFT + column, bottom - tall, 1, tall, COLOURS[state])
+        bottom -= tall
+
+
+def draw_states(d: Drawing, stretches: Sequence[Stretch], length: int) -> None:
+    columns = crowded(stretches, length)
+    for each in stretches:
+        for start, end in outside(each, length, columns):
+            d.rect(LEFT + start, TOP, end - start, BOTTOM - TOP, COLOURS[each.state])
+    for column, shares in column_shares(stretches, length, columns).items():
+        draw_column(d, column, shares)
+
+
+def draw_totals(d: Drawing, spent: Account) -> None:
+    """Each state's colour and time."""
+    for at, (state, time) in enumerate(spent.totals.items()):
+        x, y = LEFT + COLUMNS // 3 * (at % 3), STATES_TOP + 22 * (at // 3)
+        d.rect(x, y - 12, 26, 15, COLOURS[state])
+        d.text(x + 32, y, f"{WORDS[state]} {clock(time)}")
+
+
+def draw_longest(d: Drawing, spent: Account) -> None:
+    """The longest stretches that were not kept, as a table of two columns."""
+    lost = spent.longest_lost(LONGEST)
+    d.text(LEFT, LOST_TOP, "the longest stretches that were not kept" if lost else "all of the time was kept", more=' font-weight="bold"')
+    for at, each in enumerate(lost):
+        x, y = LEFT + COLUMNS // 2 * (at // (LONGEST // 2)), LOST_TOP + 20 * (1 + at % (LONGEST // 2))
+        d.rect(x, y - 11, 12, 12, COLOURS[each.state])
+        d.text(x + 20, y, f"{clock(each.offset)} to {clock(each.offset + each.length)}: {clock(each.length)}, {WORDS[each.state]}", size=12)
 
 
 # ---------------------------------------------------------------- axes, lines, bars
@@ -176,8 +204,6 @@ def draw_legend(d: Drawing) -> None:
     d.text(LEFT + 32, y, "best ask")
     d.line(LEFT + 110, y - 4, LEFT + 136, y - 4, BID, ' stroke-width="2"')
     d.text(LEFT + 142, y, "best bid")
-    d.rect(LEFT + 222, y - 12, 26, 15, KEPT)
-    d.text(LEFT + 254, y, "kept")
     d.text(RIGHT, y, "price steps over the quantum's time", "end", 12, PALE)
 
 
@@ -221,13 +247,16 @@ def picture(name: str, data: bytes, limit: Optional[int] = None) -> str:
     d.text(LEFT, 30, title, size=19, more=' font-weight="bold"')
     kept = f"kept {clock(cell.kept)} of {clock(cell.length)}, stretches: {len(done.pairs)}"
     d.text(LEFT, 52, f"{kept}; SP {sp}, least volume {row.minimum}, spread at most {widest(row, sp)}")
-    draw_kept(d, done.pairs, done.length)
+    spent = account(data[: HEAD.size], data[HEAD.size :])
+    draw_states(d, spent.stretches, done.length)
     draw_axes(d, plot)
     pale = ' stroke-opacity="0.35"' if len(shown) >= CROWD else ""
     d.path(steps(plot, [(t, ask) for t, _, ask in shown]), ASK, pale)
     d.path(steps(plot, [(t, bid) for t, bid, _ in shown]), BID, pale)
     draw_legend(d)
     draw_shares(d, cell)
+    draw_totals(d, spent)
+    draw_longest(d, spent)
     if limit is not None:
         draw_lapses(d, plot, done.pairs, cell)
     return d.svg()

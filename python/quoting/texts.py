@@ -249,6 +249,7 @@ def message_line(call: c.Message) -> str:
 OTHERS: dict[str, tuple[Callable[..., c.Call], str]] = {
     "close": (c.Close, "active passive"), "drop": (c.Drop, ""), "charge": (c.Charge, "day expiry quantum active passive"),
     "withdraw": (c.Withdraw, "day expiry quantum"), "look": (c.Look, "day expiry quantum"), "report": (c.Report, ""),
+    "outlook": (c.Outlook, ""),
 }
 STRIKE = ("a", "difference", "days", "b")
 SHAPES = {"open": "sp SP", "strike": "a A difference N days N b B"}

@@ -13,14 +13,19 @@ use Rattle.rules.specs.declared.Preview.{Preview}
 use Rattle.rules.specs.declared.Report.{Report}
 use Rattle.rules.specs.declared.Quote.{Quote}
 use Rattle.rules.specs.declared.Quote.the-variants.{Absent, At}
+use Rattle.rules.specs.declared.Possible.{Possible}
+use Rattle.rules.specs.declared.Possible.the-variants as P
+use Rattle.rules.specs.declared.LapsesLeft.{LapsesLeft}
+use Rattle.rules.specs.declared.LapsesLeft.the-variants as L
+use Rattle.rules.specs.declared.Outlook.{Outlook}
 use Rattle.rules.specs.Lists.{if_then_else_}
 use Rattle.rules.specs.Units.{millis, steps, contracts, kopecks}
 use Rattle.rules.specs.Records.{signedOf, unsignedOf}
-use Rattle.rules.specs.Answers.{Outcome, accepted, refused, Reply, done, cell, asked, report}
+use Rattle.rules.specs.Answers.{Outcome, accepted, refused, Reply, done, cell, asked, report, outlook}
 use Rattle.rules.proofs.Records.{signed-unsigned}
 use Rattle.lent.specs.Words.{cellWords}
 use Rattle.lent.proofs.Back.{flag-back, wide-back, cellOf, cell-back}
-use Rattle.answers.specs.Words.{quoteFlag, quoteWord, answerWords, QuoteFits, AnswerFits}
+use Rattle.answers.specs.Words.{quoteFlag, quoteWord, possibleFlag, possibleWord, lapsesKind, lapsesWord, answerWords, QuoteFits, AnswerFits}
 
 abbrev quoteOf : ℕ → ℕ → Quote
 quoteOf flag word = if eqb flag 1 then At (steps (signedOf word)) else Absent
@@ -57,13 +62,34 @@ reportOf ws =
       fee = kopecks (wideOf ws 17);
     }
 
+abbrev possibleOf : ℕ → ℕ → Possible
+possibleOf flag word = if eqb flag 1 then P.At (millis word) else P.Never
+
+abbrev lapsesOf : ℕ → ℕ → LapsesLeft
+lapsesOf kind word = if eqb kind 0 then L.Unlimited else (if eqb kind 1 then L.Over else L.Left word)
+
+abbrev outlookOf : List ℕ → Outlook
+outlookOf ws =
+    record {
+      need = millis (getD ws 2 0);
+      left = millis (getD ws 3 0);
+      by = possibleOf (getD ws 4 0) (getD ws 5 0);
+      full = possibleOf (getD ws 6 0) (getD ws 7 0);
+      lapses = lapsesOf (getD ws 8 0) (getD ws 9 0);
+      rest = eqb (getD ws 10 0) 1;
+      lost = eqb (getD ws 11 0) 1;
+      resting = getD ws 12 0;
+      keeping = getD ws 13 0;
+    }
+
 -- by the kind
 abbrev byKind : ℕ → List ℕ → Outcome Reply
 byKind zero ws = accepted done
 byKind (suc zero) ws = refused (getD ws 1 0)
 byKind (suc (suc zero)) ws = accepted (cell (viewOf ws))
 byKind (suc (suc (suc zero))) ws = accepted (asked (previewOf ws))
-byKind (suc (suc (suc (suc n)))) ws = accepted (report (reportOf ws))
+byKind (suc (suc (suc (suc zero)))) ws = accepted (report (reportOf ws))
+byKind (suc (suc (suc (suc (suc n))))) ws = accepted (outlook (outlookOf ws))
 
 abbrev pub answerIn : List ℕ → Outcome Reply
 answerIn ws = byKind (getD ws 0 0) ws
@@ -71,6 +97,15 @@ answerIn ws = byKind (getD ws 0 0) ws
 quote-back : (q : Quote) → QuoteFits q → quoteOf (quoteFlag q) (quoteWord q) ≡ q
 quote-back Absent h = refl
 quote-back (At p) h = ap (λ (z : ℤ). At (steps z)) (signed-unsigned (p .0) h)
+
+possible-back : (p : Possible) → possibleOf (possibleFlag p) (possibleWord p) ≡ p
+possible-back P.Never = refl
+possible-back (P.At m) = refl
+
+lapses-back : (l : LapsesLeft) → lapsesOf (lapsesKind l) (lapsesWord l) ≡ l
+lapses-back L.Unlimited = refl
+lapses-back L.Over = refl
+lapses-back (L.Left n) = refl
 
 six : (l : List ℕ) → length l ≡ 6 → _≡_ {A = List ℕ} (getD l 0 0 ∷ getD l 1 0 ∷ getD l 2 0 ∷ getD l 3 0 ∷ getD l 4 0 ∷ getD l 5 0 ∷ []) l
 six [] h = absurd (omega arith)
@@ -119,6 +154,20 @@ answer-back (accepted (report r)) h = λ i.
       lapses = r .lapses;
       failures = six (r .failures) (h .2) i;
       fee = kopecks (wide-back (r .fee .0) i);
+    }))
+answer-back (accepted (outlook o)) h = λ i.
+    accepted
+    (outlook
+    (record {
+      need = o .need;
+      left = o .left;
+      by = possible-back (o .by) i;
+      full = possible-back (o .full) i;
+      lapses = lapses-back (o .lapses) i;
+      rest = flag-back (o .rest) i;
+      lost = flag-back (o .lost) i;
+      resting = o .resting;
+      keeping = o .keeping;
     }))
 
 -- no two answers have the same words

@@ -1,12 +1,15 @@
 // The answers to a month's calls in twenty lent words, each at its place (specs/Words).
 ghost use mathlib.Core.Path.{_≡_};
 ghost use lib.ListN.{length};
-ghost use Rattle.rules.specs.Answers.{accepted, refused, done, cell, asked, report as reported};
-ghost use Rattle.answers.specs.Words.{quoteFlag, quoteWord, answerWords};
+ghost use Rattle.rules.specs.Answers.{accepted, refused, done, cell, asked, report as reported, outlook as foreseen};
+ghost use Rattle.answers.specs.Words.{quoteFlag, quoteWord, possibleFlag, possibleWord, lapsesKind, lapsesWord, answerWords};
 use lent::flag;
 use lent::high;
 use lent::low;
 use rules::CellView;
+use rules::LapsesLeft;
+use rules::Outlook;
+use rules::Possible;
 use rules::Preview;
 use rules::Quote;
 use rules::Report;
@@ -27,6 +30,46 @@ fn price_word(quote: Quote) -> u32
     match quote {
         Quote::Absent => 0,
         Quote::At(p) => words::from_steps(p),
+    }
+}
+
+// Whether there is a number of milliseconds or a time, and which.
+fn possible(found: Possible) -> u32
+    ensures { λ r. ⌜ r ≡ possibleFlag found ⌝ }
+{
+    match found {
+        Possible::Never => 0,
+        Possible::At(_) => 1,
+    }
+}
+
+fn possible_word(found: Possible) -> u32
+    ensures { λ r. ⌜ r ≡ possibleWord found ⌝ }
+{
+    match found {
+        Possible::Never => 0,
+        Possible::At(m) => m.0,
+    }
+}
+
+// What the lapse limit leaves, and how many.
+fn lapses_kind(left: LapsesLeft) -> u32
+    ensures { λ r. ⌜ r ≡ lapsesKind left ⌝ }
+{
+    match left {
+        LapsesLeft::Unlimited => 0,
+        LapsesLeft::Over => 1,
+        LapsesLeft::Left(_) => 2,
+    }
+}
+
+fn lapses_word(left: LapsesLeft) -> u32
+    ensures { λ r. ⌜ r ≡ lapsesWord left ⌝ }
+{
+    match left {
+        LapsesLeft::Unlimited => 0,
+        LapsesLeft::Over => 0,
+        LapsesLeft::Left(n) => n,
     }
 }
 
@@ -168,6 +211,40 @@ pub fn put_report(report: Report, answer: &mut [u32])
         f[5],
         low(fee.0),
         high(fee.0),
+        0,
+    ];
+    lent::copy(&twenty, answer);
+}
+
+pub fn put_outlook(outlook: Outlook, answer: &mut [u32])
+    requires { ⌜ length (now answer) ≡ 20 ⌝ }
+    ensures { λ _. ⌜ now (answer .exit) ≡ answerWords (accepted (foreseen outlook)) ⌝ }
+{
+    let need = outlook.need;
+    let left = outlook.left;
+    let by = outlook.by;
+    let full = outlook.full;
+    let lapses = outlook.lapses;
+    let twenty = [
+        5,
+        0,
+        need.0,
+        left.0,
+        possible(by),
+        possible_word(by),
+        possible(full),
+        possible_word(full),
+        lapses_kind(lapses),
+        lapses_word(lapses),
+        flag(outlook.rest),
+        flag(outlook.lost),
+        outlook.resting,
+        outlook.keeping,
+        0,
+        0,
+        0,
+        0,
+        0,
         0,
     ];
     lent::copy(&twenty, answer);

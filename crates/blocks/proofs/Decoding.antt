@@ -108,24 +108,25 @@ module _ (b : List ℕ) (at n whole start end : ℕ) (w : whole ≡ 4 * (length 
 -- ---- the call by its kind
 
 -- a kind that says no other call is a report
-not-said : (ws : List ℕ) (kind : ℕ) → NoneOf kind (16 ∷ 15 ∷ 14 ∷ 13 ∷ 11 ∷ 10 ∷ 9 ∷ 8 ∷ 7 ∷ 6 ∷ 5 ∷ 4 ∷ 3 ∷ 2 ∷ 1 ∷ []) → callBy kind ws ≡ Report
+not-said : (ws : List ℕ) (kind : ℕ) → NoneOf kind (17 ∷ 16 ∷ 15 ∷ 14 ∷ 13 ∷ 11 ∷ 10 ∷ 9 ∷ 8 ∷ 7 ∷ 6 ∷ 5 ∷ 4 ∷ 3 ∷ 2 ∷ 1 ∷ []) → callBy kind ws ≡ Report
 not-said ws kind h =
     rw (
-      ne-eqb kind 1 (h .0 .0 .0 .0 .0 .0 .0 .0 .0 .0 .0 .0 .0 .0 .1),
-      ne-eqb kind 2 (h .0 .0 .0 .0 .0 .0 .0 .0 .0 .0 .0 .0 .0 .1),
-      ne-eqb kind 3 (h .0 .0 .0 .0 .0 .0 .0 .0 .0 .0 .0 .0 .1),
-      ne-eqb kind 4 (h .0 .0 .0 .0 .0 .0 .0 .0 .0 .0 .0 .1),
-      ne-eqb kind 5 (h .0 .0 .0 .0 .0 .0 .0 .0 .0 .0 .1),
-      ne-eqb kind 6 (h .0 .0 .0 .0 .0 .0 .0 .0 .0 .1),
-      ne-eqb kind 7 (h .0 .0 .0 .0 .0 .0 .0 .0 .1),
-      ne-eqb kind 8 (h .0 .0 .0 .0 .0 .0 .0 .1),
-      ne-eqb kind 9 (h .0 .0 .0 .0 .0 .0 .1),
-      ne-eqb kind 10 (h .0 .0 .0 .0 .0 .1),
-      ne-eqb kind 11 (h .0 .0 .0 .0 .1),
-      ne-eqb kind 13 (h .0 .0 .0 .1),
-      ne-eqb kind 14 (h .0 .0 .1),
-      ne-eqb kind 15 (h .0 .1),
-      ne-eqb kind 16 (h .1),
+      ne-eqb kind 1 (h .0 .0 .0 .0 .0 .0 .0 .0 .0 .0 .0 .0 .0 .0 .0 .1),
+      ne-eqb kind 2 (h .0 .0 .0 .0 .0 .0 .0 .0 .0 .0 .0 .0 .0 .0 .1),
+      ne-eqb kind 3 (h .0 .0 .0 .0 .0 .0 .0 .0 .0 .0 .0 .0 .0 .1),
+      ne-eqb kind 4 (h .0 .0 .0 .0 .0 .0 .0 .0 .0 .0 .0 .0 .1),
+      ne-eqb kind 5 (h .0 .0 .0 .0 .0 .0 .0 .0 .0 .0 .0 .1),
+      ne-eqb kind 6 (h .0 .0 .0 .0 .0 .0 .0 .0 .0 .0 .1),
+      ne-eqb kind 7 (h .0 .0 .0 .0 .0 .0 .0 .0 .0 .1),
+      ne-eqb kind 8 (h .0 .0 .0 .0 .0 .0 .0 .0 .1),
+      ne-eqb kind 9 (h .0 .0 .0 .0 .0 .0 .0 .1),
+      ne-eqb kind 10 (h .0 .0 .0 .0 .0 .0 .1),
+      ne-eqb kind 11 (h .0 .0 .0 .0 .0 .1),
+      ne-eqb kind 13 (h .0 .0 .0 .0 .1),
+      ne-eqb kind 14 (h .0 .0 .0 .1),
+      ne-eqb kind 15 (h .0 .0 .1),
+      ne-eqb kind 16 (h .0 .1),
+      ne-eqb kind 17 (h .1),
     )
     refl
 
@@ -149,6 +150,6 @@ module _ (ws : List ℕ) where
       ap (callWith ws) r ∙ ap (B.Open (rowAt ws) (getD ws (2 + getD ws 1 0) 0)) (o ∙ ap (strikeOpeningAt ws) f)
 
   -- any other kind
-  pub other-is : (kind : ℕ) → kind ≡ getD ws 0 0 → NoneOf kind (16 ∷ 15 ∷ 14 ∷ 13 ∷ 11 ∷ 10 ∷ 9 ∷ 8 ∷ 7 ∷ 6 ∷ 5 ∷ 4 ∷ 3 ∷ 2 ∷ 1 ∷ []) → Report ≡ callOf ws
+  pub other-is : (kind : ℕ) → kind ≡ getD ws 0 0 → NoneOf kind (17 ∷ 16 ∷ 15 ∷ 14 ∷ 13 ∷ 11 ∷ 10 ∷ 9 ∷ 8 ∷ 7 ∷ 6 ∷ 5 ∷ 4 ∷ 3 ∷ 2 ∷ 1 ∷ []) → Report ≡ callOf ws
   unfolding callOf
   other-is kind e h = sym (not-said ws kind h) ∙ ap (λ (j : ℕ). callBy j ws) e

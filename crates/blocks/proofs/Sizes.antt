@@ -22,28 +22,29 @@ abbrev pub NoneOf : ℕ → List ℕ → Type 0
 NoneOf kind [] = Unit {0}
 NoneOf kind (k ∷ ks) = NoneOf kind ks × (kind ≡ k → ⊥)
 
-other-kind : (kind : ℕ) (ws : List ℕ) → NoneOf kind (16 ∷ 15 ∷ 14 ∷ 13 ∷ 12 ∷ 11 ∷ 10 ∷ 9 ∷ 8 ∷ 7 ∷ 6 ∷ 5 ∷ 4 ∷ 3 ∷ 2 ∷ 1 ∷ []) → due kind ws ≡ 0
+other-kind : (kind : ℕ) (ws : List ℕ) → NoneOf kind (17 ∷ 16 ∷ 15 ∷ 14 ∷ 13 ∷ 12 ∷ 11 ∷ 10 ∷ 9 ∷ 8 ∷ 7 ∷ 6 ∷ 5 ∷ 4 ∷ 3 ∷ 2 ∷ 1 ∷ []) → due kind ws ≡ 0
 unfolding due
 other-kind kind ws h =
     rw (
-      ne-eqb kind 1 (h .0 .0 .0 .0 .0 .0 .0 .0 .0 .0 .0 .0 .0 .0 .0 .1),
-      ne-eqb kind 2 (h .0 .0 .0 .0 .0 .0 .0 .0 .0 .0 .0 .0 .0 .0 .1),
-      ne-eqb kind 3 (h .0 .0 .0 .0 .0 .0 .0 .0 .0 .0 .0 .0 .0 .1),
-      ne-eqb kind 4 (h .0 .0 .0 .0 .0 .0 .0 .0 .0 .0 .0 .0 .1),
-      ne-eqb kind 5 (h .0 .0 .0 .0 .0 .0 .0 .0 .0 .0 .0 .1),
-      ne-eqb kind 6 (h .0 .0 .0 .0 .0 .0 .0 .0 .0 .0 .1),
-      ne-eqb kind 7 (h .0 .0 .0 .0 .0 .0 .0 .0 .0 .1),
-      ne-eqb kind 8 (h .0 .0 .0 .0 .0 .0 .0 .0 .1),
-      ne-eqb kind 9 (h .0 .0 .0 .0 .0 .0 .0 .1),
-      ne-eqb kind 10 (h .0 .0 .0 .0 .0 .0 .1),
-      ne-eqb kind 11 (h .0 .0 .0 .0 .0 .1),
-      ne-eqb kind 12 (h .0 .0 .0 .0 .1),
-      ne-eqb kind 13 (h .0 .0 .0 .1),
-      ne-eqb kind 14 (h .0 .0 .1),
-      ne-eqb kind 15 (h .0 .1),
-      ne-eqb kind 16 (h .1),
+      ne-eqb kind 1 (h .0 .0 .0 .0 .0 .0 .0 .0 .0 .0 .0 .0 .0 .0 .0 .0 .1),
+      ne-eqb kind 2 (h .0 .0 .0 .0 .0 .0 .0 .0 .0 .0 .0 .0 .0 .0 .0 .1),
+      ne-eqb kind 3 (h .0 .0 .0 .0 .0 .0 .0 .0 .0 .0 .0 .0 .0 .0 .1),
+      ne-eqb kind 4 (h .0 .0 .0 .0 .0 .0 .0 .0 .0 .0 .0 .0 .0 .1),
+      ne-eqb kind 5 (h .0 .0 .0 .0 .0 .0 .0 .0 .0 .0 .0 .0 .1),
+      ne-eqb kind 6 (h .0 .0 .0 .0 .0 .0 .0 .0 .0 .0 .0 .1),
+      ne-eqb kind 7 (h .0 .0 .0 .0 .0 .0 .0 .0 .0 .0 .1),
+      ne-eqb kind 8 (h .0 .0 .0 .0 .0 .0 .0 .0 .0 .1),
+      ne-eqb kind 9 (h .0 .0 .0 .0 .0 .0 .0 .0 .1),
+      ne-eqb kind 10 (h .0 .0 .0 .0 .0 .0 .0 .1),
+      ne-eqb kind 11 (h .0 .0 .0 .0 .0 .0 .1),
+      ne-eqb kind 12 (h .0 .0 .0 .0 .0 .1),
+      ne-eqb kind 13 (h .0 .0 .0 .0 .1),
+      ne-eqb kind 14 (h .0 .0 .0 .1),
+      ne-eqb kind 15 (h .0 .0 .1),
+      ne-eqb kind 16 (h .0 .1),
+      ne-eqb kind 17 (h .1),
     )
     refl
 
-pub other-due : (ws : List ℕ) (kind : ℕ) → kind ≡ getD ws 0 0 → NoneOf kind (16 ∷ 15 ∷ 14 ∷ 13 ∷ 12 ∷ 11 ∷ 10 ∷ 9 ∷ 8 ∷ 7 ∷ 6 ∷ 5 ∷ 4 ∷ 3 ∷ 2 ∷ 1 ∷ []) → 0 ≡ dueAt ws
+pub other-due : (ws : List ℕ) (kind : ℕ) → kind ≡ getD ws 0 0 → NoneOf kind (17 ∷ 16 ∷ 15 ∷ 14 ∷ 13 ∷ 12 ∷ 11 ∷ 10 ∷ 9 ∷ 8 ∷ 7 ∷ 6 ∷ 5 ∷ 4 ∷ 3 ∷ 2 ∷ 1 ∷ []) → 0 ≡ dueAt ws
 other-due ws kind e h = sym (other-kind kind ws h) ∙ ap (λ (j : ℕ). due j ws) e

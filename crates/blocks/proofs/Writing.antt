@@ -17,7 +17,7 @@ use Rattle.rules.specs.declared.Event.the-variants.{Add, Amend, Cancel, Deal, T
 use Rattle.rules.specs.Units.{steps, kopecks}
 use Rattle.rules.specs.Records.{signedOf, unsignedOf}
 use Rattle.rules.specs.Widths.{Word, SignedWord, Fits, Bytes}
-use Rattle.rules.specs.Calls.{Call, Open, Send, Message, Ask, Commit, Close, Drop, Charge, Withdraw, Look, Report}
+use Rattle.rules.specs.Calls.{Call, Open, Send, Message, Ask, Commit, Close, Drop, Charge, Withdraw, Look, Report, Outlook}
 use Rattle.rules.proofs.Records.{signed-unsigned, unsigned-fits}
 use Rattle.words.specs.Bytes.{bytesOf}
 use Rattle.words.proofs.Bytes.{words-length}
@@ -65,6 +65,7 @@ call-due (Charge day expiry quantum active passive) rest = refl
 call-due (Withdraw day expiry quantum) rest = refl
 call-due (Look day expiry quantum) rest = refl
 call-due Report rest = refl
+call-due Outlook rest = refl
 
 pub size-of : (c : Call) (rest : List ℕ) → blockSize (wordsOf c ++ rest) ≡ length (wordsOf c)
 size-of c rest =
@@ -92,6 +93,7 @@ call-some (Charge day expiry quantum active passive) = omega arith
 call-some (Withdraw day expiry quantum) = omega arith
 call-some (Look day expiry quantum) = omega arith
 call-some Report = omega arith
+call-some Outlook = omega arith
 
 -- ---- the call
 
@@ -235,6 +237,7 @@ call-back (Charge day expiry quantum active passive) h rest = rw (charge-back ac
 call-back (Withdraw day expiry quantum) h rest = refl
 call-back (Look day expiry quantum) h rest = refl
 call-back Report h rest = refl
+call-back Outlook h rest = refl
 
 -- ---- the list
 
@@ -332,6 +335,7 @@ call-fits (Charge day expiry quantum active passive) h =
 call-fits (Withdraw day expiry quantum) h = put (omega arith) (put (h .0) (put (h .1) (put (h .2) none)))
 call-fits (Look day expiry quantum) h = put (omega arith) (put (h .0) (put (h .1) (put (h .2) none)))
 call-fits Report h = put (omega arith) none
+call-fits Outlook h = put (omega arith) none
 
 script-fits : (calls : List Call) → AllFit calls → Fine (scriptOf calls)
 unfolding scriptOf

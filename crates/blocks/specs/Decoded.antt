@@ -19,3 +19,4 @@ callWith ws (D.Charge day expiry quantum active passive) = B.Charge day expiry q
 callWith ws (D.Withdraw day expiry quantum) = B.Withdraw day expiry quantum
 callWith ws (D.Look day expiry quantum) = B.Look day expiry quantum
 callWith ws D.Report = B.Report
+callWith ws D.Outlook = B.Outlook

@@ -18,7 +18,7 @@ use Rattle.rules.specs.declared.Event.the-variants.{Add, Amend, Cancel, Deal, T
 use Rattle.rules.specs.Lists.{if_then_else_}
 use Rattle.rules.specs.Units.{millis, steps, contracts, kopecks}
 use Rattle.rules.specs.Records.{signedOf}
-use Rattle.rules.specs.Calls.{Call, Open, Send, Message, Ask, Commit, Close, Drop, Charge, Withdraw, Look, Report}
+use Rattle.rules.specs.Calls.{Call, Open, Send, Message, Ask, Commit, Close, Drop, Charge, Withdraw, Look, Report, Outlook}
 use Rattle.words.specs.Bytes.{bytesOf}
 
 -- the word at a place of a block; past the end of the words it is 0, which is no kind and no side
@@ -35,8 +35,8 @@ addDue side = if eqb side 1 || eqb side 2 then 6 else 0
 -- amend; `4 t id` cancel; `5 t id volume` deal; `6 t` tick; `7 Alow Ahigh Plow Phigh` close; `8` drop; `9 day expiry quantum Alow Ahigh
 -- Plow Phigh` charge; `10 day expiry quantum` withdraw; `11 day expiry quantum` look; `12` report; by document 02, W4, `13 n w1..wn day a
 -- difference days b allowed` open a strike; by W5 `14 t id price volume` ask, and `15 t id price volume` commit, then the ticket, `t id
--- price volume countlow counthigh`; by W11 `16 s m` message, then the words of s + m bytes, filled up to whole words. It is 0 for another
--- kind.
+-- price volume countlow counthigh`; by W11 `16 s m` message, then the words of s + m bytes, filled up to whole words; `17`
+-- outlook. It is 0 for another kind.
 unfoldable pub due : ℕ → List ℕ → ℕ
 due kind ws =
     let n = word ws 1 in
@@ -56,6 +56,7 @@ due kind ws =
     else if eqb kind 14 then 5
     else if eqb kind 15 then 11
     else if eqb kind 16 then 3 + (n + word ws 2 + 3) / 4
+    else if eqb kind 17 then 1
     else 0
 
 abbrev pub dueAt : List ℕ → ℕ
@@ -136,6 +137,7 @@ callBy kind ws =
     else if eqb kind 14 then Ask (amendmentAt ws 1)
     else if eqb kind 15 then Commit (amendmentAt ws 1) (ticketAt ws 5)
     else if eqb kind 16 then Message (startAt ws) (messageAt ws)
+    else if eqb kind 17 then Outlook
     else Report
 
 -- The call that the block at the front says, where there is one.

@@ -12,7 +12,7 @@ use Rattle.rules.specs.declared.Event.{Event}
 use Rattle.rules.specs.declared.Event.the-variants.{Add, Amend, Cancel, Deal, Tick}
 use Rattle.rules.specs.Records.{unsignedOf}
 use Rattle.rules.specs.Widths.{Word, SignedWord, Fits, Bytes}
-use Rattle.rules.specs.Calls.{Call, Open, Send, Message, Ask, Commit, Close, Drop, Charge, Withdraw, Look, Report}
+use Rattle.rules.specs.Calls.{Call, Open, Send, Message, Ask, Commit, Close, Drop, Charge, Withdraw, Look, Report, Outlook}
 use Rattle.words.specs.Bytes.{wordsIn}
 
 -- a side's word
@@ -66,6 +66,7 @@ wordsOf (Charge day expiry quantum active passive) =
 wordsOf (Withdraw day expiry quantum) = 10 ∷ day ∷ expiry ∷ quantum ∷ []
 wordsOf (Look day expiry quantum) = 11 ∷ day ∷ expiry ∷ quantum ∷ []
 wordsOf Report = 12 ∷ []
+wordsOf Outlook = 17 ∷ []
 
 -- one block after the other
 unfoldable pub scriptOf : List Call → List ℕ
@@ -102,6 +103,7 @@ CallFits (Charge day expiry quantum active passive) = Word day × Word expiry ×
 CallFits (Withdraw day expiry quantum) = Word day × Word expiry × Word quantum
 CallFits (Look day expiry quantum) = Word day × Word expiry × Word quantum
 CallFits Report = Unit {0}
+CallFits Outlook = Unit {0}
 
 -- every call of a list
 abbrev pub AllFit : List Call → Type 0

@@ -62,6 +62,7 @@ pub enum Decoded {
         quantum: u32,
     },
     Report,
+    Outlook,
 }
 
 // The number of words.
@@ -130,6 +131,8 @@ fn due_words(bytes: &[u8]) -> usize
         15 => 11,
         // message
         16 => message_due(word(bytes, 1), word(bytes, 2)),
+        // outlook
+        17 => 1,
         _ => 0,
     }
 }
@@ -475,6 +478,7 @@ pub fn decode(bytes: &[u8]) -> Decoded
         14 => ask(bytes),
         15 => commit(bytes),
         16 => Decoded::Message,
+        17 => Decoded::Outlook,
         _ => Decoded::Report,
     }
 }

@@ -8,7 +8,7 @@ use borrow.Author.Tests.{le-leb, lt-leb}
 use lib.ListN.{length, take, drop, length-append, length-drop}
 use lib.Seq.{length-take-le, take-length, take-add, drop-drop}
 use Rattle.rules.specs.Terms.{paper}
-use Rattle.rules.specs.Answers.{Outcome, accepted, refused, Reply, done, cell, asked, report}
+use Rattle.rules.specs.Answers.{Outcome, accepted, refused, Reply, done, cell, asked, report, outlook}
 use Rattle.rules.specs.Calls.{Call, Book, freshBook}
 use Rattle.rules.specs.Book.{answerOf, step, run, after}
 use Rattle.rules.specs.Histories.{answersFrom}
@@ -38,6 +38,7 @@ answer-length (refused n) = refl
 answer-length (accepted (cell v)) = refl
 answer-length (accepted (asked p)) = refl
 answer-length (accepted (report r)) = refl
+answer-length (accepted (outlook o)) = refl
 
 from-snoc : (b : Book) (cs : List Call) (c : Call)
     → listWords (answersFrom paper b (cs ++ (c ∷ []))) ≡ listWords (answersFrom paper b cs) ++ answerWords (answerOf paper (run paper b cs) c)

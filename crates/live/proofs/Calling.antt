@@ -9,7 +9,7 @@ use native.Mathlib.Omega.{arith}
 use borrow.Author.Tests.{eq-eqb}
 use Rattle.rules.specs.Lists.{if_then_else_}
 use Rattle.rules.specs.Terms.{paper}
-use Rattle.rules.specs.Answers.{accepted, refused, Reply, done, cell, asked, report}
+use Rattle.rules.specs.Answers.{accepted, refused, Reply, done, cell, asked, report, outlook}
 use Rattle.rules.specs.Answers as A
 use Rattle.rules.specs.Calls.{Call}
 use Rattle.rules.specs.Book.{after, answerOf}
@@ -82,6 +82,7 @@ shown-words (accepted done) = refl
 shown-words (accepted (cell v)) = refl
 shown-words (accepted (asked p)) = refl
 shown-words (accepted (report r)) = refl
+shown-words (accepted (outlook o)) = refl
 shown-words (refused n) = refl
 
 module _ (words bytes : List ℕ) (m : Month) (read : (k : Month) → Fits k → take 2388 words ≡ monthWords k → m ≡ k) where

@@ -8,7 +8,7 @@ use lib.ListN.{length, take, drop}
 use Rattle.rules.specs.declared.Report.{Report}
 use Rattle.rules.specs.Lists.{if_then_else_}
 use Rattle.rules.specs.Terms.{paper}
-use Rattle.rules.specs.Answers.{accepted, refused, done, cell, asked, report}
+use Rattle.rules.specs.Answers.{accepted, refused, done, cell, asked, report, outlook}
 use Rattle.rules.specs.Calls.{Call}
 use Rattle.rules.specs.Book.{after, answerOf}
 use Rattle.words.specs.Bytes.{wordsIn}
@@ -64,3 +64,4 @@ wordsShown (O.Refused n) r = answerWords (refused n)
 wordsShown (O.Found v) r = answerWords (accepted (cell v))
 wordsShown (O.Asked p) r = answerWords (accepted (asked p))
 wordsShown O.Reported r = answerWords (accepted (report r))
+wordsShown (O.Outlook o) r = answerWords (accepted (outlook o))

@@ -65,6 +65,7 @@ pub fn put_answer(shown: Shown, answer: &mut [u32])
         Outcome::Found(view) => answers::put_cell(view, answer),
         Outcome::Asked(preview) => answers::put_asked(preview, answer),
         Outcome::Reported => answers::put_report(report, answer),
+        Outcome::Outlook(outlook) => answers::put_outlook(outlook, answer),
     }
 }
 

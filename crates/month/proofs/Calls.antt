@@ -19,6 +19,7 @@ use Rattle.rules.specs.declared.Event.{Event}
 use Rattle.rules.specs.declared.Answer.the-variants.{Accepted, Refused}
 use Rattle.rules.specs.declared.Refusal.{Refusal}
 use Rattle.rules.specs.declared.Quote.{Quote}
+use Rattle.rules.specs.declared.Outlook.{Outlook}
 use Rattle.rules.specs.Lists.{if_then_else_, within, filter, count}
 use Rattle.rules.specs.Terms.{paper}
 use Rattle.rules.specs.Units.{millis, steps, kopecks}
@@ -30,24 +31,29 @@ use Rattle.rules.specs.Kept.{bestBid, bestAsk, keptBelow}
 use Rattle.rules.specs.Stretches.{stretches}
 use Rattle.rules.specs.Lapses.{lapses as lapsesOf, lapsesBelow, goodLapseLimit}
 use Rattle.rules.specs.Pay.{viewOf, allFailures, fee}
-use Rattle.rules.specs.Answers.{accepted, refused, outcomeBy, done, cell, report, numberOf, shownAnswer}
+use Rattle.rules.specs.Outlook.{outlookOf}
+use Rattle.rules.specs.Answers.{accepted, refused, outcomeBy, done, cell, report, outlook, numberOf, shownAnswer}
 use Rattle.rules.specs.Calls.{Open, Send, Close, Drop, Charge, Withdraw, Look, Running, Idle, Quoting, Book, isOpen}
 use Rattle.rules.specs.Causes.{Cause, firstNumber, rowCauses, readRow, goodCharges, sendCauses, goodSettlement, goodSpreadRule, eventRefusal, causes, refusalOf}
 use Rattle.rules.specs.Changes.{following, noted, closed, closedCell, charged, changed}
-use Rattle.rules.specs.Replies.{timeIn, ordersIn, bidIn, askIn, keptIn, lapsesIn, reportOf}
+use Rattle.rules.specs.Replies.{timeIn, ordersIn, bidIn, askIn, keptIn, lapsesIn, reportOf, outlookIn}
 use Rattle.rules.specs.Calls as B
+use Rattle.rules.specs.Book.{after}
 use Rattle.rules.specs.Bounds.{EventBounds, RunningBounds}
 use Rattle.rules.proofs.Answers.{refused-by, accepted-by}
 use Rattle.rules.proofs.Refusals.{skip, stop, clear, passed, first-stops}
-use Rattle.rules.proofs.Bounds.{event-bounds-none}
+use Rattle.rules.proofs.Bounds.{bounds, event-bounds-none}
+use Rattle.quantum.specs.declared.Duty.{Duty}
+use Rattle.quantum.specs.declared.Clock.{Clock}
 use Rattle.quantum.specs.declared.Quantum.{Quantum}
 use Rattle.quantum.specs.declared.Sent.{Sent}
 use Rattle.quantum.specs.declared.Totals.{Totals}
 use Rattle.quantum.specs.Represents as S
 use Rattle.quantum.specs.Represents.{clockOf, quantumOf, taken}
 use Rattle.quantum.proofs.Answers.{whole-is}
+use Rattle.outlook.specs.Stands.{Stands, Outlooked}
 use Rattle.month.specs.declared.Month.{Month}
-use Rattle.month.specs.Represents.{idleRow, quantumIn, monthOf, Answered}
+use Rattle.month.specs.Represents.{idleRow, quantumIn, monthOf, Reached, Answered}
 use Rattle.month.specs.Internal.{withCell, withoutQuantum, counted}
 use Rattle.month.proofs.Answers.{stopped, stopped-by, went}
 use Rattle.month.proofs.Fields.{running-is, quantum-is, cells-are, count-is, closed-is, open-is, Opened, opened}
@@ -407,3 +413,42 @@ report-done m time kept lapses orders bid ask failures charge h f c =
             fee = (c ∙ ap (λ (cells : List Cell). kopecks (fee paper cells)) (cells-are m b is)) i;
           }),
     ))
+
+-- ---- outlook
+
+pub outlook-idle : (m : Month) → m .running ≡ false → Answered m B.Outlook m (refused 7)
+unfolding refusalOf causes
+outlook-idle m k = stopped m B.Outlook 6 (λ b g is. stop _ _ (ap not (closed-is m b is k)))
+
+-- what the outlook goes by is the open quantum's
+module _ (m : Month) (duty : Duty) (clock : Clock) (d : duty ≡ m .quantum .duty) (c : clock ≡ m .quantum .clock) where
+  stands : (b : Book) (o : Opened m b) → Stands (o .row) (o .opening) (o .events) duty clock (m .share) (m .allowed)
+  unfolding quantumOf
+  stands b o =
+      record {
+        row-good = o .bounds .row-good;
+        events-good = o .bounds .events-good;
+        duty-is = d ∙ ap (λ (q : Quantum). q .duty) (o .quantum);
+        clock-is = c ∙ ap (λ (q : Quantum). q .clock) (o .quantum);
+        share-is = o .share;
+        allowed-is = o .allowed;
+      }
+
+  pub outlook-stands : Reached m → m .running ≡ true → Outlooked duty clock (m .share) (m .allowed)
+  outlook-stands r k =
+      let b = after paper (r .calls) in
+      let o = opened m b (bounds paper (r .calls)) (r .is) k in
+      record { row = o .row; opening = o .opening; events = o .events; stands = stands b o }
+
+  pub outlook-done : m .running ≡ true → (seen : Outlook)
+      → ((row : Row) (opening : Opening) (events : List Event) → Stands row opening events duty clock (m .share) (m .allowed) → seen ≡ outlookOf paper row opening events)
+      → Answered m B.Outlook m (accepted (outlook seen))
+  unfolding refusalOf causes changed outlookIn
+  outlook-done k seen h =
+      went m m B.Outlook (outlook seen)
+      (λ b g is.
+      let o = opened m b g is k in (
+        skip _ _ (ap not (open-is m b is k)) clear,
+        is,
+        ap outlook (h (o .row) (o .opening) (o .events) (stands b o)) ∙ ap (λ (r : Running). outlook (outlookIn paper r)) (sym (o .running)),
+      ))

@@ -10,7 +10,7 @@ ghost use Rattle.rules.specs.Terms.{paper};
 ghost use Rattle.rules.specs.declared.SpreadRule.the-variants.{OfStrike};
 ghost use Rattle.rules.specs.Rows.{goodRowFor, rowOf};
 ghost use Rattle.rules.specs.Cells.{goodCell, placeOf, blankCell, cellAt};
-ghost use Rattle.rules.specs.Answers.{shownAnswer, shownLooked, shownAsked, shownReport};
+ghost use Rattle.rules.specs.Answers.{shownAnswer, shownLooked, shownAsked, shownReport, shownOutlook};
 ghost use Rattle.rules.specs.Calls.{Idle};
 ghost use Rattle.rules.specs.Changes.{charged};
 ghost use Rattle.rules.specs.Book.{after};
@@ -41,6 +41,7 @@ use rules::Kopecks;
 use rules::Looked;
 use rules::Millis;
 use rules::Opening;
+use rules::OutlookAnswer;
 use rules::Preview;
 use rules::Refusal;
 use rules::Report;
@@ -86,6 +87,12 @@ pub struct AskedAbout {
 pub struct Reported {
     pub month: Month,
     pub answer: Report,
+}
+
+// What outlook hands back.
+pub struct AfterOutlook {
+    pub month: Month,
+    pub answer: OutlookAnswer,
 }
 
 // A named cell.
@@ -727,6 +734,25 @@ impl Month {
                 failures,
                 fee,
             },
+        }
+    }
+
+    // How the open quantum stands, and whether the maker may rest. The month is as it was.
+    pub fn outlook(self) -> AfterOutlook
+        requires { ⌜ Reached self ⌝ }
+        ensures { λ r. ⌜ (r .month ≡ self) × Answered self B.Outlook (r .month) (shownOutlook (r .answer)) ⌝ }
+    {
+        if !self.running {
+            return AfterOutlook {
+                month: self,
+                answer: OutlookAnswer::Refused(Refusal::NoQuantumOpen),
+            };
+        }
+        let q = self.quantum;
+        let seen = outlook::of(q.duty(), q.clock(), self.share, self.allowed);
+        AfterOutlook {
+            month: self,
+            answer: OutlookAnswer::Shown(seen),
         }
     }
 

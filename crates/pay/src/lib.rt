@@ -29,7 +29,7 @@ fn reaches(kept: Millis, length: Millis, share: u32) -> bool
 }
 
 // Whether a count of lapses is none too many. 65,535 is no number here: it says that there is no limit.
-fn within_lapse_limit(allowed: u32, lapses: u32) -> bool
+pub fn within_lapse_limit(allowed: u32, lapses: u32) -> bool
     ensures { λ r. ⌜ r ≡ withinLapseLimit allowed lapses ⌝ }
 {
     if allowed == 65535 {

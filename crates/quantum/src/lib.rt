@@ -369,6 +369,19 @@ impl Quantum {
         duty.length
     }
 
+    // What an outlook goes by.
+    pub fn duty(self) -> Duty
+        ensures { λ r. ⌜ r ≡ self .duty ⌝ }
+    {
+        self.duty
+    }
+
+    pub fn clock(self) -> Clock
+        ensures { λ r. ⌜ r ≡ self .clock ⌝ }
+    {
+        self.clock
+    }
+
     // What a report shows.
     pub fn now(self) -> Millis
         ensures { λ r. ⌜ r ≡ self .clock .time ⌝ }

@@ -12,6 +12,9 @@ use console::text;
 use month::Month;
 use rules::CellView;
 use rules::Kopecks;
+use rules::LapsesLeft;
+use rules::Outlook;
+use rules::Possible;
 use rules::Preview;
 use rules::Quote;
 use rules::Report;
@@ -115,6 +118,39 @@ fn asked_line(preview: Preview) {
     text(b"\n");
 }
 
+fn possible(name: &[u8], found: Possible) {
+    text(name);
+    match found {
+        Possible::Never => text(b"never"),
+        Possible::At(m) => field(b"", m.0),
+    }
+}
+
+fn lapses_left(left: LapsesLeft) {
+    match left {
+        LapsesLeft::Unlimited => text(b" lapses none"),
+        LapsesLeft::Over => text(b" lapses over"),
+        LapsesLeft::Left(n) => field(b" lapses ", n),
+    }
+}
+
+fn outlook_line(outlook: Outlook) {
+    let need = outlook.need;
+    let left = outlook.left;
+    let by = outlook.by;
+    let full = outlook.full;
+    let lapses = outlook.lapses;
+    field(b"outlook need ", need.0);
+    field(b" left ", left.0);
+    possible(b" by ", by);
+    possible(b" full ", full);
+    lapses_left(lapses);
+    choice(outlook.rest, b" rest yes", b" rest no");
+    choice(outlook.lost, b" lost yes", b" lost no");
+    field(b" weight ", outlook.resting);
+    field_line(b" ", outlook.keeping);
+}
+
 fn line(shown: Shown) {
     let outcome = shown.outcome;
     let report = shown.report;
@@ -124,6 +160,7 @@ fn line(shown: Shown) {
         Outcome::Found(view) => cell_line(view),
         Outcome::Asked(preview) => asked_line(preview),
         Outcome::Reported => report_line(report),
+        Outcome::Outlook(outlook) => outlook_line(outlook),
     }
 }
 

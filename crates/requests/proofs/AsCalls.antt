@@ -12,7 +12,7 @@ use Rattle.rules.specs.Answers.{Outcome, accepted, refused}
 use Rattle.rules.specs.Dates.{Moment}
 use Rattle.rules.specs.Messages as M
 use Rattle.rules.specs.MessageCalls.{messageIn, eventsIn, eventsOf}
-use Rattle.rules.specs.Calls.{Call, Open, Send, Message, Ask, Commit, Close, Drop, Charge, Withdraw, Look, Report, Running, Idle, Quoting, Book, freshBook}
+use Rattle.rules.specs.Calls.{Call, Open, Send, Message, Ask, Commit, Close, Drop, Charge, Withdraw, Look, Report, Outlook, Running, Idle, Quoting, Book, freshBook}
 use Rattle.rules.specs.Causes.{refusalOf}
 use Rattle.rules.specs.Changes.{notedAll, following, countAfter, changed}
 use Rattle.rules.specs.Book.{answerOf, step, run, after}
@@ -88,6 +88,7 @@ module _ (terms : Terms) where
   in-place b (Withdraw day expiry quantum) = refl
   in-place b (Look day expiry quantum) = refl
   in-place b Report = refl
+  in-place b Outlook = refl
 
   run-as-calls : (b : Book) (calls : List Call) → run terms b (asCalls terms b calls) ≡ run terms b calls
   unfolding run asCalls

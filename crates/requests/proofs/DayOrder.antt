@@ -28,7 +28,7 @@ use Rattle.rules.specs.Causes.{cause, firstNumber, sendCauses, messageCauses, g
 use Rattle.rules.specs.Changes.{noted, notedAll, closedCell, following, countAfter, changed}
 use Rattle.rules.specs.Book.{step, run, after}
 use Rattle.rules.specs.Histories.{refusalsFrom, NoneRefused}
-use Rattle.requests.specs.DayOrder.{Inside, event, message, ask, commit, look, report, callOf, Whole, callsIn, joined, placeIn, eventsOf, eventsIn, cellIn, countedIn, filedBy, Filed, Rearranged, anywhere, Anywhere, AcceptedToo}
+use Rattle.requests.specs.DayOrder.{Inside, event, message, ask, commit, look, report, outlook, callOf, Whole, callsIn, joined, placeIn, eventsOf, eventsIn, cellIn, countedIn, filedBy, Filed, Rearranged, anywhere, Anywhere, AcceptedToo}
 use Rattle.rules.proofs.Refusals.{within-parts, OpenPasses, call-passes, passes-call, step-accepted}
 use Rattle.rules.proofs.Bounds.{read-bounds, place-small}
 
@@ -63,6 +63,7 @@ module _ (place : ℕ) (row : Row) (opening : Opening) where
   taken-one es cells count (commit a ticket) = refl
   taken-one es cells count (look day expiry quantum) = ap (λ (x : List Event). during x cells count) (sym (append-nil es))
   taken-one es cells count report = ap (λ (x : List Event). during x cells count) (sym (append-nil es))
+  taken-one es cells count outlook = ap (λ (x : List Event). during x cells count) (sym (append-nil es))
 
   module _ (active passive : Kopecks) where
     -- with these events the close's cell, and the count
@@ -342,6 +343,7 @@ module _ (terms : Terms) where
   one-same b d same (commit a ticket) h = absurd (false≢true h)
   one-same b d same (look day expiry quantum) h = absurd (false≢true h)
   one-same b d same report h = refl
+  one-same b d same outlook h = ap (λ (r : Running). firstNumber (cause 7 (not (isOpen r)) ∷ [])) same
 
   -- and leaves the same one open
   left-same : (b d : Book) → b .running ≡ d .running → (c : Inside) → changed b (callOf c) .running ≡ changed d (callOf c) .running
@@ -352,6 +354,7 @@ module _ (terms : Terms) where
   left-same b d same (commit a ticket) = ap (λ (r : Running). noted r (amendOf a)) same
   left-same b d same (look day expiry quantum) = same
   left-same b d same report = same
+  left-same b d same outlook = same
 
   closed-same : (b d : Book) → b .running ≡ d .running → (active passive : Kopecks)
       → refusalOf terms b (Close active passive) ≡ refusalOf terms d (Close active passive)

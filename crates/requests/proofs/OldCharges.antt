@@ -14,10 +14,11 @@ use Rattle.rules.specs.Units.{goodCharge}
 use Rattle.rules.specs.Rows.{goodRow, goodRowFor}
 use Rattle.rules.specs.Cells.{goodCell, placeOf, cellAt}
 use Rattle.rules.specs.Pay.{met, weightMet, viewOf, cellFailed, failures, allFailures, earned, fee}
-use Rattle.rules.specs.Answers.{outcomeBy}
-use Rattle.rules.specs.Calls.{Call, Open, Send, Message, Ask, Commit, Close, Drop, Charge, Withdraw, Look, Report, chargesIn, mapRows, Book, freshBook, isOpen}
+use Rattle.rules.specs.Outlook.{latest, maySo, latestRest, fullNeed, weightResting, weightKeeping, outlookOf}
+use Rattle.rules.specs.Answers.{outcomeBy, outlook}
+use Rattle.rules.specs.Calls.{Call, Open, Send, Message, Ask, Commit, Close, Drop, Charge, Withdraw, Look, Report, Outlook, chargesIn, mapRows, Running, Idle, Quoting, Book, freshBook, isOpen}
 use Rattle.rules.specs.Causes.{cause, firstNumber, goodCharges, causes, refusalOf}
-use Rattle.rules.specs.Replies.{reportOf, replyOf}
+use Rattle.rules.specs.Replies.{reportOf, outlookIn, replyOf}
 use Rattle.rules.specs.Book.{answerOf, stepBy, step, run, after}
 use Rattle.rules.specs.Histories.{refusalsFrom, answersFrom}
 use Rattle.requests.specs.OldMonths.{tenfoldWords, tenfold}
@@ -40,6 +41,11 @@ module _ (old : Terms) (most : ℕ) (more : old .most-charge ≤ most) where
   report-same : (b : Book) → reportOf new b ≡ reportOf old b
   unfolding reportOf fee allFailures failures cellFailed earned met weightMet
   report-same b = refl
+
+  outlook-same : (r : Running) → outlookIn new r ≡ outlookIn old r
+  unfolding outlookIn outlookOf latestRest maySo fullNeed weightResting weightKeeping met weightMet
+  outlook-same Idle = refl
+  outlook-same (Quoting place row opening events) = refl
 
   -- ---- what does
 
@@ -77,6 +83,7 @@ module _ (old : Terms) (most : ℕ) (more : old .most-charge ≤ most) where
   call-same b (Withdraw day expiry quantum) h = (refl, refl)
   call-same b (Look day expiry quantum) h = (refl, refl)
   call-same b Report h = (refl, refl)
+  call-same b Outlook h = (refl, ap outlook (outlook-same (b .running)))
 
   answer-same : (b : Book) (c : Call) → NotPast (old .most-charge) c → answerOf new b c ≡ answerOf old b c
   unfolding answerOf
@@ -147,6 +154,7 @@ other-rows f (Charge day expiry quantum active passive) = refl
 other-rows f (Withdraw day expiry quantum) = refl
 other-rows f (Look day expiry quantum) = refl
 other-rows f Report = refl
+other-rows f Outlook = refl
 
 pub not-past-tenfold : (most : ℕ) (c : Call) → NotPast most c → NotPast most (tenfold c)
 not-past-tenfold most c h = subst (All (λ (charge : Kopecks). charge .0 ≤ most)) (sym (other-rows tenfoldWords c)) h

@@ -4,7 +4,7 @@ use Prim.Native.Nat.{ℕ, zero, suc, _+_, _-_, _*_, _/_, _^_, _≤_, _<_, min}
 use native.Mathlib.Omega.{arith}
 use mathlib.Core.Path.{_≡_, refl, sym, ap, _∙_}
 use mathlib.Core.List.{List, [], _∷_, _++_, map}
-use mathlib.Core.Bool.{Bool, true, false, not, _&&_}
+use mathlib.Core.Bool.{Bool, true, false, not, _&&_, _||_}
 use lib.Dec.{leb, ltb, eqb}
 use lib.ListN.{length, getD, set, replicate, length-set, List·getD-map}
 use lib.Seq.{getD-set-same, getD-set-other}
@@ -13,6 +13,7 @@ use Rattle.rules.specs.declared.Opening.{Opening}
 use Rattle.rules.specs.declared.Kopecks.{Kopecks}
 use Rattle.rules.specs.declared.Quote.{Quote}
 use Rattle.rules.specs.declared.Quote.the-variants.{Absent, At}
+use Rattle.rules.specs.declared.Possible.the-variants as P
 use Rattle.rules.specs.declared.Row.{Row}
 use Rattle.rules.specs.declared.Cell.{Cell}
 use Rattle.rules.specs.declared.SpreadRule.{SpreadRule}
@@ -27,14 +28,15 @@ use Rattle.rules.specs.Orders.{live, present}
 use Rattle.rules.specs.Kept.{quotesKeep, ordersKeep, bestBid, bestAsk, upTo, keptAt, keptBelow}
 use Rattle.rules.specs.Lapses.{lapses, lapsesBelow, goodLapseLimit, withinLapseLimit}
 use Rattle.rules.specs.Pay.{thousandths, met, weightMet, cellMet, cellWeight, viewOf, cellFailed, failures, allFailures, earned, fee}
-use Rattle.rules.specs.Answers.{Outcome, accepted, refused, outcomeBy, cell, asked, report}
+use Rattle.rules.specs.Outlook.{needOf, canKeep, restingTill, cellOf, cellResting, lapsesLeft, latest, isNever, maySo, latestRest, fullNeedOf, fullNeed, weightResting, weightKeeping, outlookOf}
+use Rattle.rules.specs.Answers.{Outcome, accepted, refused, outcomeBy, cell, asked, report, outlook}
 use Rattle.rules.specs.Dates.{Moment, before, at, late}
 use Rattle.rules.specs.Messages as M
 use Rattle.rules.specs.MessageCalls.{messageIn, eventsAt, eventsOf}
-use Rattle.rules.specs.Calls.{Call, Open, Send, Message, Ask, Commit, Close, Drop, Charge, Withdraw, Look, Report, Running, Idle, Quoting, Book, freshBook, isOpen, amendOf}
+use Rattle.rules.specs.Calls.{Call, Open, Send, Message, Ask, Commit, Close, Drop, Charge, Withdraw, Look, Report, Outlook, Running, Idle, Quoting, Book, freshBook, isOpen, amendOf}
 use Rattle.rules.specs.Causes.{Cause, cause, firstNumber, eventCauses, sendCauses, otherSideIn, causesInTurn, causesBy, callCauses, messageCauses, goodTicket, goodSettlement, goodSpreadRule, goodCharges, causes, refusalOf}
 use Rattle.rules.specs.Changes.{noted, notedAll, closedCell, closed, charged, following, countAfter, changed}
-use Rattle.rules.specs.Replies.{timeIn, ordersIn, bidIn, askIn, keptIn, lapsesIn, previewOf, reportOf, replyOf}
+use Rattle.rules.specs.Replies.{timeIn, ordersIn, bidIn, askIn, keptIn, lapsesIn, previewOf, reportOf, outlookIn, replyOf}
 use Rattle.rules.specs.Book.{answerOf, stepBy, step, run, after}
 use Rattle.rules.specs.Histories.{refusalsFrom, answersFrom}
 use Rattle.requests.specs.Before.{percents, tenths}
@@ -250,6 +252,69 @@ module _ (most : ℕ) where
       let rest = all-earned-same cs in
       λ i. first i + rest i
 
+-- ---- the outlook
+
+can-keep-same : (row : Row) (spread : SpreadRule) → canKeep (tenfoldRow row) spread ≡ canKeep row spread
+can-keep-same row (Settled sp) = refl
+can-keep-same row (OfStrike s) = refl
+
+resting-same : (row : Row) (opening : Opening) (events : List Event) (s : ℕ)
+    → cellResting (tenfoldRow row) opening events s ≡ tenfoldCell (cellResting row opening events s)
+unfolding cellResting
+resting-same row opening events s =
+    ap (λ (p : ℕ → Bool). cellOf (tenfoldRow row) opening (restingTill p (present events) s)) (kept-at-same row (opening .spread) events)
+
+module _ (most : ℕ) (row : Row) (opening : Opening) (events : List Event) where
+  -- 10p of 1,000 parts is p of 100
+  need-same : (kept : ℕ) → needOf (tenths most) kept (row .length .0) (10 * row .share) ≡ needOf (percents most) kept (row .length .0) (row .share)
+  need-same kept = omega arith
+
+  verdict-same : (s : ℕ) → cellMet (tenths most) (cellResting (tenfoldRow row) opening events s) ≡ cellMet (percents most) (cellResting row opening events s)
+  verdict-same s = ap (cellMet (tenths most)) (resting-same row opening events s) ∙ cell-met-same most (cellResting row opening events s)
+
+  resting-weight-same : (s : ℕ)
+      → cellWeight (tenths most) (cellResting (tenfoldRow row) opening events s) ≡ cellWeight (percents most) (cellResting row opening events s)
+  resting-weight-same s = ap (cellWeight (tenths most)) (resting-same row opening events s) ∙ cell-weight-same most (cellResting row opening events s)
+
+  latest-same : latestRest (tenths most) (tenfoldRow row) opening events ≡ latestRest (percents most) row opening events
+  unfolding latestRest maySo
+  latest-same =
+      ap (λ (p : ℕ → Bool). latest p (present events) (row .length .0 - present events))
+      (λ i s. (eqb s (row .length .0) || can-keep-same row (opening .spread) i) && verdict-same s i)
+
+  full-same : fullNeed (tenths most) (tenfoldRow row) opening events ≡ fullNeed (percents most) row opening events
+  unfolding fullNeed
+  full-same =
+      let t = present events in
+      let left = row .length .0 - t in
+      λ i.
+      let n = fullNeedOf (kept-same row (opening .spread) events t i) (row .length .0) in
+      if leb n left && withinLapseLimit (opening .allowed) (lapses-same row (opening .spread) events t i)
+      && (eqb n 0 || can-keep-same row (opening .spread) i) then P.At (millis n) else P.Never
+
+  keeping-same : weightKeeping (tenths most) (tenfoldRow row) opening events ≡ weightKeeping (percents most) row opening events
+  unfolding weightKeeping weightResting
+  keeping-same = λ i.
+      if can-keep-same row (opening .spread) i then resting-weight-same (present events) i else resting-weight-same (row .length .0) i
+
+  outlook-of-same : outlookOf (tenths most) (tenfoldRow row) opening events ≡ outlookOf (percents most) row opening events
+  unfolding outlookOf weightResting
+  outlook-of-same =
+      let t = present events in
+      let kept = kept-same row (opening .spread) events t in
+      let need = ap (λ (k : ℕ). needOf (tenths most) k (row .length .0) (10 * row .share)) kept ∙ need-same (keptBelow row (opening .spread) events t) in
+      λ i. record {
+        need = millis (need i);
+        left = millis (row .length .0 - t);
+        by = latest-same i;
+        full = full-same i;
+        lapses = lapsesLeft (opening .allowed) (lapses-same row (opening .spread) events t i);
+        rest = verdict-same (row .length .0) i;
+        lost = isNever (latest-same i);
+        resting = resting-weight-same (row .length .0) i;
+        keeping = keeping-same i;
+      }
+
 map-map : {A B C : Type 0} (f : A → B) (g : B → C) (xs : List A) → map (λ (x : A). g (f x)) xs ≡ map g (map f xs)
 map-map f g [] = refl
 map-map {C = C} f g (x ∷ xs) = ap (λ (zs : List C). g (f x) ∷ zs) (map-map f g xs)
@@ -295,6 +360,11 @@ module _ (most : ℕ) where
         failures = all-failures-same (b .cells) i;
         fee = kopecks (fee-same (b .cells) i);
       }
+
+  outlook-same : (r : Running) → outlookIn (tenths most) (tenfoldRunning r) ≡ outlookIn (percents most) r
+  unfolding outlookIn
+  outlook-same Idle = refl
+  outlook-same (Quoting place row opening events) = outlook-of-same most row opening events
 
   preview-same : (b : Book) (a : Amendment) → previewOf (tenfoldBook b) a ≡ previewOf b a
   unfolding previewOf
@@ -439,6 +509,12 @@ module _ (most : ℕ) where
         reply = ap cell (ap (viewOf (tenths most)) (cell-at (b .cells) place) ∙ view-same most (cellAt (b .cells) place));
       }
   call-same b Report h = record { number = refl; book = λ n. refl; reply = ap report (report-same most b) }
+  call-same b Outlook h =
+      record {
+        number = ap (λ (t : Bool). firstNumber (cause 7 (not t) ∷ [])) (open-same (b .running));
+        book = λ n. refl;
+        reply = ap outlook (outlook-same most (b .running));
+      }
 
   -- the relation holds after the call
   step-same : (b : Book) (c : Call) → AtMost79 c → step (tenths most) (tenfoldBook b) (tenfold c) ≡ tenfoldBook (step (percents most) b c)

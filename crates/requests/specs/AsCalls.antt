@@ -5,7 +5,7 @@ use mathlib.Core.Path.{_≡_}
 use mathlib.Core.List.{List, [], _∷_, _++_, map}
 use Rattle.rules.specs.Terms.{Terms}
 use Rattle.rules.specs.MessageCalls.{eventsOf}
-use Rattle.rules.specs.Calls.{Call, Open, Send, Message, Ask, Commit, Close, Drop, Charge, Withdraw, Look, Report, Book, freshBook}
+use Rattle.rules.specs.Calls.{Call, Open, Send, Message, Ask, Commit, Close, Drop, Charge, Withdraw, Look, Report, Outlook, Book, freshBook}
 use Rattle.rules.specs.Causes.{refusalOf}
 use Rattle.rules.specs.Book.{answerOf, step, after}
 use Rattle.rules.specs.Histories.{NoneRefused}
@@ -24,6 +24,7 @@ inPlace (Charge day expiry quantum active passive) n = Charge day expiry quantum
 inPlace (Withdraw day expiry quantum) n = Withdraw day expiry quantum ∷ []
 inPlace (Look day expiry quantum) n = Look day expiry quantum ∷ []
 inPlace Report n = Report ∷ []
+inPlace Outlook n = Outlook ∷ []
 
 -- the list with every message so replaced, each judged by what the book then holds
 unfoldable pub asCalls : Terms → Book → List Call → List Call

@@ -17,14 +17,14 @@ use Rattle.rules.specs.Rows.{rowOf}
 use Rattle.rules.specs.Cells.{placeOf, cellAt}
 use Rattle.rules.specs.Pay.{allFailures, fee}
 use Rattle.rules.specs.MessageCalls as M
-use Rattle.rules.specs.Calls.{Call, Open, Send, Message, Ask, Commit, Close, Look, Report, counts, Idle, Book, freshBook, amendOf}
+use Rattle.rules.specs.Calls.{Call, Open, Send, Message, Ask, Commit, Close, Look, Report, Outlook, counts, Idle, Book, freshBook, amendOf}
 use Rattle.rules.specs.Changes.{closedCell, countAfter}
 use Rattle.rules.specs.Book.{run, after}
 use Rattle.rules.specs.Histories.{NoneRefused}
 
 -- ---- whole quanta
 
--- a call that neither opens nor closes a quantum nor touches a cell: an event, message, ask, commit, look or report; "no drop, charge or withdraw"
+-- a call that neither opens nor closes a quantum nor touches a cell: an event, message, ask, commit, look, report or outlook; "no drop, charge or withdraw"
 pub data Inside : Type 0 where
   event : Event → Inside
   -- document 02, W11: the quantum's start, and the message
@@ -34,6 +34,7 @@ pub data Inside : Type 0 where
   -- day, expiry, quantum
   look : ℕ → ℕ → ℕ → Inside
   report : Inside
+  outlook : Inside
 
 abbrev pub callOf : Inside → Call
 callOf (event e) = Send e
@@ -42,6 +43,7 @@ callOf (ask a) = Ask a
 callOf (commit a ticket) = Commit a ticket
 callOf (look day expiry quantum) = Look day expiry quantum
 callOf report = Report
+callOf outlook = Outlook
 
 -- "from its open to its close": what its open names, the calls inside, and its close's A and P
 pub record Whole : Type 0 where
@@ -74,6 +76,7 @@ eventsOf (ask a) = []
 eventsOf (commit a ticket) = amendOf a ∷ []
 eventsOf (look day expiry quantum) = []
 eventsOf report = []
+eventsOf outlook = []
 
 unfoldable pub eventsIn : List Inside → List Event
 eventsIn [] = []
@@ -128,6 +131,7 @@ anywhere (ask a) = true
 anywhere (commit a ticket) = false
 anywhere (look day expiry quantum) = false
 anywhere report = true
+anywhere outlook = true
 
 abbrev pub Anywhere : Whole → Type 0
 Anywhere q = All (λ (c : Inside). anywhere c ≡ true) (q .inside)

@@ -11,7 +11,7 @@ use Rattle.rules.specs.declared.CellView.{CellView}
 use Rattle.rules.specs.Lists.{if_then_else_, All}
 use Rattle.rules.specs.Cells.{cellAt}
 use Rattle.rules.specs.Pay.{viewOf, allFailures, fee}
-use Rattle.rules.specs.Answers.{Outcome, accepted, refused, Reply, done, cell, asked, report}
+use Rattle.rules.specs.Answers.{Outcome, accepted, refused, Reply, done, cell, asked, report, outlook}
 use Rattle.rules.specs.Calls.{Call, rowsIn, mapRows, Running, Idle, Quoting, Book, freshBook}
 use Rattle.rules.specs.Replies.{reportOf}
 use Rattle.rules.specs.Book.{answerOf, after}
@@ -74,6 +74,7 @@ tenfoldReply done = done
 tenfoldReply (cell v) = cell (tenfoldView v)
 tenfoldReply (asked p) = asked p
 tenfoldReply (report r) = report r
+tenfoldReply (outlook o) = outlook o
 
 abbrev pub tenfoldAnswer : Outcome Reply → Outcome Reply
 tenfoldAnswer (accepted r) = accepted (tenfoldReply r)

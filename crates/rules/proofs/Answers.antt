@@ -15,13 +15,16 @@ use Rattle.rules.specs.declared.Looked.the-variants as L
 use Rattle.rules.specs.declared.Preview.{Preview}
 use Rattle.rules.specs.declared.Asked.{Asked}
 use Rattle.rules.specs.declared.Asked.the-variants as K
+use Rattle.rules.specs.declared.Outlook.{Outlook}
+use Rattle.rules.specs.declared.OutlookAnswer.{OutlookAnswer}
+use Rattle.rules.specs.declared.OutlookAnswer.the-variants as U
 use Rattle.rules.specs.declared.RowRead.{RowRead}
 use Rattle.rules.specs.declared.RowRead.the-variants as R
 use Rattle.rules.specs.declared.RecordRead.{RecordRead}
 use Rattle.rules.specs.declared.RecordRead.the-variants as E
 use Rattle.rules.specs.declared.SessionAnswer.{SessionAnswer}
 use Rattle.rules.specs.declared.SessionAnswer.the-variants as S
-use Rattle.rules.specs.Answers.{numberOf, Outcome, accepted, refused, outcomeBy, cell, asked, report, shownAnswer, shownLooked, shownAsked, shownReport, shownRow, shownRecord, shownSession, finished, stopped}
+use Rattle.rules.specs.Answers.{numberOf, Outcome, accepted, refused, outcomeBy, cell, asked, report, outlook, shownAnswer, shownLooked, shownAsked, shownReport, shownOutlook, shownRow, shownRecord, shownSession, finished, stopped}
 
 -- ---- a refusal's number names it
 
@@ -131,6 +134,15 @@ same-report v w e = cc
 
 pub report-shown : (a b : Report) → shownReport a ≡ shownReport b → a ≡ b
 report-shown a b e = same-report a b (same-values _ _ e)
+
+same-outlook : (v w : Outlook) → outlook v ≡ outlook w → v ≡ w
+same-outlook v w e = cc
+
+pub outlook-shown : (a b : OutlookAnswer) → shownOutlook a ≡ shownOutlook b → a ≡ b
+outlook-shown (U.Shown v) (U.Shown w) e = ap U.Shown (same-outlook v w (same-values _ _ e))
+outlook-shown (U.Shown v) (U.Refused s) e = absurd (not-refused _ _ e)
+outlook-shown (U.Refused r) (U.Shown w) e = absurd (not-refused _ _ (sym e))
+outlook-shown (U.Refused r) (U.Refused s) e = ap U.Refused (number-names r s (same-number _ _ e))
 
 pub row-shown : (a b : RowRead) → shownRow a ≡ shownRow b → a ≡ b
 row-shown (R.Read v) (R.Read w) e = ap R.Read (same-values _ _ e)

@@ -25,7 +25,7 @@ use Rattle.rules.specs.Units.{goodPrice, goodVolume, goodCharge}
 use Rattle.rules.specs.Rows.{goodExpiry, goodQuantum, goodLength, rowOf, goodRow, asRead, goodRowFor}
 use Rattle.rules.specs.Cells.{blankCell, goodCell, placeOf, cellAt}
 use Rattle.rules.specs.Orders.{lessenedOrder, apply, applyAll, live, timeFrom, present}
-use Rattle.rules.specs.Calls.{Call, Open, Send, Message, Ask, Commit, Close, Drop, Charge, Withdraw, Look, Report, Running, Idle, Quoting, Book, freshBook, amendOf}
+use Rattle.rules.specs.Calls.{Call, Open, Send, Message, Ask, Commit, Close, Drop, Charge, Withdraw, Look, Report, Outlook, Running, Idle, Quoting, Book, freshBook, amendOf}
 use Rattle.rules.specs.Causes.{goodSettlement, goodSpreadRule, eventRefusal, refusalOf}
 use Rattle.rules.specs.MessageCalls.{messageIn, eventsOf}
 use Rattle.rules.specs.Changes.{noted, notedAll, closedCell, closed, charged, changed}
@@ -358,6 +358,7 @@ module _ (terms : Terms) where
       }
   bounds-changed b (Look day expiry quantum) g p = g
   bounds-changed b Report g p = g
+  bounds-changed b Outlook g p = g
 
   bounds-step : (b : Book) (c : Call) → BookBounds terms b → BookBounds terms (step terms b c)
   unfolding step

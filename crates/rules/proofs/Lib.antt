@@ -10,6 +10,7 @@ pub mod Answers
 pub mod Members
 pub mod Orders
 pub mod Kept
+pub mod States
 pub mod Lapses
 pub mod Weights
 pub mod Refusals

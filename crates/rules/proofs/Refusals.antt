@@ -29,7 +29,7 @@ use Rattle.rules.specs.Answers.{Outcome, accepted, refused, outcomeBy}
 use Rattle.rules.specs.Dates.{Moment, before, at, late}
 use Rattle.rules.specs.Messages as M
 use Rattle.rules.specs.MessageCalls.{messageIn, eventsAt, eventsBy, eventsIn}
-use Rattle.rules.specs.Calls.{Call, Open, Send, Message, Ask, Commit, Close, Drop, Charge, Withdraw, Look, Report, Running, Idle, Quoting, Book, isOpen, amendOf}
+use Rattle.rules.specs.Calls.{Call, Open, Send, Message, Ask, Commit, Close, Drop, Charge, Withdraw, Look, Report, Outlook, Running, Idle, Quoting, Book, isOpen, amendOf}
 use Rattle.rules.specs.Causes.{Cause, cause, firstNumber, traderCauses, eventCauses, eventRefusal, sendCauses, otherSideIn, causesInTurn, causesBy, callCauses, messageCauses, goodTicket, goodSettlement, goodSpreadRule, goodCharges, causes, refusalOf}
 use Rattle.rules.specs.Changes.{changed}
 use Rattle.rules.specs.Replies.{replyOf}
@@ -309,6 +309,7 @@ pub record ClosePasses (terms : Terms) (b : Book) (active passive : Kopecks) : T
   pub passive-good : goodCharge terms (passive .0) ≡ true
   pub quoting : isOpen (b .running) ≡ true
 
+-- of a drop and of an outlook
 pub record DropPasses (b : Book) : Type 0 where
   pub quoting : isOpen (b .running) ≡ true
 
@@ -352,6 +353,7 @@ module _ (terms : Terms) where
   CallPasses b (Withdraw day expiry quantum) = CellPasses b day expiry quantum
   CallPasses b (Look day expiry quantum) = CellPasses b day expiry quantum
   CallPasses b Report = Unit
+  CallPasses b Outlook = DropPasses b
 
   pub call-passes : (b : Book) (c : Call) → refusalOf terms b c ≡ 0 → CallPasses b c
   unfolding refusalOf causes
@@ -400,6 +402,7 @@ module _ (terms : Terms) where
   call-passes b (Withdraw day expiry quantum) h = cell-passes b day expiry quantum h
   call-passes b (Look day expiry quantum) h = cell-passes b day expiry quantum h
   call-passes b Report h = tt
+  call-passes b Outlook h = let a7 = passed 6 _ _ h in record { quoting = not-false (isOpen (b .running)) (a7 .0) }
 
   pub passes-call : (b : Book) (c : Call) → CallPasses b c → refusalOf terms b c ≡ 0
   unfolding refusalOf causes
@@ -420,6 +423,7 @@ module _ (terms : Terms) where
   passes-call b (Withdraw day expiry quantum) p = passes-cell b day expiry quantum p
   passes-call b (Look day expiry quantum) p = passes-cell b day expiry quantum p
   passes-call b Report p = clear
+  passes-call b Outlook p = skip _ _ (ap not (p .quoting)) clear
 
   -- ---- the book's step and answer, by the refusal
 

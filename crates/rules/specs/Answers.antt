@@ -14,6 +14,9 @@ use Rattle.rules.specs.declared.Looked.the-variants as L
 use Rattle.rules.specs.declared.Preview.{Preview}
 use Rattle.rules.specs.declared.Asked.{Asked}
 use Rattle.rules.specs.declared.Asked.the-variants as K
+use Rattle.rules.specs.declared.Outlook.{Outlook}
+use Rattle.rules.specs.declared.OutlookAnswer.{OutlookAnswer}
+use Rattle.rules.specs.declared.OutlookAnswer.the-variants as U
 use Rattle.rules.specs.declared.RowRead.{RowRead}
 use Rattle.rules.specs.declared.RowRead.the-variants as R
 use Rattle.rules.specs.declared.RecordRead.{RecordRead}
@@ -73,6 +76,7 @@ pub data Reply : Type 0 where
   -- document 02, W5: "both best quotes after it and a ticket"
   asked : Preview → Reply
   report : Report → Reply
+  outlook : Outlook → Reply
 
 abbrev pub shownAnswer : Answer → Outcome Reply
 shownAnswer A.Accepted = accepted done
@@ -88,6 +92,10 @@ shownAsked (K.Refused r) = refused (numberOf r)
 
 abbrev pub shownReport : Report → Outcome Reply
 shownReport r = accepted (report r)
+
+abbrev pub shownOutlook : OutlookAnswer → Outcome Reply
+shownOutlook (U.Shown o) = accepted (outlook o)
+shownOutlook (U.Refused r) = refused (numberOf r)
 
 abbrev pub shownRow : RowRead → Outcome Row
 shownRow (R.Read row) = accepted row

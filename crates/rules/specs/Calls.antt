@@ -34,6 +34,8 @@ pub data Call : Type 0 where
   Withdraw : ℕ → ℕ → ℕ → Call
   Look : ℕ → ℕ → ℕ → Call
   Report : Call
+  -- no call of the papers: how the open quantum stands, and whether the maker may rest (Outlook)
+  Outlook : Call
 
 -- the rows that a call names
 abbrev pub rowsIn : Call → List (List ℕ)
@@ -48,6 +50,7 @@ rowsIn (Charge day expiry quantum active passive) = []
 rowsIn (Withdraw day expiry quantum) = []
 rowsIn (Look day expiry quantum) = []
 rowsIn Report = []
+rowsIn Outlook = []
 
 -- the charges that it names
 abbrev pub chargesIn : Call → List Kopecks
@@ -62,6 +65,7 @@ chargesIn (Charge day expiry quantum active passive) = active ∷ passive ∷ []
 chargesIn (Withdraw day expiry quantum) = []
 chargesIn (Look day expiry quantum) = []
 chargesIn Report = []
+chargesIn Outlook = []
 
 -- the same call with each of its rows turned into another
 abbrev pub mapRows : (List ℕ → List ℕ) → Call → Call
@@ -76,8 +80,9 @@ mapRows f (Charge day expiry quantum active passive) = Charge day expiry quantum
 mapRows f (Withdraw day expiry quantum) = Withdraw day expiry quantum
 mapRows f (Look day expiry quantum) = Look day expiry quantum
 mapRows f Report = Report
+mapRows f Outlook = Outlook
 
--- document 02, W5: "accepted calls other than asks, looks and reports" are counted; by W11 an accepted message "stands there as those
+-- document 02, W5: "accepted calls other than asks, looks and reports" are counted, and outlooks are not, which alter nothing either; by W11 an accepted message "stands there as those
 -- calls", one or two
 abbrev pub counts : Call → ℕ
 counts (Open words day opening) = 1
@@ -91,6 +96,7 @@ counts (Charge day expiry quantum active passive) = 1
 counts (Withdraw day expiry quantum) = 1
 counts (Look day expiry quantum) = 0
 counts Report = 0
+counts Outlook = 0
 
 -- "Open notes cell, row and SP, with an empty list of events": no quantum, or the open one's cell, row, what else open was told, and the
 -- accepted events

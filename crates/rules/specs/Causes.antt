@@ -28,7 +28,7 @@ use Rattle.rules.specs.Answers.{Outcome, accepted, refused, outcomeBy}
 use Rattle.rules.specs.Dates.{Moment, before, at, late}
 use Rattle.rules.specs.Messages as M
 use Rattle.rules.specs.MessageCalls.{messageIn, eventsAt}
-use Rattle.rules.specs.Calls.{Call, Running, Book, isOpen, amendOf, Open, Send, Message, Ask, Commit, Close, Drop, Charge, Withdraw, Look, Report, Idle, Quoting}
+use Rattle.rules.specs.Calls.{Call, Running, Book, isOpen, amendOf, Open, Send, Message, Ask, Commit, Close, Drop, Charge, Withdraw, Look, Report, Outlook, Idle, Quoting}
 
 pub record Cause : Type 0 where
   pub number : ℕ
@@ -167,6 +167,8 @@ module _ (terms : Terms) where
   causes b (Look day expiry quantum) =
       cause 3 (not (goodCell day expiry quantum)) ∷ cause 5 (not (cellAt (b .cells) (placeOf day expiry quantum) .filled)) ∷ []
   causes b Report = []
+  -- an outlook is on an open quantum, as an event, close and drop are
+  causes b Outlook = cause 7 (not (isOpen (b .running))) ∷ []
 
   -- the number that refuses the call, 0 where it is accepted
   unfoldable pub refusalOf : Book → Call → ℕ

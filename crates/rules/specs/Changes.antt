@@ -14,7 +14,7 @@ use Rattle.rules.specs.Cells.{blankCell, placeOf, cellAt}
 use Rattle.rules.specs.Kept.{keptBelow}
 use Rattle.rules.specs.Lapses.{lapsesBelow}
 use Rattle.rules.specs.MessageCalls.{eventsOf}
-use Rattle.rules.specs.Calls.{Call, Running, Book, counts, amendOf, Open, Send, Message, Ask, Commit, Close, Drop, Charge, Withdraw, Look, Report, Idle, Quoting}
+use Rattle.rules.specs.Calls.{Call, Running, Book, counts, amendOf, Open, Send, Message, Ask, Commit, Close, Drop, Charge, Withdraw, Look, Report, Outlook, Idle, Quoting}
 
 -- an event "goes to the end of that list"; a message's one or two go there in turn
 abbrev pub notedAll : Running → List Event → Running
@@ -82,6 +82,7 @@ quantumAndCells b (Charge day expiry quantum active passive) =
 quantumAndCells b (Withdraw day expiry quantum) = (b .running, set (b .cells) (placeOf day expiry quantum) blankCell)
 quantumAndCells b (Look day expiry quantum) = (b .running, b .cells)
 quantumAndCells b Report = (b .running, b .cells)
+quantumAndCells b Outlook = (b .running, b .cells)
 
 unfoldable pub changed : Book → Call → Book
 changed b c =

@@ -13,12 +13,16 @@ pub mod Search
 -- document 02, W4: strikes
 pub mod Strikes
 pub mod Kept
+-- where the time went: the state of each millisecond
+pub mod States
 pub mod Stretches
 pub mod Runs
 -- document 02, W1: lapses
 pub mod Lapses
 -- "Verdict, weight, fee"
 pub mod Pay
+-- whether the maker may rest
+pub mod Outlook
 -- "Refused calls" and "Afresh"
 pub mod Answers
 -- document 02, W11: FIX messages, and the calls that they stand for

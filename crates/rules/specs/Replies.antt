@@ -6,6 +6,7 @@ use Rattle.rules.specs.declared.Quote.the-variants.{Absent}
 use Rattle.rules.specs.declared.Amendment.{Amendment}
 use Rattle.rules.specs.declared.Preview.{Preview}
 use Rattle.rules.specs.declared.Report.{Report as ReportValues}
+use Rattle.rules.specs.declared.Outlook.{Outlook as OutlookValues}
 use Rattle.rules.specs.Terms.{Terms}
 use Rattle.rules.specs.Units.{millis, kopecks}
 use Rattle.rules.specs.Cells.{placeOf, cellAt}
@@ -13,8 +14,9 @@ use Rattle.rules.specs.Orders.{live, present}
 use Rattle.rules.specs.Kept.{bestBid, bestAsk, keptBelow}
 use Rattle.rules.specs.Lapses.{lapsesBelow}
 use Rattle.rules.specs.Pay.{viewOf, allFailures, fee}
-use Rattle.rules.specs.Answers.{Reply, done, cell, asked, report}
-use Rattle.rules.specs.Calls.{Call, Running, Book, isOpen, amendOf, Open, Send, Message, Ask, Commit, Close, Drop, Charge, Withdraw, Look, Report, Idle, Quoting}
+use Rattle.rules.specs.Outlook.{noOutlook, outlookOf}
+use Rattle.rules.specs.Answers.{Reply, done, cell, asked, report, outlook}
+use Rattle.rules.specs.Calls.{Call, Running, Book, isOpen, amendOf, Open, Send, Message, Ask, Commit, Close, Drop, Charge, Withdraw, Look, Report, Outlook, Idle, Quoting}
 use Rattle.rules.specs.Changes.{noted}
 
 -- ---- what report answers: "open or not, time of the open quantum, number of live orders, both best quotes, kept so far, each
@@ -70,7 +72,12 @@ module _ (terms : Terms) where
         fee = kopecks (fee terms (b .cells));
       }
 
-  -- what an accepted call shows: ask its quotes and ticket, look "the cell with verdict and weight", report its values, the others nothing
+  -- the outlook on the open quantum
+  unfoldable pub outlookIn : Running → OutlookValues
+  outlookIn Idle = noOutlook
+  outlookIn (Quoting place row opening events) = outlookOf terms row opening events
+
+  -- what an accepted call shows: ask its quotes and ticket, look "the cell with verdict and weight", report its values, outlook its own, the others nothing
   abbrev pub replyOf : Book → Call → Reply
   replyOf b (Open words day opening) = done
   replyOf b (Send e) = done
@@ -83,3 +90,4 @@ module _ (terms : Terms) where
   replyOf b (Withdraw day expiry quantum) = done
   replyOf b (Look day expiry quantum) = cell (viewOf terms (cellAt (b .cells) (placeOf day expiry quantum)))
   replyOf b Report = report (reportOf b)
+  replyOf b Outlook = outlook (outlookIn (b .running))

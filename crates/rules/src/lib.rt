@@ -186,6 +186,40 @@ pub struct Report {
     pub fee: Kopecks,
 }
 
+// A number of milliseconds, or a time, where there is one.
+pub enum Possible {
+    Never,
+    At(Millis),
+}
+
+// How many lapses more the lapse limit allows: any number, none even of those that were, or so many.
+pub enum LapsesLeft {
+    Unlimited,
+    Over,
+    Left(u32),
+}
+
+// The outlook on an open quantum: how many milliseconds must still be kept, and how many are left; the latest time until which nothing
+// need be kept; how many must still be kept for the full weight; the lapses left; whether the cell is met if nothing more is kept, and
+// whether it is failed whatever comes; the weights if nothing more is kept, and if all that is left is.
+pub struct Outlook {
+    pub need: Millis,
+    pub left: Millis,
+    pub by: Possible,
+    pub full: Possible,
+    pub lapses: LapsesLeft,
+    pub rest: bool,
+    pub lost: bool,
+    pub resting: u32,
+    pub keeping: u32,
+}
+
+// The answer of outlook.
+pub enum OutlookAnswer {
+    Shown(Outlook),
+    Refused(Refusal),
+}
+
 // A row read from words.
 pub enum RowRead {
     Read(Row),

@@ -69,4 +69,5 @@ module _ (ws before behind : List ℕ) (ran : Ran) (promise : ListAnswers ws bef
         message = λ start bytes r a. a .answer (callsOf ws) month-is;
         ask = λ named r a. a .answer (callsOf ws) month-is;
         commit = λ named ticket r a. a .answer (callsOf ws) month-is;
+        outlook = λ r a. a .answer (callsOf ws) month-is;
       }

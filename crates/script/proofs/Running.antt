@@ -9,7 +9,7 @@ use borrow.Author.Tests.{le-leb, lt-leb}
 use lib.ListN.{length, getD, take, drop, set, length-append, length-drop}
 use lib.Seq.{length-take-le, take-length, take-add, drop-cons, set-at}
 use Rattle.rules.specs.Terms.{paper}
-use Rattle.rules.specs.Answers.{Reply, done, cell, asked, report, outcomeBy}
+use Rattle.rules.specs.Answers.{Reply, done, cell, asked, report, outlook, outcomeBy}
 use Rattle.rules.specs.Calls.{Call, Book}
 use Rattle.rules.specs.Causes.{refusalOf}
 use Rattle.rules.specs.Replies.{replyOf}
@@ -49,10 +49,12 @@ reply-number done zero = refl
 reply-number (cell v) zero = refl
 reply-number (asked p) zero = refl
 reply-number (report r) zero = refl
+reply-number (outlook o) zero = refl
 reply-number done (suc n) = refl
 reply-number (cell v) (suc n) = refl
 reply-number (asked p) (suc n) = refl
 reply-number (report r) (suc n) = refl
+reply-number (outlook o) (suc n) = refl
 
 -- the number of what is shown is the plain book's refusal, or 0
 shown-number : (b : Book) (c : Call) → outcomeNumber (shownOf (answerOf paper b c) .outcome) ≡ refusalOf paper b c

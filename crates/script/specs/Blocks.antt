@@ -8,7 +8,7 @@ use Rattle.rules.specs.declared.Quote.the-variants.{Absent}
 use Rattle.rules.specs.declared.Report.{Report}
 use Rattle.rules.specs.Terms.{paper}
 use Rattle.rules.specs.Units.{millis, kopecks}
-use Rattle.rules.specs.Answers.{accepted, refused, Reply, done, cell, asked, report}
+use Rattle.rules.specs.Answers.{accepted, refused, Reply, done, cell, asked, report, outlook}
 use Rattle.rules.specs.Answers as A
 use Rattle.rules.specs.Calls.{Call}
 use Rattle.rules.specs.Book.{after, answerOf}
@@ -38,12 +38,14 @@ blankReport =
 abbrev pub showing : Outcome → Shown
 showing o = record { outcome = o; report = blankReport }
 
--- the plain book's answer as the struct shows it: a look's cell, what an ask shows, a report, a refusal's number, or nothing but that it was accepted
+-- the plain book's answer as the struct shows it: a look's cell, what an ask shows, a report, an outlook, a refusal's number, or nothing but that it was
+-- accepted
 abbrev pub shownOf : A.Outcome Reply → Shown
 shownOf (accepted done) = showing O.Accepted
 shownOf (accepted (cell v)) = showing (O.Found v)
 shownOf (accepted (asked p)) = showing (O.Asked p)
 shownOf (accepted (report r)) = record { outcome = O.Reported; report = r }
+shownOf (accepted (outlook o)) = showing (O.Outlook o)
 shownOf (refused n) = showing (O.Refused n)
 
 -- 0 for an accepted call, else the refusal's number
@@ -53,6 +55,7 @@ outcomeNumber (O.Refused n) = n
 outcomeNumber (O.Found v) = 0
 outcomeNumber (O.Asked p) = 0
 outcomeNumber O.Reported = 0
+outcomeNumber (O.Outlook o) = 0
 
 -- A call ran on the month m: for every list of calls that led to m, the month after it is the month of the longer list, and what is
 -- shown is what the plain book answers to the call after that list.

@@ -11,12 +11,13 @@ use Rattle.rules.specs.Lists.{if_then_else_}
 use Rattle.rules.specs.Terms.{paper}
 use Rattle.rules.specs.Units.{millis, kopecks}
 use Rattle.rules.specs.Pay.{allFailures, fee}
-use Rattle.rules.specs.Answers.{shownAnswer, shownLooked, shownAsked, shownReport}
+use Rattle.rules.specs.Answers.{shownAnswer, shownLooked, shownAsked, shownReport, shownOutlook}
 use Rattle.rules.specs.Calls.{Book}
 use Rattle.rules.specs.Replies.{bidIn, askIn, keptIn, lapsesIn, reportOf}
 use Rattle.rules.specs.Book.{answerOf, after}
 use Rattle.rules.specs.Calls as B
 use Rattle.month.specs.declared.AfterCall.{AfterCall}
+use Rattle.month.specs.declared.AfterOutlook.{AfterOutlook}
 use Rattle.month.specs.declared.LookedAt.{LookedAt}
 use Rattle.month.specs.declared.AskedAbout.{AskedAbout}
 use Rattle.month.specs.declared.Reported.{Reported}
@@ -68,3 +69,6 @@ pub record Afresh (ws before behind : List ℕ) (ran : Ran) : Type 0 where
   pub commit : (a : Amendment) (ticket : Ticket) (r : AfterCall)
       → Answered (ran .month) (B.Commit a ticket) (r .month) (shownAnswer (r .answer))
       → shownAnswer (r .answer) ≡ answerOf paper (after paper (callsOf ws)) (B.Commit a ticket)
+  -- no call of the papers: the outlook on the open quantum, or the refusal's number
+  pub outlook : (r : AfterOutlook) → Answered (ran .month) B.Outlook (r .month) (shownOutlook (r .answer))
+      → shownOutlook (r .answer) ≡ answerOf paper (after paper (callsOf ws)) B.Outlook

@@ -4,7 +4,7 @@ ghost use mathlib.Core.Path.{_≡_};
 ghost use Prim.Native.Nat.{_≤_};
 ghost use lib.Dec.{eqb};
 ghost use Rattle.rules.specs.Lists.{if_then_else_};
-ghost use Rattle.rules.specs.Answers.{shownAnswer, shownLooked, shownAsked, shownReport};
+ghost use Rattle.rules.specs.Answers.{shownAnswer, shownLooked, shownAsked, shownReport, shownOutlook};
 ghost use Rattle.rules.specs.Calls as B;
 ghost use Rattle.month.specs.Represents.{Reached, Answered};
 ghost use Rattle.words.specs.Bytes.{wordsIn};
@@ -16,6 +16,7 @@ ghost use Rattle.script.specs.Internal.{Tells};
 ghost use Rattle.script.specs.Demand.{ListAnswers};
 use blocks::Decoded;
 use month::AfterCall;
+use month::AfterOutlook;
 use month::AskedAbout;
 use month::LookedAt;
 use month::Month;
@@ -27,6 +28,8 @@ use rules::Kopecks;
 use rules::Looked;
 use rules::Millis;
 use rules::Opening;
+use rules::Outlook;
+use rules::OutlookAnswer;
 use rules::Preview;
 use rules::Quote;
 use rules::Report;
@@ -38,6 +41,7 @@ pub enum Outcome {
     Found(CellView),
     Asked(Preview),
     Reported,
+    Outlook(Outlook),
 }
 
 // An outcome, with the report where it is Reported and a blank one where it is not.
@@ -114,6 +118,15 @@ fn asked_shown(asked: Asked) -> Outcome
     }
 }
 
+fn outlook_shown(answer: OutlookAnswer) -> Outcome
+    ensures { λ r. ⌜ showing r ≡ shownOf (shownOutlook answer) ⌝ }
+{
+    match answer {
+        OutlookAnswer::Shown(outlook) => Outcome::Outlook(outlook),
+        OutlookAnswer::Refused(r) => Outcome::Refused(rules::number(r)),
+    }
+}
+
 // 0 accepted, else the refusal's number.
 fn number(outcome: Outcome) -> u32
     ensures { λ r. ⌜ r ≡ outcomeNumber outcome ⌝ }
@@ -124,6 +137,7 @@ fn number(outcome: Outcome) -> u32
         Outcome::Found(_) => 0,
         Outcome::Asked(_) => 0,
         Outcome::Reported => 0,
+        Outcome::Outlook(_) => 0,
     }
 }
 
@@ -165,6 +179,15 @@ fn tell_report(reported: Reported, next: usize) -> Done
         outcome: Outcome::Reported,
         report,
     };
+    Done { month, next, shown }
+}
+
+fn tell_outlook(after: AfterOutlook, next: usize) -> Done
+    ensures { λ r. ⌜ Tells (after .month) next (shownOutlook (after .answer)) r ⌝ }
+{
+    let month = after.month;
+    let answer = after.answer;
+    let shown = showing_only(outlook_shown(answer));
     Done { month, next, shown }
 }
 
@@ -228,6 +251,7 @@ fn call(month: Month, said: Decoded, bytes: &[u8], next: usize) -> Done
             quantum,
         } => tell_looked(month.look(day, expiry, quantum), next),
         Decoded::Report => tell_report(month.report(), next),
+        Decoded::Outlook => tell_outlook(month.outlook(), next),
     }
 }
 

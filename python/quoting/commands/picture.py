@@ -10,20 +10,13 @@ examples:
 
 import argparse
 
-from quoting import inputs, output, values
+from quoting import inputs, output
 from quoting.picture import picture
-
-
-def limit_of(word: str) -> int:
-    try:
-        return values.whole(word, (0, 1_000))
-    except ValueError as error:
-        raise argparse.ArgumentTypeError(str(error)) from None
 
 
 def add(parser: argparse.ArgumentParser) -> None:
     parser.add_argument("file", metavar="FILE", help="a session, or - for standard input")
-    parser.add_argument("--lapses", type=limit_of, metavar="LIMIT", help="a lapse limit, 0 to 1,000")
+    parser.add_argument("--lapses", type=inputs.limit_of, metavar="LIMIT", help="a lapse limit, 0 to 1,000")
     inputs.add_session(parser)
     inputs.add_output(parser, json=False)
 

@@ -89,6 +89,11 @@ returns-15 c =
 returns-16 : tie.Need-returns-16
 returns-16 c =
     let s = c .before in
+    by-kind (wordsIn (s .before .before .before .args .bytes .now)) (s .before .word .result) 17 (s .before .word .ensures) (c .match .keys16)
+
+returns-17 : tie.Need-returns-17
+returns-17 c =
+    let s = c .before in
     other-is (wordsIn (s .before .before .before .args .bytes .now)) (s .before .word .result) (s .before .word .ensures) (c .match .rest)
 
 pub decode-spec : {M : Type 1} → statement M
@@ -128,4 +133,5 @@ decode-spec =
     returns-13
     returns-14
     returns-15
-    returns-16)
+    returns-16
+    returns-17)

@@ -110,7 +110,13 @@ returns-16 c =
     ∙ due-is (wordsIn (s .before .before .args .bytes .now)) (s .word .result) 16 (s .word .ensures) (c .before .before .before .match .keys16)
 
 returns-17 : tie.Need-returns-17
+unfolding due
 returns-17 c =
+    let s = c .before in
+    due-is (wordsIn (s .before .before .args .bytes .now)) (s .word .result) 17 (s .word .ensures) (c .match .keys17)
+
+returns-18 : tie.Need-returns-18
+returns-18 c =
     let s = c .before in
     other-due (wordsIn (s .before .before .args .bytes .now)) (s .word .result) (s .word .ensures) (c .match .rest)
 
@@ -146,4 +152,5 @@ due-words-spec =
     returns-14
     returns-15
     returns-16
-    returns-17)
+    returns-17
+    returns-18)

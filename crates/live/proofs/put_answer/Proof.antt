@@ -36,6 +36,12 @@ enum-told-2 c = search needs
 put-report-requires : tie.Need-put-report-requires
 put-report-requires c κs = search needs
 
+enum-known-outcome-4 : tie.Need-enum-known-outcome-4
+enum-known-outcome-4 c = search needs
+
+put-outlook-requires : tie.Need-put-outlook-requires
+put-outlook-requires c κs = search needs
+
 same-length : tie.Need-same-length
 same-length c = search needs
 
@@ -66,6 +72,12 @@ same-length-5 c = search needs
 returns-5 : tie.Need-returns-5
 returns-5 c = c .before .before .put-report .ensures ∙ ap (λ (o : Outcome). wordsShown o (c .before .before .before .before .before .before .before .before .args .shown .report)) (sym (c .before .before .before .before .enum-told2 .given .1))
 
+same-length-6 : tie.Need-same-length-6
+same-length-6 c = search needs
+
+returns-6 : tie.Need-returns-6
+returns-6 c = c .before .before .put-outlook .ensures ∙ ap (λ (o : Outcome). wordsShown o (c .before .before .before .before .before .before .before .before .before .args .shown .report)) (sym (c .before .before .before .before .before .outcome4 .given .1))
+
 pub put-answer-spec : {M : Type 1} → statement M
 put-answer-spec =
     tie.close
@@ -80,6 +92,8 @@ put-answer-spec =
     put-asked-requires
     enum-told-2
     put-report-requires
+    enum-known-outcome-4
+    put-outlook-requires
     same-length
     returns
     same-length-2
@@ -89,4 +103,6 @@ put-answer-spec =
     same-length-4
     returns-4
     same-length-5
-    returns-5)
+    returns-5
+    same-length-6
+    returns-6)

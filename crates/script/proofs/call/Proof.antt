@@ -37,10 +37,16 @@ returns-10 c = told _ (c .before .before .before .said8 .given .1) (c .before .l
 returns-11 : tie.Need-returns-11
 returns-11 c = told _ (c .before .before .enum-told3 .given .1) (c .before .report .ensures .1) (c .tell-report .ensures)
 
+returns-12 : tie.Need-returns-12
+returns-12 c = told _ (c .before .before .enum-told4 .given .1) (c .before .outlook .ensures .1) (c .tell-outlook .ensures)
+
 pub call-spec : {M : Type 1} → statement M
 call-spec =
     tie.close
     (tie.spec
+    (λ c. search needs)
+    (λ c κs. search needs)
+    (λ c κs. search needs)
     (λ c. search needs)
     (λ c κs. search needs)
     (λ c κs. search needs)
@@ -84,4 +90,5 @@ call-spec =
     returns-8
     returns-9
     returns-10
-    returns-11)
+    returns-11
+    returns-12)

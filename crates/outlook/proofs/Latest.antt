@@ -1,0 +1,73 @@
+-- The latest number that passes a test: it passes and none after it does, or none passes. Assumes nothing.
+use Prim.Native.Nat.{ℕ, zero, suc, _+_, _≤_, _<_}
+use native.Mathlib.Omega.{arith}
+use mathlib.Core.Path.{_≡_, refl, sym, ap, _∙_}
+use mathlib.Core.Bool.{Bool, true, false}
+use lib.Dec.{eqb}
+use borrow.Author.Tests.{eqb-true, eqb-false}
+use Rattle.rules.specs.declared.Possible.{Possible}
+use Rattle.rules.specs.declared.Possible.the-variants.{Never, At}
+use Rattle.rules.specs.Lists.{if_then_else_}
+use Rattle.rules.specs.Units.{millis}
+use Rattle.rules.specs.Outlook.{latest}
+
+pub latest-ext : (p q : ℕ → Bool) (t n : ℕ) → ((s : ℕ) → t ≤ s → s ≤ t + n → p s ≡ q s) → latest p t n ≡ latest q t n
+unfolding latest
+latest-ext p q t zero h = rw (h t (omega arith) (omega arith)) refl
+latest-ext p q t (suc n) h =
+    rw (h (t + suc n) (omega arith) (omega arith), latest-ext p q t n (λ s l u. h s l (omega arith))) refl
+
+pub latest-none : (p : ℕ → Bool) (t n : ℕ) → ((s : ℕ) → t ≤ s → s ≤ t + n → p s ≡ false) → latest p t n ≡ Never
+unfolding latest
+latest-none p t zero h = rw (h t (omega arith) (omega arith)) refl
+latest-none p t (suc n) h = rw (h (t + suc n) (omega arith) (omega arith)) (latest-none p t n (λ s l u. h s l (omega arith)))
+
+pub latest-at : (p : ℕ → Bool) (t n s : ℕ) → t ≤ s → s ≤ t + n → p s ≡ true → ((m : ℕ) → s < m → m ≤ t + n → p m ≡ false)
+    → latest p t n ≡ At (millis s)
+unfolding latest
+latest-at p t zero s l u e h =
+    let same : t ≡ s = omega arith in
+    rw (ap p same ∙ e) (ap (λ (m : ℕ). At (millis m)) same)
+latest-at p t (suc n) s l u e h =
+    go (eqb s (t + suc n)) refl (λ k. latest-at p t n s l k e (λ m v w. h m v (omega arith)))
+  where
+    go : (b : Bool) → eqb s (t + suc n) ≡ b → (s ≤ t + n → latest p t n ≡ At (millis s))
+        → (if p (t + suc n) then At (millis (t + suc n)) else latest p t n) ≡ At (millis s)
+    go true f ih =
+        let same = eqb-true s (t + suc n) f in
+        rw (ap p (sym same) ∙ e) (ap (λ (m : ℕ). At (millis m)) (sym same))
+    go false f ih =
+        let other : (s ≡ t + suc n → ⊥) = eqb-false s (t + suc n) f in
+        let last : s < t + suc n = omega (arith, other) in
+        rw (h (t + suc n) last (omega arith)) (ih (omega arith))
+
+-- what is found passes, and where nothing is found none does
+abbrev pub Found : (ℕ → Bool) → ℕ → ℕ → Possible → Type 0
+Found p t n Never = (s : ℕ) → t ≤ s → s ≤ t + n → p s ≡ false
+Found p t n (At s) = (t ≤ s .0) × (s .0 ≤ t + n) × (p (s .0) ≡ true)
+
+found-more : (p : ℕ → Bool) (t n : ℕ) (o : Possible) → Found p t n o → p (t + suc n) ≡ false → Found p t (suc n) o
+found-more p t n Never h e = λ s l u. go s l u (eqb s (t + suc n)) refl
+  where
+    go : (s : ℕ) → t ≤ s → s ≤ t + suc n → (b : Bool) → eqb s (t + suc n) ≡ b → p s ≡ false
+    go s l u true f = ap p (eqb-true s (t + suc n) f) ∙ e
+    go s l u false f =
+        let other : (s ≡ t + suc n → ⊥) = eqb-false s (t + suc n) f in
+        h s l (omega (arith, other))
+found-more p t n (At s) h e = (h .0, omega (arith, h .1), h .2)
+
+found-last : (p : ℕ → Bool) (t n : ℕ) (b : Bool) → p (t + suc n) ≡ b → Found p t n (latest p t n)
+    → Found p t (suc n) (if b then At (millis (t + suc n)) else latest p t n)
+found-last p t n true e h = (omega arith, omega arith, e)
+found-last p t n false e h = found-more p t n (latest p t n) h e
+
+found-first : (p : ℕ → Bool) (t : ℕ) (b : Bool) → p t ≡ b → Found p t zero (if b then At (millis t) else Never)
+found-first p t true e = (omega arith, omega arith, e)
+found-first p t false e = λ s l u.
+    let same : s ≡ t = omega arith in
+    ap p same ∙ e
+
+pub latest-found : (p : ℕ → Bool) (t n : ℕ) → Found p t n (latest p t n)
+unfolding latest
+latest-found p t zero = found-first p t (p t) refl
+latest-found p t (suc n) = found-last p t n (p (t + suc n)) refl (latest-found p t n)
