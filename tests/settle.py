@@ -19,7 +19,7 @@ ROOT = Path(__file__).resolve().parent.parent
 sys.path[:0] = [str(ROOT), str(ROOT / "python")]
 
 from quoting import texts
-from recount import book, programs
+from recount import book, programs, records
 from recount import session as recounted
 
 QUOTING = ROOT / "quoting"
@@ -75,11 +75,34 @@ def rows_of(path):
         return list(csv.DictReader(file))
 
 
+STATES = ("kept", "no_bid", "no_ask", "neither", "crossed", "wide")
+
+
+def state(row, sp, live):
+    """The state of live orders, by the recount's quotes."""
+    bid, ask = book.best_bid(live, row.least), book.best_ask(live, row.least)
+    if bid is None or ask is None:
+        return "neither" if bid is ask else "no_bid" if bid is None else "no_ask"
+    return "crossed" if ask <= bid else "kept" if book.within(row, sp, bid, ask) else "wide"
+
+
+def states(data):
+    """The milliseconds of each state, event by event."""
+    *words, sp = HEAD.unpack(data[: HEAD.size])
+    row, found, live, now = book.Row(*words), dict.fromkeys(STATES, 0), {}, 0
+    for event in map(records.read, records.split(data[HEAD.size :])):
+        found[state(row, sp, live)] += event.t - now
+        book.pass_event(live, event)
+        now = event.t
+    found[state(row, sp, live)] += row.length - now
+    return found
+
+
 def due(data):
     """A row's figures by the recount."""
     answer = recounted.run_bytes(data[: HEAD.size], data[HEAD.size :])
     lapses = book.lapses_by_stretches(answer.pairs, answer.length)
-    return [answer.kept, answer.length, programs.verdict_text(answer.met), answer.weight, lapses]
+    return [answer.length, programs.verdict_text(answer.met), answer.weight, lapses, *states(data).values()]
 
 
 # ---------------------------------------------------------------- the table
@@ -92,8 +115,9 @@ def check_figures(folder, made):
     assert (status, said) == (0, ""), (status, said)
     assert [row["file"] for row in rows] == [f"{folder.name}/{name}" for name in sorted(made)]
     for row in rows:
-        found = [int(row["kept"]), int(row["length"]), row["verdict"], int(row["weight"]), int(row["lapses"])]
+        found = [int(row["length"]), row["verdict"], int(row["weight"]), int(row["lapses"]), *(int(row[name]) for name in STATES)]
         assert found == due(made[Path(row["file"]).name]), row
+    assert all(any(row[name] != "0" for row in rows) for name in STATES), "a state is nowhere met"
     verdicts = [row["verdict"] for row in rows]
     assert {"met", "failed"} == set(verdicts)
     assert f"{len(rows)} sessions: {verdicts.count('met')} met, {verdicts.count('failed')} failed" in summary, summary

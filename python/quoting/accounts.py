@@ -1,7 +1,7 @@
 """Where the time of a session went: the account, stretches of one state each, and the milliseconds of each state."""
 
 from dataclasses import dataclass
-from typing import Optional, Union
+from typing import Any, Optional, Union
 
 from quoting import native
 from quoting.calls import Strike
@@ -38,14 +38,25 @@ def spread_words(sp: int, strike: Optional[Strike]) -> list[int]:
     return [0, sp, 0, 0, 0] if strike is None else [1, strike.a, strike.difference, strike.days, strike.b]
 
 
-def account(rule: Union[Rule, bytes], events: Events, strike: Optional[Strike] = None) -> Account:
-    """The account of a session, with a strike in place of SP where one is given. Refused as `session` is, and by 18."""
+def words(rule: Union[Rule, bytes], events: Events, strike: Optional[Strike] = None) -> Any:
+    """The words that the library writes: the six states' milliseconds, the number of stretches, three words for each."""
     given = rule if isinstance(rule, Rule) else Rule.of_bytes(bytes(rule))
     row, spread = native.words_of(given.row.words), native.words_of(spread_words(given.sp, strike))
     data, size, _lent = lent(events)
     most = FRONT + 3 * (-(-size // SIZE) + 1)  # n records make at most n + 1 stretches
     buffer = native.words(most)
     native.call("quoting_account", native.address(row), 7, native.address(spread), 5, data, size, native.address(buffer), most)
-    words = buffer[FRONT : FRONT + 3 * buffer[6]]
-    stretches = [Stretch(offset, length, STATES[state]) for offset, length, state in zip(words[::3], words[1::3], words[2::3])]
+    return buffer
+
+
+def totals(rule: Union[Rule, bytes], events: Events) -> dict[str, int]:
+    """The milliseconds of each state alone."""
+    return dict(zip(STATES, words(rule, events)[:6]))
+
+
+def account(rule: Union[Rule, bytes], events: Events, strike: Optional[Strike] = None) -> Account:
+    """The account of a session, with a strike in place of SP where one is given. Refused as `session` is, and by 18."""
+    buffer = words(rule, events, strike)
+    found = buffer[FRONT : FRONT + 3 * buffer[6]]
+    stretches = [Stretch(offset, length, STATES[state]) for offset, length, state in zip(found[::3], found[1::3], found[2::3])]
     return Account(dict(zip(STATES, buffer[:6])), stretches)

@@ -11,15 +11,16 @@ from itertools import islice
 from pathlib import Path
 from typing import Any, BinaryIO, Callable, Iterable, Iterator, Optional, Protocol, Sequence
 
-from quoting import events, inputs, native, reading
+from quoting import accounts, inputs, native, reading
 from quoting.answers import verdict_text
+from quoting.events import SIZE
 from quoting.native import Refused
 from quoting.reading import PLAIN, Options, TextError
 from quoting.rules import HEAD
 from quoting.sessions import Session, session
 from quoting.values import part_text
 
-LONGEST = HEAD.size + events.SIZE * 4_000_001  # a record more than a session may have, so that the library refuses what is longer
+LONGEST = HEAD.size + SIZE * 4_000_001  # a record more than a session may have, so that the library refuses what is longer
 LONGEST_TEXT = 1 << 30
 FRONT = 1 << 16  # bytes by which bytes are told from a text
 
@@ -36,6 +37,11 @@ class Settled:
     verdict: str = ""
     weight: str = ""
     lapses: str = ""
+    no_bid: str = ""  # milliseconds of each state but `kept`, which stands above
+    no_ask: str = ""
+    neither: str = ""
+    crossed: str = ""
+    wide: str = ""
     refusal: str = ""
     place: str = ""
     reason: str = ""
@@ -130,7 +136,8 @@ def settle(name: str, manner: Manner = Manner()) -> Settled:
     """A session's row; whatever is wrong with the file is in it."""
     try:
         source = inputs.session_of(name, content(name), manner.options, manner.head, manner.form)
-        done = session(source.data[: HEAD.size], memoryview(source.data)[HEAD.size :])
+        head, events = source.data[: HEAD.size], source.data[HEAD.size :]
+        done, states = session(head, events), accounts.totals(head, events)
     except Refused as refused:
         return Settled(name, "refused", refusal=str(refused.number), place=place_of(source, refused), reason=refused.sentence)
     except TextError as error:
@@ -139,7 +146,7 @@ def settle(name: str, manner: Manner = Manner()) -> Settled:
         return Settled(name, "unreadable", reason=getattr(error, "strerror", None) or str(error))
     share = part_text(done.kept, done.length)
     figures = [done.kept, done.length, share, verdict_text(done.met), done.weight, lapses_of(done)]
-    return Settled(name, "settled", *map(str, figures))
+    return Settled(name, "settled", *map(str, [*figures, *list(states.values())[1:]]))
 
 
 def place_of(source: inputs.Source, refused: Refused) -> str:
