@@ -384,7 +384,7 @@ def said_by_probe(case):
     if case.call == 8:
         line = program("probe", packed([5, case.numbers[0], len(words)]) + data)
         return {"inside yes\n": 1, "inside no\n": 0, "refused 22\n": 22 << 32}.get(line), []
-    if case.call == 16 and due(case)[0] < SHORT and len(words) <= 3 * 512:
+    if case.call == 16 and due(case)[0] < 2**32 and len(words) <= 3 * 512:
         size, calls = case.numbers[0], len(words) // 3
         flat = programs.to_words(case.second)
         *lines, last = program("probe", packed([7, *case.numbers, *flat[: 2 * size], calls]) + data).splitlines()

@@ -1,2 +1,3 @@
--- The answer that some words say.
+-- The answer that some words say, and that the plain book's answers fit their words.
 pub mod Back
+pub mod Fits

@@ -1,6 +1,6 @@
 -- What the plain book answers to a call of the month, as twenty words at fixed places: 0 its kind, 1 the refusal's number or 0, from 2
 -- on what is shown, then zeros. The kinds: 0 accepted, 1 refused, 2 a cell, 3 an ask's quotes and ticket, 4 a report. That no two
--- answers whose numbers fit their types have the same words is in proofs/Back.
+-- answers whose numbers fit their types have the same words is in proofs/Back, and that the plain book's always fit in proofs/Fits.
 use Prim.Native.Nat.{ℕ}
 use mathlib.Core.Path.{_≡_}
 use mathlib.Core.List.{List, [], _∷_, _++_}
