@@ -1,6 +1,6 @@
 # Every target but `install` needs the Rattle kit (`rt` on the path) and Python 3; `test` also what tests/packages lists, `client`, `library` and
 # `dist` a C compiler, `card` the same, `bench` Rust with cargo.
-.PHONY: test demo card client library install dist bench
+.PHONY: test demo statement card client library install dist bench
 
 VERSION := $(shell cat VERSION)
 MAJOR := $(firstword $(subst ., ,$(VERSION)))
@@ -13,11 +13,20 @@ STRICT := -std=c11 -O2 -Wall -Wextra -Wpedantic -Werror -Iinclude
 test:
 	bash .ci/run
 
-# The sheet of a shipped session, and a month of calls.
+# The sheet of a shipped session, and a month of calls; then a month's statement, where its needs are there.
 demo:
 	rt check sheet replay
 	PYTHON=$(PYTHON) ./quoting bytes examples/brent.session | target/bin/sheet
 	PYTHON=$(PYTHON) ./quoting bytes examples/month.calls | target/bin/replay
+	@if command -v cc >/dev/null && $(PYTHON) -c 'import jinja2' 2>/dev/null; then $(MAKE) -s statement PYTHON=$(PYTHON); \
+	else echo "for a month's statement: apt-get install gcc python3-jinja2, then make statement"; fi
+
+# The statement of a shipped month as a page that can be printed: target/brent.html. Two of its messages are refused, so the command ends with 1.
+statement: library
+	rm -f target/brent.html
+	PYTHON=$(PYTHON) ./quoting statement examples/programmes/brent.month --fix examples/programmes/brent.log \
+		--title "Brent, November 2026" -o target/brent.html || [ -s target/brent.html ]
+	@echo "the statement is target/brent.html"
 
 # The weight card as a page that can be printed: target/card.html
 card: library

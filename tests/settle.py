@@ -161,6 +161,8 @@ def check_refusals(folder, made):
     assert settle(folder.name, "--resume", cwd=folder.parent)[0] == 2
     status, told, _ = settle("--help", cwd=folder.parent)
     assert status == 0 and "examples:" in told and "quoting settle" in told
+    status, _, said = settle(folder.name, "--scheduler", "no such address", cwd=folder.parent)
+    assert status == 1 and "--scheduler no such address: " in said, said
     assert settle("absent", "-o", "no.csv", cwd=folder.parent)[0] == 1 and not (folder.parent / "no.csv").exists()
 
 

@@ -3,6 +3,7 @@
     /usr/bin/python3 tests/statement.py
 """
 
+import os
 import random
 import re
 import subprocess
@@ -256,6 +257,9 @@ def check_odd(here):
     assert page_of("report").tables["sum"][-1][1] == "0 roubles 00 kopecks"
     page = page_of(quantum(1, 80) + quantum(2, 80).replace("close", "tick 9 #"), 1, "--title", "<b>&\"'")
     assert "A quantum is open at the end of the calls (day 2, expiry 1, quantum 1)" in page.text and "Statement: <b>&\"'" in page.text
+    ascii = {"LC_ALL": "C", "PYTHONUTF8": "0", "PYTHONCOERCECLOCALE": "0"}
+    printed = subprocess.run([ROOT / "quoting", "statement", file], env={**os.environ, **ascii}, capture_output=True).stdout.decode()
+    assert "(2A + 3P) × w" in printed, "the page is UTF-8 on an ASCII terminal too"
     file.write_bytes(texts.calls_bytes(quantum(1, 80)) + b"\7")
     page, done = made(file, status=1)
     assert "stopped at word" in page.text and "stopped at word" in done.complaint and page.tables["grid"][2][2] == "met 20,000"

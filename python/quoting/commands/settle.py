@@ -73,7 +73,10 @@ def cluster(address: str) -> Iterator[Any]:
         distributed: Any = import_module("distributed")
     except ImportError:
         raise Missing("--scheduler needs Dask: apt-get install python3-distributed") from None
-    client = distributed.Client(address, timeout=10)
+    try:
+        client = distributed.Client(address, timeout=10)
+    except (OSError, ValueError) as error:
+        raise Missing(f"--scheduler {address}: {error}") from None
     try:
         yield client
     finally:
@@ -166,8 +169,8 @@ def to_stream(args: argparse.Namespace, names: list[str], manner: Manner, path: 
     """Rows as they come, to standard output or a device."""
     summary = Summary()
     if path is None:
-        output.write(None, settling.HEADER)
-        settle(args, names, manner, summary, lambda row: output.write(None, row.line))
+        output.write(None, settling.HEADER.encode())
+        settle(args, names, manner, summary, lambda row: output.write(None, row.line.encode()))
         return summary
     with open(path, "w", encoding="utf-8", newline="") as file:
 

@@ -64,7 +64,7 @@ def run(args: argparse.Namespace) -> int:
     listed = listed_of(args)
     name = args.sessions or args.file
     made = page.statement(args.title or ("input" if name == STANDARD else Path(name).stem), listed)
-    output.write(args.output, page.html(made))
+    output.write(args.output, page.html(made).encode("utf-8", "backslashreplace"))  # the page says that it is UTF-8, whatever a terminal is
     for each in complaints(made):
         output.complain(each)
     return int(not made.is_whole)
