@@ -14,7 +14,7 @@ from quoting.statement.picture import offset_of, picture
 from quoting.values import clock, share_text
 
 DIVISOR, CAP, ALLOWED = 80_000, 120_000_000, 15  # document 01: the fee's division, its cap in kopecks, failed quanta of a series
-LISTED = 12  # lapses that are listed one by one
+LISTED = 8  # lines of lapses beside a picture, so that eight or nine quanta stand on a printed page
 
 
 def thousands(value: int) -> str:
@@ -176,17 +176,17 @@ def hours_text(quantum: Quantum, length: int) -> str:
 
 
 def lapse_rows(stretches: Sequence[Stretch], first: int) -> tuple[list[Lapse], str]:
-    """The lapses, the longest alone where they are many, and what is said of the others."""
+    """The lapses, of many the longest alone, and what is said of the others."""
     found = list(enumerate(lapses_of(stretches), start=1))
     size = {at: sum(part.length for part in lapse) for at, lapse in found}
-    shown = set(sorted(size, key=lambda at: (-size[at], at))[:LISTED])
+    shown = set(sorted(size, key=lambda at: (-size[at], at))[: LISTED if len(found) <= LISTED else LISTED - 1])
     rows = [
         Lapse(at, clock(first + lapse[0].start), clock(size[at]), ", ".join(dict.fromkeys(part.state for part in lapse)))
         for at, lapse in found
         if at in shown
     ]
     rest = [size[at] for at in size if at not in shown]
-    return rows, f"and {len(rest)} shorter ones, {clock(sum(rest))} in all" if rest else ""
+    return rows, f"and {len(rest)} others, {clock(sum(rest))} in all" if rest else ""
 
 
 def shown(quantum: Quantum, cell: Cell) -> Shown:

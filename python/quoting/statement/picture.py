@@ -12,7 +12,7 @@ from quoting.values import HOUR, MINUTE, SECOND
 WIDTH, HEIGHT, LEFT, RIGHT = 420, 113, 34, 416
 TOP, BOTTOM, STRIP, STRIP_HEIGHT = 12, 82, 87, 11
 FEW = 60  # stretches that are drawn one by one
-NUMBERED = 12  # lapses that are numbered
+NUMBERED = 8  # lapses that are numbered
 KEYS = dict(zip(STATES, ("kept", "nobid", "noask", "neither", "crossed", "wide")))
 TICKS = [SECOND, 5 * SECOND, 10 * SECOND, MINUTE, 5 * MINUTE, 10 * MINUTE, 30 * MINUTE, HOUR, 2 * HOUR, 4 * HOUR]
 
