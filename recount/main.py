@@ -2,6 +2,7 @@
 
     python3 recount/main.py replay < words       as the program replay
     python3 recount/main.py sheet < bytes        as the program sheet
+    python3 recount/main.py account < bytes      as the program account
     python3 recount/main.py probe < bytes        as the program probe
     python3 recount/main.py safe_table < word    as the program safe_table
     python3 recount/main.py card < /dev/null     as the program card
@@ -18,7 +19,7 @@ from recount import card, game, programs, selftest, session
 
 
 def main(words):
-    inputs = {"replay": programs.replay, "sheet": programs.sheet, "probe": programs.probe}
+    inputs = {"replay": programs.replay, "sheet": programs.sheet, "account": programs.account, "probe": programs.probe}
     inputs["safe_table"] = game.safe_table
     inputs["card"] = card.card
     if len(words) == 1 and words[0] in inputs:

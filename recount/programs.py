@@ -1,7 +1,8 @@
-"""What the programs `replay`, `sheet` and `probe` print for the bytes that they are given."""
+"""What the programs `replay`, `sheet`, `account` and `probe` print for the bytes that they are given."""
 
 import struct
 
+from recount import account as accounts
 from recount import fix, game, records, session, standing, strikes, volatile
 from recount.book import (
     BUY, NO_LIMIT, SELL, Accepted, Add, Amend, Ask, Asked, Cancel, CellView, Charge, Close, Commit, Deal,
@@ -206,6 +207,21 @@ def sheet(data):
     return lines(out)
 
 
+# ---------------------------------------------------------------- account
+
+
+def account(data):
+    read = session.read_head(data[: session.HEAD.size])
+    if read is None:
+        return lines(["refused 1 at 0"])
+    answer = accounts.run(*read, data[session.HEAD.size :], SHEET_RECORDS)
+    if isinstance(answer, session.Stopped):
+        return lines([refused_at(answer)])
+    out = [f"from {offset} for {length} {accounts.STATES[state]}" for offset, length, state in answer.stretches]
+    out += [f"total {name} {time}" for name, time in zip(accounts.STATES, answer.times)]
+    return lines(out)
+
+
 def refused_at(answer):
     return f"refused {answer.number} at {answer.place}"
 
@@ -227,6 +243,8 @@ def probe(data):
         out = strikes.probe(words, data)
     elif words[:1] == [8]:
         out = game.probe(words, data)
+    elif words[:1] == [15]:
+        out = probe_account(words, data)
     elif words[:1] in ([5], [6], [12], [13], [14]):
         out = volatile.probe(words, data)
     elif words[:1] == [7]:
@@ -253,6 +271,23 @@ def probe_session(words, data):
     else:
         first = f"kept {answer.kept} weight {answer.weight} pairs {len(answer.pairs)}"
     return [first, numbers("buffer", buffer), numbers("front", front)]
+
+
+def probe_account(words, data):
+    """`15 n fill m w1..wm 0 SP` or `.. 1 a difference days b`, then record bytes."""
+    if len(words) < 4:
+        return None
+    n, fill, m = words[1:4]
+    if n > PROBE_BUFFER or m > PROBE_ROW or len(words) < 4 + m + 1:
+        return None
+    kind, told = words[4 + m], words[5 + m :]
+    size = {0: 1, 1: 4}.get(kind)
+    if size is None or len(told) < size:
+        return None
+    spread = signed(told[0]) if kind == 0 else Strike(*told[:4])
+    answer, buffer = accounts.call(words[4 : 4 + m], spread, data[4 * (5 + m + size) :], [fill] * n)
+    first = refused_at(answer) if isinstance(answer, session.Stopped) else numbers("account", [len(answer.stretches), *answer.times])
+    return [first, numbers("buffer", buffer)]
 
 
 def probe_row(words, data):

@@ -13,11 +13,8 @@ Done = namedtuple("Done", "kept weight met length pairs")
 Stopped = namedtuple("Stopped", "number place")
 
 
-def run(words, sp, data, limit=RUN_LIMIT, buffer_words=None):
-    """Open (day 1), the events, close (no charges); stops at the first refusal.
-
-    `buffer_words` is the length of the lent buffer; None: there is none to be too short.
-    """
+def quoted(words, sp, data, limit=RUN_LIMIT):
+    """The book after open (day 1) and the events, or where and by what it stopped."""
     book = Book()
     answer = book.call(Open(words, 1, sp))
     if isinstance(answer, Refused):
@@ -29,6 +26,17 @@ def run(words, sp, data, limit=RUN_LIMIT, buffer_words=None):
         answer = book.call(event)
         if isinstance(answer, Refused):
             return Stopped(answer.number, place)
+    return book
+
+
+def run(words, sp, data, limit=RUN_LIMIT, buffer_words=None):
+    """Open (day 1), the events, close (no charges); stops at the first refusal.
+
+    `buffer_words` is the length of the lent buffer; None: there is none to be too short.
+    """
+    book = quoted(words, sp, data, limit)
+    if isinstance(book, Stopped):
+        return book
     quoting = book.quoting
     pairs = quoting.pairs(quoting.row.length)
     if buffer_words is not None and buffer_words < 2 * len(pairs):

@@ -25,7 +25,7 @@ from tests import command
 
 QUOTING = ROOT / "quoting"
 EXAMPLES = ROOT / "examples"
-NAMES = ["bytes", "board", "calls", "card", "fix", "game", "outlook", "picture", "refusal", "sheet", "standing", "text", "volatile"]
+NAMES = ["account", "bytes", "board", "calls", "card", "fix", "game", "outlook", "picture", "refusal", "sheet", "standing", "text", "volatile"]
 ROW = ["--row", "1 1 8:45:00 1000 150 3 60%", "--sp", "8452"]
 START = ["--start", "20261116-10:00:00.000"]
 
@@ -100,6 +100,15 @@ def check_outlook():
     assert "nothing need be kept until 10:00:02; lapses left 0; the maker may not rest for good" in shown.printed, shown
     refused = command.run("outlook", "-", given=text + "cancel 5 9\n")
     assert refused.status == 1 and "line 5: refused 11 at 3: " in refused.complaint, refused
+
+
+def check_account():
+    """The account of document 01's session: kept until its buy is gone."""
+    text = (EXAMPLES / "document01.session").read_text()
+    done = command.run("account", "-", "--both", given=text)
+    totals = "total kept 6000\ntotal no-bid 4000\ntotal no-ask 0\ntotal neither 0\ntotal crossed 0\ntotal wide 0\n"
+    assert done.printed == f"from 0 for 6000 kept\nfrom 6000 for 4000 no-bid\n{totals}the proved meter and the recount agree\n", done
+    assert json.loads(command.run("account", "-", "--json", given=text).printed)["totals"]["no-bid"] == 4_000
 
 
 def check_old_months():
@@ -205,6 +214,7 @@ def good_files():
     session = texts.session_bytes((EXAMPLES / "document01.session").read_text())
     yield ["sheet", "-"], session
     yield ["outlook", "-"], session
+    yield ["account", "-"], session
     yield ["text", "-"], session
     yield ["calls", "-"], texts.calls_bytes((EXAMPLES / "ask.calls").read_text())
     yield ["text", "-"], texts.calls_bytes((EXAMPLES / "fix.calls").read_text())
@@ -244,6 +254,7 @@ def main():
     check_help()
     check_sheet()
     check_refused()
+    check_account()
     check_outlook()
     check_old_months()
     check_fix_log()

@@ -6,7 +6,7 @@
 
     --seed N           other cases (1 by default)
     --seconds S        stop making new cases after so long
-    --only NAME        replay, sheet, probe or ccall
+    --only NAME        replay, sheet, account, probe or ccall
 
 It fails where an answer differs, where a refusal number, a locked or a crossed quote was never met
 or something else that the cases are to show never showed, and where fewer than a third of the
@@ -27,6 +27,7 @@ from pathlib import Path
 ROOT = Path(__file__).resolve().parent.parent
 sys.path.insert(0, str(ROOT))
 
+from recount import account as accounts
 from recount import book, programs, records
 from recount import session as run
 from recount.book import BUY, SELL, Add, Cancel, Tick
@@ -62,7 +63,7 @@ def case_rng(seed, name, at):
     return random.Random(f"{seed} {name} {at}")
 
 
-# ---------------------------------------------------------------- the four that are tested
+# ---------------------------------------------------------------- the five that are tested
 
 
 class Program:
@@ -230,16 +231,38 @@ class Sheet(Program):
         return session_text.to_text(data)
 
 
+class Account(Sheet):
+    name = "account"
+    cases = 1_500
+    must_show = {
+        **{f"time that is {name}": rf"^total {name} [1-9]" for name in accounts.STATES},
+        "the longest quantum": r"^from 0 for 86400000 ",
+        "1601 stretches": r"(^from \d+ for \d+ \S+\n){1601}",
+    }
+
+    def special(self):
+        yield from super().special()
+        head, data = known.many_stretches(1_600)
+        yield from [head + data, head + data + records.write(Tick(1_601))]
+
+    def kept_in(self, answer):
+        return [int(kept) for kept in re.findall(r"^total kept (\d+)", answer, re.M)]
+
+
 class Probe(Program):
     name = "probe"
     cases = 2_500
-    refusals = [1, 2, 3, *range(8, 17), 22]
+    refusals = [1, 2, 3, *range(8, 17), 18, 22]
     must_show = {
         "a day inside, with a row": r"^inside yes\nrow \d",
         "a day outside, with a row": r"^inside no\nrow \d",
         "prices that are refused, with a row": r"^refused 22\nrow \d",
     }
-    must_sight = ["a row eased", "a row left", "a strike's row eased", "a strike's row left"]
+    must_sight = [
+        "a row eased", "a row left", "a strike's row eased", "a strike's row left",
+        *(f"an account by {rule} with time that is {state}" for rule in ("SP", "a strike") for state in accounts.STATES),
+        "an account that just fits", "an account a word too long",
+    ]
 
     def special(self):
         yield from [b"", b"\1", words(0), words(4), words(1), words(1, 0, 0), words(1, 0, 0, 0)]
@@ -264,6 +287,11 @@ class Probe(Program):
                 yield words(1, 4, 9, 7) + head + data
         head, data = known.many_records(4)
         yield from [words(1, size, 9, 7) + head + data for size in (0, 3, 4, 5)]
+        yield from [words(15), words(15, 0, 0), words(15, 4_097, 9, 7, *row, 0, 8_452), words(15, 9, 9, 17, *range(17), 0, 8_452)]
+        for count in (0, 6, 7, 8, 16):
+            yield from [words(15, 9, 9, count, *range(count), *told) for told in ([], [0], [0, 1], [1, 1, 1, 1], [1, 1, 1, 1, 1], [2, 1, 1, 1, 1])]
+        for told in ([0, 8_452], [1, 1_000, 5, 30, 4], [1, 1_001, 5, 30, 4]):
+            yield from [words(15, size, 9, 7, *row, *told) + records.write(Tick(5)) for size in (0, 2, 3, 4, 4_096)]
         for size in (0, 1, 19, 20):
             yield words(3) + records.write(Tick(5))[:size]
         yield from volatile_cases.wrong_rows()
@@ -284,10 +312,14 @@ class Probe(Program):
             name, row, sp = "bad_row", generate.wrong_row_words(rng), 2_000
         else:
             *row, sp = run.HEAD.unpack(head)
+        if how < 0.65:
+            return name, self.account_case(rng, row, sp, data)
         return name, self.session_case(rng, row, sp, data)
 
     def sights_in(self, data, answer):
-        """Whether the row of a case 13 was altered."""
+        """The states of a case 15, and whether the row of a case 13 was altered."""
+        if data[:4] == words(15):
+            yield from self.account_sights(programs.to_words(data), answer)
         if data[:4] != words(13) or answer == "bad case\n":
             return
         kind, _, *before = programs.to_words(data)[1:]
@@ -295,21 +327,48 @@ class Probe(Program):
         whose = "a strike's" if kind else "a"
         yield f"{whose} row {'eased' if altered else 'left'}"
 
-    def session_case(self, rng, row, sp, data):
-        """A case with a buffer that is too short, just right, or longer."""
-        answer = run.run(row, sp, data)
-        needed = 0 if isinstance(answer, run.Stopped) else 2 * len(answer.pairs)
+    @staticmethod
+    def account_sights(given, answer):
+        found = re.match(r"account (\d+)((?: \d+){6})$", answer, re.M)
+        if found:
+            rule = "a strike" if given[4 + given[3]] else "SP"
+            for name, time_in in zip(accounts.STATES, map(int, found[2].split())):
+                if time_in:
+                    yield f"an account by {rule} with time that is {name}"
+            if given[1] == 3 * int(found[1]):
+                yield "an account that just fits"
+        if answer.startswith("refused 16 ") and given[1] % 3 == 2:
+            yield "an account a word too long"
+
+    @staticmethod
+    def lent(rng, needed):
+        """The size of a buffer that is too short, just right, or longer, and what fills it."""
         most = programs.PROBE_BUFFER
         near = [needed, needed, needed + 1, needed - 1, needed // 2, needed + 5]
-        size = rng.choice([*near, 0, most])
-        size = generate.clamp(size, 0, most)
-        fill = rng.choice([0, 7, 2**32 - 1, rng.randrange(2**32)])
-        return words(1, size, fill, len(row), *row, sp & 0xFFFFFFFF) + data
+        size = generate.clamp(rng.choice([*near, 0, most]), 0, most)
+        return size, rng.choice([0, 7, 2**32 - 1, rng.randrange(2**32)])
+
+    def session_case(self, rng, row, sp, data):
+        answer = run.run(row, sp, data)
+        needed = 0 if isinstance(answer, run.Stopped) else 2 * len(answer.pairs)
+        return words(1, *self.lent(rng, needed), len(row), *row, sp & 0xFFFFFFFF) + data
+
+    def account_case(self, rng, row, sp, data):
+        """By SP, or by a strike, now and then with a number out of its range."""
+        told = [0, sp & 0xFFFFFFFF]
+        if rng.random() < 0.5:
+            sp = generate.wrong_strike(rng) if rng.random() < 0.1 else generate.any_strike(rng)
+            told = [1, *sp]
+        answer = accounts.run(row, sp, data)
+        needed = 0 if isinstance(answer, run.Stopped) else 3 * len(answer.stretches)
+        return words(15, *self.lent(rng, needed), len(row), *row, *told) + data
 
     def parts(self, data):
-        front = len(data)
-        if data[:4] == words(1) and len(data) >= 16:
-            front = 4 * (5 + programs.to_words(data)[3])
+        front, given = len(data), programs.to_words(data)
+        if given[:1] == [1] and len(data) >= 16:
+            front = 4 * (5 + given[3])
+        if given[:1] == [15] and len(data) >= 16 and len(given) > 4 + given[3]:
+            front = 4 * (4 + given[3] + (5 if given[4 + given[3]] else 2))
         return data[:front], list(records.split(data[front:]))
 
     def as_text(self, data):
@@ -389,7 +448,7 @@ def joined(program, front, parts):
     return program.case(front, rest) if isinstance(program, CCall) else front + rest
 
 
-PROGRAMS = [Replay, Sheet, Probe, CCall]
+PROGRAMS = [Replay, Sheet, Account, Probe, CCall]
 
 # ---------------------------------------------------------------- one case, and a smaller one
 

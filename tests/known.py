@@ -20,6 +20,15 @@ def many_records(count):
     return session(row, 2_000, events)
 
 
+def many_stretches(count):
+    """A session of `count` records that has one stretch of one state more, the most that they can give."""
+    row = Row(1, 1, 20_000, 10, 100, 5, 600)
+    events = [Add(1, 1, BUY, 100, 10)]
+    for at in range(2, count + 1):
+        events.append(Add(at, 2, SELL, 101, 10) if at % 2 == 0 else Cancel(at, 2))
+    return session(row, 2_000, events)
+
+
 def refusals():
     """A session for each refusal number that one can have: 1, 2, 3 and 8 to 15."""
     row, first = Row(1, 1, 10_000, 500, 100, 1, 600), Add(5, 1, BUY, 100, 500)

@@ -25,9 +25,10 @@ sys.path[:0] = [str(ROOT), str(ROOT / "python")]
 import numpy
 
 import quoting
-from quoting import Add, Amend, Cancel, Deal, Refused, Row, Rule, Tenths, Tick, events, fix, inputs, native, refusals, standings, texts
+from quoting import Add, Amend, Cancel, Deal, Refused, Row, Rule, Tenths, Tick, accounts, events, fix, inputs, native, refusals, standings, texts
 from quoting.answers import line
 from recount import game, programs, records, standing, strikes, volatile
+from recount import account as recount_account
 from recount import fix as recount_fix
 from recount import session as run
 from recount.book import Book
@@ -196,6 +197,28 @@ def check_rows(rng):
         assert (found.words if found else []) == choose(*tables, bool(holiday), expiry, quantum)
 
 
+def check_accounts(rng):
+    """Every account is the recount's, by SP and by a strike; its kept stretches are the session's pairs."""
+    seen = set()
+    for head, data in [*known.sessions(), *(generate.any_session(rng)[1:] for _ in range(80))]:
+        strike = quoting.Strike(*generate.any_strike(rng)) if rng.random() < 0.4 else None
+        if len(data) > 200_000 or len(head) != 32:
+            continue
+        *words, sp = run.HEAD.unpack(head)
+        due = recount_account.run(words, sp if strike is None else strikes.Strike(*vars(strike).values()), data)
+        try:
+            found = quoting.account(head, data, strike)
+        except Refused as refused:
+            assert due == run.Stopped(refused.number, refused.place), (head, data, strike)
+            continue
+        assert list(found.totals.values()) == list(due.times), (head, data, strike)
+        assert [(each.offset, each.length, accounts.STATES.index(each.state)) for each in found.stretches] == list(due.stretches)
+        if strike is None:
+            assert [(each.offset, each.length) for each in found.stretches if each.state == "kept"] == quoting.session(head, data).pairs
+        seen.update(each.state for each in found.stretches)
+    assert seen == set(accounts.STATES), seen
+
+
 # ---------------------------------------------------------------- months
 
 
@@ -353,6 +376,7 @@ def main():
     check_header()
     check_refusals()
     check_sessions(random.Random(1))
+    check_accounts(random.Random(8))
     check_arrays()
     check_months(random.Random(6))
     check_month_methods()

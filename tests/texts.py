@@ -135,7 +135,7 @@ def check_picture_words():
 def kept_rects(svg):
     """(height, width) of each shaded part of the plot."""
     found = re.findall(r'<rect x="([^"]*)" y="([^"]*)" width="([^"]*)" height="([^"]*)" fill="#cfe8cf"/>', svg)
-    return [(float(height), float(width)) for _, y, width, height in found if float(y) >= picture.TOP]
+    return [(float(height), float(width)) for _, y, width, height in found if picture.TOP <= float(y) < picture.BOTTOM]
 
 
 def check_picture_gaps():

@@ -33,19 +33,21 @@ class Account:
         return sorted(lost, key=lambda stretch: -stretch.length)[:most]
 
 
-def spread_words(sp: int, strike: Optional[Strike]) -> list[int]:
-    """By what the spread is judged: SP, or a strike's four numbers."""
-    return [0, sp, 0, 0, 0] if strike is None else [1, strike.a, strike.difference, strike.days, strike.b]
+def spread_numbers(sp: int, strike: Optional[Strike]) -> list[int]:
+    """By what the spread is judged: whether by a strike, SP in two's complement, a strike's four numbers."""
+    if strike is None:
+        return [0, sp & 0xFFFFFFFF, 0, 0, 0, 0]
+    return [1, 0, strike.a, strike.difference, strike.days, strike.b]
 
 
 def words(rule: Union[Rule, bytes], events: Events, strike: Optional[Strike] = None) -> Any:
     """The words that the library writes: the six states' milliseconds, the number of stretches, three words for each."""
     given = rule if isinstance(rule, Rule) else Rule.of_bytes(bytes(rule))
-    row, spread = native.words_of(given.row.words), native.words_of(spread_words(given.sp, strike))
+    row, spread = native.words_of(given.row.words), spread_numbers(given.sp, strike)
     data, size, _lent = lent(events)
     most = FRONT + 3 * (-(-size // SIZE) + 1)  # n records make at most n + 1 stretches
     buffer = native.words(most)
-    native.call("quoting_account", native.address(row), 7, native.address(spread), 5, data, size, native.address(buffer), most)
+    native.call("quoting_account", native.address(row), 7, *spread, data, size, native.address(buffer), most)
     return buffer
 
 

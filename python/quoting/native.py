@@ -34,7 +34,7 @@ CALLS: dict[str, list[Any]] = {
     "quoting_month_call": [BYTES, SIZE, BYTES, SIZE, BYTES, SIZE, BYTES, SIZE],
     "quoting_calls": [BYTES, SIZE, BYTES, SIZE],
     "quoting_calls_words": [BYTES, SIZE],
-    "quoting_account": [BYTES, SIZE, BYTES, SIZE, BYTES, SIZE, BYTES, SIZE],
+    "quoting_account": [BYTES, SIZE, WORD, WORD, WORD, WORD, WORD, WORD, BYTES, SIZE, BYTES, SIZE],
     "quoting_standing": [BYTES, SIZE, SIZE, BYTES, SIZE, BYTES, SIZE],
 }
 

@@ -13,15 +13,16 @@ use Rattle.rules.specs.declared.SpreadRule.{SpreadRule}
 use Rattle.rules.specs.Lists.{if_then_else_}
 use Rattle.rules.specs.Quotes.{best, volumeOf}
 use Rattle.rules.specs.Kept.{quotesKeep, ordersKeep}
+use Rattle.rules.specs.States.{stateWord, quotesState, ordersState}
 use Rattle.rules.proofs.Lists.{kept-in}
 use Rattle.rules.proofs.Best.{sided}
 use Rattle.quote.specs.Keys.{keyIn, quoteKey, quoteAt}
 use Rattle.quote.specs.Levels.{bestKey}
 use Rattle.quote.specs.Searches.{ColumnsOf}
-use Rattle.quote.specs.Widest.{WidestFor, keysKeep}
+use Rattle.quote.specs.Widest.{WidestFor, keysKeep, keysState}
 use Rattle.quote.proofs.Keys.{GoodQuote, good-quote}
 use Rattle.quote.proofs.Finding.{bestOf, side-most, best-key, key-best}
-use Rattle.quote.proofs.Spread.{keys-law}
+use Rattle.quote.proofs.Spread.{keys-law, state-law}
 use Rattle.side.specs.Slots.{Slot, slotOf, keysOf, volumesOf, bestKeyIn, keptIn}
 use Rattle.side.proofs.Words.{kept-key}
 use Rattle.book.specs.Table.{ofSide, slotsIn, tableOf, GoodOrders}
@@ -65,12 +66,24 @@ module _ (table : List ℕ) (minimum : ℕ) (live : List Order) (represents : Re
       ∙ ap (keysKeep widest (quoteKey Buy (best Buy minimum live))) (word-key 1 (omega arith))
       ∙ keys-law row sp widest law (best Buy minimum live) (best Sell minimum live) (good-best Buy) (good-best Sell)
 
+  words-state : (row : Row) (sp : SpreadRule) (widest : ℕ) → WidestFor row sp widest
+      → keysState widest (getD table 193 0) (getD table 449 0) ≡ stateWord (quotesState row sp (best Buy minimum live) (best Sell minimum live))
+  words-state row sp widest law =
+      ap (λ (k : ℕ). keysState widest k (getD table 449 0)) (word-key 0 (omega arith))
+      ∙ ap (keysState widest (quoteKey Buy (best Buy minimum live))) (word-key 1 (omega arith))
+      ∙ state-law row sp widest law (best Buy minimum live) (best Sell minimum live) (good-best Buy) (good-best Sell)
+
 pub keeps-is : (table : List ℕ) (row : Row) (sp : SpreadRule) (live : List Order) → GoodOrders live → table ≡ tableOf (row .minimum .0) live
     → (widest r : ℕ) → WidestFor row sp widest → r ≡ (if keysKeep widest (getD table 193 0) (getD table 449 0) then 1 else 0)
     → r ≡ (if ordersKeep row sp live then 1 else 0)
 unfolding ordersKeep
 keeps-is table row sp live good is widest r l e =
     e ∙ ap (λ (b : Bool). if b then 1 else 0) (words-filter table (row .minimum .0) live (record { good = good; is = is }) row sp widest l)
+
+pub state-is : (table : List ℕ) (row : Row) (sp : SpreadRule) (live : List Order) → GoodOrders live → table ≡ tableOf (row .minimum .0) live
+    → (widest r : ℕ) → WidestFor row sp widest → r ≡ keysState widest (getD table 193 0) (getD table 449 0) → r ≡ stateWord (ordersState row sp live)
+unfolding ordersState
+state-is table row sp live good is widest r l e = e ∙ words-state table (row .minimum .0) live (record { good = good; is = is }) row sp widest l
 
 -- by the best keys of the two sides
 orders-by-keys : (minimum : ℕ) (row : Row) (sp : SpreadRule) (live : List Order) → GoodOrders live → minimum ≡ row .minimum .0 → (widest : ℕ) → WidestFor row sp widest

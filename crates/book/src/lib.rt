@@ -17,6 +17,7 @@ ghost use Rattle.rules.specs.Orders.{hasId};
 ghost use Rattle.rules.specs.Units.{goodPrice, goodVolume};
 ghost use Rattle.rules.specs.Quotes.{same, best as bestQuote};
 ghost use Rattle.rules.specs.Kept.{ordersKeep};
+ghost use Rattle.rules.specs.States.{stateWord, ordersState};
 ghost use Rattle.quote.specs.Widest.{WidestFor};
 ghost use Rattle.book.specs.Table.{tableOf, slotBy, slotIn, GoodOrders, Held, Holding};
 ghost use Rattle.record.specs.Fields.{readFields};
@@ -428,6 +429,14 @@ pub fn keeps(table: &[u32], widest: u32) -> u32
     ensures { λ r. ⌜ ((row : Row) (sp : SpreadRule) (live : List Order) → GoodOrders live → now (table .entry) ≡ tableOf (row .minimum .0) live → WidestFor row sp widest → r ≡ (if ordersKeep row sp live then 1 else 0)) ⌝ }
 {
     quote::keys_keep(widest, table[BEST], table[WORDS + BEST])
+}
+
+// The word of the live orders' state, by the row's spread limit.
+pub fn state(table: &[u32], widest: u32) -> u32
+    requires { ⌜ length (now table) ≡ 512 ⌝ }
+    ensures { λ r. ⌜ ((row : Row) (sp : SpreadRule) (live : List Order) → GoodOrders live → now (table .entry) ≡ tableOf (row .minimum .0) live → WidestFor row sp widest → r ≡ stateWord (ordersState row sp live)) ⌝ }
+{
+    quote::keys_state(widest, table[BEST], table[WORDS + BEST])
 }
 
 // The best quote of a side.

@@ -4,19 +4,22 @@ use native.Mathlib.Nat.{le-div-iff-mul-le, div-lt-iff-lt-mul}
 use native.Mathlib.Omega.{arith}
 use mathlib.Core.Path.{_≡_, refl, sym, ap, _∙_}
 use mathlib.Core.Bool.{Bool, true, false, cond, not, _&&_, _||_, or-true}
-use borrow.Author.Tests.{leb-true, leb-false, ltb-true, ltb-false, le-leb, lt-leb, ne-eqb}
+use borrow.Author.Tests.{leb-true, leb-false, ltb-true, ltb-false, le-leb, lt-leb, eq-eqb, ne-eqb}
 use lib.Dec.{leb, ltb, eqb}
 use lib.IntN.{ℤ, pos, negsuc, negℤ, subℕ, _*ℤ_}
 use lib.Signed.{leZ}
+use Rattle.rules.specs.declared.Side.{Side}
 use Rattle.rules.specs.declared.Side.the-variants.{Buy, Sell}
 use Rattle.rules.specs.declared.Quote.{Quote}
 use Rattle.rules.specs.declared.Quote.the-variants.{Absent, At}
 use Rattle.rules.specs.declared.Row.{Row}
 use Rattle.rules.specs.declared.SpreadRule.{SpreadRule}
 use Rattle.rules.specs.Units.{goodPrice}
-use Rattle.rules.specs.Kept.{gap, spreadKeeps, quotesKeep}
+use Rattle.rules.specs.Lists.{if_then_else_}
+use Rattle.rules.specs.Kept.{gap, spreadWithin, spreadKeeps, quotesKeep}
+use Rattle.rules.specs.States.{State, kept, crossed, wide, stateWord, quotesState}
 use Rattle.quote.specs.Keys.{keyOf, quoteKey}
-use Rattle.quote.specs.Widest.{widestOf, WidestFor, keysKeep}
+use Rattle.quote.specs.Widest.{widestOf, WidestFor, keysKeep, keysState}
 use Rattle.quote.proofs.Keys.{GoodQuote, positive-most, negative-most, key-least, leb-by, leb-always}
 
 -- at most the greater of two, by a test that says whether it is at most the second
@@ -119,3 +122,51 @@ keys-law row sp widest law (At bid) (At ask) h k =
     let here : eqb (keyOf Sell (ask .0)) 0 ≡ false = ne-eqb (keyOf Sell (ask .0)) 0 (λ e. omega (arith, e, key-least Sell (ask .0) k)) in
     rw (there, here, sym (gap-least (bid .0) (ask .0) h k), sym (gap-keys (bid .0) (ask .0) widest h k))
     (spread-law row sp widest law (gap (bid .0) (ask .0)))
+
+-- ---- the state
+
+-- the keys' word of both quotes, by the two tests on D
+both-state : (least within : Bool) → (if least then (if within then 0 else 5) else 4) ≡ stateWord (if least then (if within then kept else wide) else crossed)
+both-state true true = refl
+both-state true false = refl
+both-state false true = refl
+both-state false false = refl
+
+module _ (row : Row) (sp : SpreadRule) (widest : ℕ) (law : WidestFor row sp widest) where
+  there-not : (s : Side) (p : ℤ) → goodPrice p ≡ true → eqb (keyOf s p) 0 ≡ false
+  there-not s p h = ne-eqb (keyOf s p) 0 (λ e. omega (arith, e, key-least s p h))
+
+  pub state-law : (bid ask : Quote) → GoodQuote bid → GoodQuote ask
+      → keysState widest (quoteKey Buy bid) (quoteKey Sell ask) ≡ stateWord (quotesState row sp bid ask)
+  unfolding keysState quotesState
+  state-law Absent Absent h k = refl
+  state-law Absent (At ask) h k = rw (there-not Sell (ask .0) k) refl
+  state-law (At bid) Absent h k = rw (there-not Buy (bid .0) h) refl
+  state-law (At bid) (At ask) h k =
+      rw (there-not Buy (bid .0) h, there-not Sell (ask .0) k, sym (gap-least (bid .0) (ask .0) h k), sym (gap-keys (bid .0) (ask .0) widest h k), law (gap (bid .0) (ask .0)))
+      (both-state (leZ (pos 1) (gap (bid .0) (ask .0))) (spreadWithin row sp (gap (bid .0) (ask .0))))
+
+-- the code's tests, in their order
+
+module _ (widest bid ask : ℕ) where
+  pub state-no-bid : bid ≡ 0 → (r : ℕ) → r ≡ (if eqb ask 0 then 3 else 1) → r ≡ keysState widest bid ask
+  unfolding keysState
+  state-no-bid b r e = rw (eq-eqb bid 0 b) e
+
+  module _ (b : bid ≡ 0 → ⊥) where
+    pub state-no-ask : ask ≡ 0 → 2 ≡ keysState widest bid ask
+    unfolding keysState
+    state-no-ask a = rw (ne-eqb bid 0 b, eq-eqb ask 0 a) refl
+
+    module _ (a : ask ≡ 0 → ⊥) where
+      pub state-crossed : 2000000001 < bid + ask → 4 ≡ keysState widest bid ask
+      unfolding keysState
+      state-crossed h = rw (ne-eqb bid 0 b, ne-eqb ask 0 a, lt-leb (bid + ask) 2000000001 h) refl
+
+      pub state-wide : bid + ask ≤ 2000000001 → bid + ask + widest < 2000000002 → 5 ≡ keysState widest bid ask
+      unfolding keysState
+      state-wide h k = rw (ne-eqb bid 0 b, ne-eqb ask 0 a, le-leb (bid + ask) 2000000001 h, lt-leb 2000000002 (bid + ask + widest) k) refl
+
+      pub state-kept : bid + ask ≤ 2000000001 → 2000000002 ≤ bid + ask + widest → 0 ≡ keysState widest bid ask
+      unfolding keysState
+      state-kept h k = rw (ne-eqb bid 0 b, ne-eqb ask 0 a, le-leb (bid + ask) 2000000001 h, le-leb 2000000002 (bid + ask + widest) k) refl

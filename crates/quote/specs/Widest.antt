@@ -8,6 +8,7 @@ use lib.Signed.{leZ}
 use mathlib.Core.Path.{_≡_}
 use Rattle.rules.specs.declared.Row.{Row}
 use Rattle.rules.specs.declared.SpreadRule.{SpreadRule}
+use Rattle.rules.specs.Lists.{if_then_else_}
 use Rattle.rules.specs.Kept.{spreadWithin}
 
 -- the price, or 0 where it is negative
@@ -27,3 +28,9 @@ WidestFor row spread widest = (d : ℤ) → leZ d (pos widest) ≡ spreadWithin 
 -- two best keys of which both are there and whose D, 2,000,000,002 less both, is 1 or more and at most the limit
 unfoldable pub keysKeep : ℕ → ℕ → ℕ → Bool
 keysKeep widest bid ask = not (eqb bid 0) && not (eqb ask 0) && leb (bid + ask) 2000000001 && leb 2000000002 (bid + ask + widest)
+
+-- the word of the state of two best keys: by which of them is there, then by D
+unfoldable pub keysState : ℕ → ℕ → ℕ → ℕ
+keysState widest bid ask =
+    if eqb bid 0 then (if eqb ask 0 then 3 else 1)
+    else (if eqb ask 0 then 2 else (if leb (bid + ask) 2000000001 then (if leb 2000000002 (bid + ask + widest) then 0 else 5) else 4))

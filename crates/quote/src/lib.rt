@@ -8,7 +8,7 @@ ghost use Rattle.rules.specs.declared.Steps.{Steps};
 ghost use Rattle.rules.specs.declared.Quote.the-variants.{At};
 ghost use Rattle.rules.specs.Lists.{if_then_else_};
 ghost use Rattle.rules.specs.Units.{steps, goodPrice};
-ghost use Rattle.quote.specs.Widest.{positivePart, widestOf, keysKeep};
+ghost use Rattle.quote.specs.Widest.{positivePart, widestOf, keysKeep, keysState};
 ghost use Rattle.quote.specs.Keys.{keyOf, priceAt, quoteKey, quoteAt};
 ghost use Rattle.quote.specs.Levels.{held, levelAt, isBest, Columns, Searchable};
 ghost use lib.Dec.{eqb};
@@ -215,4 +215,34 @@ pub fn keys_keep(widest: u32, bid: u32, ask: u32) -> u32
     let there = (bid != 0) & (ask != 0);
     let both = bid as u64 + ask as u64;
     (there & (both <= 2000000001) & (2000000002 <= both + widest as u64)) as u32
+}
+
+// The state's word where there is no best bid.
+fn absent_bid(ask: u32) -> u32
+    ensures { λ r. ⌜ r ≡ (if eqb ask 0 then 3 else 1) ⌝ }
+{
+    if ask == 0 {
+        return 3;
+    }
+    1
+}
+
+// The word of the state of two best keys: 0 kept, 1 no bid, 2 no ask, 3 neither, 4 locked or crossed, 5 too wide.
+pub fn keys_state(widest: u32, bid: u32, ask: u32) -> u32
+    ensures { λ r. ⌜ r ≡ keysState widest bid ask ⌝ }
+{
+    if bid == 0 {
+        return absent_bid(ask);
+    }
+    if ask == 0 {
+        return 2;
+    }
+    let both = bid as u64 + ask as u64;
+    if 2000000001 < both {
+        return 4;
+    }
+    if both + (widest as u64) < 2000000002 {
+        return 5;
+    }
+    0
 }

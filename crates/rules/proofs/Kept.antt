@@ -64,8 +64,11 @@ unfolding upTo filter
 upTo-all m [] b = refl
 upTo-all m (e ∷ es) b = rw (le-leb (timeOf e) m (b .0)) (ap (λ (l : List Event). e ∷ l) (upTo-all m es (b .1)))
 
+pub upTo-now : (es : List Event) → Ordered 0 es → (m : ℕ) → present es ≤ m → upTo m es ≡ es
+upTo-now es o m h = upTo-all m es (before-later (present es) m es h (ordered-before es o))
+
 -- not a later one
-upTo-snoc : (m : ℕ) (es : List Event) (e : Event) → m < timeOf e → upTo m (es ++ (e ∷ [])) ≡ upTo m es
+pub upTo-snoc : (m : ℕ) (es : List Event) (e : Event) → m < timeOf e → upTo m (es ++ (e ∷ [])) ≡ upTo m es
 unfolding upTo filter
 upTo-snoc m [] e h = rw (lt-leb (timeOf e) m h) refl
 upTo-snoc m (d ∷ es) e h = ap (λ (l : List Event). if leb (timeOf d) m then d ∷ l else l) (upTo-snoc m es e h)
@@ -94,8 +97,7 @@ module _ (row : Row) (sp : SpreadRule) (es : List Event) where
   -- from the present on, a millisecond is kept if the live orders of now keep the quote
   pub keptAt-now : Ordered 0 es → (m : ℕ) → present es ≤ m → keptAt row sp es m ≡ ordersKeep row sp (live es)
   unfolding keptAt
-  keptAt-now o m h =
-      ap (λ (l : List Event). ordersKeep row sp (live l)) (upTo-all m es (before-later (present es) m es h (ordered-before es o)))
+  keptAt-now o m h = ap (λ (l : List Event). ordersKeep row sp (live l)) (upTo-now es o m h)
 
   pub kept-onward : Ordered 0 es → (t : ℕ) → present es ≤ t
       → keptBelow row sp es t ≡ keptBelow row sp es (present es) + (if ordersKeep row sp (live es) then t - present es else 0)

@@ -48,6 +48,8 @@ pub mod Choosing
 pub mod Records
 pub mod Widths
 pub mod Session
+-- where the time went: the stretches of one state, and the account run
+pub mod Accounts
 -- document 02, W10: fewest pairs
 pub mod Fewest
 -- "Checks on paper"

@@ -109,7 +109,7 @@ unfolding live applyAll
 none-live row table e = e
 
 -- a record that is cut short is no event
-short-record : (bytes : List ℕ) → length bytes < 20 → readRecord bytes ≡ refused 15
+pub short-record : (bytes : List ℕ) → length bytes < 20 → readRecord bytes ≡ refused 15
 unfolding readRecord goodRecord
 short-record bytes l = rw (lt-leb 20 (length bytes) l) refl
 
@@ -122,12 +122,12 @@ fifteen-only bytes n = go (goodRecord bytes)
     go true e = let z : _≡_ {A = ℕ} 0 1 = cc in absurd (omega arith)
     go false e = cc
 
-record-numbered : (row : Row) (es : List Event) (o : Outcome Event) → ((n : ℕ) → o ≡ refused n → n ≡ 15) → 0 < refusalBy row es o
+pub record-numbered : (row : Row) (es : List Event) (o : Outcome Event) → ((n : ℕ) → o ≡ refused n → n ≡ 15) → 0 < refusalBy row es o
     → (8 ≤ refusalBy row es o) × (refusalBy row es o ≤ 15)
 record-numbered row es (refused n) h l = let e = h n refl in (omega arith, omega arith)
 record-numbered row es (accepted e) h l = event-numbered row es e l
 
-followed-bounds : (row : Row) (es : List Event) (o : Outcome Event) → EventBounds row es → refusalBy row es o ≡ 0 → EventBounds row (followed es o)
+pub followed-bounds : (row : Row) (es : List Event) (o : Outcome Event) → EventBounds row es → refusalBy row es o ≡ 0 → EventBounds row (followed es o)
 followed-bounds row es (refused n) g h = g
 followed-bounds row es (accepted e) g h = event-bounds-more row es e g h
 

@@ -89,7 +89,7 @@ unfolding withinLapseLimit
 no-lapse-limit b lapses = and-true b
 
 -- an accepted event is counted
-count-snoc : (n : ℕ) (es : List Event) (e : Event) → following (countFrom n es) ≡ countFrom n (es ++ (e ∷ []))
+pub count-snoc : (n : ℕ) (es : List Event) (e : Event) → following (countFrom n es) ≡ countFrom n (es ++ (e ∷ []))
 count-snoc n [] e = refl
 count-snoc n (x ∷ es) e = count-snoc (following n) es e
 
@@ -171,14 +171,14 @@ module _ (most cell : ℕ) (row : Row) (sp : Steps) where
 -- ---- the start
 
 -- the row's two causes, with others behind them
-first-refused : (a b : Bool) (rest : List Cause) (row : Row) (n : ℕ) → refused n ≡ outcomeBy (firstNumber (cause 1 (not a) ∷ cause 2 (not b) ∷ [])) row
+pub first-refused : (a b : Bool) (rest : List Cause) (row : Row) (n : ℕ) → refused n ≡ outcomeBy (firstNumber (cause 1 (not a) ∷ cause 2 (not b) ∷ [])) row
     → (m : ℕ) × (n ≡ suc m) × (firstNumber (cause 1 (not a) ∷ cause 2 (not b) ∷ rest) ≡ suc m)
 unfolding firstNumber
 first-refused false b rest row n e = (0, cc, refl)
 first-refused true false rest row n e = (1, cc, refl)
 first-refused true true rest row n e = let z : _≡_ {A = ℕ} 0 1 = cc in absurd (omega arith)
 
-first-accepted : (a b : Bool) (rest : List Cause) (row r : Row) → accepted r ≡ outcomeBy (firstNumber (cause 1 (not a) ∷ cause 2 (not b) ∷ [])) row
+pub first-accepted : (a b : Bool) (rest : List Cause) (row r : Row) → accepted r ≡ outcomeBy (firstNumber (cause 1 (not a) ∷ cause 2 (not b) ∷ [])) row
     → (a ≡ true) × (b ≡ true) × (r ≡ row) × (firstNumber (cause 1 (not a) ∷ cause 2 (not b) ∷ rest) ≡ firstNumber rest)
 unfolding firstNumber
 first-accepted false b rest row r e = let z : _≡_ {A = ℕ} 0 1 = cc in absurd (omega arith)

@@ -162,7 +162,7 @@ fn begin() -> Progress
 }
 
 // The place of the record that starts at a byte, counted from 1.
-fn place_of(at: usize) -> u32
+pub fn place_of(at: usize) -> u32
     requires { ⌜ at ≤ 80000000 ⌝ }
     ensures { λ r. ⌜ r ≡ at / 20 + 1 ⌝ }
 {

@@ -1,0 +1,180 @@
+-- The loop over the records: how it starts, one turn, and each way out. Assumes nothing.
+use Prim.Native.Nat.{ℕ, zero, suc, _+_, _*_, _-_, _/_, _≤_, _<_}
+use native.Mathlib.Omega.{arith}
+use mathlib.Core.Path.{_≡_, refl, sym, ap, _∙_, subst}
+use mathlib.Core.List.{List, [], _∷_, _++_}
+use mathlib.Core.Bool.{Bool, true, false}
+use lib.Dec.{ltb}
+use lib.ListN.{length, take, drop, length-take, length-drop}
+use lib.Seq.{drop-drop}
+use borrow.Author.Tests.{ltb-true, ltb-false}
+use Rattle.rules.specs.declared.Row.{Row}
+use Rattle.rules.specs.declared.SpreadRule.{SpreadRule}
+use Rattle.rules.specs.declared.Event.{Event}
+use Rattle.rules.specs.declared.Refusal.{Refusal}
+use Rattle.rules.specs.declared.Refusal.the-variants.{BadRecord}
+use Rattle.rules.specs.Terms.{paper}
+use Rattle.rules.specs.Rows.{goodRowFor}
+use Rattle.rules.specs.Orders.{present, timeFrom}
+use Rattle.rules.specs.States.{stateAt}
+use Rattle.rules.specs.Answers.{numberOf}
+use Rattle.rules.specs.Records.{readRecord}
+use Rattle.rules.specs.Session.{recordsOf}
+use Rattle.rules.specs.Accounts.{Part, parts, totals, partWords, Account, accounted, halted, reckoned, accountOf, accountRecords}
+use Rattle.rules.proofs.Bounds.{event-bounds-none}
+use Rattle.quantum.specs.declared.Duty.{Duty}
+use Rattle.quantum.specs.Represents.{dutyOf, tableAfter}
+use Rattle.session.specs.Internal.{refusalBy, followed}
+use Rattle.session.proofs.Runs.{records-none, records-some}
+use Rattle.session.proofs.Loop.{short-record, fifteen-only, record-numbered, followed-bounds}
+use Rattle.accounts.specs.declared.AccountAnswer.{AccountAnswer}
+use Rattle.accounts.specs.declared.AccountAnswer.the-variants as S
+use Rattle.accounts.specs.declared.Progress.{Progress}
+use Rattle.accounts.specs.declared.Stepped.{Stepped}
+use Rattle.accounts.specs.Shown.{shownAccount}
+use Rattle.accounts.specs.Internal.{Holds, progressAt, partsOf, ReachedRun, RepresentsRun, ReachedEnd, FinalAnswer, Advanced, bookWith, counted, LoopState, Passed}
+use Rattle.accounts.proofs.Runs.{runs-past, runs-refused, runs-taken, runs-end}
+
+-- ---- how a pass ends
+
+not-accounted : {a : Account} (n place : ℕ) (times : List ℕ) (ps : List Part) → a ≡ halted n place → a ≡ accounted times ps → ⊥
+not-accounted n place times ps e f = let z : _≡_ {A = ℕ} 0 1 = cc in omega arith
+
+pub passed-halted : (a : Account) (f : Refusal) (place : ℕ) (entry exit : List ℕ) → a ≡ halted (numberOf f) place
+    → Passed a entry exit (S.Refused f place)
+unfolding counted
+passed-halted a f place entry exit e =
+    record { answer = sym (ap counted e); words = λ times ps h. absurd (not-accounted (numberOf f) place times ps e h) }
+
+same-parts : (a : Account) (t t′ : List ℕ) (ps ps′ : List Part) → a ≡ accounted t ps → a ≡ accounted t′ ps′ → ps ≡ ps′
+same-parts a t t′ ps ps′ e f = cc
+
+passed-whole : (a : Account) (times : List ℕ) (ps : List Part) (entry exit : List ℕ) (r : AccountAnswer) → a ≡ accounted times ps
+    → shownAccount r ≡ reckoned times (length ps) → Holds entry ps exit → Passed a entry exit r
+unfolding counted
+passed-whole a times ps entry exit r e s h =
+    record {
+      answer = s ∙ sym (ap counted e);
+      words = λ times′ ps′ f.
+          subst (λ (l : List Part). 3 * length l ≤ length entry → exit ≡ partWords l ++ drop (3 * length l) entry) (same-parts a times times′ ps ps′ e f) (h .words);
+    }
+
+-- the place of the next record
+pub next-place : {most : ℕ} {row : Row} {sp : SpreadRule} {bytes base : List ℕ} {w : Progress} {duty : Duty} (at : ℕ) {table buffer : List ℕ}
+    → LoopState most row sp bytes base w duty (at + 20) (at / 20 + 1 + 1) table buffer → LoopState most row sp bytes base w duty (at + 20) ((at + 20) / 20 + 1) table buffer
+next-place {most} {row} {sp} {bytes} {base} {w} {duty} at {table} {buffer} g =
+    let next : at / 20 + 1 + 1 ≡ (at + 20) / 20 + 1 = omega arith in
+    subst (λ (n : ℕ). LoopState most row sp bytes base w duty (at + 20) n table buffer) next g
+
+-- a place as the code works it out
+pub placed : {run : ℕ → Account} {base exit : List ℕ} {f : Refusal} {place at : ℕ} → place ≡ at → ((cell : ℕ) → Passed (run cell) base exit (S.Refused f place))
+    → (cell : ℕ) → Passed (run cell) base exit (S.Refused f at)
+placed {run} {base} {exit} {f} e h = subst (λ (n : ℕ). (cell : ℕ) → Passed (run cell) base exit (S.Refused f n)) e h
+
+module _ (most : ℕ) (row : Row) (sp : SpreadRule) (bytes base : List ℕ) where
+  abbrev Run : ℕ → Account
+  Run cell = accountRecords paper most 1 (bookWith cell row sp []) (recordsOf bytes)
+
+  pub loop-start : (w : Progress) (duty : Duty) (table : List ℕ) → w ≡ progressAt row sp [] → duty ≡ dutyOf row sp → table ≡ tableAfter row []
+      → LoopState most row sp bytes base w duty 0 1 table base
+  unfolding present timeFrom parts partWords
+  loop-start w duty table is d t =
+      record {
+        events = [];
+        run = record { bounds = event-bounds-none row; is = is; duty-is = d; table-is = t };
+        holds = record { size = refl; words = λ l. refl };
+        inside = omega arith;
+        small = omega arith;
+        runs = λ cell. refl;
+      }
+
+  module _ (w : Progress) (duty : Duty) (at place : ℕ) (table buffer : List ℕ) (g : LoopState most row sp bytes base w duty at place table buffer) where
+    pub loop-reached : goodRowFor paper sp row ≡ true → ReachedEnd w duty table
+    loop-reached good = record { row = row; sp = sp; events = g .events; good = good; run = g .run }
+
+    -- no record is left
+    pub loop-end : (r : AccountAnswer) (exit : List ℕ) → length bytes ≤ at → FinalAnswer w duty table r buffer exit → (cell : ℕ) → Passed (Run cell) base exit r
+    unfolding accountOf
+    loop-end r exit l ends cell =
+        let f = stateAt row sp (g .events) in
+        let e = ends row sp (g .events) base (g .run) (g .holds) in
+        let none : recordsOf (drop at bytes) ≡ [] = records-none (drop at bytes) (omega (arith, length-drop at bytes)) in
+        let run = g .runs cell ∙ ap (accountRecords paper most place (bookWith cell row sp (g .events))) none ∙ runs-end most cell row sp place (g .events) in
+        passed-whole (Run cell) (totals f (row .length .0)) (parts f (row .length .0)) base exit r run (e .0) (e .1)
+
+    -- a record is there
+    module _ (l : at < length bytes) where
+      abbrev this : List ℕ
+      this = take 20 (drop at bytes)
+
+      next-record : (cell : ℕ) → Run cell ≡ accountRecords paper most place (bookWith cell row sp (g .events)) (this ∷ recordsOf (drop 20 (drop at bytes)))
+      next-record cell =
+          g .runs cell
+          ∙ ap (accountRecords paper most place (bookWith cell row sp (g .events))) (records-some (drop at bytes) (omega (arith, length-drop at bytes)))
+
+      -- what refuses the record, by its number
+      stops : (exit : List ℕ) (f : Refusal) (n : ℕ) → numberOf f ≡ suc n → place ≤ most → refusalBy row (g .events) (readRecord this) ≡ suc n
+          → (cell : ℕ) → Passed (Run cell) base exit (S.Refused f place)
+      stops exit f n z p k cell =
+          passed-halted (Run cell) f place base exit
+          (next-record cell
+          ∙ runs-refused most cell row sp place (g .events) this (recordsOf (drop 20 (drop at bytes))) n p k
+          ∙ ap (λ (m : ℕ). halted m place) (sym z))
+
+      -- the record past the limit, or fewer than 20 bytes
+      pub loop-short : (exit : List ℕ) → (place ≤ most → length bytes < at + 20) → (cell : ℕ) → Passed (Run cell) base exit (S.Refused BadRecord place)
+      loop-short exit h cell = go (ltb most place) refl
+        where
+          few : place ≤ most → length this < 20
+          few p = let l = h p in omega (arith, length-take 20 (drop at bytes), length-drop at bytes)
+
+          go : (b : Bool) → ltb most place ≡ b → Passed (Run cell) base exit (S.Refused BadRecord place)
+          go true e =
+              passed-halted (Run cell) BadRecord place base exit
+              (next-record cell ∙ runs-past most cell row sp place (g .events) this (recordsOf (drop 20 (drop at bytes))) (ltb-true most place e))
+          go false e =
+              let p = ltb-false most place e in
+              stops exit BadRecord 14 refl p (ap (refusalBy row (g .events)) (short-record this (few p))) cell
+
+      module _ (p : place ≤ most) (r : Stepped) (next exit : List ℕ) (part : List ℕ) (cut : part ≡ this) (adv : Advanced w duty (readRecord part) r table next buffer exit) where
+        judged : r .refusal ≡ refusalBy row (g .events) (readRecord this)
+        judged = adv .number row sp (g .events) (g .run) ∙ ap (λ (l : List ℕ). refusalBy row (g .events) (readRecord l)) cut
+
+        pub loop-numbered : 0 < r .refusal → (8 ≤ r .refusal) × (r .refusal ≤ 15)
+        loop-numbered h =
+            let b = record-numbered row (g .events) (readRecord this) (fifteen-only this) (omega (arith, judged, h)) in
+            (omega (arith, judged, b .0), omega (arith, judged, b .1))
+
+        pub loop-refused : (f : Refusal) → 0 < r .refusal → numberOf f ≡ r .refusal → (cell : ℕ) → Passed (Run cell) base exit (S.Refused f place)
+        loop-refused f h e cell = go (r .refusal) refl
+          where
+            go : (n : ℕ) → r .refusal ≡ n → Passed (Run cell) base exit (S.Refused f place)
+            go zero z = absurd (omega (arith, h, z))
+            go (suc n) z = stops exit f n (e ∙ z) p (sym judged ∙ z) cell
+
+        pub loop-on : at + 20 ≤ length bytes → r .refusal ≤ 0 → LoopState most row sp bytes base (r .progress) duty (at + 20) (place + 1) next exit
+        loop-on room e =
+            let o = readRecord this in
+            let zero : refusalBy row (g .events) o ≡ 0 = omega (arith, judged, e) in
+            let same = ap readRecord cut in
+            let zero′ : refusalBy row (g .events) (readRecord part) ≡ 0 = ap (refusalBy row (g .events)) same ∙ zero in
+            let (progress, held) = adv .progress row sp (g .events) base (g .run) (g .holds) zero′ in
+            let more = ap (followed (g .events)) same in
+            let rest : drop 20 (drop at bytes) ≡ drop (at + 20) bytes = drop-drop 20 at bytes in
+            record {
+              events = followed (g .events) o;
+              run = record {
+                bounds = followed-bounds row (g .events) o (g .run .bounds) zero;
+                is = progress ∙ ap (progressAt row sp) more;
+                duty-is = g .run .duty-is;
+                table-is = adv .orders row sp (g .events) (g .run) zero′ ∙ ap (tableAfter row) more;
+              };
+              holds = subst (λ (es : List Event). Holds base (partsOf row sp es) exit) more held;
+              inside = room;
+              small = omega arith;
+              runs = λ cell.
+                  next-record cell
+                  ∙ runs-taken most cell row sp place (g .events) this (recordsOf (drop 20 (drop at bytes))) p zero
+                  ∙ ap (λ (n : ℕ). accountRecords paper most n (bookWith cell row sp (followed (g .events) o)) (recordsOf (drop 20 (drop at bytes)))) (omega arith)
+                  ∙ ap (λ (l : List ℕ). accountRecords paper most (place + 1) (bookWith cell row sp (followed (g .events) o)) (recordsOf l)) rest;
+            }

@@ -1,0 +1,272 @@
+-- One event further, and the end: the run so far as the one value for the accepted events. Assumes nothing.
+use Prim.Native.Nat.{ℕ, _≤_, _<_}
+use native.Mathlib.Omega.{arith}
+use mathlib.Core.Path.{_≡_, refl, sym, ap, _∙_, subst}
+use mathlib.Core.List.{List, [], _∷_, _++_}
+use mathlib.Core.Bool.{true}
+use lib.ListN.{length}
+use Rattle.rules.specs.declared.Millis.{Millis}
+use Rattle.rules.specs.declared.Order.{Order}
+use Rattle.rules.specs.declared.Row.{Row}
+use Rattle.rules.specs.declared.SpreadRule.{SpreadRule}
+use Rattle.rules.specs.declared.Event.{Event}
+use Rattle.rules.specs.Lists.{count}
+use Rattle.rules.specs.Terms.{paper}
+use Rattle.rules.specs.Rows.{goodRowFor}
+use Rattle.rules.specs.Orders.{live, present, timeFrom, timeOf}
+use Rattle.rules.specs.States.{State, stateWord, ordersState, stateAt}
+use Rattle.rules.specs.Answers.{Outcome, accepted, refused}
+use Rattle.rules.specs.Causes.{eventRefusal}
+use Rattle.rules.specs.Bounds.{EventBounds}
+use Rattle.rules.specs.Accounts.{Part, parts, timeIn, totals, reckoned}
+use Rattle.rules.proofs.Orders.{present-snoc}
+use Rattle.rules.proofs.States.{stateAt-now, stateAt-snoc}
+use Rattle.rules.proofs.Refusals.{event-passes}
+use Rattle.rules.proofs.Bounds.{read-bounds}
+use Rattle.quote.specs.Widest.{WidestFor}
+use Rattle.book.specs.Table.{tableOf, GoodOrders}
+use Rattle.book.proofs.Table.{table-length}
+use Rattle.record.specs.declared.Fields.{Fields}
+use Rattle.record.specs.Fields.{readFields}
+use Rattle.record.proofs.Reading.{only-fifteen}
+use Rattle.quantum.specs.declared.Duty.{Duty}
+use Rattle.quantum.specs.declared.Clock.{Clock}
+use Rattle.quantum.specs.declared.Stepped.{Stepped as SteppedOn}
+use Rattle.quantum.specs.Represents.{clockOf, tableAfter, taken, ReachedParts, Represents, Stepping, SteppingRead}
+use Rattle.quantum.proofs.Represents.{time-is, good-orders, widest-is, length-is}
+use Rattle.accounts.specs.declared.Times.{Times}
+use Rattle.accounts.specs.declared.Marks.{Marks}
+use Rattle.accounts.specs.declared.Progress.{Progress}
+use Rattle.accounts.specs.Shown.{timesShown}
+use Rattle.accounts.specs.Internal.{lastStart, lastWord, timesAt, marksAt, Holds, MarksBounds, MarksAfter, progressAt, partsOf, ReachedRun, ReachedEnd, RepresentsRun, Advanced}
+use Rattle.accounts.proofs.Parts.{word-most, parts-ext}
+use Rattle.accounts.proofs.Growing.{marks-ext, stretches-are, times-are, stretches-few, start-early, last-some, times-room}
+
+-- what the word of the live orders' state promises
+abbrev pub StateOf : List ℕ → ℕ → ℕ → Type 0
+StateOf table widest n =
+    (row : Row) (sp : SpreadRule) (orders : List Order) → GoodOrders orders → table ≡ tableOf (row .minimum .0) orders → WidestFor row sp widest
+    → n ≡ stateWord (ordersState row sp orders)
+
+-- ---- the fields
+
+module _ (row : Row) (sp : SpreadRule) (es : List Event) (w : Progress) (is : w ≡ progressAt row sp es) where
+  clock-is : w .clock ≡ clockOf row sp es
+  unfolding progressAt
+  clock-is = ap (λ (x : Progress). x .clock) is
+
+  marks-are : w .marks ≡ marksAt (stateAt row sp es) (present es)
+  unfolding progressAt
+  marks-are = ap (λ (x : Progress). x .marks) is
+
+  from-is : w .clock .time .0 ≡ present es
+  from-is = time-is row sp es (w .clock) clock-is
+
+  marks-from : w .marks ≡ marksAt (stateAt row sp es) (w .clock .time .0)
+  marks-from = marks-are ∙ ap (marksAt (stateAt row sp es)) (sym from-is)
+
+  marks-bounds : (to : Millis) → present es ≤ to .0 → to .0 ≤ row .length .0 → goodRowFor paper sp row ≡ true → (n : ℕ) (s : State) → n ≡ stateWord s
+      → MarksBounds (w .marks) (w .clock .time) to n
+  marks-bounds to h l good n s e =
+      let r = read-bounds paper sp row good in
+      let f = stateAt row sp es in
+      let at = w .clock .time .0 in
+      record {
+        onward = omega (arith, from-is);
+        small = omega (arith, r .length-most);
+        started = start-early f at (w .marks) marks-from;
+        few = stretches-few f at (w .marks) marks-from;
+        some = last-some f at (w .marks) marks-from n (omega (arith, word-most s));
+        timed = times-room f at (w .marks) marks-from;
+      }
+
+  -- time has run on to a time
+  grown-to : EventBounds row es → (to : Millis) (n : ℕ) (r : Marks) (entry exit base : List ℕ) → n ≡ stateWord (ordersState row sp (live es))
+      → MarksAfter (w .marks) (w .clock .time) to n r entry exit → Holds base (partsOf row sp es) entry
+      → (r ≡ marksAt (stateAt row sp es) (to .0)) × Holds base (parts (stateAt row sp es) (to .0)) exit
+  grown-to g to n r entry exit base e grows h =
+      grows (stateAt row sp es) base (ordersState row sp (live es)) e marks-from
+      (λ m a b. stateAt-now row sp es (g .ordered) m (omega (arith, from-is)))
+      (subst (λ (n : ℕ). Holds base (parts (stateAt row sp es) n) entry) (sym from-is) h)
+
+  -- an event is taken
+  module _ (g : EventBounds row es) (e : Event) (passes : eventRefusal row es e ≡ 0) (next : Clock) (next-is : next ≡ clockOf row sp (es ++ (e ∷ []))) where
+    to-is : next .time .0 ≡ timeOf e
+    to-is = time-is row sp (es ++ (e ∷ [])) next next-is ∙ present-snoc es e
+
+    bounds-event : goodRowFor paper sp row ≡ true → (n : ℕ) (s : State) → n ≡ stateWord s → MarksBounds (w .marks) (w .clock .time) (next .time) n
+    bounds-event good =
+        let p = event-passes row es e passes in
+        marks-bounds (next .time) (omega (arith, to-is, p .onward)) (omega (arith, to-is, p .inside)) good
+
+    same-below : (m : ℕ) → m < present (es ++ (e ∷ [])) → stateAt row sp es m ≡ stateAt row sp (es ++ (e ∷ [])) m
+    same-below m l = sym (stateAt-snoc row sp es e m (omega (arith, present-snoc es e)))
+
+    marks-then : marksAt (stateAt row sp es) (next .time .0) ≡ marksAt (stateAt row sp (es ++ (e ∷ []))) (present (es ++ (e ∷ [])))
+    marks-then =
+        ap (marksAt (stateAt row sp es)) (to-is ∙ sym (present-snoc es e))
+        ∙ marks-ext (stateAt row sp es) (stateAt row sp (es ++ (e ∷ []))) (present (es ++ (e ∷ []))) same-below
+
+    parts-then : parts (stateAt row sp es) (next .time .0) ≡ partsOf row sp (es ++ (e ∷ []))
+    parts-then =
+        ap (parts (stateAt row sp es)) (to-is ∙ sym (present-snoc es e))
+        ∙ parts-ext (stateAt row sp es) (stateAt row sp (es ++ (e ∷ []))) (present (es ++ (e ∷ []))) same-below
+
+    took : (n : ℕ) (r : Marks) (entry exit base : List ℕ) → n ≡ stateWord (ordersState row sp (live es))
+        → MarksAfter (w .marks) (w .clock .time) (next .time) n r entry exit → Holds base (partsOf row sp es) entry
+        → _≡_ {A = Progress} (record { clock = next; marks = r }) (progressAt row sp (es ++ (e ∷ []))) × Holds base (partsOf row sp (es ++ (e ∷ []))) exit
+    unfolding progressAt
+    took n r entry exit base k grows h =
+        let (m, held) = grown-to g (next .time) n r entry exit base k grows h in
+        ((λ i. record { clock = next-is i; marks = (m ∙ marks-then) i }), subst (λ (l : List Part). Holds base l exit) parts-then held)
+
+-- ---- opening
+
+pub begins : (row : Row) (sp : SpreadRule) (clock : Clock) → clock ≡ clockOf row sp []
+    → _≡_ {A = Progress} (record { clock = clock; marks = record { stretches = 0; start = 0; state = 6; times = record { kept = 0; «no_bid» = 0; «no_ask» = 0; neither = 0; crossed = 0; wide = 0 } } }) (progressAt row sp [])
+unfolding progressAt marksAt present timeFrom parts lastStart lastWord timesAt timeIn count
+begins row sp clock is =
+    ap (λ (x : Clock). record { clock = x; marks = record { stretches = 0; start = 0; state = 6; times = record { kept = 0; «no_bid» = 0; «no_ask» = 0; neither = 0; crossed = 0; wide = 0 } } }) is
+
+-- ---- what the functions promise
+
+represents : (row : Row) (sp : SpreadRule) (es : List Event) (w : Progress) (duty : Duty) (table : List ℕ) → RepresentsRun row sp es w duty table → Represents row sp es duty (w .clock) table
+represents row sp es w duty table h =
+    record { bounds = h .bounds; duty-is = h .duty-is; clock-is = clock-is row sp es w (h .is); table-is = h .table-is }
+
+pub reached-parts : (w : Progress) (duty : Duty) (table hints : List ℕ) → ReachedRun w duty table hints → ReachedParts duty (w .clock) table hints
+reached-parts w duty table hints r =
+    let h = r .reached in
+    let q = h .run in
+    record {
+      row = h .row;
+      sp = h .sp;
+      events = h .events;
+      some = read-bounds paper (h .sp) (h .row) (h .good) .minimum-least;
+      bounds = q .bounds;
+      duty-is = q .duty-is;
+      clock-is = clock-is (h .row) (h .sp) (h .events) w (q .is);
+      table-is = q .table-is;
+      hinted = r .hinted;
+    }
+
+pub reached-long : (w : Progress) (duty : Duty) (table : List ℕ) → ReachedEnd w duty table → length table ≡ 512
+reached-long w duty table h =
+    table-length table (h .row .minimum .0) (live (h .events)) (record { good = good-orders (h .row) (h .events) (h .run .bounds); is = h .run .table-is })
+
+state-of : (row : Row) (sp : SpreadRule) (es : List Event) (w : Progress) (duty : Duty) (table : List ℕ) → RepresentsRun row sp es w duty table
+    → (n : ℕ) → StateOf table (duty .widest) n → n ≡ stateWord (ordersState row sp (live es))
+state-of row sp es w duty table h n s =
+    s row sp (live es) (good-orders row es (h .bounds)) (h .table-is) (widest-is row sp es duty (w .clock) table (represents row sp es w duty table h))
+
+module _ (w : Progress) (duty : Duty) (e : Event) (table next : List ℕ) (stepped : SteppedOn) (steps : Stepping duty (w .clock) e table next stepped) where
+  number-is : (row : Row) (sp : SpreadRule) (es : List Event) → RepresentsRun row sp es w duty table → stepped .refusal ≡ eventRefusal row es e
+  number-is row sp es h = steps .number row sp es (represents row sp es w duty table h)
+
+  refused-event : (entry exit : List ℕ) → 0 < stepped .refusal
+      → Advanced w duty (accepted e) (record { progress = w; refusal = stepped .refusal }) table next entry exit
+  refused-event entry exit l =
+      record {
+        number = number-is;
+        orders = λ row sp es h z. absurd (omega (arith, l, number-is row sp es h, z));
+        progress = λ row sp es base h b z. absurd (omega (arith, l, number-is row sp es h, z));
+      }
+
+  module _ (l : stepped .refusal ≤ 0) where
+    passes : (row : Row) (sp : SpreadRule) (es : List Event) → RepresentsRun row sp es w duty table → eventRefusal row es e ≡ 0
+    passes row sp es h = omega (arith, number-is row sp es h)
+
+    next-is : (row : Row) (sp : SpreadRule) (es : List Event) → RepresentsRun row sp es w duty table → stepped .clock ≡ clockOf row sp (es ++ (e ∷ []))
+    next-is row sp es h =
+        steps .clock-after row sp es (represents row sp es w duty table h) ∙ ap (λ (n : ℕ). clockOf row sp (taken n es e)) (passes row sp es h)
+
+    event-bounds : ReachedEnd w duty table → (n : ℕ) → StateOf table (duty .widest) n → MarksBounds (w .marks) (w .clock .time) (stepped .clock .time) n
+    event-bounds h n s =
+        let k = h .run in
+        bounds-event (h .row) (h .sp) (h .events) w (k .is) (k .bounds) e (passes (h .row) (h .sp) (h .events) k) (stepped .clock)
+        (next-is (h .row) (h .sp) (h .events) k) (h .good) n (ordersState (h .row) (h .sp) (live (h .events))) (state-of (h .row) (h .sp) (h .events) w duty table k n s)
+
+    taken-event : (n : ℕ) (r : Marks) (entry exit : List ℕ) → StateOf table (duty .widest) n
+        → MarksAfter (w .marks) (w .clock .time) (stepped .clock .time) n r entry exit
+        → Advanced w duty (accepted e) (record { progress = record { clock = stepped .clock; marks = r }; refusal = 0 }) table next entry exit
+    taken-event n r entry exit s grows =
+        record {
+          number = λ row sp es h. sym (passes row sp es h);
+          orders = λ row sp es h z.
+              steps .table-after row sp es (represents row sp es w duty table h) ∙ ap (λ (n : ℕ). tableAfter row (taken n es e)) (passes row sp es h);
+          progress = λ row sp es base h b z.
+              took row sp es w (h .is) (h .bounds) e (passes row sp es h) (stepped .clock) (next-is row sp es h) n r entry exit base (state-of row sp es w duty table h n s) grows b;
+        }
+
+-- the same by what a record says; 15 is all that refuses one that is no event
+module _ (w : Progress) (duty : Duty) (table next : List ℕ) (stepped : SteppedOn) where
+  abbrev Read : Outcome Event → Type 0
+  Read o = SteppingRead duty (w .clock) o table next stepped
+
+  refused-read : (o : Outcome Event) → Read o → (entry exit : List ℕ) → 0 < stepped .refusal
+      → Advanced w duty o (record { progress = w; refusal = stepped .refusal }) table next entry exit
+  refused-read (accepted e) steps entry exit l = refused-event w duty e table next stepped steps entry exit l
+  refused-read (refused n) steps entry exit l =
+      record {
+        number = λ row sp es h. steps .1;
+        orders = λ row sp es h z. absurd (omega (arith, l, steps .1, z));
+        progress = λ row sp es base h b z. absurd (omega (arith, l, steps .1, z));
+      }
+
+  module _ (l : stepped .refusal ≤ 0) (n : ℕ) (s : StateOf table (duty .widest) n) where
+    bounds-read : (o : Outcome Event) → ((n : ℕ) → o ≡ refused n → n ≡ 15) → Read o → ReachedEnd w duty table
+        → MarksBounds (w .marks) (w .clock .time) (stepped .clock .time) n
+    bounds-read (accepted e) fifteen steps h = event-bounds w duty e table next stepped steps l h n s
+    bounds-read (refused n) fifteen steps h = absurd (omega (arith, l, steps .1, fifteen n refl))
+
+    taken-read : (o : Outcome Event) → ((n : ℕ) → o ≡ refused n → n ≡ 15) → Read o → (r : Marks) (entry exit : List ℕ)
+        → MarksAfter (w .marks) (w .clock .time) (stepped .clock .time) n r entry exit
+        → Advanced w duty o (record { progress = record { clock = stepped .clock; marks = r }; refusal = 0 }) table next entry exit
+    taken-read (accepted e) fifteen steps r entry exit grows = taken-event w duty e table next stepped steps l n r entry exit s grows
+    taken-read (refused n) fifteen steps r entry exit grows = absurd (omega (arith, l, steps .1, fifteen n refl))
+
+-- and by its fields
+module _ (w : Progress) (duty : Duty) (table next : List ℕ) (stepped : SteppedOn) (f : Fields) (steps : SteppingRead duty (w .clock) (readFields f) table next stepped) where
+  pub bounds-taken : stepped .refusal ≤ 0 → (n : ℕ) → StateOf table (duty .widest) n → ReachedEnd w duty table
+      → MarksBounds (w .marks) (w .clock .time) (stepped .clock .time) n
+  bounds-taken l n s h = bounds-read w duty table next stepped l n s (readFields f) (only-fifteen f) steps h
+
+  module _ (o : Outcome Event) (read : readFields f ≡ o) (entry exit : List ℕ) where
+    pub advanced-refused : 0 < stepped .refusal → Advanced w duty o (record { progress = w; refusal = stepped .refusal }) table next entry exit
+    advanced-refused l =
+        subst (λ (o : Outcome Event). Advanced w duty o (record { progress = w; refusal = stepped .refusal }) table next entry exit) read
+        (refused-read w duty table next stepped (readFields f) steps entry exit l)
+
+    pub advanced-taken : stepped .refusal ≤ 0 → (n : ℕ) → StateOf table (duty .widest) n → (r : Marks)
+        → MarksAfter (w .marks) (w .clock .time) (stepped .clock .time) n r entry exit
+        → Advanced w duty o (record { progress = record { clock = stepped .clock; marks = r }; refusal = 0 }) table next entry exit
+    advanced-taken l n s r after =
+        subst (λ (o : Outcome Event). Advanced w duty o (record { progress = record { clock = stepped .clock; marks = r }; refusal = 0 }) table next entry exit) read
+        (taken-read w duty table next stepped l n s (readFields f) (only-fifteen f) steps r entry exit after)
+
+-- ---- the end
+
+shown-times : (f : ℕ → State) (n : ℕ) → timesShown (timesAt f n) ≡ totals f n
+unfolding timesAt totals
+shown-times f n = refl
+
+module _ (w : Progress) (duty : Duty) (table : List ℕ) (n : ℕ) (s : StateOf table (duty .widest) n) where
+  pub end-bounds : ReachedEnd w duty table → MarksBounds (w .marks) (w .clock .time) (duty .length) n
+  end-bounds h =
+      let k = h .run in
+      let long = length-is (h .row) (h .sp) (h .events) duty (w .clock) table (represents (h .row) (h .sp) (h .events) w duty table k) in
+      marks-bounds (h .row) (h .sp) (h .events) w (k .is) (duty .length) (omega (arith, k .bounds .ends, long)) (omega (arith, long)) (h .good) n (ordersState (h .row) (h .sp) (live (h .events)))
+      (state-of (h .row) (h .sp) (h .events) w duty table k n s)
+
+  pub ended-is : (r : Marks) (entry exit : List ℕ) → MarksAfter (w .marks) (w .clock .time) (duty .length) n r entry exit
+      → (row : Row) (sp : SpreadRule) (es : List Event) (base : List ℕ) → RepresentsRun row sp es w duty table → Holds base (partsOf row sp es) entry
+      → (reckoned (timesShown (r .times)) (r .stretches) ≡ reckoned (totals (stateAt row sp es) (row .length .0)) (length (parts (stateAt row sp es) (row .length .0))))
+      × Holds base (parts (stateAt row sp es) (row .length .0)) exit
+  ended-is r entry exit grows row sp es base h held =
+      let f = stateAt row sp es in
+      let long = length-is row sp es duty (w .clock) table (represents row sp es w duty table h) in
+      let (m, put) = grown-to row sp es w (h .is) (h .bounds) (duty .length) n r entry exit base (state-of row sp es w duty table h n s) grows held in
+      let at = m ∙ ap (marksAt f) long in (
+        (λ i. reckoned ((ap timesShown (times-are f (row .length .0) r at) ∙ shown-times f (row .length .0)) i) (stretches-are f (row .length .0) r at i)),
+        subst (λ (k : ℕ). Holds base (parts f k) exit) long put,
+      )

@@ -1,0 +1,21 @@
+-- What an answer of the account run shows, in the definitions' words.
+use Prim.Native.Nat.{ℕ, _*_}
+use mathlib.Core.List.{List, [], _∷_}
+use Rattle.rules.specs.Answers.{numberOf}
+use Rattle.rules.specs.Accounts.{AccountRan, reckoned, stoppedAt}
+use Rattle.accounts.specs.declared.Times.{Times}
+use Rattle.accounts.specs.declared.AccountAnswer.{AccountAnswer}
+use Rattle.accounts.specs.declared.AccountAnswer.the-variants.{Finished, Refused}
+
+-- in the order of the states' words
+abbrev pub timesShown : Times → List ℕ
+timesShown t = t .kept ∷ t .«no_bid» ∷ t .«no_ask» ∷ t .neither ∷ t .crossed ∷ t .wide ∷ []
+
+abbrev pub shownAccount : AccountAnswer → AccountRan
+shownAccount (Finished times stretches) = reckoned (timesShown times) stretches
+shownAccount (Refused refusal place) = stoppedAt (numberOf refusal) place
+
+-- the words that a run has filled
+abbrev pub filledBy : AccountAnswer → ℕ
+filledBy (Finished times stretches) = 3 * stretches
+filledBy (Refused refusal place) = 0
