@@ -202,18 +202,26 @@ def check_replay():
     assert fee and f"{fee:,} kopecks" in page.text, fee
 
 
-def check_difference():
-    """A recount that answers otherwise is loud: first on the page, no fee, status 1."""
+def made_beside(answers):
+    """The page of examples/month.calls beside a recount whose answers are changed."""
     right = both.answer_lines
-    both.answer_lines = lambda data: [line.replace("kept 31490000 of", "kept 31489999 of") for line in right(data)]
+    both.answer_lines = lambda data: answers(right(data))
     try:
-        page, done = made(EXAMPLES / "month.calls", status=1)
+        return made(EXAMPLES / "month.calls", status=1)
     finally:
         both.answer_lines = right
+
+
+def check_difference():
+    """A recount that answers otherwise is loud: first on the page, no fee, status 1; so is one that stops."""
+    page, done = made_beside(lambda lines: [line.replace("kept 31490000 of", "kept 31489999 of") for line in lines])
     assert page.text.index("The two readings differ. This statement settles nothing.") < page.text.index("Fee of the month")
     assert "not settled" in page.text and "Both readings agree" not in page.text and "DIFFER" in done.complaint
     assert "They part at call 10, line 13: the meter answers “cell kept 31490000 of" in page.text
     assert page.tables["both"][1][0] == "≠ time kept, all quanta" and page.tables["both"][1][3] == "differs", page.tables["both"][:3]
+    for stop in (0, 5, 57, -1):
+        page, done = made_beside(lambda lines: lines[:stop])
+        assert "The two readings differ" in page.text and "the recount “nothing”" in page.text and "DIFFER" in done.complaint, stop
 
 
 def check_misfit():
@@ -255,6 +263,10 @@ def check_odd(here):
     lapses = page.articles[1, 1, 1]["lap"]
     assert lapses[0] == ["lapses: 399, no limit"] and lapses[-1] == ["and 392 others, 0:00:03.920 in all"] and len(lapses) == 9, lapses
     assert page_of("report").tables["sum"][-1][1] == "0 roubles 00 kopecks"
+    for text in ("start 20261102-10:00:00.000\n", "start 20261102-10:00:00.000\nreport", "start x\n", "start 20261102-10:00:00.000\n" * 2):
+        file.write_text(text)
+        done = command.run("statement", file)
+        assert done.status == 1 and "start" in done.complaint and not done.printed, (text, done)
     page = page_of(quantum(1, 80) + quantum(2, 80).replace("close", "tick 9 #"), 1, "--title", "<b>&\"'")
     assert "A quantum is open at the end of the calls (day 2, expiry 1, quantum 1)" in page.text and "Statement: <b>&\"'" in page.text
     ascii = {"LC_ALL": "C", "PYTHONUTF8": "0", "PYTHONCOERCECLOCALE": "0"}

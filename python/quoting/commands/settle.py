@@ -141,8 +141,8 @@ def run(args: argparse.Namespace) -> int:
         args.parser.error("--resume needs -o FILE, and the names again")
     settling.need_library()
     manner = Manner(inputs.options_of(args), inputs.head_of(args), args.format)
-    own = {path.resolve(), path.with_name(path.name + ".part").resolve()} if path else set()
-    names = [name for name in settling.names_of(args.where) if Path(name).resolve() not in own]
+    own = {os.path.abspath(f"{path}{behind}") for behind in ("", ".part")} if path else set()
+    names = [name for name in settling.names_of(args.where) if os.path.abspath(name) not in own]
     summary = to_table(args, names, manner, path) if path and not is_device(path) else to_stream(args, names, manner, path)
     output.write(None, summary.text) if path else output.complain(summary.text.strip())
     return int(bool(summary.refused or summary.unreadable))

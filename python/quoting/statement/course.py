@@ -132,6 +132,9 @@ def call_text(block: bytes) -> str:
     return " ".join(["message", *fields])
 
 
+NOTHING = MonthReport(False, 0, 0, None, None, 0, 0, (0,) * len(SERIES), 0)
+
+
 @dataclass
 class Reading:
     """What one reading answers: to each call of the month, then to a look at each cell, then to a report."""
@@ -142,8 +145,10 @@ class Reading:
 
     @classmethod
     def of(cls, answers: list[str]) -> "Reading":
-        *looks, report = answers[-len(LOOKS) :]
-        cells: dict[Place, Cell] = {place: cell_of(look) for place, look in zip(CELLS, looks) if look.startswith("cell")}
+        *looks, report = [""] * len(LOOKS) + answers[-len(LOOKS) :]
+        if not report.startswith("report"):  # it stopped before the end, and shows nothing
+            return cls(answers, {}, NOTHING)
+        cells: dict[Place, Cell] = {place: cell_of(look) for place, look in zip(CELLS, looks[-len(CELLS) :]) if look.startswith("cell")}
         return cls(answers, cells, report_of(report))
 
     @property

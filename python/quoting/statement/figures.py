@@ -101,7 +101,7 @@ def totals(reading: Reading, calls: int) -> list[tuple[str, str]]:
 
 def compared(meter: Reading, recount: Reading) -> list[Compared]:
     """Both readings' figures, those that differ first."""
-    sizes = [len(reading.answers) - len(LOOKS) for reading in (meter, recount)]
+    sizes = [max(0, len(reading.answers) - len(LOOKS)) for reading in (meter, recount)]
     pairs = zip(totals(meter, sizes[0]), totals(recount, sizes[1]))
     rows = [Compared(name, ours, theirs) for (name, ours), (_, theirs) in pairs]
     return sorted(rows, key=lambda row: row.same)

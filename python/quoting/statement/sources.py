@@ -73,9 +73,13 @@ class ListReader:
             except TextError as error:
                 error.line, error.file = error.line or at, self.listed.name
                 raise
+        if self.started is not None:
+            raise reading.failed(PLACED_BEFORE, self.listed.name)
 
     def take(self, at: int, name: str, words: list[str]) -> None:
         if name == "start":
+            if self.started is not None:
+                raise TextError(PLACED_BEFORE)
             self.started = start_of(words)
             return
         block = texts.block_of(name, words, self.options)
