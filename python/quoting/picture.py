@@ -260,6 +260,3 @@ def picture(name: str, data: bytes, limit: Optional[int] = None) -> str:
     if limit is not None:
         draw_lapses(d, plot, done.pairs, cell)
     return d.svg()
-
-
-

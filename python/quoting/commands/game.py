@@ -136,5 +136,3 @@ def show(args: argparse.Namespace, numbers: list[int], agreed: str) -> None:
         error.file = args.play
         raise
     output.write(args.output if agreed else None, agreed)
-
-
