@@ -1,26 +1,36 @@
 # Every target but `install` needs the Rattle kit (`rt` on the path) and Python 3; `test` also what tests/packages lists, `client`, `library` and
-# `dist` a C compiler, `bench` Rust with cargo.
-.PHONY: test demo card client library install dist bench
+# `dist` a C compiler, `card` the same, `bench` Rust with cargo.
+.PHONY: test demo statement card client library install dist bench
 
 VERSION := $(shell cat VERSION)
 MAJOR := $(firstword $(subst ., ,$(VERSION)))
 PREFIX ?= /usr/local
+# A Python that sees Debian's packages; another python3 may come first on the path and does not.
+PYTHON ?= /usr/bin/python3
 LIBRARY := target/library
 STRICT := -std=c11 -O2 -Wall -Wextra -Wpedantic -Werror -Iinclude
 
 test:
 	bash .ci/run
 
-# The sheet of a shipped session, and a month of calls.
+# The sheet of a shipped session, and a month of calls; then a month's statement, where its needs are there.
 demo:
 	rt check sheet replay
-	python3 tools/session.py to-bytes examples/brent.session | target/bin/sheet
-	python3 tools/calls.py to-bytes examples/month.calls | target/bin/replay
+	PYTHON=$(PYTHON) ./quoting bytes examples/brent.session | target/bin/sheet
+	PYTHON=$(PYTHON) ./quoting bytes examples/month.calls | target/bin/replay
+	@if command -v cc >/dev/null && $(PYTHON) -c 'import jinja2' 2>/dev/null; then $(MAKE) -s statement PYTHON=$(PYTHON); \
+	else echo "for a month's statement: apt-get install gcc python3-jinja2, then make statement"; fi
+
+# The statement of a shipped month as a page that can be printed: target/brent.html. Two of its messages are refused, so the command ends with 1.
+statement: library
+	rm -f target/brent.html
+	PYTHON=$(PYTHON) ./quoting statement examples/programmes/brent.month --fix examples/programmes/brent.log \
+		--title "Brent, November 2026" -o target/brent.html || [ -s target/brent.html ]
+	@echo "the statement is target/brent.html"
 
 # The weight card as a page that can be printed: target/card.html
-card:
-	rt check card
-	target/bin/card | python3 tools/card_page.py > target/card.html
+card: library
+	PYTHON=$(PYTHON) ./quoting card -o target/card.html
 
 # The C client of examples/client.c, over the proved session run: target/client FILE
 client:

@@ -18,7 +18,8 @@
  * is proved of every call but quoting_refusal_text and quoting_version, which are plain C.
  *
  * A row is seven words: expiry (1 or 2), quantum (0 to 2), L (a multiple of 1,000 from 1,000 to 86,400,000), M (1 to 100,000), a (0 to
- * 100,000), b (0 to 1,000,000) and p in tenths of a percent (1 to 799). A price is signed, in two's complement where it is a word.
+ * 100,000), b (0 to 1,000,000) and p in tenths of a percent (1 to 799): 600 is 60%, and 60 is 6%, which is met with a tenth of the time that
+ * 60% asks for. A price is signed, in two's complement where it is a word.
  */
 #ifndef QUOTING_H
 #define QUOTING_H

@@ -33,8 +33,8 @@ from recount import session as run
 from recount.book import BUY, SELL, Add, Cancel, Tick
 from tests import ask_sights, crossed, generate, known, months, outlook_sights, strike_sights
 from tests import volatile as volatile_cases
-from tools import calls as calls_text
-from tools import session as session_text
+from tests import calls_text
+from tests import session_text
 
 TARGET = ROOT / "target"
 FAILED = TARGET / "differential"

@@ -27,8 +27,7 @@ from recount.fix import END, USED, WORD
 from tests import message_lists, messages
 from tests import message_sights as sights
 from tests.differential import Program, Replay, case_rng, words, write_failure
-from tools import calls as calls_text
-from tools import text
+from tests import calls_text
 
 LONG = 65_536  # bytes of a message that must pass through both programs
 TIME = b"20261115-10:00:00.000"
@@ -43,7 +42,7 @@ class Cases(Program):
         return data, []
 
     def as_text(self, data: bytes) -> str:
-        return f"probe {programs.to_words(data[:4])} {text.message_text(data[4:])}\n"
+        return f"probe {programs.to_words(data[:4])} {calls_text.texts.message_text(data[4:])}\n"
 
     def further(self, data: bytes, answer: str) -> Iterator[bytes]:
         """More cases that an answer gives rise to."""

@@ -2,25 +2,23 @@
 
 `probe` answers every triple up to 12 as the game played out, and random ones, numbers above 60 and
 inputs of a wrong size as the recount does. `safe_table` answers all 226,981 triples up to 60 as the
-recurrence. The command of tools/game.py is held against both. It fails where an answer differs, and
+recurrence. The command `game` is held against both. It fails where an answer differs, and
 where something that the cases are to show never showed.
 """
 
-import io
 import itertools
 import random
 import struct
 import subprocess
 import sys
 from collections import Counter
-from contextlib import redirect_stderr, redirect_stdout
 from pathlib import Path
 
 ROOT = Path(__file__).resolve().parent.parent
 sys.path.insert(0, str(ROOT))
 
 from recount import game, programs
-from tools import game as tool
+from tests import command as commands
 
 BIN = ROOT / "target" / "bin"
 GREATEST = 2**32 - 1
@@ -82,10 +80,7 @@ def check_tables(seen):
 
 def command(*arguments, answers=""):
     """The command's exit status, what it prints and its complaints."""
-    printed, complaint = io.StringIO(), io.StringIO()
-    with redirect_stdout(printed), redirect_stderr(complaint):
-        status = tool.main(list(arguments), io.StringIO(answers))
-    return status, printed.getvalue(), complaint.getvalue()
+    return commands.run("game", *arguments, given=answers)
 
 
 def check_best_taker():
@@ -94,7 +89,7 @@ def check_best_taker():
     triples = [(0, 0, 0), (60, 60, 60), (60, 0, 60), (5, 2, 4)]
     triples += [tuple(rng.randrange(61) for _ in range(3)) for _ in range(40)]
     for m, h, k in triples:
-        status, printed, _ = command(str(m), str(h), str(k))
+        status, printed, _ = command(m, h, k)
         lines = printed.splitlines()
         due = game.closed(m, h, k)
         assert status == 0 and lines[0] == f"safe {due} of {m}", (m, h, k, lines[0])
@@ -109,7 +104,7 @@ def check_any_taker():
     for _ in range(40):
         m, h, k = (rng.randrange(13) for _ in range(3))
         answers = "".join(rng.choice(["void\n", "stand\n"]) for _ in range(m))
-        status, printed, _ = command("play", str(m), str(h), str(k), answers=answers)
+        status, printed, _ = command(m, h, k, "--play", "-", answers=answers)
         unvoided = int(printed.splitlines()[-1].split()[1].rstrip(","))
         due = game.play(
             m, h, k, game.doubles_first(h), lambda past, _: answers.split()[len(past)] == "void"
@@ -121,7 +116,7 @@ def check_any_taker():
 
 def check_example():
     path = ROOT / "examples" / "knocks.taker"
-    status, printed, _ = command("play", "8", "3", "5", str(path))
+    status, printed, _ = command(8, 3, 5, "--play", path)
     assert status == 0 and printed == EXAMPLE, printed
 
 
@@ -140,7 +135,7 @@ unvoided 5, safe were 3
 
 
 def check_table_command():
-    status, printed, _ = command("table", "3")
+    status, printed, _ = command("--table", 3)
     rows = [line.split() for line in printed.splitlines()]
     assert status == 0 and rows[0] == ["h\\k", *map(str, range(7))], rows[0]
     assert rows[1:] == [
@@ -149,18 +144,19 @@ def check_table_command():
 
 
 def check_complaints():
-    for arguments, answers, said in [
-        (["61", "0", "0"], "", "refused 26"),
-        (["1", "2", "-3"], "", "k: '-3' is not a number from 0"),
-        (["play", "2", "0", "1"], "void\nperhaps\n", "line 2: 'perhaps' is neither void nor stand"),
-        (["play", "2", "0", "1"], "void\n", "the answers end after 1 of 2 minutes"),
-        (["play", "2", "0", "1", "no-such-file"], "", "no-such-file: "),
-        (["table", "x"], "", "m: 'x' is not a number from 0"),
-        (["table", "61"], "", "refused 26"),
+    for arguments, answers, status, said in [
+        (["61", "0", "0"], "", 1, "refused 26"),
+        (["1", "2", "3x"], "", 2, "'3x' is not a number"),
+        (["2", "0", "1", "--play", "-"], "void\nperhaps\n", 1, "line 2: 'perhaps' is neither void nor stand"),
+        (["2", "0", "1", "--play", "-"], "void\n", 1, "the answers end after 1 of 2 minutes"),
+        (["2", "0", "1", "--play", "no-such-file"], "", 1, "no-such-file: "),
+        (["--table", "x"], "", 2, "'x' is not a number"),
+        (["--table", "61"], "", 1, "refused 26"),
+        ([], "", 2, "M H K, or --table M"),
+        (["1", "2"], "", 2, "M H K, or --table M"),
     ]:
-        status, _, complaint = command(*arguments, answers=answers)
-        assert status == 1 and said in complaint, (arguments, complaint)
-    assert command()[0] == 2 and command("1", "2")[0] == 2
+        done = command(*arguments, answers=answers)
+        assert done.status == status and said in done.complaint, (arguments, done)
 
 
 def main():

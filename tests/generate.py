@@ -13,14 +13,16 @@ from recount.book import (
     Cancel, Deal, Open, Row, Strike, Tick, best_ask, best_bid, keeps, pass_event, widest,
 )
 from recount.session import HEAD
-from tools import session as session_text
-from tools import text
+from tests import session_text
 
 LONGEST = 86_400_000
 WORD_END = 2**32
 
-ROWS = Path(__file__).resolve().parent.parent / "examples" / "programmes.rows"
-PROGRAMMES = [session_text.row_words(words) for _, _, words in text.lines(ROWS.read_text())]
+ROWS = Path(__file__).resolve().parent.parent / "examples" / "programmes"
+FUTURES = ("003-brent-gold-silver", "004-mini-metals", "001-stock-futures-on-holidays")  # of options the rows have no spread
+PROGRAMMES = [
+    session_text.row_words(words) for name in FUTURES for _, _, words in session_text.lines((ROWS / f"{name}.rows").read_text())
+]
 
 
 def clamp(value, low, high):

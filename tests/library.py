@@ -31,8 +31,8 @@ from tests import generate, known, message_lists, messages, months
 from tests import standing as standing_cases
 from tests import strikes as strike_cases
 from tests import volatile as volatile_cases
-from tools import calls as calls_text
-from tools import session as session_text
+from tests import calls_text
+from tests import session_text
 
 TARGET = ROOT / "target"
 BUILT = TARGET / "library"

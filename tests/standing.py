@@ -1,18 +1,16 @@
 """Standing of makers: the proved calls, through `probe`, against the recount.
 
 Random lists of calls run from count 0 and from records and counts of any kind, right and wrong ones;
-inputs that are no case are tried too. The command of tools/standing.py is held against the recount
+inputs that are no case are tried too. The command `standing` is held against the recount
 and against a text whose table is known. It fails where an answer differs, and where something that
 the cases are to show never showed.
 """
 
-import io
 import random
 import struct
 import subprocess
 import sys
 from collections import Counter
-from contextlib import redirect_stderr, redirect_stdout
 from pathlib import Path
 
 ROOT = Path(__file__).resolve().parent.parent
@@ -20,7 +18,7 @@ sys.path.insert(0, str(ROOT))
 
 from recount import programs, standing
 from recount.standing import CHANGE, JOIN, LEAVE, LIMIT
-from tools import standing as tool
+from tests import command as commands
 
 PROBE = ROOT / "target" / "bin" / "probe"
 GREATEST = 2**32 - 1
@@ -177,36 +175,31 @@ def check_afresh(seen):
 
 
 def command(source):
-    printed, complaint = io.StringIO(), io.StringIO()
-    path = ROOT / "target" / "calls.standing"
-    path.write_text(source, encoding="utf-8")
-    with redirect_stdout(printed), redirect_stderr(complaint):
-        status = tool.main([str(path)])
-    return status, printed.getvalue(), complaint.getvalue()
+    return commands.run("standing", "-", given=source)
 
 
 KNOWN = """\
-join 204 990: refused 24, the maker is present
-change 118 700: refused 24, the maker is absent
-join 500 119: refused 25, every record is used
-place      maker     rating
-    1         31        910
-    2         77        905
-    3          5        300
-    4        412        300
-    5         96        120
-    6        204         60
+line 8: join 204 990: refused 24: the maker is present at a join, or absent at a change or leave
+line 10: change 118 700: refused 24: the maker is present at a join, or absent at a change or leave
+line 14: join 500 119: refused 25: every record is used
+place  maker  rating
+    1     31     910
+    2     77     905
+    3      5     300
+    4    412     300
+    5     96     120
+    6    204      60
 """
 
 
 def check_command(seen):
+    """A refused call makes the status 1."""
     status, printed, _ = command((ROOT / "examples/makers.standing").read_text(encoding="utf-8"))
-    assert (status, printed) == (0, KNOWN), printed
-    status, printed, _ = command("leave 3 # nobody is there\n")
-    due = "leave 3: refused 24, the maker is absent\nplace      maker     rating\n"
-    assert (status, printed) == (0, due), printed
-    wrong = ["jion 1 2", "join 1", "leave 1 0", "join 1 4294967296", "join x 1", "records 513",
-             "join 1 2\nrecords 3", "records", "join 1 1\n" * (LIMIT + 1)]
+    assert (status, printed) == (1, KNOWN), printed
+    status, printed, _ = command("join 3 5 # the only one\n")
+    assert (status, printed) == (0, "place  maker  rating\n    1      3       5\n"), printed
+    wrong = ["jion 1 2", "join 1", "leave 1 0", "join 1 4294967296", "join x 1", "records 1000001",
+             "join 1 2\nrecords 3", "records"]
     for source in wrong:
         status, printed, complaint = command(source)
         assert status == 1 and not printed and ":" in complaint, (source, printed, complaint)

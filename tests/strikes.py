@@ -19,10 +19,8 @@ sys.path.insert(0, str(ROOT))
 from recount import programs
 from recount.book import Strike
 from recount.strikes import LENGTHS, SHARES, board, met_by_products
-from tests import generate, known, strike_sights
+from tests import calls_text, command, generate, known, strike_sights
 from tests.differential import run_program, words
-from tools import board as command
-from tools import calls as calls_text
 
 REPLAY = ROOT / "target" / "bin" / "replay"
 PROBE = ROOT / "target" / "bin" / "probe"
@@ -239,51 +237,50 @@ def check_boards(count):
 # ---------------------------------------------------------------- the person's command
 
 KNOWN = """\
-strike             kept         of  share  due      lacks
-CALL-CS        25950250   31500000  82.38   55          -
-CALL-CS+500    23400000   31500000  74.28   55          -
-CALL-CS+1000   18900000   31500000  60.00   55          -
-CALL-CS+1500   17325000   31500000  55.00   55          -
-CALL-CS+2000   17324999   31500000  54.99   55          1
-PUT-CS         27600000   31500000  87.61   55          -
-PUT-CS-500     21670000   31500000  68.79   55          -
-month          29690000   31500000  94.25   55          -
-together      181860249  252000000  72.16   60          -
+strike             kept         of  share  due  lacks
+CALL-CS        25950250   31500000  82.38   55      -
+CALL-CS+500    23400000   31500000  74.28   55      -
+CALL-CS+1000   18900000   31500000  60.00   55      -
+CALL-CS+1500   17325000   31500000  55.00   55      -
+CALL-CS+2000   17324999   31500000  54.99   55      1
+PUT-CS         27600000   31500000  87.61   55      -
+PUT-CS-500     21670000   31500000  68.79   55      -
+input          29690000   31500000  94.25   55      -
+together      181860249  252000000  72.16   60      -
 board failed
 """
 
+# Shares, a text, the exit status, and what is said last.
 SAID = [
-    (1, 1, "5 0:00:01", "board failed"),
-    (1, 1, "10 1000 # at its share", "board met"),
-    (0, 1, "10 1000", "refused 18: a share of 0 is not 1 to 100"),
-    (1, 1, "", "refused 18: no strike"),
-    (1, 1, "a 1 1000\nb 1 2000", "refused 18: b: a length of 2000, but a has 1000"),
-    (1, 1, "a 1001 1000", "refused 18: a: 1001 kept of 1000"),
-    (1, 1, "cell kept 5 of 999 and so on", "refused 18: x: a length of 999 is no row's"),
-    (1, 1, "5 1000\n" * 33, "refused 18: 33 strikes, of 32 at most"),
-]
-WRONG = [
-    ("5", 1, "a strike is written"), ("5 1000\na b 5 1000", 2, "a strike is written"),
-    ("cell kept 5", 1, "an answer of replay begins"), ("a x 1000", 1, "K: 'x' is not a number"),
-    ("accepted\ncell kept 5 of 1000\ncell kept 6 of 1000", None, "a strike's month has one look"),
-    ("accepted\nreport open no", None, "a strike's month has one look"),
+    (1, 1, "5 0:00:01", 0, "board failed"),
+    (1, 1, "10 1000 # at its share", 0, "board met"),
+    (0, 1, "10 1000", 1, "quoting: refused 18: a share of 0 is not 1 to 100"),
+    (1, 1, "", 1, "quoting: refused 18: no strike"),
+    (1, 1, "a 1 1000\nb 1 2000", 1, "quoting: refused 18: b: a length of 2000, but a has 1000"),
+    (1, 1, "a 1001 1000", 1, "quoting: refused 18: a: 1001 kept of 1000"),
+    (1, 1, "cell kept 5 of 999 and so on", 1, "quoting: refused 18: input: a length of 999 is no row's"),
+    (1, 1, "5 1000\n" * 33, 1, "quoting: refused 18: 33 strikes, of 32 at most"),
+    (1, 1, "accepted\nrefused 7\nreport open no\nasked bid 5\ncell kept 10 of 1000", 0, "board met"),
+    (1, 1, "report 5 1000\naccepted 10 1000\nrefused 10 1000\nasked 10 1000\ncell 10 1000", 0, "board failed"),
+    (1, 1, "report 10 1000\naccepted 10 1000\nrefused 10 1000\nasked 10 1000\ncell 10 1000", 0, "board met"),
+    (1, 1, "5", 1, "quoting: standard input: line 1: a strike is written: NAME K L, or cell kept K of L .."),
+    (1, 1, "5 1000\na b 5 1000", 1, "quoting: standard input: line 2: a strike is written: NAME K L, or cell kept K of L .."),
+    (1, 1, "cell kept 5", 1, "quoting: standard input: line 1: an answer of the month begins with: cell kept K of L"),
+    (1, 1, "a x 1000", 1, "quoting: standard input: line 1: K: 'x' is not a number"),
+    (1, 1, "a 5 1000\nb 6 1000\na 5 1000", 1, "quoting: standard input: line 3: the strike a is given twice"),
+    (1, 1, "accepted\ncell kept 5 of 1000\ncell kept 6 of 1000", 1, "quoting: standard input: a strike's month has one look, but here are 2 cells"),
+    (1, 1, "accepted\nreport open no", 1, "quoting: standard input: a strike's month has one look, but here are 0 cells"),
 ]
 
 
 def check_command():
     examples = ROOT / "examples"
     month = programs.replay(calls_text.to_bytes((examples / "strike.calls").read_text()))
-    lines = command.read((examples / "strikes.board").read_text(), "strikes") + command.read(month, "month")
-    assert "\n".join(command.table(55, 60, lines)) + "\n" == KNOWN, command.table(55, 60, lines)
-    for first, second, source, said in SAID:
-        assert command.table(first, second, command.read(source, "x"))[-1] == said, source
-    for source, at, said in WRONG:
-        try:
-            command.read(source, "x")
-        except command.TextError as error:
-            assert (error.line, str(error)[: len(said)]) == (at, said), (source, error.line, str(error))
-        else:
-            raise AssertionError(source)
+    done = command.run("board", "55", "60", examples / "strikes.board", "-", given=month)
+    assert (done.status, done.printed) == (0, KNOWN), done
+    for first, second, source, status, said in SAID:
+        done = command.run("board", first, second, "-", given=source)
+        assert (done.status, (done.printed + done.complaint).splitlines()[-1]) == (status, said), (source, done)
 
 
 def main():

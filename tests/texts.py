@@ -1,19 +1,21 @@
-"""The tools: texts turn into bytes and back, errors name their line, pictures are drawn."""
+"""Texts turn into bytes and back, errors name their line, pictures are drawn."""
 
-import io
 import random
 import re
 import sys
-from contextlib import redirect_stderr, redirect_stdout
 from pathlib import Path
 from xml.etree import ElementTree
 
 ROOT = Path(__file__).resolve().parent.parent
-sys.path.insert(0, str(ROOT))
+sys.path[:0] = [str(ROOT), str(ROOT / "python")]
 
+from quoting import calls as package_calls
+from quoting import picture, reading, texts
 from recount import fix, programs
 from recount.book import Accepted, Book, Message, Open, Row, row_fits
-from tools import board, calls, game, picture, session, standing, text
+from tests import calls_text as calls
+from tests import known, message_lists, months
+from tests import session_text as session
 
 
 def check_examples():
@@ -32,7 +34,7 @@ def check_examples():
         assert calls.to_bytes(f"open row 1 day 1 sp 1 {line}")[-4:] == b"\xff\xff\0\0", line
         strike = calls.to_bytes(f"strike row 1 day 1 a 2 difference 3 days 4 b 5 {line}")
         assert strike == calls.to_bytes("words 13 1 1 1 2 3 4 5 65535"), line
-    for word, tenths in (("60%", 600), ("600", 600), ("72.5%", 725), ("0.1%", 1), ("79.9%", 799), ("80.0%", 800)):
+    for word, tenths in (("60%", 600), ("600 tenths", 600), ("72.5%", 725), ("0.1%", 1), ("79.9%", 799), ("80.0%", 800)):
         row = f"1 1 10000 500 100 1 {word}"
         assert session.row_words(row.split())[6] == tenths, word
         opened = programs.read_calls(calls.to_bytes(f"open row {row} day 1 sp 1"))[0][0]
@@ -76,7 +78,7 @@ def check_message_texts():
         (b"8=FIX.4.4\x019=0\x0110=200\x01", "frame -"), (b"8=FIX.4.4\x019=00\x0110=248\x01", "8=FIX.4.4|9=00|10=248|"),
         (b"8=FIX.4.4\x019=5\x0135=D\x0110=183\x01", "frame 35=D|"),
     ]:
-        line = calls.call_line(Message(b"", data))
+        line = texts.call_line(package_calls.Message(b"", data))
         assert line == f"message - {shown}", line
         assert programs.read_calls(calls.to_bytes(line))[0] == [Message(b"", data)], line
 
@@ -95,7 +97,7 @@ def check_message_bytes(rng):
         block = calls.pack([12]) + block + calls.pack([12])
         shown = calls.to_text(block)
         assert calls.to_bytes(shown) == block, (block.hex(), shown)
-        assert (f"message {text.message_text(start)} " in shown) == (not any(filling)), shown
+        assert (f"message {texts.message_text(start)} " in shown) == (not any(filling)), shown
         filled += any(filling)
     assert 50 < filled < 450, filled
 
@@ -103,10 +105,10 @@ def check_message_bytes(rng):
 def check_pictures():
     """Each session gives a picture, and the one in docs/ is of the present example."""
     for path in sorted((ROOT / "examples").glob("*.session")):
-        svg = picture.picture(path.stem, session.to_bytes(path.read_text()))
-        ElementTree.fromstring(svg)
-        for limit in (0, 1_000):
-            ElementTree.fromstring(picture.picture(path.stem, session.to_bytes(path.read_text()), limit))
+        data = session.to_bytes(path.read_text())
+        svg = picture.picture(path.stem, data)
+        for drawn in (svg, picture.picture(path.stem, data, 0), picture.picture(path.stem, data, 1_000)):
+            ElementTree.fromstring(drawn)
         if path.stem == "brent":
             assert svg == (ROOT / "docs" / "session.svg").read_text(), "docs/session.svg is old"
 
@@ -120,23 +122,45 @@ def check_picture_limit():
         assert f"lapses 1, at most {limit}<" in svg and said in svg, limit
 
 
-def check_picture_share():
-    """The required share is drawn in percent, half ones too."""
+def check_picture_words():
+    """The required share is drawn in percent, half ones too; a long name leaves room for the verdict."""
     source = (ROOT / "examples" / "document01.session").read_text()
-    for share, said in (("600", "required 60%<"), ("72.5%", "required 72.5%<"), ("1", "required 0.1%<")):
-        svg = picture.picture("one", session.to_bytes(source.replace("1 600\n", f"1 {share}\n")))
+    for share, said in (("60%", "required 60%<"), ("72.5%", "required 72.5%<"), ("1 tenths", "required 0.1%<")):
+        svg = picture.picture("one", session.to_bytes(source.replace("1 60%\n", f"1 {share}\n")))
         assert said in svg, share
+    title = re.search(r'font-size="19"[^>]*>([^<]*)<', picture.picture("n" * 500, session.to_bytes(source)))[1]
+    assert title.endswith(": met, weight 10000") and len(title) < 70, title
+
+
+def kept_rects(svg):
+    """(height, width) of each shaded part of the plot."""
+    found = re.findall(r'<rect x="([^"]*)" y="([^"]*)" width="([^"]*)" height="([^"]*)" fill="#cfe8cf"/>', svg)
+    return [(float(height), float(width)) for _, y, width, height in found if picture.TOP <= float(y) < picture.BOTTOM]
+
+
+def check_picture_gaps():
+    """Gaps shorter than a pixel are drawn as their share, longer ones as they are."""
+    lines = ["row 1 1 790_000 1 100 1 60%", "sp 2000", "add 0 1 buy 99 1", "add 0 2 sell 100 1"]
+    for second in range(790):
+        lines += [f"amend {1000 * second} 2 200 1", f"amend {1000 * second + 250} 2 100 1"]
+    rects = kept_rects(picture.picture("gaps", session.to_bytes("\n".join(lines))))
+    tall = picture.BOTTOM - picture.TOP
+    assert len(rects) == 790 and {width for _, width in rects} == {1.0}, rects[:3]
+    assert all(abs(height - 0.75 * tall) < 0.02 for height, _ in rects), rects[:3]
+    long = "row 1 1 790_000 1 100 1 60%\nsp 2000\nadd 0 1 buy 99 1\nadd 0 2 sell 100 1\ncancel 100_000 1\nadd 200_000 3 buy 99 1"
+    assert kept_rects(picture.picture("long", session.to_bytes(long))) == [(tall, 100.0), (tall, 590.0)]
 
 
 def check_rows():
     """Every row of the programmes is one that a month opens with."""
     rows = 0
-    for at, name, words in text.lines((ROOT / "examples" / "programmes.rows").read_text()):
-        row = session.row_words(words)
-        assert row_fits(Row(*row)), (at, name)
-        assert Book().call(Open(row, 1, 0)) == Accepted(), (at, name)
-        rows += 1
-    assert rows == 12 + 24 + 120, rows
+    for file in sorted((ROOT / "examples" / "programmes").glob("*.rows")):
+        for at, name, words in reading.lines(file.read_text()):
+            row = session.row_words(words)
+            assert row_fits(Row(*row)), (file, at, name)
+            assert Book().call(Open(row, 1, 0)) == Accepted(), (file, at, name)
+            rows += 1
+    assert rows == 56 + 120 + 72 + 12 + 24, rows
 
 
 def check_any_bytes(rng):
@@ -147,21 +171,27 @@ def check_any_bytes(rng):
         assert calls.to_bytes(calls.to_text(data)) == data, data.hex()
 
 
-ERRORS = [
+ERRORS = [  # what reads, a text, the line and what is said
     (session, "row 1 1 10000 500 100 1\nsp 0", 1, "row takes expiry quantum L M a b p"),
-    (session, "row 1 1 10000 500 100 1 600\n\nadd 0 1 buy 1 1", 3, "row and sp stand before"),
-    (session, "# a\nrow 1 1 10000 500 100 1 600\nsp 4_294_967_296", 3, "SP: 4_294_967_296"),
-    (session, "row 1 1 0:00:10 500 100 1 600\nsp 1\nadd 0 1 bid 1 1", 3, "side: 'bid'"),
-    (session, "row 1 1 10000 500 100 1 600\nsp 1\nadd 0 1 buy 1", 3, "add takes t id side"),
-    (session, "row 1 1 10000 500 100 1 600\nsp 1\nadd -1 1 buy 1 1", 3, "t: -1 does not fit"),
-    (session, "row 1 1 10000 500 100 1 600\nsp 1\ntick 1:60:00", 3, "t: '1:60:00' is not"),
-    (session, "row 1 1 10000 500 100 1 600\nsp 1\nbytes 0g", 3, "bytes takes pairs"),
-    (session, "row 1 1 10000 500 100 1 600\nsp 1\nsell 1", 3, "'sell' is not known"),
-    (session, "row 1 1 10000 500 100 1 600", None, "there is no sp"),
+    (session, "row 1 1 10000 500 100 1 60%\n\nadd 0 1 buy 1 1", 3, "row and sp stand before"),
+    (session, "# a\nrow 1 1 10000 500 100 1 60%\nsp 4_294_967_296", 3, "SP: 4_294_967_296"),
+    (session, "row 1 1 0:00:10 500 100 1 60%\nsp 1\nadd 0 1 bid 1 1", 3, "side: 'bid'"),
+    (session, "row 1 1 10000 500 100 1 60%\nsp 1\nadd 0 1 buy 1", 3, "add takes t id side"),
+    (session, "row 1 1 10000 500 100 1 60%\nsp 1\nadd -1 1 buy 1 1", 3, "t: -1 does not fit"),
+    (session, "row 1 1 10000 500 100 1 60%\nsp 1\ntick 1:60:00", 3, "t: '1:60:00' is not"),
+    (session, "row 1 1 10000 500 100 1 60%\nsp 1\nbytes 0g", 3, "bytes takes pairs"),
+    (session, "row 1 1 10000 500 100 1 60%\nsp 1\nsell 1", 3, "'sell' is not known"),
+    (session, "row 1 1 10000 500 100 1 60%", None, "there is no sp"),
     (session, "# nothing", None, "there is no row"),
     (session, "row 1 1 10000 500 100 1 72.55%\nsp 1", 1, "p: '72.55%' is not a percentage"),
     (session, "row 1 1 10000 500 100 1% 600\nsp 1", 1, "b: '1%' is not a number"),
     (session, "row 1 1 10000 500 100 1 72.5\nsp 1", 1, "p: '72.5' is not a number"),
+    (session, "row 1 1 10000 500 100 1 60\nsp 1", 1, "p: 60 has no unit: write 60% (600 tenths of a percent) or 60 tenths (6%)"),
+    (session, "row 1 1 10000 500 100 1 725\nsp 1", 1, "p: 725 has no unit: write 725% (7250 tenths of a percent) or 725 tenths (72.5%)"),
+    (calls, "open row 1 1 10000 500 100 1 60 day 1 sp 1", 1, "p: 60 has no unit"),
+    (session, "row 1 1 10000 500 100 1 60%\rsp 1\r\nadd " + 5000 * "9" + " 1 buy 1 1", 3, "t: 9999999999999999..99999999 (5000 signs) does"),
+    (calls, "tick 1 # \u2028report 1\x0creport 1\x85report 1\nreport 1", 2, "report takes nothing"),
+    (calls, "report\u2028", 1, "'report\\u2028' is not known"),
     (calls, "report\nopen 1 1 day 1 sp 1", 2, "open is written"),
     (calls, "open row 1 1 day 1 sp 1 lapses", 1, "open is written"),
     (calls, "open row 1 1 day 1 sp 1 lapses some", 1, "lapses: 'some' is not a number"),
@@ -194,30 +224,24 @@ def check_errors():
     for tool, source, line, said in ERRORS:
         try:
             tool.to_bytes(source)
-        except text.TextError as error:
+        except reading.TextError as error:
             found = (error.line, str(error)[: len(said)])
             assert found == (line, said), (source, error.line, str(error))
         else:
             raise AssertionError(f"accepted: {source!r}")
 
 
-def check_not_built():
-    """Where the proved program is not built, a command says what to run, prints no answer and ends with status 1."""
-    examples = ROOT / "examples"
-    runs = [
-        (board, ["55", "60", str(examples / "strikes.board")], "rt check probe"),
-        (standing, [str(examples / "makers.standing")], "rt check probe"),
-        (game, ["5", "2", "3"], "rt check probe"),
-        (game, ["table", "5"], "rt check safe_table"),
-        (picture, [str(examples / "document01.session")], "rt check sheet"),
-    ]
-    text.ROOT = ROOT / "none"
-    for tool, given, said in runs:
-        out, err = io.StringIO(), io.StringIO()
-        with redirect_stdout(out), redirect_stderr(err):
-            status = tool.main(given)
-        assert (status, out.getvalue()) == (1, "") and said in err.getvalue(), (tool.__name__, status, err.getvalue())
-    text.ROOT = ROOT
+def check_calls(rng):
+    """The package's block of a call is the tests' own, and its line reads back, for all lists that the tests make."""
+    seen = set()
+    for _ in range(60):
+        for call in [*months.any_calls(rng)[1], *known.ask_calls(), *known.outlook_calls(), *message_lists.any_calls(rng)[1]]:
+            block = calls.calls_bytes([call])
+            found, stop = package_calls.read_list(block)
+            assert stop == len(block) and package_calls.block(found[0]) == block, call
+            assert calls.to_bytes(texts.block_line(block)) == block, call
+            seen.add(type(call).__name__)
+    assert len(seen) == 16, seen
 
 
 def main():
@@ -227,11 +251,12 @@ def main():
     check_message_bytes(random.Random(2))
     check_pictures()
     check_picture_limit()
-    check_picture_share()
+    check_picture_words()
+    check_picture_gaps()
     check_rows()
     check_any_bytes(random.Random(1))
     check_errors()
-    check_not_built()
+    check_calls(random.Random(3))
     print("texts: examples, pictures, rows, round trips and errors are right")
     return 0
 

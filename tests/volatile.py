@@ -8,6 +8,7 @@ It fails where an answer differs, or where something that the cases are to show 
 """
 
 import argparse
+import json
 import random
 import struct
 import subprocess
@@ -20,7 +21,7 @@ ROOT = Path(__file__).resolve().parent.parent
 sys.path.insert(0, str(ROOT))
 
 from recount import programs, volatile
-from tools import volatile as command
+from tests import command as commands
 
 PROBE = ROOT / "target" / "bin" / "probe"
 LOW, HIGH = -(2**31), 2**31 - 1
@@ -402,30 +403,25 @@ def check_cases(count):
 
 
 def check_command():
-    text = (ROOT / "examples" / "volatile.prices").read_text()
-    days = command.read(text)
-    prices = [price for _, price in days]
+    """The table and the picture of the example, and what is wrong in a text."""
+    threshold, path = 15_000, ROOT / "examples" / "volatile.prices"
+    prices = [price for _, price in commands.prices(path)]
     found = volatile.sigmas(prices)
-    periods = volatile.periods(found, command.EXAMPLE_THRESHOLD)
+    periods = volatile.periods(found, threshold)
     assert len(periods) == 2 and periods[1][1] is None, periods
-    seen = command.judge(prices, command.EXAMPLE_THRESHOLD)
-    assert [s for s in seen.sigmas if s is not None] == found
     within = [any(f <= d - 3 and (l is None or d - 3 <= l) for f, l in periods) for d in range(len(prices) + 1)]
-    assert seen.inside == within
-    svg = command.picture("volatile", days, command.EXAMPLE_THRESHOLD, seen)
-    ElementTree.fromstring(svg)
-    assert svg == (ROOT / "docs" / "volatile.svg").read_text(), "docs/volatile.svg is old"
-    lines = command.table(days, seen)
-    assert len(lines) == len(prices) + 2 and lines[-1] == "the next day is inside", lines[-1]
+    judged = json.loads(commands.run("volatile", threshold, path, "--json").printed)
+    assert judged["inside"] == within and [s for s in judged["sigmas"] if s is not None] == found
+    drawn = commands.run("volatile", threshold, path, "--picture")
+    ElementTree.fromstring(drawn.printed)
+    assert drawn.printed == (ROOT / "docs" / "volatile.svg").read_text(), "docs/volatile.svg is old"
+    lines = commands.run("volatile", threshold, path, "--both").printed.splitlines()
+    assert len(lines) == len(prices) + 3 and lines[-2:] == ["the next day is inside", "the proved meter and the recount agree"], lines[-2:]
     for bad, at in (("5\n5 5 5\n", 2), ("2026-01-05 12.5\n", 1), ("7\n\nx\n", 3), ("2147483648\n", 1)):
-        try:
-            command.read(bad)
-        except command.TextError as error:
-            assert error.line == at, error
-        else:
-            raise AssertionError(bad)
-    refused = command.judge([5, 0, 5], 1)
-    assert refused.inside is None
+        done = commands.run("volatile", threshold, "-", given=bad)
+        assert done.status == 1 and f"standard input: line {at}: " in done.complaint, done
+    refused = commands.run("volatile", "1", "-", given="5\n0\n5\n")
+    assert refused.status == 1 and "refused 22: of the prices before day 3" in refused.printed, refused
 
 
 def main():

@@ -24,7 +24,7 @@ from recount.book import BUY, SELL, Close, Look, Message, Open, Report
 from recount.fix import END, Order
 from tests import messages
 from tests.differential import words
-from tools import calls as calls_text
+from tests import calls_text
 
 PEER = ROOT / "target" / "peer" / "peer"
 SECONDS = 90

@@ -1,0 +1,25 @@
+"""The quoting meter from Python, over libquoting, whose calls are proved.
+
+>>> import quoting
+>>> quoting.weight("7:00:00", "8:45:00", "60%")
+20000
+"""
+
+from quoting import fix
+from quoting.accounts import Account, Stretch, account
+from quoting.answers import Accepted, Answer, Asked, Cell, MonthReport, Outlook
+from quoting.calls import Strike, Ticket
+from quoting.events import Add, Amend, Cancel, Deal, Event, Tick
+from quoting.months import Month, answers_to
+from quoting.native import Missing, Refused, version
+from quoting.plain import board, choose_row, ease, safe_minutes, volatile_day, weight
+from quoting.rules import Row, Rule
+from quoting.sessions import Session, session
+from quoting.standings import Standing
+from quoting.values import Tenths, milliseconds, tenths
+
+__all__ = [
+    "Accepted", "Account", "Add", "Amend", "Answer", "Asked", "Cancel", "Cell", "Deal", "Event", "Missing", "Month", "MonthReport", "Outlook", "Refused", "Row",
+    "Rule", "Session", "Standing", "Stretch", "Strike", "Tenths", "Tick", "Ticket", "account", "answers_to", "board", "choose_row", "ease", "fix", "milliseconds", "safe_minutes",
+    "session", "tenths", "version", "volatile_day", "weight",
+]

@@ -1,0 +1,53 @@
+"""The recount's reading beside the meter's, for --both. The recount stands apart in the tree, and answers nothing in the meter's place."""
+
+import importlib
+import sys
+from typing import Any
+
+from quoting.native import ROOT, Missing
+
+
+def recount(name: str) -> Any:
+    """A module of the recount."""
+    if not (ROOT / "recount" / "book.py").exists():
+        raise Missing("the recount stands in the tree (recount/) and is not part of an installed package")
+    if str(ROOT) not in sys.path:
+        sys.path.append(str(ROOT))
+    return importlib.import_module(f"recount.{name}")
+
+
+def session_lines(data: bytes) -> list[str]:
+    """The recount's lines of a session, as the sheet has them."""
+    run, programs = recount("session"), recount("programs")
+    answer = run.run_bytes(data[: run.HEAD.size], data[run.HEAD.size :])
+    if isinstance(answer, run.Stopped):
+        return [programs.refused_at(answer)]
+    pairs = [f"pair {offset} {length}" for offset, length in answer.pairs]
+    return [f"kept {answer.kept} of {answer.length}", *pairs, f"verdict {programs.verdict_text(answer.met)}", f"weight {answer.weight}"]
+
+
+def account_lines(data: bytes) -> list[str]:
+    """The recount's lines of an account, as the program `account` prints them."""
+    run, accounts, programs = recount("session"), recount("account"), recount("programs")
+    *words, sp = run.HEAD.unpack(data[: run.HEAD.size])
+    answer = accounts.run(words, sp, data[run.HEAD.size :])
+    if isinstance(answer, run.Stopped):
+        return [str(programs.refused_at(answer))]
+    stretches = [f"from {offset} for {length} {accounts.STATES[state]}" for offset, length, state in answer.stretches]
+    return [*stretches, *(f"total {state} {time}" for state, time in zip(accounts.STATES, answer.times))]
+
+
+def answer_lines(data: bytes) -> list[str]:
+    """The recount's answers to a list of calls, as `replay` prints them."""
+    programs, book = recount("programs"), recount("book").Book()
+    calls, _ = programs.read_calls(data)
+    return [programs.answer_line(book.call(call)) for call in calls]
+
+
+def agreement(ours: list[str], theirs: list[str]) -> str:
+    """A line that says whether both readings are the same."""
+    if ours == theirs:
+        return "the proved meter and the recount agree\n"
+    at = next((at for at, pair in enumerate(zip(ours, theirs)) if pair[0] != pair[1]), min(len(ours), len(theirs)))
+    shown = [(lines[at] if at < len(lines) else "nothing") for lines in (ours, theirs)]
+    return f"THE PROVED METER AND THE RECOUNT DIFFER at line {at + 1}: {shown[0]!r} and {shown[1]!r}\n"

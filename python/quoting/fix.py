@@ -1,0 +1,91 @@
+r"""FIX 4.4 messages, NewOrderSingle (D), OrderCancelRequest (F) and OrderCancelReplaceRequest (G), read and written by the library.
+
+>>> message = write(Order("D", 7, side="buy", volume=500, price=-99, time="20261115-10:00:00.000"))
+>>> message.replace(b"\x01", b"|").decode()
+'8=FIX.4.4|9=54|35=D|11=7|54=1|38=500|44=-99|60=20261115-10:00:00.000|10=211|'
+>>> read(message).price
+-99
+>>> read(message[:-1])
+Traceback (most recent call last):
+quoting.native.Refused: refused 20: the frame, length, checksum or type of the message is wrong
+"""
+
+import re
+from dataclasses import dataclass
+from datetime import datetime, timedelta
+from typing import Optional
+
+from quoting import native
+from quoting.events import Add, Cancel, Event, Side
+
+KINDS = {1: "D", 2: "F", 3: "G"}
+NUMBERS = {kind: number for number, kind in KINDS.items()}
+SIDES: dict[int, Side] = {1: "buy", 2: "sell"}
+SIDE_NUMBERS = {None: 0, "buy": 1, "sell": 2}
+WORDS, MOST_BYTES = 13, 114
+END = b"\x01"
+TIME = re.compile(r"[0-9]{8}-[0-9]{2}:[0-9]{2}:[0-9]{2}\.[0-9]{3}")
+
+
+@dataclass(frozen=True)
+class Order:
+    """What a message says: its type, id (11), the id it refers to (41; F and G), side, volume and price (D and G), time (60)."""
+
+    kind: str
+    id: int
+    refers: int = 0
+    side: Optional[Side] = None
+    volume: int = 0
+    price: int = 0
+    time: str = ""
+
+
+def read(message: bytes) -> Order:
+    """The order that a message says; refused by 20 or 21."""
+    found = native.words(WORDS)
+    native.call("quoting_fix", native.address(message), len(message), native.address(found), WORDS)
+    kind, id, refers, side, volume, price, *time = found
+    return Order(KINDS[kind], id, refers, SIDES.get(side), volume, signed(price), "%04d%02d%02d-%02d:%02d:%02d.%03d" % tuple(time))
+
+
+def write(order: Order) -> bytes:
+    """The bytes of a message, with the used tags alone."""
+    numbers = [NUMBERS.get(order.kind, 0), order.id, order.refers, SIDE_NUMBERS[order.side], order.volume, order.price]
+    fields, sixty, buffer = native.words_of(numbers), order.time.encode(), native.bytes_of(MOST_BYTES)
+    lent = [native.address(fields), len(fields), native.address(sixty), len(sixty), native.address(buffer), MOST_BYTES]
+    return bytes(buffer[: native.call("quoting_fix_write", *lent)])
+
+
+def signed(word: int) -> int:
+    return word - (1 << 32) if word >> 31 else word
+
+
+def framed(body: bytes) -> bytes:
+    """The body with 8, 9 and 10 put around it, length and checksum worked out.
+
+    >>> framed(b"35=D\\x01")
+    b'8=FIX.4.4\\x019=5\\x0135=D\\x0110=183\\x01'
+    """
+    front = b"8=FIX.4.4" + END + b"9=%d" % len(body) + END + body
+    return front + b"10=%03d" % (sum(front) % 256) + END
+
+
+def moment(time: str) -> datetime:
+    """A time of the form YYYYMMDD-HH:MM:SS.sss."""
+    if not TIME.fullmatch(time):
+        raise ValueError(f"{time!r} is not a time YYYYMMDD-HH:MM:SS.sss")
+    try:
+        return datetime.strptime(time, "%Y%m%d-%H:%M:%S.%f")
+    except ValueError:
+        raise ValueError(f"{time!r} is not a time YYYYMMDD-HH:MM:SS.sss") from None
+
+
+def events_of(order: Order, start: str) -> list[Event]:
+    """The events that a message is in a quantum that starts then: D an add, F a cancel, G both."""
+    t = (moment(order.time) - moment(start)) // timedelta(milliseconds=1)
+    if not 0 <= t < 2**32:
+        raise ValueError(f"{order.time} is {'before' if t < 0 else 'too long behind'} the quantum's start {start}")
+    cancel, add = Cancel(t, order.refers), Add(t, order.id, order.side or "buy", order.price, order.volume)
+    if order.kind == "G":
+        return [cancel, add]
+    return [add if order.kind == "D" else cancel]

@@ -1,0 +1,72 @@
+"""The calls that need no month: the weight, the choice of a row, boards, volatile days, the eased row, safe minutes.
+
+>>> weight(7, 10, "60%")
+Traceback (most recent call last):
+quoting.native.Refused: refused 2: a word of the row is outside its range
+>>> weight("6:07:30", "8:45:00", "60%")
+10312
+>>> safe_minutes(8, 3, 7)
+2
+"""
+
+import ctypes
+from typing import Any, Iterable, Optional, Sequence
+
+from quoting import native
+from quoting.rules import Row
+from quoting.values import Share, Time, milliseconds, tenths
+
+
+def weight(kept: Time, length: Time, share: Share) -> int:
+    """The weight of a quantum by its share alone: 0 where it is failed, else 10,000 to 20,000."""
+    return native.call("quoting_weight", milliseconds(kept), milliseconds(length), tenths(share))
+
+
+def choose_row(usual: Iterable[Row], holiday: Iterable[Row], is_holiday: bool, expiry: int, quantum: int) -> Optional[Row]:
+    """The row for an expiry and a quantum: on a holiday the first fitting one of the holiday table, else of the usual one.
+
+    >>> evening = Row(1, 2, "4:50:00", 1000, 150, 3, "60%")
+    >>> choose_row([evening], [], False, 1, 2) == evening, choose_row([evening], [], True, 2, 2)
+    (True, None)
+    """
+    tables = [native.words_of([word for row in table for word in row.words]) for table in (usual, holiday)]
+    found = native.words(7)
+    lent = [part for table in (*tables,) for part in (native.address(table), len(table))]
+    count = native.call("quoting_choose_row", *lent, int(is_holiday), expiry, quantum, native.address(found), 7)
+    return Row.of_words(list(found)) if count else None
+
+
+def board(strikes: Sequence[tuple[Time, Time]], first: int, second: int) -> bool:
+    """Whether a board of strikes, each with K and L, is met: each strike has the first share in percent, all together the second.
+
+    >>> board([("5:00:00", "8:45:00"), ("6:00:00", "8:45:00")], first=55, second=60)
+    True
+    """
+    words = native.words_of([milliseconds(time) for strike in strikes for time in strike])
+    return native.call("quoting_board", native.address(words), len(strikes), first, second) == 1
+
+
+def price_list(prices: Sequence[int]) -> Any:
+    return (ctypes.c_int32 * len(prices))(*prices)
+
+
+def volatile_day(prices: Sequence[int], threshold: int) -> bool:
+    """Whether the day after the last settlement price is inside a disturbed period; the threshold is in millionths.
+
+    >>> volatile_day([7450, 7412, 7429, 7482], threshold=15_000)
+    False
+    """
+    given = price_list(prices)
+    return native.call("quoting_volatile", native.address(given), len(prices), threshold) == 1
+
+
+def ease(row: Row, prices: Sequence[int], threshold: int, is_strike: bool = False) -> Row:
+    """The row of the day after the last price: eased inside a disturbed period, as it is outside."""
+    words, given = native.words_of(row.words), price_list(prices)
+    native.call("quoting_ease", native.address(words), 7, int(is_strike), native.address(given), len(prices), threshold)
+    return Row.of_words(list(words))
+
+
+def safe_minutes(minutes: int, doubles: int, knocks: int) -> int:
+    """The minutes that a maker can force to stay unvoided."""
+    return native.call("quoting_safe_minutes", minutes, doubles, knocks)

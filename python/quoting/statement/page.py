@@ -1,0 +1,129 @@
+"""The page: the figures put into the template page.html (Jinja2), one self-contained file without a script."""
+
+from dataclasses import dataclass
+from importlib import import_module
+from pathlib import Path
+from typing import Any, Optional
+
+from quoting import native
+from quoting.native import Missing
+from quoting.statement import figures
+from quoting.statement.course import CELLS, DAYS, SERIES, Bad, Course, Reading, by_meter, by_recount, parting
+from quoting.statement.figures import Fee, Shown
+from quoting.statement.picture import KEYS
+from quoting.statement.sources import Listed
+from quoting.values import clock, part_text
+
+TEMPLATE = Path(__file__).resolve().parent / "page.html"
+MOST_SIGNS = 96  # of a refused call, as it is listed
+
+
+@dataclass(frozen=True)
+class Statement:
+    """A month with both readings; `faults` are sentences about what does not fit together, which should never be."""
+
+    title: str
+    listed: Listed
+    meter: Reading
+    recount: Reading
+    course: Course
+    fee: Fee
+    quanta: list[Shown]
+
+    @property
+    def parting(self) -> Optional[tuple[int, str, str]]:
+        return parting(self.meter, self.recount)
+
+    @property
+    def faults(self) -> list[str]:
+        found = [fault for fault in map(figures.unsound, self.quanta) if fault]
+        if self.fee.due != self.meter.report.fee:
+            found.append(f"the sum over the cells makes {self.fee.due} kopecks, and the meter's fee is {self.meter.report.fee}")
+        return found
+
+    @property
+    def differs(self) -> bool:
+        return self.parting is not None or bool(self.faults)
+
+    @property
+    def is_whole(self) -> bool:
+        """Nothing was refused or left out, and the readings agree."""
+        return not (self.differs or self.course.bad or self.listed.left)
+
+
+def statement(title: str, listed: Listed) -> Statement:
+    """Runs both readings."""
+    meter, course = by_meter(listed)
+    quanta = [figures.shown(course.quanta[place], cell) for place, cell in meter.cells.items() if place in course.quanta]
+    return Statement(title, listed, meter, by_recount(listed), course, Fee.of(meter.cells), quanta)
+
+
+# ---------------------------------------------------------------- into the template
+
+
+def brief(text: str) -> str:
+    """A call's line, cut where it is long."""
+    return text if len(text) <= MOST_SIGNS else text[:MOST_SIGNS] + " .."
+
+
+def small(time: str) -> str:
+    """A time with its thousandths in small."""
+    whole, _, rest = time.partition(".")
+    return f"{whole}<small>.{rest}</small>" if rest else whole
+
+
+def place_text(bad: Bad) -> str:
+    return "day {}, expiry {}, quantum {}".format(*bad.cell) if bad.cell else "no quantum open"
+
+
+def depth(weight: int) -> int:
+    """How strong a met cell's colour is, in percent: faint for 10,000, strong for 20,000."""
+    return 14 + (weight - 10_000) * 41 // 10_000
+
+
+def parting_text(made: Statement) -> str:
+    """Where the readings part."""
+    if made.parting is None:
+        return ""
+    number, ours, theirs = made.parting
+    calls = made.listed.calls
+    if number <= len(calls):
+        place = f"call {number:,}, {calls[number - 1].place}"
+    elif number <= len(calls) + len(CELLS):
+        place = "the cell of day {}, expiry {}, quantum {}".format(*CELLS[number - len(calls) - 1])
+    else:
+        place = "the report at the end"
+    return f"They part at {place}: the meter answers “{ours}”, the recount “{theirs}”."
+
+
+def template() -> Any:
+    try:
+        jinja: Any = import_module("jinja2")
+    except ImportError:
+        raise Missing("statement needs Jinja2: apt-get install python3-jinja2") from None
+    mark = jinja.utils.markupsafe.Markup
+    made = jinja.Environment(autoescape=True, trim_blocks=True, lstrip_blocks=True, undefined=jinja.StrictUndefined)
+    made.filters.update(
+        n=figures.thousands, roubles=figures.roubles, clock=clock, brief=brief, depth=depth, safe_svg=mark,
+        small=lambda time: mark(small(time)), exact=lambda time: mark(small(clock(time))))
+    return made.from_string(TEMPLATE.read_text(encoding="utf-8"))
+
+
+def html(made: Statement) -> str:
+    """The page."""
+    cells = made.meter.cells
+    by_series = [(series, [each for each in made.quanta if each.place[1:] == series]) for series in SERIES]
+    met = sum(cell.met for cell in cells.values())
+    text: str = template().render(
+        made=made, fee=made.fee, report=made.meter.report, cells=cells, days=DAYS, series=SERIES, met=met,
+        by_series=[pair for pair in by_series if pair[1]], both=figures.compared(made.meter, made.recount),
+        parting=parting_text(made), place_text=place_text, part=part_text, charge_sum=figures.charge_sum, term=figures.term,
+        cap=figures.CAP, divisor=figures.DIVISOR, allowed=figures.ALLOWED, keys=KEYS, version=native.version(), foot=foot_text(made))
+    return text
+
+
+def foot_text(made: Statement) -> str:
+    """The foot of each printed page, a string of CSS: signs that could end it stay away."""
+    title = "".join(sign for sign in made.title if sign.isprintable() and sign not in "\"'\\<>&{}")
+    fee = "Not settled" if made.differs else f"Fee {figures.roubles(made.meter.report.fee)}"
+    return f"Statement: {title}. {fee}."

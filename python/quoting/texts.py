@@ -1,0 +1,361 @@
+"""Sessions and lists of calls as readable texts, and as the bytes that the meter takes (docs/FORMATS.md); a session also as CSV.
+
+>>> data = session_bytes("row 1 1 10_000 500 100 1 60%\\nsp 2000\\nadd 0 1 buy 99 500")
+>>> print(session_text(data), end="")
+# expiry quantum L M a b p
+row 1 1 10000 500 100 1 60%
+sp 2000
+add 0 1 buy 99 500
+>>> print(calls_text(calls_bytes("open row 1 1 0:00:10 500 100 1 60% day 1 sp 2000")), end="")
+open row 1 1 10000 500 100 1 60% day 1 sp 2000 lapses none
+"""
+
+import re
+from dataclasses import astuple, dataclass
+from typing import Any, Callable, Optional
+
+from quoting import calls as c
+from quoting import fix, reading, values
+from quoting.events import KINDS, SIDES, Add, Amend, Cancel, Deal, Event, Tick, event_of, record, split
+from quoting.reading import PLAIN, Options, TextError
+from quoting.rules import COLUMNS, HEAD
+
+EVENT_COLUMNS = {
+    "add": "t id side price volume", "amend": "t id price volume", "cancel": "t id", "deal": "t id volume", "tick": "t",
+}
+EVENTS = (Add, Amend, Cancel, Deal, Tick)
+
+
+# ---------------------------------------------------------------- events
+
+
+def event_field(column: str, word: str, options: Options) -> Any:
+    if column == "t":
+        return reading.time(word, "t", options.start)
+    if column == "price":
+        return reading.price(word, "price", options)
+    if column == "side":
+        if word not in SIDES:
+            raise TextError(f"side: {values.brief(word)!r} is neither buy nor sell")
+        return word
+    return reading.number(word, values.WORD, column)
+
+
+def event(name: str, words: list[str], options: Options = PLAIN) -> Event:
+    """The event of a line."""
+    given = reading.columns(name, words, EVENT_COLUMNS[name])
+    made: Event = KINDS[name](**{column: event_field(column, word, options) for column, word in given.items()})
+    return made
+
+
+def event_line(each: Event) -> str:
+    return " ".join([type(each).__name__.lower(), *map(str, astuple(each))])
+
+
+def hex_bytes(words: list[str]) -> bytes:
+    try:
+        return bytes.fromhex(" ".join(words))
+    except ValueError:
+        raise TextError("bytes takes pairs of hex digits") from None
+
+
+# ---------------------------------------------------------------- a session
+
+
+class SessionReader:
+    """Gathers the items of a session's text in the order in which bytes want them."""
+
+    def __init__(self, options: Options = PLAIN) -> None:
+        self.options = options
+        self.row: Optional[list[int]] = None
+        self.sp: Optional[int] = None
+        self.rest: list[bytes] = []
+
+    def take(self, name: str, words: list[str]) -> None:
+        if name == "row":
+            if self.row is not None or self.rest:
+                raise TextError("row stands once, before all else")
+            self.row = reading.seven_words(words, self.options)
+        elif name == "sp":
+            if self.row is None or self.sp is not None or self.rest:
+                raise TextError("sp stands once, straight behind row")
+            self.sp = reading.price(reading.columns("sp", words, "SP")["SP"], "SP", self.options)
+        elif name == "bytes":
+            if self.row is not None and self.sp is None:
+                raise TextError("sp is missing between row and this line")
+            self.rest.append(hex_bytes(words))
+        elif name in EVENT_COLUMNS:
+            if self.sp is None:
+                raise TextError("row and sp stand before the first event")
+            self.rest.append(record(event(name, words, self.options)))
+        else:
+            known = ", ".join(["row", "sp", *EVENT_COLUMNS, "bytes"])
+            raise TextError(f"{values.brief(name)!r} is not known; a line begins with one of {known}")
+
+    def data(self) -> bytes:
+        if self.row is None and self.rest:
+            return b"".join(self.rest)  # only bytes as they stand
+        return head_bytes(self.row, self.sp) + b"".join(self.rest)
+
+
+def head_bytes(row: Optional[list[int]], sp: Optional[int]) -> bytes:
+    if row is None:
+        raise TextError("there is no row")
+    if sp is None:
+        raise TextError("there is no sp")
+    return HEAD.pack(*row, sp)
+
+
+def session_bytes(text: str, options: Options = PLAIN) -> bytes:
+    """The bytes of a session's text."""
+    reader = SessionReader(options)
+    reading.read_by_lines(text, reader.take)
+    return reader.data()
+
+
+def session_text(data: bytes) -> str:
+    """The text of a session's bytes, whatever they are."""
+    if len(data) < HEAD.size:
+        return f"bytes {data.hex(' ')}".rstrip() + "\n"
+    *row, sp = HEAD.unpack(data[: HEAD.size])
+    out = [f"# {' '.join(COLUMNS)}", f"row {reading.row_text(row)}", f"sp {sp}"]
+    for each in split(data[HEAD.size :]):
+        found = event_of(each)
+        out.append(f"bytes {each.hex(' ')}" if found is None else event_line(found))
+    return "\n".join(out) + "\n"
+
+
+# ---------------------------------------------------------------- a session as CSV
+
+CSV_COLUMNS = ("t", "kind", "id", "side", "price", "volume")
+
+
+@dataclass
+class CsvReader:
+    """Lines `row,..` and `sp,..` first, if at all, then the columns' names, then an event a line."""
+
+    options: Options
+    row: Optional[list[int]] = None
+    sp: Optional[int] = None
+    names: Optional[list[str]] = None
+
+    def take(self, cells: list[str]) -> bytes:
+        if self.names is not None:
+            return record(self.event(cells))
+        if cells[0] == "row":
+            self.row = reading.seven_words(cells[1:], self.options)
+        elif cells[0] == "sp":
+            self.sp = reading.price(reading.columns("sp", cells[1:], "SP")["SP"], "SP", self.options)
+        else:
+            self.names = self.header(cells)
+        return b""
+
+    def header(self, cells: list[str]) -> list[str]:
+        if sorted(cells) != sorted(CSV_COLUMNS):
+            raise TextError(f"the columns are {','.join(CSV_COLUMNS)}, in any order, and this line names {','.join(map(values.brief, cells))}")
+        return cells
+
+    def event(self, cells: list[str]) -> Event:
+        names = self.names or []
+        if len(cells) != len(names):
+            raise TextError(f"{len(cells)} fields, but there are {len(names)} columns")
+        given = dict(zip(names, cells))
+        kind = given.pop("kind")
+        if kind not in EVENT_COLUMNS:
+            raise TextError(f"kind: {values.brief(kind)!r} is not one of {', '.join(EVENT_COLUMNS)}")
+        taken = EVENT_COLUMNS[kind].split()
+        more = [name for name, cell in given.items() if cell and name not in taken]
+        if more:
+            raise TextError(f"{more[0]}: a {kind} takes none, but {values.brief(given[more[0]])!r} stands here")
+        return event(kind, [given[name] for name in taken], self.options)
+
+
+def csv_cells(line: str) -> list[str]:
+    """The fields of a line, quotes around them taken off."""
+    cells = [cell.strip(" \t") for cell in line.split("#", 1)[0].split(",")]
+    return [cell[1:-1] if len(cell) > 1 and cell[0] == cell[-1] == '"' else cell for cell in cells]
+
+
+def csv_bytes(text: str, options: Options = PLAIN, head: Optional[bytes] = None) -> bytes:
+    """The bytes of a session in CSV; `head` are its leading bytes where the file has no row and sp.
+
+    >>> len(csv_bytes('row,1,1,10_000,500,100,1,60%\\nsp,2000\\nt,kind,id,side,price,volume\\n0,add,1,buy,99,500\\n'))
+    52
+    """
+    reader, out = CsvReader(options), []
+    for at, line in enumerate(reading.split_lines(text), start=1):
+        cells = csv_cells(line)
+        try:
+            out.append(reader.take(cells) if any(cells) else b"")
+        except TextError as error:
+            error.line = error.line or at
+            raise
+    if reader.names is None:
+        raise TextError(f"there is no line with the columns {','.join(CSV_COLUMNS)}")
+    return (head_bytes(reader.row, reader.sp) if head is None else head) + b"".join(out)
+
+
+# ---------------------------------------------------------------- messages in a text
+
+FRAME = "frame"  # stands for 8, 9 and 10
+NO_BYTES = "-"
+SIGN = re.compile(r"\\x([0-9a-fA-F]{2})|\\([|\\])|([!-\[\]-~])")
+
+
+def message_bytes(word: str) -> bytes:
+    """The bytes of a message, or of a quantum's start: | is byte 1."""
+    if word == NO_BYTES:
+        return b""
+    out, at = bytearray(), 0
+    while at < len(word):
+        sign = SIGN.match(word, at)
+        if sign is None:
+            raise TextError(f"{word[at:at + 4]!r}: write | for byte 1, \\| and \\\\ for those signs, \\xNN for the rest")
+        hexed, escaped, plain = sign.groups()
+        out += bytes.fromhex(hexed) if hexed else b"\1" if plain == "|" else (escaped or plain).encode()
+        at = sign.end()
+    return bytes(out)
+
+
+def message_text(data: bytes) -> str:
+    """Bytes of a message as one word."""
+    if not data:
+        return NO_BYTES
+    if data == b"-":
+        return r"\x2d"
+    signs = {1: "|", ord("|"): r"\|", ord("\\"): r"\\", ord("#"): r"\x23"}
+    return "".join(signs.get(b) or (chr(b) if 32 < b < 127 else rf"\x{b:02x}") for b in data)
+
+
+def message_call(words: list[str]) -> c.Message:
+    is_body = words[1:2] == [FRAME]
+    if len(words) != 2 + is_body:
+        raise TextError("message is written: message START BYTES, or message START frame BYTES")
+    start, data = message_bytes(words[0]), message_bytes(words[-1])
+    return c.Message(start, fix.framed(data) if is_body else data)
+
+
+def message_line(call: c.Message) -> str:
+    """With `frame` where 8, 9 and 10 are as they would be worked out."""
+    start, shown = message_text(call.start), message_text(call.bytes)
+    body = call.bytes.split(fix.END, 2)[-1][:-7]  # the field 10 has seven bytes
+    if fix.framed(body) == call.bytes:
+        return f"message {start} {FRAME} {message_text(body)}"
+    return f"message {start} " + (r"\x66rame" if shown == FRAME else shown)
+
+
+# ---------------------------------------------------------------- a list of calls
+
+OTHERS: dict[str, tuple[Callable[..., c.Call], str]] = {
+    "close": (c.Close, "active passive"), "drop": (c.Drop, ""), "charge": (c.Charge, "day expiry quantum active passive"),
+    "withdraw": (c.Withdraw, "day expiry quantum"), "look": (c.Look, "day expiry quantum"), "report": (c.Report, ""),
+    "outlook": (c.Outlook, ""),
+}
+STRIKE = ("a", "difference", "days", "b")
+SHAPES = {"open": "sp SP", "strike": "a A difference N days N b B"}
+
+
+def open_call(name: str, words: list[str], options: Options) -> c.Open:
+    """`open`, or `strike` with four numbers in place of SP."""
+    told = ["sp"] if name == "open" else list(STRIKE)
+    limit = c.NO_LIMIT
+    if words[-2:-1] == ["lapses"]:
+        limit = c.NO_LIMIT if words[-1] == "none" else reading.number(words[-1], values.WORD, "lapses")
+        words = words[:-2]
+    behind = 2 + 2 * len(told)  # words from `day` on
+    if len(words) < 1 + behind or words[0] != "row" or words[-behind::2] != ["day", *told]:
+        raise TextError(f"{name} is written: {name} row WORDS.. day DAY {SHAPES[name]} lapses LIMIT|none")
+    row = reading.row_words(words[1:-behind], options)
+    day = reading.number(words[1 - behind], values.WORD, "day")
+    if name == "open":
+        return c.Open(row, day, reading.price(words[-1], "SP", options), limit)
+    numbers = [reading.number(word, values.WORD, what) for what, word in zip(told, words[3 - behind :: 2])]
+    return c.Open(row, day, c.Strike(*numbers), limit)
+
+
+def amend(words: list[str], options: Options) -> Amend:
+    found = event("amend", words, options)
+    assert isinstance(found, Amend)
+    return found
+
+
+def commit_call(words: list[str], options: Options) -> c.Commit:
+    if len(words) != 10 or words[4] != "ticket":
+        raise TextError("commit is written: commit T ID PRICE VOLUME ticket T ID PRICE VOLUME COUNT")
+    count = reading.number(words[9], values.LONG, "count")
+    first, second = amend(words[:4], options), amend(words[5:9], options)
+    ticket = c.Ticket(int(second.t), second.id, second.price, second.volume, count)
+    return c.Commit(first.t, first.id, first.price, first.volume, ticket)
+
+
+def call(name: str, words: list[str], options: Options = PLAIN) -> c.Call:
+    """The call of one line."""
+    if name in ("open", "strike"):
+        return open_call(name, words, options)
+    if name == "ask":
+        reading.columns(name, words, "t id price volume")
+        return c.Ask(*astuple(event("amend", words, options)))
+    if name == "commit":
+        return commit_call(words, options)
+    if name == "message":
+        return message_call(words)
+    if name in EVENT_COLUMNS:
+        return event(name, words, options)
+    if name not in OTHERS:
+        known = ", ".join(["open", "strike", *EVENT_COLUMNS, *OTHERS, "ask", "commit", "message", "words", "bytes"])
+        raise TextError(f"{values.brief(name)!r} is not known; a line begins with one of {known}")
+    kind, names = OTHERS[name]
+    given = reading.columns(name, words, names)
+    spans = {"active": values.LONG, "passive": values.LONG}
+    return kind(**{column: reading.number(word, spans.get(column, values.WORD), column) for column, word in given.items()})
+
+
+def block_of(name: str, words: list[str], options: Options = PLAIN) -> bytes:
+    """The bytes of one line of a list of calls."""
+    if name == "words":
+        return c.pack([reading.number(word, values.WORD, "a word") for word in words])
+    return hex_bytes(words) if name == "bytes" else c.block(call(name, words, options))
+
+
+def calls_bytes(text: str, options: Options = PLAIN) -> bytes:
+    """The bytes of a text of calls."""
+    out: list[bytes] = []
+    reading.read_by_lines(text, lambda name, words: out.append(block_of(name, words, options)))
+    return b"".join(out)
+
+
+def call_line(each: c.Call) -> str:
+    """The line of a call."""
+    if isinstance(each, c.Open):
+        told = f"sp {each.spread}"
+        if isinstance(each.spread, c.Strike):
+            told = " ".join(f"{name} {number}" for name, number in zip(STRIKE, astuple(each.spread)))
+        name = "strike" if isinstance(each.spread, c.Strike) else "open"
+        limit = "none" if each.lapses == c.NO_LIMIT else each.lapses
+        return " ".join(filter(None, [f"{name} row", reading.row_text(list(each.words)), f"day {each.day} {told} lapses {limit}"]))
+    if isinstance(each, c.Message):
+        return message_line(each)
+    if isinstance(each, c.Commit):
+        return " ".join(["commit", *map(str, astuple(each)[:4]), "ticket", *map(str, astuple(each.ticket))])
+    return " ".join([type(each).__name__.lower(), *map(str, astuple(each))])
+
+
+def words_line(data: bytes) -> str:
+    return "words " + " ".join(str(c.word_at(data, at)) for at in range(0, len(data) // 4 * 4, 4))
+
+
+def block_line(data: bytes) -> str:
+    """The line of a block; one whose filling is not 0 has its words, so that they come back."""
+    found = c.call_of(data)
+    return call_line(found) if found is not None and c.block(found) == data else words_line(data)
+
+
+def calls_text(data: bytes) -> str:
+    """The text of a list's bytes, whatever they are."""
+    found, stop = c.blocks(data)
+    out, rest = list(map(block_line, found)), data[stop:]
+    if len(rest) >= 4:
+        out.append(words_line(rest))
+    if len(rest) % 4:
+        out.append("bytes " + rest[len(rest) // 4 * 4 :].hex(" "))
+    return "".join(line + "\n" for line in out)

@@ -1,0 +1,1 @@
+"""Developers' tools: counts of lines, and the constants of the weight card."""
