@@ -23,7 +23,7 @@ sys.path.insert(0, str(ROOT))
 
 from recount import programs
 from tests import known, months
-from tools import calls as calls_text
+from tests import calls_text
 
 REPLAY = ROOT / "target" / "bin" / "replay"
 LONGEST_WAIT = 60  # seconds for an answer
