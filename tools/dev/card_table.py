@@ -20,7 +20,7 @@ A_LINE = 10  # numbers of a list
 
 def code():
     """A constant for each share, one number a line."""
-    text = "// The constants of the weight card, written by tools/card_table.py: for each p the weights of f from 0 to 1,000.\n"
+    text = "// The constants of the weight card, written by tools/dev/card_table.py: for each p the weights of f from 0 to 1,000.\n"
     for share, weights in COLUMNS.items():
         numbers = "".join(f"    {weight}, // p {share}, f {f}\n" for f, weight in enumerate(weights))
         text += f"pub const CARD_{share}: [u16; {len(weights)}] = [\n{numbers}];\n\n"
@@ -30,7 +30,7 @@ def code():
 def proof():
     """The same numbers as lists."""
     text = """\
--- The constants of the weight card once more, written by tools/card_table.py. Assumes nothing.
+-- The constants of the weight card once more, written by tools/dev/card_table.py. Assumes nothing.
 use Prim.Native.Nat.{ℕ}
 use mathlib.Core.List.{List, [], _∷_}
 """

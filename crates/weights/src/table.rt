@@ -1,4 +1,4 @@
-// The constants of the weight card, written by tools/card_table.py: for each p the weights of f from 0 to 1,000.
+// The constants of the weight card, written by tools/dev/card_table.py: for each p the weights of f from 0 to 1,000.
 pub const CARD_600: [u16; 1001] = [
     0, // p 600, f 0
     0, // p 600, f 1
