@@ -31,9 +31,9 @@ from recount import game, programs, records, standing, strikes, volatile
 from recount import account as recount_account
 from recount import fix as recount_fix
 from recount import session as run
-from recount.book import Book
+from recount.book import NO_LIMIT, Book
 from recount.book import Row as RecountRow
-from recount.book import choose, weight
+from recount.book import choose, weight, widest
 from tests import calls_text, generate, known, message_lists, messages, months
 from tests import strikes as strike_cases
 from tests import volatile as volatile_cases
@@ -243,6 +243,35 @@ def check_months(rng):
         assert list(again) == [due for _, due in given]
 
 
+def due_view(quoted):
+    """What the recount's book has of the open quantum, as the package shows it; None where none is open."""
+    if quoted is None:
+        return None
+    row = quoting.Row.of_words(list(quoted.row))
+    spread = quoting.Strike(*quoted.sp) if isinstance(quoted.sp, tuple) else quoted.sp
+    sides = {1: "buy", 2: "sell"}
+    orders = tuple(quoting.LiveOrder(id, sides[order.side], order.price, order.volume) for id, order in quoted.live.items())
+    state = recount_account.STATES[recount_account.state(quoted.row, quoted.sp, quoted.live)]
+    limit = None if quoted.limit == NO_LIMIT else quoted.limit
+    return quoting.View(quoted.day, row, spread, limit, widest(quoted.row, quoted.sp), state, orders)
+
+
+def check_views(rng):
+    """After every call of a list, what stands is the recount's."""
+    shown = set()
+    for make in (months.any_calls, message_lists.any_calls):
+        for _ in range(25):
+            calls, book = make(rng)[1], Book()
+            with quoting.Month() as month:
+                for call in calls:
+                    month.block(calls_text.calls_bytes([call]))
+                    book.call(call)
+                    view = month.view()
+                    assert view == due_view(book.quoting), (view, due_view(book.quoting))
+                    shown.add(view and view.state)
+    assert shown >= {None, *recount_account.STATES}, shown
+
+
 def check_month_methods():
     """Each call by its method; a refusal is raised and leaves the month; after its block a month is at an end."""
     with quoting.Month() as month:
@@ -379,6 +408,7 @@ def main():
     check_accounts(random.Random(8))
     check_arrays()
     check_months(random.Random(6))
+    check_views(random.Random(7))
     check_month_methods()
     check_rows(random.Random(2))
     check_others(random.Random(3))

@@ -17,9 +17,10 @@ from quoting.rules import Row, Rule
 from quoting.sessions import Session, session
 from quoting.standings import Standing
 from quoting.values import Tenths, milliseconds, tenths
+from quoting.views import LiveOrder, View
 
 __all__ = [
-    "Accepted", "Account", "Add", "Amend", "Answer", "Asked", "Cancel", "Cell", "Deal", "Event", "Missing", "Month", "MonthReport", "Outlook", "Refused", "Row",
-    "Rule", "Session", "Standing", "Stretch", "Strike", "Tenths", "Tick", "Ticket", "account", "answers_to", "board", "choose_row", "ease", "fix", "milliseconds", "safe_minutes",
+    "Accepted", "Account", "Add", "Amend", "Answer", "Asked", "Cancel", "Cell", "Deal", "Event", "LiveOrder", "Missing", "Month", "MonthReport", "Outlook", "Refused", "Row",
+    "Rule", "Session", "Standing", "Stretch", "Strike", "Tenths", "Tick", "Ticket", "View", "account", "answers_to", "board", "choose_row", "ease", "fix", "milliseconds", "safe_minutes",
     "session", "tenths", "version", "volatile_day", "weight",
 ]

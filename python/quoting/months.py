@@ -23,6 +23,8 @@ from quoting.events import Add, Amend, Cancel, Deal, Side, Tick
 from quoting.native import Refused
 from quoting.rules import Row
 from quoting.values import Time
+from quoting.views import MOST_WORDS as VIEW_WORDS
+from quoting.views import View, view_of
 
 MOST_WORDS = 65_536  # more than a month has
 HINT_BYTES = 2_048
@@ -116,6 +118,22 @@ class Month:
         answer = self.call(c.Outlook())
         assert isinstance(answer, Outlook)
         return answer
+
+    def view(self) -> Optional[View]:
+        """The open quantum as it stands now, or None where none is open.
+
+        >>> with Month() as month:
+        ...     month.open(Row(1, 1, "8:45:00", 1000, 150, 3, "60%"), day=1, sp=8452)
+        ...     month.add(0, 7, "buy", 8446, 1000)
+        ...     found = month.view()
+        ...     found.state, found.widest, [order.id for order in found.orders]
+        ('no-ask', 12, [7])
+        """
+        if self._ended:
+            raise ValueError("the month has ended with its block")
+        buffer = native.words(VIEW_WORDS)
+        written = native.call("quoting_month_view", *self._month[:2], native.address(buffer), VIEW_WORDS)
+        return view_of(list(buffer[:written])) if written else None
 
     def ask(self, t: Time, id: int, price: int, volume: int) -> Asked:
         """What an amendment would do, and a ticket for it."""

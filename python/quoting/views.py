@@ -1,0 +1,49 @@
+"""What stands now: the open quantum of a month, as the library shows it."""
+
+from dataclasses import dataclass
+from typing import Optional, Sequence, Union
+
+from quoting.accounts import STATES
+from quoting.calls import NO_LIMIT, Strike, signed
+from quoting.events import Side
+from quoting.rules import Row
+
+HEAD_WORDS = 17
+MOST_WORDS = HEAD_WORDS + 4 * 64
+
+
+@dataclass(frozen=True)
+class LiveOrder:
+    id: int
+    side: Side
+    price: int
+    volume: int
+
+
+@dataclass(frozen=True)
+class View:
+    """The open quantum: its day and row, what its spread limit goes by (SP or a strike's four numbers), its lapse limit, the widest D
+    allowed, the state that its orders are in now, and the live orders in the order in which they were added."""
+
+    day: int
+    row: Row
+    spread: Union[int, Strike]
+    limit: Optional[int]
+    widest: int
+    state: str
+    orders: tuple[LiveOrder, ...]
+
+
+def view_of(words: Sequence[int]) -> View:
+    """The view that the library's words say."""
+    by_strike, *told = words[8:13]
+    orders = (words[at : at + 4] for at in range(HEAD_WORDS, HEAD_WORDS + 4 * words[16], 4))
+    return View(
+        words[0],
+        Row.of_words(words[1:8]),
+        Strike(*told) if by_strike else signed(told[0]),
+        None if words[13] == NO_LIMIT else words[13],
+        words[14],
+        STATES[words[15]],
+        tuple(LiveOrder(id, "buy" if side == 1 else "sell", signed(price), volume) for id, side, price, volume in orders),
+    )
