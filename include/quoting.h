@@ -4,7 +4,7 @@
  * What holds of every call
  *   - It answers one number of 64 bits. Below 4294967296 it is the answer; from there on the call is refused, by the refusal
  *     quoting_refusal_of(answer), at the place answer & 4294967295 (a record counted from 1 in a session, a lent buffer counted from 1 in
- *     quoting_month_call, else 0).
+ *     quoting_month_call and quoting_month_view, else 0).
  *   - Of the causes that apply, the refusal is the lowest number, but 16, a buffer too short, comes after all others.
  *   - A refused call leaves every lent buffer as it was. What an accepted call writes stands at the front of the buffer; what is behind it
  *     keeps its contents.
@@ -13,7 +13,7 @@
  *   - A length counts what the pointer points to: bytes, words of 32 bits, prices, strikes or records, not bytes alone.
  *   - Nothing is allocated and no state is kept between calls, so calls from several threads don't disturb each other.
  *   - The words of a month are written by quoting_month_fresh and quoting_month_call alone: a caller may keep, copy and store them, and
- *     hands quoting_month_call no others.
+ *     hands quoting_month_call and quoting_month_view no others.
  * Nothing else is asked of the caller: whatever numbers, bytes and words are handed over, each call ends and answers as is said here. That
  * is proved of every call but quoting_refusal_text and quoting_version, which are plain C.
  *
@@ -37,6 +37,8 @@
 #define QUOTING_MONTH_WORDS 2464
 #define QUOTING_HINT_BYTES 2048
 #define QUOTING_ANSWER_WORDS 20
+/* The most words of a view: 17, and four for each of 64 orders. */
+#define QUOTING_VIEW_WORDS 273
 
 #ifdef __cplusplus
 extern "C" {
@@ -294,6 +296,21 @@ uint64_t quoting_month_fresh(uint32_t *words, size_t words_length);
 uint64_t quoting_month_call(
     uint32_t *words, size_t words_length, uint8_t *hints, size_t hints_length, const uint8_t *call, size_t call_length, uint32_t *answer,
     size_t answer_length);
+
+/*
+ * What stands now: the open quantum of the month whose words these are. The words are as they were.
+ *
+ * words   the month's, words_length of them; what is behind QUOTING_MONTH_WORDS is not looked at.
+ * buffer  buffer_length words, of which the first are written: QUOTING_VIEW_WORDS are always enough.
+ *            0 the day, 1 to 7 the row, 8 to 12 what the spread limit goes by (0, SP and three zeros, or 1 and a strike's a, difference, days
+ *            and b), 13 the lapse limit, 14 the widest D allowed, 15 the state now (0 kept, 1 no bid, 2 no ask, 3 neither, 4 crossed, 5
+ *            wide), 16 the number of live orders; from 17 on four words for each of them, in the order in which they were added: id, side (1
+ *            buy, 2 sell), price, volume
+ *
+ * Answers the number of words written, 0 with no quantum open. Refused, with nothing changed, by
+ *   16  at place 1, words_length is below QUOTING_MONTH_WORDS; at place 2, buffer_length is below 17 and four for each live order
+ */
+uint64_t quoting_month_view(const uint32_t *words, size_t words_length, uint32_t *buffer, size_t buffer_length);
 
 /*
  * Runs a whole list of calls from a fresh month, each on the month that the one before left, and writes each call's answer, as

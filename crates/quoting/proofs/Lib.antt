@@ -5,3 +5,4 @@ pub mod Pairs
 pub mod Standings
 pub mod Texts
 pub mod Weighing
+pub mod Views

@@ -6,3 +6,4 @@ pub mod Messages
 pub mod Months
 pub mod Sessions
 pub mod Standings
+pub mod Views

@@ -17,6 +17,7 @@ use rules::Steps;
 use rules::Strike;
 use rules::Timestamp;
 use standing::Ran;
+use views::Viewed;
 use volatile::DayAnswer;
 ghost use mathlib.Core.Path.{_≡_};
 ghost use mathlib.Core.Bool.{true, not};
@@ -53,6 +54,7 @@ ghost use Rattle.makers.specs.Calls.{standing};
 ghost use Rattle.standing.specs.Words.{readable};
 ghost use Rattle.in_place.specs.Events.{wordsAfter, HoldsMonth};
 ghost use Rattle.live.specs.Calling.{isCall};
+ghost use Rattle.quoting.specs.Views.{viewedNumber, ViewsMonth};
 
 // ---- answers
 
@@ -687,4 +689,26 @@ pub extern "C" fn quoting_standing(
 {
     let ran = standing::run(records, count, calls, outcomes);
     standing_number(calls, ran)
+}
+
+// ---- what stands now
+
+fn viewed_number(viewed: Viewed) -> u64
+    ensures { λ r. ⌜ r ≡ viewedNumber viewed ⌝ }
+{
+    match viewed {
+        Viewed::WordsShort => refused(16) + 1,
+        Viewed::BufferShort => refused(16) + 2,
+        Viewed::Written(n) => n as u64,
+    }
+}
+
+// The open quantum of the month whose words these are.
+#[no_mangle]
+pub extern "C" fn quoting_month_view(words: &[u32], buffer: &mut [u32]) -> u64
+    requires { ⌜ (2464 ≤ length (now words) → HoldsMonth (now words)) ⌝ }
+    ensures { λ r. ⌜ ViewsMonth (now (words .entry)) (now (buffer .entry)) (now (buffer .exit)) r ⌝ }
+{
+    let viewed = views::view(words, buffer);
+    viewed_number(viewed)
 }

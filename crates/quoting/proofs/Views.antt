@@ -1,0 +1,34 @@
+-- A view, as the number that is answered. Assumes nothing.
+use Prim.Native.Nat.{ℕ, _+_}
+use mathlib.Core.Path.{_≡_, refl, sym, ap, _∙_}
+use mathlib.Core.Bool.{Bool, true, false}
+use mathlib.Core.List.{List}
+use lib.Dec.{leb}
+use lib.ListN.{length}
+use Rattle.rules.specs.Lists.{if_then_else_}
+use Rattle.rules.specs.Terms.{paper}
+use Rattle.rules.specs.Book.{after}
+use Rattle.views.specs.declared.Viewed.{Viewed}
+use Rattle.views.specs.declared.Viewed.the-variants.{BufferShort, Written}
+use Rattle.views.specs.Views.{viewWords, Views}
+use Rattle.quoting.specs.Answers.{refusedNumber}
+use Rattle.quoting.specs.Views.{viewedNumber, ViewsMonth}
+
+by-room : (b : Bool) (n : ℕ) → viewedNumber (if b then Written n else BufferShort) ≡ (if b then n else refusedNumber 16 + 2)
+by-room true n = refl
+by-room false n = refl
+
+pub month-viewed : (words before behind : List ℕ) (d : Viewed) (r : ℕ) → Views words before behind d → r ≡ viewedNumber d → ViewsMonth words before behind r
+month-viewed words before behind d r g e =
+    record {
+      short = λ l. (e ∙ ap viewedNumber (g .short l .0), g .short l .1);
+      shown = λ calls is.
+          let view = viewWords (after paper calls .running) in
+          record {
+            number = e ∙ ap viewedNumber (g .shown calls is .answer) ∙ by-room (leb (length view) (length before)) (length view);
+            buffer = g .shown calls is .buffer;
+          };
+    }
+
+pub viewed-as : (d said : Viewed) (r : ℕ) → d ≡ said → r ≡ viewedNumber said → r ≡ viewedNumber d
+viewed-as d said r h e = e ∙ ap viewedNumber (sym h)
