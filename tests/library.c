@@ -80,6 +80,25 @@ static uint64_t run_month(const struct item *it, uint32_t *answers) {
     return answer;
 }
 
+/* What stands after a list of calls, of the first n[0] words of their month. The second string has each call's length. */
+static uint64_t run_view(const struct item *it, uint32_t *buffer) {
+    uint32_t *words = room(QUOTING_MONTH_WORDS * sizeof *words);
+    uint8_t *hints = room(QUOTING_HINT_BYTES);
+    uint32_t out[QUOTING_ANSWER_WORDS];
+    const uint32_t *lengths = (const uint32_t *) (const void *) it->parts[1];
+    const uint8_t *call = it->parts[0];
+    memset(hints, (int) it->fill, QUOTING_HINT_BYTES);
+    quoting_month_fresh(words, QUOTING_MONTH_WORDS);
+    for (size_t k = 0; k < it->sizes[1] / 4; k++) {
+        quoting_month_call(words, QUOTING_MONTH_WORDS, hints, QUOTING_HINT_BYTES, call, lengths[k], out, QUOTING_ANSWER_WORDS);
+        call += lengths[k];
+    }
+    uint64_t answer = quoting_month_view(words, it->numbers[0], buffer, it->count);
+    free(words);
+    free(hints);
+    return answer;
+}
+
 /* One call on a fresh month in memory of n[0] words and n[1] bytes of hints. Words that are too few for a month must stay as they are. */
 static uint64_t run_one(const struct item *it, uint32_t *answer) {
     const uint32_t *n = it->numbers;
@@ -138,6 +157,7 @@ static uint64_t run(const struct item *it, void *buffer) {
     case 15: return run_one(it, buffer);
     case 16: return run_standing(it, buffer);
     case 17: return quoting_account(others, other / 4, words[0], words[1], words[2], words[3], words[4], words[5], a + 24, size - 24, buffer, count);
+    case 18: return run_view(it, buffer);
     default: stop("no such call"); return 0;
     }
 }

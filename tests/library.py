@@ -25,7 +25,7 @@ sys.path.insert(0, str(ROOT))
 from recount import account as accounts
 from recount import fix, game, programs, standing, strikes, volatile
 from recount import session as run
-from recount.book import NO_LIMIT, Accepted, Asked, Book, CellView, Message, Open, Refused, Report, Strike, choose, weight
+from recount.book import BUY, NO_LIMIT, Accepted, Asked, Book, CellView, Message, Open, Refused, Report, Strike, choose, narrow, weight
 from recount.outlook import OutlookView
 from tests import generate, known, message_lists, messages, months
 from tests import standing as standing_cases
@@ -46,7 +46,7 @@ NAMES = {
     4: ("choose_row", [16]), 5: ("fix", [16, 20, 21]), 6: ("fix_write", [3, 16, 21]), 7: ("board", [18]), 8: ("volatile", [22]),
     9: ("ease", [22]), 10: ("safe_minutes", [26]), 11: ("month_fresh", [16]), 12: ("calls", [16]), 13: ("calls_words", []),
     14: ("month_call, a list", []), 15: ("month_call", [3, 16]), 16: ("standing", [3, 16]),
-    17: ("account", [1, 2, 3, *range(8, 17), 18]),
+    17: ("account", [1, 2, 3, *range(8, 17), 18]), 18: ("month_view", [16]),
 }
 MONTH_WORDS, HINT_BYTES, ANSWER_WORDS = 2464, 2048, 20
 
@@ -200,6 +200,36 @@ def month_case(case, buffer):
     return (answer if answer == SHORT else answer // ANSWER_WORDS), after
 
 
+def widest(row, sp):
+    """The greatest D that the spread limit allows, by halves; 0 where it allows none."""
+    low, high = 0, 2**32
+    while high - low > 1:
+        middle = (low + high) // 2
+        low, high = (middle, high) if narrow(row, sp, middle) else (low, middle)
+    return low
+
+
+def view_words(data):
+    """What stands after a list of calls, as words."""
+    book = Book()
+    for call in programs.read_calls(data)[0]:
+        book.call(call)
+    open_one = book.quoting
+    if open_one is None:
+        return []
+    row, sp, live = open_one.row, open_one.sp, open_one.live
+    spread = [1, *sp] if isinstance(sp, Strike) else [0, sp % 2**32, 0, 0, 0]
+    words = [open_one.day, *row, *spread, open_one.limit, widest(row, sp), accounts.state(row, sp, live), len(live)]
+    return words + [word for o in live.values() for word in (o.id, 1 if o.side == BUY else 2, o.price % 2**32, o.volume)]
+
+
+def view_case(case, buffer):
+    if case.numbers[0] < MONTH_WORDS:
+        return SHORT + 1, buffer
+    words = view_words(case.first)
+    return writes(words, buffer) if len(words) <= len(buffer) else (SHORT + 2, buffer)
+
+
 def standing_case(case):
     """The count, and the records and outcomes after the calls."""
     size, count = case.numbers
@@ -234,8 +264,8 @@ def due(case):
         row = programs.to_words(case.second)
         answer = inside(case.first, numbers[1])
         return answer, volatile.eased(row, numbers[0] != 0) if answer == 1 else row
-    if case.call in (2, 5, 6, 17):
-        return {2: session_pairs, 5: read_fix, 6: written_fix, 17: account}[case.call](case, buffer)
+    if case.call in (2, 5, 6, 17, 18):
+        return {2: session_pairs, 5: read_fix, 6: written_fix, 17: account, 18: view_case}[case.call](case, buffer)
     if case.call == 4:
         tables = programs.to_words(case.first), programs.to_words(case.second)
         return writes(choose(*tables, numbers[0] != 0, *numbers[1:3]), buffer)
@@ -369,6 +399,10 @@ def list_cases(rng, count):
         yield Case(12, sizes(rng, needed), rng.randrange(256), first=data)
         yield Case(13, first=data)
         yield Case(14, needed, rng.randrange(256), (), b"".join(blocks), packed(list(map(len, blocks))))
+        for calls in (blocks, blocks[:rng.randrange(len(blocks) + 1)]):
+            joined = b"".join(calls)
+            size = sizes(rng, len(view_words(joined)))
+            yield Case(18, size, rng.randrange(256), (rng.choice([MONTH_WORDS] * 5 + [MONTH_WORDS - 1]),), joined, packed(list(map(len, calls))))
         call = rng.choice([*blocks, data, b"", b"".join(blocks[:2]), *(block[:-1] for block in blocks[:3])])
         shape = rng.choice([MONTH_WORDS] * 5 + [MONTH_WORDS + 1, MONTH_WORDS - 1, 0]), rng.choice([HINT_BYTES] * 5 + [HINT_BYTES + 1, HINT_BYTES - 1])
         yield Case(15, rng.choice([ANSWER_WORDS] * 5 + [ANSWER_WORDS + 4, ANSWER_WORDS - 1]), rng.randrange(256), shape, call)
