@@ -73,9 +73,10 @@ dist: library
 	cp docs/FORMATS.md CHANGELOG.md examples/client.c examples/month.c examples/pairs.cpp target/dist/quoting-$(VERSION)/
 	tar -C target/dist --sort=name --owner=0 --group=0 --numeric-owner -czf target/quoting-$(VERSION).tar.gz quoting-$(VERSION)
 
-# The proved meter's C call against two meters in Rust, and the proved reader of FIX messages against two in Rust.
+# The proved meter's C call against two meters in Rust, the proved reader of FIX messages against two in Rust, and a call of the proved
+# month against two months in Rust.
 bench:
 	rt staticlib session
 	rt staticlib quoting
-	objcopy --keep-global-symbol=quoting_fix target/staticlib/libquoting.a target/staticlib/libquoting_fix.a
+	objcopy --redefine-sym quoting_session=library_session target/staticlib/libquoting.a target/staticlib/libquoting_others.a
 	cd bench && cargo run --release --offline --quiet

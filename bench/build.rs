@@ -1,5 +1,5 @@
-//! Links the archives of the proved session run and of the library's reader of FIX messages, where the feature asks for them, and
-//! QuickFIX where it is installed.
+//! Links the archives of the proved session run and of the library's other calls, where the feature asks for them, and QuickFIX where it
+//! is installed.
 
 use std::path::Path;
 use std::process::Command;
@@ -40,7 +40,7 @@ fn main() {
     }
     let folder = std::env::var("CARGO_MANIFEST_DIR").unwrap() + "/../target/staticlib";
     println!("cargo:rustc-link-search=native={folder}");
-    for name in ["session", "quoting_fix"] {
+    for name in ["session", "quoting_others"] {
         let archive = format!("{folder}/lib{name}.a");
         if !Path::new(&archive).exists() {
             panic!("no target/staticlib/lib{name}.a: run `make bench`, which writes it first");

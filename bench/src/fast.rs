@@ -239,7 +239,7 @@ fn word(bytes: &[u8; RECORD], at: usize) -> u32 {
     u32::from_le_bytes(bytes[at..at + 4].try_into().unwrap())
 }
 
-struct Meter {
+pub struct Meter {
     terms: Terms,
     limit: i64,
     keys: [Keys; 2],
@@ -255,6 +255,33 @@ struct Meter {
 }
 
 impl Meter {
+    #[inline(always)]
+    fn new(terms: Terms) -> Meter {
+        // D × 100,000 ≤ a × SP or D ≤ b, as one limit of D; D is also 1 or more.
+        let limit = (terms.a as i64 * terms.sp as i64).div_euclid(100_000);
+        let none = Level {
+            key: NONE,
+            before: 0,
+            at: 0,
+            total: 0,
+        };
+        Meter {
+            terms,
+            limit: limit.max(terms.b as i64),
+            keys: [[NONE; MAX_ORDERS]; 2],
+            volumes: [[0; MAX_ORDERS]; 2],
+            used: [0; 2],
+            levels: [none; 2],
+            index: Index {
+                entries: [Entry { id: 0, place: 0 }; Index::SIZE],
+            },
+            live: 0,
+            now: 0,
+            kept: 0,
+            keeps: false,
+        }
+    }
+
     #[inline(always)]
     fn run_on(&mut self, t: u32) {
         self.kept += part(self.keeps, t - self.now);
@@ -328,6 +355,19 @@ impl Meter {
         let kind = word(bytes, 0);
         let (t, id) = (word(bytes, 4), word(bytes, 8));
         let (price, volume) = (word(bytes, 12) as i32, word(bytes, 16));
+        self.take_fields(kind, t, id, price, volume)
+    }
+
+    /// The same by its fields.
+    #[inline(always)]
+    fn take_fields(
+        &mut self,
+        kind: u32,
+        t: u32,
+        id: u32,
+        price: i32,
+        volume: u32,
+    ) -> Result<(), u64> {
         if kind == TICK as u32 {
             if id | price as u32 | volume != 0 {
                 return Err(15);
@@ -407,29 +447,7 @@ pub fn run(head: &[u8], records: &[u8]) -> u64 {
         Ok(terms) => terms,
         Err(number) => return refused(number, 0),
     };
-    // D × 100,000 ≤ a × SP or D ≤ b, as one limit of D; D is also 1 or more.
-    let limit = (terms.a as i64 * terms.sp as i64).div_euclid(100_000);
-    let none = Level {
-        key: NONE,
-        before: 0,
-        at: 0,
-        total: 0,
-    };
-    let mut meter = Meter {
-        terms,
-        limit: limit.max(terms.b as i64),
-        keys: [[NONE; MAX_ORDERS]; 2],
-        volumes: [[0; MAX_ORDERS]; 2],
-        used: [0; 2],
-        levels: [none; 2],
-        index: Index {
-            entries: [Entry { id: 0, place: 0 }; Index::SIZE],
-        },
-        live: 0,
-        now: 0,
-        kept: 0,
-        keeps: false,
-    };
+    let mut meter = Meter::new(terms);
     let full = records.chunks_exact(RECORD);
     let past = full.len() + 1;
     let cut = !full.remainder().is_empty();
@@ -443,4 +461,42 @@ pub fn run(head: &[u8], records: &[u8]) -> u64 {
     }
     meter.run_on(terms.length);
     meter.kept as u64
+}
+
+impl crate::month::Meter for Meter {
+    fn new(terms: Terms) -> Meter {
+        Meter::new(terms)
+    }
+
+    #[inline(always)]
+    fn take(&mut self, r: Record) -> Result<(), u64> {
+        self.take_fields(r.kind as u32, r.t, r.id, r.price, r.volume)
+    }
+
+    fn run_on(&mut self, t: u32) {
+        self.run_on(t);
+    }
+
+    #[inline(always)]
+    fn now(&self) -> u32 {
+        self.now
+    }
+
+    #[inline(always)]
+    fn keeps(&self) -> bool {
+        self.keeps
+    }
+
+    fn kept(&self) -> u32 {
+        self.kept
+    }
+
+    fn orders(&self) -> usize {
+        self.live
+    }
+
+    fn quotes(&self) -> [Option<i32>; 2] {
+        let [bid, ask] = self.levels.map(|l| l.key);
+        [(bid != NONE).then_some(bid), (ask != NONE).then(|| -ask)]
+    }
 }

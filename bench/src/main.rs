@@ -1,5 +1,6 @@
 //! The proved meter's C call against two meters in Rust: their answers are compared, and their time measured. A third one
-//! in Rust counts the sums. And the proved reader of FIX messages against two in Rust.
+//! in Rust counts the sums. The proved reader of FIX messages against two in Rust. And a call of the proved month, in place and by
+//! value, against two months in Rust.
 
 mod counted;
 mod fast;
@@ -7,6 +8,8 @@ mod fix;
 mod fix_fast;
 mod fix_plain;
 mod input;
+mod month;
+mod months;
 mod plain;
 mod session;
 
@@ -178,14 +181,24 @@ fn main() {
             ("--check", Some(n)) => sessions = n,
             ("--seed", Some(n)) => seed = n,
             ("--only", None) if value.is_some() => only = value,
+            ("--count", None) if value.is_some() => {
+                let numbers = value.iter().flat_map(|v| v.split(','));
+                let numbers: Vec<_> = numbers.filter_map(|n| n.parse().ok()).collect();
+                if let [run, kind, events] = numbers[..] {
+                    return months::counted(run, kind, events, seed);
+                }
+            }
             _ => {
-                eprintln!("bench [--most RECORDS] [--check CASES] [--seed N] [--only SHAPE]");
+                eprintln!(
+                    "bench [--most RECORDS] [--check CASES] [--seed N] [--only SHAPE|fix|month]"
+                );
                 exit(2);
             }
         }
     }
     check(sessions, seed);
     fix::check(sessions, seed);
+    months::check(sessions / 10, seed);
 
     let cores = std::thread::available_parallelism().map_or(0, usize::from);
     let model = field("/proc/cpuinfo", "model name");
@@ -204,7 +217,7 @@ fn main() {
     let mut titles: Vec<_> = titles.map(String::from).into();
     titles.extend(names.iter().map(|n| format!("{n} ns")));
     titles.extend(names[1..].iter().map(|n| format!("{}/{n}", names[0])));
-    if only.as_deref() != Some("fix") {
+    if !matches!(only.as_deref(), Some("fix" | "month")) {
         println!("Sums that a record made before a search, records in a hundred that made a search, sums that a search made, nanoseconds a record, and ratios:");
         println!();
         row(titles.clone());
@@ -265,6 +278,9 @@ fn main() {
     }
     if !only.as_ref().is_some_and(|o| o != "fix") {
         fix::table(seed);
+    }
+    if !only.as_ref().is_some_and(|o| o != "month") {
+        months::table(seed);
     }
     println!("Load average {} after.", load());
 }

@@ -16,7 +16,7 @@ struct Order {
     volume: u32,
 }
 
-struct Meter {
+pub struct Meter {
     terms: Terms,
     live: Vec<Order>,
     now: u32,
@@ -34,16 +34,7 @@ pub fn run(head: &[u8], records: &[u8]) -> (u64, u32) {
         Ok(terms) => terms,
         Err(number) => return (refused(number, 0), 0),
     };
-    let mut meter = Meter {
-        terms,
-        live: Vec::new(),
-        now: 0,
-        kept: 0,
-        bid: None,
-        ask: None,
-        stretches: 0,
-        open: false,
-    };
+    let mut meter = Meter::new(terms);
     for (i, bytes) in records.chunks(RECORD).enumerate() {
         let place = i + 1;
         let taken = if place > LIMIT {
@@ -96,6 +87,19 @@ fn search(
 }
 
 impl Meter {
+    fn new(terms: Terms) -> Meter {
+        Meter {
+            terms,
+            live: Vec::new(),
+            now: 0,
+            kept: 0,
+            bid: None,
+            ask: None,
+            stretches: 0,
+            open: false,
+        }
+    }
+
     fn keeps(&self) -> bool {
         let (Some(bid), Some(ask)) = (self.bid, self.ask) else {
             return false;
@@ -197,5 +201,39 @@ impl Meter {
         }
         self.search(side);
         Ok(())
+    }
+}
+
+impl crate::month::Meter for Meter {
+    fn new(terms: Terms) -> Meter {
+        Meter::new(terms)
+    }
+
+    fn take(&mut self, r: Record) -> Result<(), u64> {
+        self.take(r)
+    }
+
+    fn run_on(&mut self, t: u32) {
+        self.run_on(t);
+    }
+
+    fn now(&self) -> u32 {
+        self.now
+    }
+
+    fn keeps(&self) -> bool {
+        self.keeps()
+    }
+
+    fn kept(&self) -> u32 {
+        self.kept
+    }
+
+    fn orders(&self) -> usize {
+        self.live.len()
+    }
+
+    fn quotes(&self) -> [Option<i32>; 2] {
+        [self.bid, self.ask]
     }
 }

@@ -44,7 +44,7 @@ pub fn good_volume(v: u32) -> bool {
 }
 
 #[inline(always)]
-fn word(bytes: &[u8], at: usize) -> u32 {
+pub fn word(bytes: &[u8], at: usize) -> u32 {
     u32::from_le_bytes(bytes[at..at + 4].try_into().unwrap())
 }
 
@@ -53,8 +53,13 @@ pub fn read_terms(head: &[u8]) -> Result<Terms, u64> {
     if head.len() != 32 {
         return Err(1);
     }
-    let w = |i: usize| word(head, 4 * i);
-    let (expiry, quantum, length, least, a, b, share) = (w(0), w(1), w(2), w(3), w(4), w(5), w(6));
+    let row = std::array::from_fn(|i| word(head, 4 * i));
+    terms_of(row, word(head, 28) as i32)
+}
+
+/// A row's seven words and SP; or the refusal's number.
+pub fn terms_of(row: [u32; 7], sp: i32) -> Result<Terms, u64> {
+    let [expiry, quantum, length, least, a, b, share] = row;
     let good = (1..=2).contains(&expiry)
         && quantum <= 2
         && (1_000..=86_400_000).contains(&length)
@@ -66,7 +71,6 @@ pub fn read_terms(head: &[u8]) -> Result<Terms, u64> {
     if !good {
         return Err(2);
     }
-    let sp = w(7) as i32;
     if !good_price(sp) {
         return Err(3);
     }
