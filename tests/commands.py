@@ -178,10 +178,24 @@ def check_letters():
             assert status == ("board" in line), line
 
 
+def heeds_interrupts():
+    """For a child: a test that is run in the background has Ctrl-C ignored, and its children with it."""
+    signal.signal(signal.SIGINT, signal.SIG_DFL)
+
+
+def wait_for_read(child):
+    """Until the child waits for its standard input: it is in the system call read (0), of file 0."""
+    ends = time.monotonic() + 60
+    while not Path(f"/proc/{child.pid}/syscall").read_text().startswith("0 0x0 "):
+        assert child.poll() is None and time.monotonic() < ends, "it never waited for input"
+        time.sleep(0.05)
+
+
 def check_interrupt():
     """Ctrl-C while it waits for input."""
-    waiting = subprocess.Popen([QUOTING, "sheet", "-"], stdin=subprocess.PIPE, stdout=subprocess.PIPE, stderr=subprocess.PIPE)
-    time.sleep(1)
+    pipes = {"stdin": subprocess.PIPE, "stdout": subprocess.PIPE, "stderr": subprocess.PIPE}
+    waiting = subprocess.Popen([QUOTING, "sheet", "-"], preexec_fn=heeds_interrupts, **pipes)
+    wait_for_read(waiting)
     waiting.send_signal(signal.SIGINT)
     _, said = waiting.communicate(timeout=10)
     assert (waiting.returncode, said) == (130, b"quoting: stopped\n"), (waiting.returncode, said)
