@@ -16,9 +16,10 @@ test:
 # The sheet of a shipped session, and a month of calls; then a month's statement, where its needs are there.
 demo:
 	rt check sheet replay
+	@if command -v cc >/dev/null && $(PYTHON) -c 'import jinja2' 2>/dev/null; then $(MAKE) -s statement PYTHON=$(PYTHON); fi
 	PYTHON=$(PYTHON) ./quoting bytes examples/brent.session | target/bin/sheet
 	PYTHON=$(PYTHON) ./quoting bytes examples/month.calls | target/bin/replay
-	@if command -v cc >/dev/null && $(PYTHON) -c 'import jinja2' 2>/dev/null; then $(MAKE) -s statement PYTHON=$(PYTHON); \
+	@if [ -s target/brent.html ]; then echo "a month's statement is target/brent.html"; \
 	else echo "for a month's statement: apt-get install gcc python3-jinja2, then make statement"; fi
 
 # The statement of a shipped month as a page that can be printed: target/brent.html. Two of its messages are refused, so the command ends with 1.
