@@ -1,6 +1,7 @@
 /* Holds a month in its own memory and prints a line a call, as `replay` does.
 
      month < CALLS                                        CALLS are blocks of words (docs/FORMATS.md, "A list of calls")
+     month view < CALLS                                   the same, and at the end of input what stands then: the open quantum and its orders
      month START EXPIRY QUANTUM L M A B P DAY SP < LINES  opens a quantum on that row, day and SP; then each line is one FIX message, with
                                                           `|` or the byte 1 behind each field, and START is the quantum's start
                                                           (YYYYMMDD-HH:MM:SS.sss). At the end of input it prints a report.
@@ -130,6 +131,34 @@ static int run_blocks(void) {
     return 0;
 }
 
+/* The open quantum, and a line for each live order in the order in which they were added. */
+static int print_view(void) {
+    static const char *const states[] = {"kept", "no-bid", "no-ask", "neither", "crossed", "wide"};
+    uint32_t v[QUOTING_VIEW_WORDS];
+    uint64_t written = quoting_month_view(month.words, QUOTING_MONTH_WORDS, v, QUOTING_VIEW_WORDS);
+    if (quoting_refusal_of(written) != QUOTING_ACCEPTED) {
+        return 2;
+    }
+    if (written == 0) {
+        puts("view none");
+        return 0;
+    }
+    printf("view day %" PRIu32 " row", v[0]);
+    for (int i = 1; i < 8; i++) {
+        printf(" %" PRIu32, v[i]);
+    }
+    if (v[8] == 0) {
+        printf(" sp %" PRId64, price_of(v[9]));
+    } else {
+        printf(" strike %" PRIu32 " %" PRIu32 " %" PRIu32 " %" PRIu32, v[9], v[10], v[11], v[12]);
+    }
+    printf(" limit %" PRIu32 " widest %" PRIu32 " state %s orders %" PRIu32 "\n", v[13], v[14], states[v[15]], v[16]);
+    for (const uint32_t *o = v + 17; o < v + written; o += 4) {
+        printf("order %" PRIu32 " %s %" PRId64 " %" PRIu32 "\n", o[0], o[1] == 1 ? "buy" : "sell", price_of(o[2]), o[3]);
+    }
+    return 0;
+}
+
 static void put_word(size_t place, uint32_t word) {
     for (size_t i = 0; i < 4; i++) {
         block[4 * place + i] = (uint8_t) (word >> (8 * i));
@@ -175,12 +204,17 @@ static int run_messages(char **words) {
 }
 
 int main(int count, char **words) {
-    if (count != 1 && count != 11) {
-        fprintf(stderr, "usage: month [START EXPIRY QUANTUM L M A B P DAY SP]\n");
+    int shown = count == 2 && strcmp(words[1], "view") == 0;
+    if (count != 1 && count != 11 && !shown) {
+        fprintf(stderr, "usage: month [view | START EXPIRY QUANTUM L M A B P DAY SP]\n");
         return 2;
     }
     if (quoting_month_fresh(month.words, QUOTING_MONTH_WORDS) != QUOTING_MONTH_WORDS) {
         return 2;
     }
-    return count == 1 ? run_blocks() : run_messages(words + 1);
+    if (count == 11) {
+        return run_messages(words + 1);
+    }
+    int status = run_blocks();
+    return status == 0 && shown ? print_view() : status;
 }

@@ -589,6 +589,19 @@ def check_example():
                 assert printed == due_lines, printed
 
 
+def view_lines(v):
+    """The lines of the C example for a view's words."""
+    if not v:
+        return "view none\n"
+    price = lambda word: word - 2**32 * (word >> 31)
+    told = f"strike {v[9]} {v[10]} {v[11]} {v[12]}" if v[8] else f"sp {price(v[9])}"
+    row = " ".join(map(str, v[1:8]))
+    lines = [f"view day {v[0]} row {row} {told} limit {v[13]} widest {v[14]} state {accounts.STATES[v[15]]} orders {v[16]}"]
+    orders = (v[at : at + 4] for at in range(17, len(v), 4))
+    lines += [f"order {id} {'buy' if side == 1 else 'sell'} {price(cost)} {volume}" for id, side, cost, volume in orders]
+    return "".join(line + "\n" for line in lines)
+
+
 def check_month_example(rng, count):
     """The C example that holds a month: on lists of calls the lines of `replay`, on a FIX message a line those of the same calls."""
     source = [ROOT / "examples" / "month.c", BUILT / "libquoting.a"]
@@ -602,6 +615,7 @@ def check_month_example(rng, count):
         assert line == programs.replay(data)
         under = ["valgrind", "-q", "--error-exitcode=3", plain] if at % 40 == 0 else [watched]
         assert printed_by(under, data) == line, (data.hex(), line)
+        assert printed_by([watched, "view"], data) == line + view_lines(view_words(data)), data.hex()
     check_in_turn(plain, lists[0])
     given = SIXTY.decode(), 1, 1, 10_000, 500, 100, 1, 600, 1, 2_000
     orders = [fix.order_of([1, 7, 0, 1, 500, 99], SIXTY), fix.order_of([2, 8, 9, 0, 0, 0], SIXTY), fix.order_of([2, 8, 7, 0, 0, 0], SIXTY)]
