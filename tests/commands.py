@@ -184,11 +184,14 @@ def heeds_interrupts():
 
 
 def wait_for_read(child):
-    """Until the child waits for its standard input: it is in the system call read (0), of file 0."""
-    ends = time.monotonic() + 60
-    while not Path(f"/proc/{child.pid}/syscall").read_text().startswith("0 0x0 "):
-        assert child.poll() is None and time.monotonic() < ends, "it never waited for input"
-        time.sleep(0.05)
+    """Until the child waits for its standard input: it is in the system call read (0), of file 0. Where that is not told, some seconds."""
+    ends, where = time.monotonic() + 60, Path(f"/proc/{child.pid}/syscall")
+    try:
+        while not where.read_text().startswith("0 0x0 "):
+            assert child.poll() is None and time.monotonic() < ends, "it never waited for input"
+            time.sleep(0.05)
+    except OSError:
+        time.sleep(5)
 
 
 def check_interrupt():
