@@ -51,7 +51,7 @@ use Rattle.quantum.specs.declared.Totals.{Totals}
 use Rattle.quantum.specs.Represents as S
 use Rattle.quantum.specs.Represents.{clockOf, quantumOf, taken}
 use Rattle.quantum.proofs.Answers.{whole-is}
-use Rattle.outlook.specs.Stands.{Stands, Outlooked}
+use Rattle.outlook.specs.Represents.{Represents, Outlooked}
 use Rattle.month.specs.declared.Month.{Month}
 use Rattle.month.specs.Represents.{idleRow, quantumIn, monthOf, Reached, Answered}
 use Rattle.month.specs.Internal.{withCell, withoutQuantum, counted}
@@ -422,7 +422,7 @@ outlook-idle m k = stopped m B.Outlook 6 (λ b g is. stop _ _ (ap not (closed-is
 
 -- what the outlook goes by is the open quantum's
 module _ (m : Month) (duty : Duty) (clock : Clock) (d : duty ≡ m .quantum .duty) (c : clock ≡ m .quantum .clock) where
-  stands : (b : Book) (o : Opened m b) → Stands (o .row) (o .opening) (o .events) duty clock (m .share) (m .allowed)
+  stands : (b : Book) (o : Opened m b) → Represents (o .row) (o .opening) (o .events) duty clock (m .share) (m .allowed)
   unfolding quantumOf
   stands b o =
       record {
@@ -438,10 +438,10 @@ module _ (m : Month) (duty : Duty) (clock : Clock) (d : duty ≡ m .quantum .dut
   outlook-stands r k =
       let b = after paper (r .calls) in
       let o = opened m b (bounds paper (r .calls)) (r .is) k in
-      record { row = o .row; opening = o .opening; events = o .events; stands = stands b o }
+      record { row = o .row; opening = o .opening; events = o .events; represents = stands b o }
 
   pub outlook-done : m .running ≡ true → (seen : Outlook)
-      → ((row : Row) (opening : Opening) (events : List Event) → Stands row opening events duty clock (m .share) (m .allowed) → seen ≡ outlookOf paper row opening events)
+      → ((row : Row) (opening : Opening) (events : List Event) → Represents row opening events duty clock (m .share) (m .allowed) → seen ≡ outlookOf paper row opening events)
       → Answered m B.Outlook m (accepted (outlook seen))
   unfolding refusalOf causes changed outlookIn
   outlook-done k seen h =

@@ -28,7 +28,7 @@ use Rattle.quantum.specs.declared.Duty.{Duty}
 use Rattle.quantum.specs.declared.Clock.{Clock}
 use Rattle.quantum.specs.Represents.{dutyOf, clockOf, tableAfter}
 use Rattle.quantum.proofs.Represents.{time-is, onward, widest-is}
-use Rattle.outlook.specs.Stands.{Stands}
+use Rattle.outlook.specs.Represents.{Represents}
 use Rattle.outlook.specs.Internal.{Sound, endingCell}
 use Rattle.outlook.proofs.Resting.{oneIf, resting-count, resting-lapses}
 
@@ -65,7 +65,7 @@ ending-bounds duty clock keeps share allowed lapses kept s h e =
     }
 
 -- what stands for an open quantum is in its ranges
-pub sound : (row : Row) (opening : Opening) (es : List Event) (duty : Duty) (clock : Clock) (share allowed : ℕ) → Stands row opening es duty clock share allowed
+pub sound : (row : Row) (opening : Opening) (es : List Event) (duty : Duty) (clock : Clock) (share allowed : ℕ) → Represents row opening es duty clock share allowed
     → Sound duty clock share
 unfolding dutyOf
 sound row opening es duty clock share allowed s =

@@ -25,7 +25,7 @@ use Rattle.rules.specs.Outlook.{needOf, lapsesLeft, isNever, canKeep, cellResti
 use Rattle.quantum.specs.declared.Duty.{Duty}
 use Rattle.quantum.specs.declared.Clock.{Clock}
 use Rattle.quantum.specs.Represents.{dutyOf, clockOf}
-use Rattle.outlook.specs.Stands.{Stands}
+use Rattle.outlook.specs.Represents.{Represents}
 use Rattle.outlook.specs.Internal.{endingCell, fullOf, byOf}
 use Rattle.outlook.proofs.Latest.{latest-ext}
 use Rattle.outlook.proofs.Until.{by-law, testTill}
@@ -110,7 +110,7 @@ module _ (row : Row) (opening : Opening) (es : List Event) (g : EventBounds row 
       }
 
 pub worked-is : (row : Row) (opening : Opening) (es : List Event) (duty : Duty) (clock : Clock) (share allowed : ℕ)
-    → Stands row opening es duty clock share allowed
+    → Represents row opening es duty clock share allowed
     → worked duty clock share allowed (leb 1 (duty .widest)) (endingCell duty clock 0 share allowed) (endingCell duty clock 1 share allowed)
     ≡ outlookOf paper row opening es
 worked-is row opening es duty clock share allowed s =

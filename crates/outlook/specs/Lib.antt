@@ -1,4 +1,4 @@
 -- What an outlook is asked of, and what it promises.
-pub mod Stands
+pub mod Represents
 -- What its functions promise to each other.
 pub mod Internal

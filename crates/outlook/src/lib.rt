@@ -10,7 +10,7 @@ ghost use Rattle.rules.specs.Lists.{if_then_else_};
 ghost use Rattle.rules.specs.Terms.{paper};
 ghost use Rattle.rules.specs.Pay.{viewOf};
 ghost use Rattle.rules.specs.Outlook.{needOf, lapsesLeft, isNever, outlookOf};
-ghost use Rattle.outlook.specs.Stands.{Stands, Outlooked};
+ghost use Rattle.outlook.specs.Represents.{Represents, Outlooked};
 ghost use Rattle.outlook.specs.Internal.{Sound, endingCell, reached, fullOf, byOf};
 use quantum::Clock;
 use quantum::Duty;
@@ -143,7 +143,7 @@ fn weight_keeping(can: bool, keeping: u32, resting: u32) -> u32
 // The outlook. Something can be kept where the widest D is 1 at least.
 pub fn of(duty: Duty, clock: Clock, share: u32, allowed: u32) -> Outlook
     requires { ⌜ Outlooked duty clock share allowed ⌝ }
-    ensures { λ r. ⌜ ((row : Row) (opening : Opening) (events : List Event) → Stands row opening events duty clock share allowed → r ≡ outlookOf paper row opening events) ⌝ }
+    ensures { λ r. ⌜ ((row : Row) (opening : Opening) (events : List Event) → Represents row opening events duty clock share allowed → r ≡ outlookOf paper row opening events) ⌝ }
 {
     let end = duty.length;
     let now = clock.time;

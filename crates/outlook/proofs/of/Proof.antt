@@ -2,7 +2,7 @@
 use native.Mathlib.Omega.{arith}
 use mathlib.Core.Path.{_∙_}
 use borrow.Author.Needs.{needs}
-use Rattle.outlook.specs.Stands.{Outlooked}
+use Rattle.outlook.specs.Represents.{Outlooked}
 use Rattle.outlook.specs.Internal.{Sound}
 use Rattle.quantum.specs.declared.Duty.{Duty}
 use Rattle.quantum.specs.declared.Clock.{Clock}
@@ -13,7 +13,7 @@ use Rattle.outlook.proofs.of.Statement.{statement}
 use Rattle.outlook.proofs.of.Tie as tie
 
 in-range : {duty : Duty} {clock : Clock} {share allowed : ℕ} → Outlooked duty clock share allowed → Sound duty clock share
-in-range {duty} {clock} {share} {allowed} o = sound (o .row) (o .opening) (o .events) duty clock share allowed (o .stands)
+in-range {duty} {clock} {share} {allowed} o = sound (o .row) (o .opening) (o .events) duty clock share allowed (o .represents)
 
 sub-full : tie.Need-sub-full
 sub-full c = in-range (c .before .before .before .before .before .pre) .inside

@@ -15,7 +15,7 @@ use Rattle.quantum.specs.declared.Clock.{Clock}
 use Rattle.quantum.specs.Represents.{dutyOf, clockOf}
 
 -- they stand for these
-pub record Stands (row : Row) (opening : Opening) (events : List Event) (duty : Duty) (clock : Clock) (share allowed : ℕ) : Type 0 where
+pub record Represents (row : Row) (opening : Opening) (events : List Event) (duty : Duty) (clock : Clock) (share allowed : ℕ) : Type 0 where
   pub row-good : goodRowFor paper (opening .spread) row ≡ true
   pub events-good : EventBounds row events
   pub duty-is : duty ≡ dutyOf row (opening .spread)
@@ -28,4 +28,4 @@ pub record Outlooked (duty : Duty) (clock : Clock) (share allowed : ℕ) : Type 
   pub row : Row
   pub opening : Opening
   pub events : List Event
-  pub stands : Stands row opening events duty clock share allowed
+  pub represents : Represents row opening events duty clock share allowed
