@@ -22,8 +22,9 @@ use Rattle.rules.specs.Records.{readRecord}
 use Rattle.rules.specs.Session.{recordsOf}
 use Rattle.rules.specs.Accounts.{Part, parts, totals, partWords, Account, accounted, halted, reckoned, accountOf, accountRecords}
 use Rattle.rules.proofs.Bounds.{event-bounds-none}
-use Rattle.quantum.specs.declared.Duty.{Duty}
-use Rattle.quantum.specs.Represents.{dutyOf, tableAfter}
+use Rattle.clock.specs.declared.Duty.{Duty}
+use Rattle.clock.specs.Clocks.{dutyOf}
+use Rattle.events.specs.Represents.{tableAfter}
 use Rattle.session.specs.Internal.{refusalBy, followed}
 use Rattle.session.proofs.Runs.{records-none, records-some}
 use Rattle.session.proofs.Loop.{short-record, fifteen-only, record-numbered, followed-bounds}

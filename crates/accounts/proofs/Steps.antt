@@ -23,17 +23,19 @@ use Rattle.rules.proofs.Orders.{present-snoc}
 use Rattle.rules.proofs.States.{stateAt-now, stateAt-snoc}
 use Rattle.rules.proofs.Refusals.{event-passes}
 use Rattle.rules.proofs.Bounds.{read-bounds}
-use Rattle.quote.specs.Widest.{WidestFor}
+use Rattle.prices.specs.Widest.{WidestFor}
 use Rattle.book.specs.Table.{tableOf, GoodOrders}
 use Rattle.book.proofs.Table.{table-length}
 use Rattle.record.specs.declared.Fields.{Fields}
 use Rattle.record.specs.Fields.{readFields}
 use Rattle.record.proofs.Reading.{only-fifteen}
-use Rattle.quantum.specs.declared.Duty.{Duty}
-use Rattle.quantum.specs.declared.Clock.{Clock}
-use Rattle.quantum.specs.declared.Stepped.{Stepped as SteppedOn}
-use Rattle.quantum.specs.Represents.{clockOf, tableAfter, taken, ReachedParts, Represents, Stepping, SteppingRead}
-use Rattle.quantum.proofs.Represents.{time-is, good-orders, widest-is, length-is}
+use Rattle.clock.specs.declared.Duty.{Duty}
+use Rattle.clock.specs.declared.Clock.{Clock}
+use Rattle.events.specs.declared.Stepped.{Stepped as SteppedOn}
+use Rattle.clock.specs.Clocks.{clockOf}
+use Rattle.events.specs.Represents.{tableAfter, taken, ReachedParts, Represents, Stepping, SteppingRead}
+use Rattle.clock.proofs.Clocks.{time-is}
+use Rattle.events.proofs.Represents.{good-orders, widest-is, length-is}
 use Rattle.accounts.specs.declared.Times.{Times}
 use Rattle.accounts.specs.declared.Marks.{Marks}
 use Rattle.accounts.specs.declared.Progress.{Progress}

@@ -22,8 +22,9 @@ use Rattle.rules.specs.Changes.{following}
 use Rattle.rules.specs.Bounds.{EventBounds}
 use Rattle.rules.specs.Session.{recordsOf}
 use Rattle.rules.specs.Accounts.{Part, parts, timeIn, totals, partWords, Account, accounted, halted, AccountRan, reckoned, stoppedAt, noLimit, accountRecords}
-use Rattle.quantum.specs.declared.Duty.{Duty}
-use Rattle.quantum.specs.Represents.{dutyOf, clockOf, tableAfter}
+use Rattle.clock.specs.declared.Duty.{Duty}
+use Rattle.clock.specs.Clocks.{dutyOf, clockOf}
+use Rattle.events.specs.Represents.{tableAfter}
 use Rattle.session.specs.Internal.{countFrom, refusalBy, followed}
 use Rattle.accounts.specs.declared.AccountAnswer.{AccountAnswer}
 use Rattle.accounts.specs.declared.Times.{Times}

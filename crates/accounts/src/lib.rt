@@ -16,8 +16,8 @@ ghost use Rattle.rules.specs.Session.{mostRecords, recordsOf};
 ghost use Rattle.rules.specs.Accounts.{accountRecords, account, accountRan, accountBuffer};
 ghost use Rattle.accounts.specs.Shown.{shownAccount, filledBy};
 ghost use Rattle.accounts.specs.Internal.{putPart, begunAt, addedTo, Addable, MarksBounds, MarksAfter, ReachedRun, Advanced, ReachedEnd, FinalAnswer, progressAt, bookWith, Passed};
-use quantum::Clock;
-use quantum::Duty;
+use clock::Clock;
+use clock::Duty;
 use rules::Millis;
 use rules::Refusal;
 use rules::Row;
@@ -149,7 +149,7 @@ fn step(
     let marks = progress.marks;
     let state = book::state(table, duty.widest);
     let fields = record::fields_of(bytes);
-    let stepped = quantum::step_fields(duty, clock, table, hints, fields);
+    let stepped = events::step_fields(duty, clock, table, hints, fields);
     let next = stepped.clock;
     let refusal = stepped.refusal;
     if 0 < refusal {
@@ -190,7 +190,7 @@ fn begin() -> Progress
     ensures { λ r. ⌜ ((row : Row) (sp : SpreadRule) → r ≡ progressAt row sp []) ⌝ }
 {
     Progress {
-        clock: quantum::started(),
+        clock: clock::started(),
         marks: Marks {
             stretches: 0,
             start: 0,
@@ -219,7 +219,7 @@ fn run_records(
     requires { ⌜ (most ≤ 4000000) × (goodRowFor paper spread row ≡ true) × (goodSpreadRule spread ≡ true) ⌝ }
     ensures { λ r. ⌜ ((cell : ℕ) → Passed (accountRecords paper most 1 (bookWith cell row spread []) (recordsOf (now (records .entry)))) (now (buffer .entry)) (now (buffer .exit)) r) ⌝ }
 {
-    let duty = quantum::duty_of(row, spread);
+    let duty = clock::duty_of(row, spread);
     let mut table = book::empty();
     let mut hints = [0u8; 2048];
     let mut progress = begin();

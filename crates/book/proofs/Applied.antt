@@ -21,7 +21,7 @@ use Rattle.rules.proofs.Members.{length-filter, getD-in}
 use Rattle.rules.proofs.Orders.{cancel-at, deal-all}
 use Rattle.rules.proofs.Bounds.{volume-bounds}
 use Rattle.rules.proofs.Refusals.{trader-passes}
-use Rattle.quote.proofs.Keys.{key-least, key-most}
+use Rattle.prices.proofs.Keys.{key-least, key-most}
 use Rattle.side.specs.declared.Change.{Change}
 use Rattle.side.specs.Slots.{Slot, blankSlot, slotOf, orderOf, sideOf, keptIn, GoodSlots}
 use Rattle.side.specs.Internal.{Changed, Sized, HasOrder, slotAt, Added, Put, Removed, Grows}

@@ -21,8 +21,8 @@ use Rattle.rules.proofs.Lists.{kept-in}
 use Rattle.rules.proofs.Members.{getD-in}
 use Rattle.rules.proofs.Orders.{amend-at, cancel-at, deal-some, left-at}
 use Rattle.rules.proofs.Bounds.{volume-bounds}
-use Rattle.quote.specs.Keys.{keyOf}
-use Rattle.quote.proofs.Keys.{key-least, key-most, price-key}
+use Rattle.prices.specs.Keys.{keyOf}
+use Rattle.prices.proofs.Keys.{key-least, key-most, price-key}
 use Rattle.side.specs.Slots.{Slot, slot, blankSlot, slotOf, orderOf, GoodSlots}
 use Rattle.side.proofs.Lists.{map-set, map-take, map-drop}
 use Rattle.side.proofs.Changes.{GoodSlot, all-good}

@@ -16,13 +16,13 @@ use Rattle.rules.specs.Kept.{quotesKeep, ordersKeep}
 use Rattle.rules.specs.States.{stateWord, quotesState, ordersState}
 use Rattle.rules.proofs.Lists.{kept-in}
 use Rattle.rules.proofs.Best.{sided}
-use Rattle.quote.specs.Keys.{keyIn, quoteKey, quoteAt}
+use Rattle.prices.specs.Keys.{keyIn, quoteKey, quoteAt}
 use Rattle.quote.specs.Levels.{bestKey}
 use Rattle.quote.specs.Searches.{ColumnsOf}
-use Rattle.quote.specs.Widest.{WidestFor, keysKeep, keysState}
-use Rattle.quote.proofs.Keys.{GoodQuote, good-quote}
+use Rattle.prices.specs.Widest.{WidestFor, keysKeep, keysState}
+use Rattle.prices.proofs.Keys.{GoodQuote, good-quote}
 use Rattle.quote.proofs.Finding.{bestOf, side-most, best-key, key-best}
-use Rattle.quote.proofs.Spread.{keys-law, state-law}
+use Rattle.prices.proofs.Spread.{keys-law, state-law}
 use Rattle.side.specs.Slots.{Slot, slotOf, keysOf, volumesOf, bestKeyIn, keptIn}
 use Rattle.side.proofs.Words.{kept-key}
 use Rattle.book.specs.Table.{ofSide, slotsIn, tableOf, GoodOrders}

@@ -17,7 +17,7 @@ use Rattle.rules.proofs.Bounds.{event-bounds-none, event-bounds-more}
 use Rattle.rules.proofs.Refusals.{passed}
 use Rattle.record.specs.declared.Fields.{Fields}
 use Rattle.record.specs.Fields.{readFields}
-use Rattle.quote.specs.Keys.{quoteAt}
+use Rattle.prices.specs.Keys.{quoteAt}
 use Rattle.quote.specs.Searches.{MayStart}
 use Rattle.book.specs.declared.Sent.{Sent}
 use Rattle.book.specs.Table.{ofSide, tableOf, GoodOrders}

@@ -19,7 +19,7 @@ use Rattle.rules.specs.Lists.{if_then_else_, within}
 use Rattle.rules.specs.Answers.{Outcome, accepted, refused}
 use Rattle.rules.specs.Units.{steps, contracts}
 use Rattle.record.specs.declared.Fields.{Fields}
-use Rattle.quote.specs.Widest.{keysKeep}
+use Rattle.prices.specs.Widest.{keysKeep}
 use Rattle.side.specs.Slots.{sideOf, keptIn, GoodSlots}
 use Rattle.side.specs.declared.Change.{Change}
 use Rattle.side.specs.Internal.{change, Changed, Grows}

@@ -14,9 +14,9 @@ use Rattle.rules.specs.Orders.{apply}
 use Rattle.rules.specs.Answers.{Outcome, accepted, refused}
 use Rattle.rules.specs.Kept.{ordersKeep}
 use Rattle.rules.specs.Search.{sumsOf}
-use Rattle.quote.specs.Keys.{quoteAt}
+use Rattle.prices.specs.Keys.{quoteAt}
 use Rattle.quote.specs.Searches.{MayStart}
-use Rattle.quote.specs.Widest.{WidestFor}
+use Rattle.prices.specs.Widest.{WidestFor}
 use Rattle.side.specs.Slots.{keysOf, volumesOf}
 use Rattle.level.specs.Requotes.{Work}
 use Rattle.book.specs.declared.Sent.{Sent}

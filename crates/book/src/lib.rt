@@ -18,7 +18,7 @@ ghost use Rattle.rules.specs.Units.{goodPrice, goodVolume};
 ghost use Rattle.rules.specs.Quotes.{same, best as bestQuote};
 ghost use Rattle.rules.specs.Kept.{ordersKeep};
 ghost use Rattle.rules.specs.States.{stateWord, ordersState};
-ghost use Rattle.quote.specs.Widest.{WidestFor};
+ghost use Rattle.prices.specs.Widest.{WidestFor};
 ghost use Rattle.book.specs.Table.{tableOf, slotBy, slotIn, GoodOrders, Held, Holding};
 ghost use Rattle.record.specs.Fields.{readFields};
 ghost use Rattle.book.specs.Sending.{SendsRead};
@@ -376,7 +376,7 @@ fn keeps_after(table: &[u32], widest: u32, keeping: u32, moves: bool) -> u32
     ensures { λ r. ⌜ r ≡ (if moves then keepsBy widest (now (table .entry)) else keeping) ⌝ }
 {
     if moves {
-        return quote::keys_keep(widest, table[BEST], table[WORDS + BEST]);
+        return prices::keys_keep(widest, table[BEST], table[WORDS + BEST]);
     }
     keeping
 }
@@ -428,7 +428,7 @@ pub fn keeps(table: &[u32], widest: u32) -> u32
     requires { ⌜ length (now table) ≡ 512 ⌝ }
     ensures { λ r. ⌜ ((row : Row) (sp : SpreadRule) (live : List Order) → GoodOrders live → now (table .entry) ≡ tableOf (row .minimum .0) live → WidestFor row sp widest → r ≡ (if ordersKeep row sp live then 1 else 0)) ⌝ }
 {
-    quote::keys_keep(widest, table[BEST], table[WORDS + BEST])
+    prices::keys_keep(widest, table[BEST], table[WORDS + BEST])
 }
 
 // The word of the live orders' state, by the row's spread limit.
@@ -436,7 +436,7 @@ pub fn state(table: &[u32], widest: u32) -> u32
     requires { ⌜ length (now table) ≡ 512 ⌝ }
     ensures { λ r. ⌜ ((row : Row) (sp : SpreadRule) (live : List Order) → GoodOrders live → now (table .entry) ≡ tableOf (row .minimum .0) live → WidestFor row sp widest → r ≡ stateWord (ordersState row sp live)) ⌝ }
 {
-    quote::keys_state(widest, table[BEST], table[WORDS + BEST])
+    prices::keys_state(widest, table[BEST], table[WORDS + BEST])
 }
 
 // The best quote of a side.
@@ -445,7 +445,7 @@ pub fn best(table: &[u32], side: Side) -> Quote
     ensures { λ r. ⌜ ((minimum : ℕ) (live : List Order) → GoodOrders live → now (table .entry) ≡ tableOf minimum live → r ≡ bestQuote side minimum live) ⌝ }
 {
     let s = side_number(side);
-    quote::quote_at(side, table[WORDS * s + BEST])
+    prices::quote_at(side, table[WORDS * s + BEST])
 }
 
 // The table of no orders.

@@ -12,8 +12,3 @@ pub mod Holding
 pub mod Searching
 pub mod LongTags
 pub mod ShortTags
-pub mod Shapes
-pub mod Frames
-pub mod Refusing
-pub mod Accepting
-pub mod Framing

@@ -11,10 +11,10 @@ use Rattle.rules.specs.Answers.{Outcome, accepted, refused}
 use Rattle.rules.specs.Fields.{Field}
 use Rattle.rules.specs.Frame.{Kind, new, cancel, replace, Body, bodyIn}
 use Rattle.rules.specs.Messages.{Message, messageOf, readable, readBody, readMessage}
-use Rattle.fields.specs.declared.Frame.{Frame}
-use Rattle.fields.specs.declared.Frame.the-variants.{Of, Wrong}
+use Rattle.frame.specs.declared.Frame.{Frame}
+use Rattle.frame.specs.declared.Frame.the-variants.{Of, Wrong}
 use Rattle.fields.specs.Spans.{closed, Spanned, EndsAt, SpansFound, found, wrong}
-use Rattle.fields.specs.Frames.{isKind, kindByte, bodyWith, FrameFound}
+use Rattle.frame.specs.Frames.{isKind, kindByte, bodyWith, FrameFound}
 use Rattle.fix.specs.Internal.{Filled}
 
 -- ---- the type's byte

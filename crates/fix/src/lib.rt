@@ -3,7 +3,7 @@ use dates::Elapsed;
 use dates::Time;
 use digits::Signed;
 use digits::Unsigned;
-use fields::Frame;
+use frame::Frame;
 use rules::Contracts;
 use rules::Side;
 use rules::Steps;
@@ -20,7 +20,7 @@ ghost use Rattle.rules.specs.Messages.{priceTag, sideTag, timeTag, once, sideIn
 ghost use Rattle.digits.specs.Answers.{shownUnsigned, shownSigned};
 ghost use Rattle.dates.specs.Answers.{shownTime, shownElapsed};
 ghost use Rattle.fields.specs.Spans.{closed, slotTag, EndsAt};
-ghost use Rattle.fields.specs.Frames.{isKind, kindByte, bodyWith};
+ghost use Rattle.frame.specs.Frames.{isKind, kindByte, bodyWith};
 ghost use Rattle.fix.specs.Answers.{shownMessage};
 ghost use Rattle.fix.specs.Internal.{Filled, Says, shownSide, shownTerms, termsIn};
 
@@ -257,7 +257,7 @@ fn read_body(b: &[u8], start: usize, end: usize, kind: u8) -> MessageRead
 pub fn read(bytes: &[u8]) -> MessageRead
     ensures { λ r. ⌜ shownMessage r ≡ readMessage (now (bytes .entry)) ⌝ }
 {
-    match fields::frame_of(bytes) {
+    match frame::frame_of(bytes) {
         Frame::Of { kind, start, end } => read_body(bytes, start, end, kind),
         Frame::Wrong => MessageRead::FrameWrong,
     }

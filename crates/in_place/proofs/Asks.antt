@@ -24,7 +24,7 @@ use Rattle.lent.proofs.Back.{wide-back}
 use Rattle.book.specs.Table.{tableOf, GoodOrders, Held}
 use Rattle.quantum.specs.declared.Quantum.{Quantum}
 use Rattle.quantum.specs.Words.{quantumWords, Sized}
-use Rattle.quantum.proofs.Represents.{good-orders}
+use Rattle.events.proofs.Represents.{good-orders}
 use Rattle.quantum.proofs.Answers.{event-numbered, represents-all, held-in}
 use Rattle.quantum.proofs.Words.{table-part}
 use Rattle.month.specs.Represents.{monthOf}

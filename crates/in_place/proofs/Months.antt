@@ -20,7 +20,8 @@ use Rattle.lent.proofs.Back.{wide-back}
 use Rattle.quantum.specs.declared.Quantum.{Quantum}
 use Rattle.quantum.specs.declared.Sent.{Sent}
 use Rattle.quantum.specs.Represents as S
-use Rattle.quantum.specs.Represents.{quantumOf, taken}
+use Rattle.quantum.specs.Represents.{quantumOf}
+use Rattle.events.specs.Represents.{taken}
 use Rattle.quantum.specs.Words.{quantumWords, Sized}
 use Rattle.quantum.proofs.Words.{quantum-length, of-sized, taken-bounds, quantum-back}
 use Rattle.month.specs.declared.Month.{Month}

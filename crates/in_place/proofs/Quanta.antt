@@ -10,12 +10,14 @@ use Rattle.rules.specs.declared.SpreadRule.{SpreadRule}
 use Rattle.rules.specs.declared.Event.{Event}
 use Rattle.rules.specs.Causes.{eventRefusal}
 use Rattle.rules.specs.Bounds.{EventBounds}
-use Rattle.quantum.specs.declared.Duty.{Duty}
-use Rattle.quantum.specs.declared.Clock.{Clock}
-use Rattle.quantum.specs.declared.Stepped.{Stepped}
+use Rattle.clock.specs.declared.Duty.{Duty}
+use Rattle.clock.specs.declared.Clock.{Clock}
+use Rattle.events.specs.declared.Stepped.{Stepped}
 use Rattle.quantum.specs.declared.Quantum.{Quantum}
-use Rattle.quantum.specs.Represents.{dutyOf, clockOf, quantumOf, tableAfter, taken, ReachedParts, Represents, Stepping}
-use Rattle.quantum.specs.Words.{dutyWords, clockWords}
+use Rattle.clock.specs.Clocks.{dutyOf, clockOf}
+use Rattle.quantum.specs.Represents.{quantumOf}
+use Rattle.events.specs.Represents.{tableAfter, taken, ReachedParts, Represents, Stepping}
+use Rattle.clock.specs.Words.{dutyWords, clockWords}
 use Rattle.quantum.proofs.Answers.{represents-all}
 use Rattle.in_place.specs.Events.{frontWords, HoldsFront, StepsFront}
 

@@ -18,10 +18,11 @@ use Rattle.book.specs.Table.{tableOf, Held, GoodOrders}
 use Rattle.arrivals.specs.Arrivals.{arrivalsOf, Follows, Notable}
 use Rattle.arrivals.specs.Notes.{notesOf}
 use Rattle.quantum.specs.declared.Quantum.{Quantum}
-use Rattle.quantum.specs.Represents.{tableAfter, quantumOf, taken, Reached}
+use Rattle.events.specs.Represents.{tableAfter, taken}
+use Rattle.quantum.specs.Represents.{quantumOf, Reached}
 use Rattle.quantum.specs.Words.{quantumWords, Sized}
 use Rattle.quantum.specs.Internal.{Accepts}
-use Rattle.quantum.proofs.Represents.{good-orders}
+use Rattle.events.proofs.Represents.{good-orders}
 use Rattle.quantum.proofs.Answers.{held-in}
 use Rattle.quantum.proofs.Words.{of-sized, quantum-sized, taken-bounds, table-part, notes-behind}
 use Rattle.quantum.proofs.Noting.{next-bounds, held-new, follows, noted-is}

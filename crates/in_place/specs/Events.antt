@@ -15,8 +15,10 @@ use Rattle.rules.specs.Bounds.{EventBounds}
 use Rattle.record.specs.declared.Fields.{Fields}
 use Rattle.record.specs.Fields.{fieldsFor}
 use Rattle.quantum.specs.declared.Quantum.{Quantum}
-use Rattle.quantum.specs.Represents.{quantumOf, taken, Reached}
-use Rattle.quantum.specs.Words.{dutyWords, clockWords, quantumWords}
+use Rattle.quantum.specs.Represents.{quantumOf, Reached}
+use Rattle.events.specs.Represents.{taken}
+use Rattle.clock.specs.Words.{dutyWords, clockWords}
+use Rattle.quantum.specs.Words.{quantumWords}
 use Rattle.month.specs.Represents.{monthOf}
 use Rattle.month.specs.Words.{monthWords}
 

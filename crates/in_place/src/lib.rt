@@ -33,12 +33,12 @@ fn step_front(words: &mut [u32], hints: &mut [u8], f: Fields) -> u32
     requires { ⌜ HoldsFront (now words) × (length (now words) ≡ 522) × (length (now hints) ≡ 2048) × SaysEvent f ⌝ }
     ensures { λ r. ⌜ ((e : Event) → f ≡ fieldsFor e → StepsFront (now (words .entry)) e (now (words .exit)) r) ⌝ }
 {
-    let duty = quantum::duty_in(&words[0..3]);
-    let clock = quantum::clock_in(&words[3..8]);
-    let stepped = quantum::step_fields(duty, clock, &mut words[10..522], hints, f);
+    let duty = clock::duty_in(&words[0..3]);
+    let clock = clock::clock_in(&words[3..8]);
+    let stepped = events::step_fields(duty, clock, &mut words[10..522], hints, f);
     let after = stepped.clock;
     let refusal = stepped.refusal;
-    quantum::put_clock(after, &mut words[3..8]);
+    clock::put_clock(after, &mut words[3..8]);
     refusal
 }
 

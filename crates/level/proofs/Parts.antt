@@ -14,7 +14,7 @@ use Rattle.quote.specs.declared.Level.{Level}
 use Rattle.rules.specs.declared.Side.{Side}
 use Rattle.rules.specs.declared.Order.{Order}
 use Rattle.rules.specs.Quotes.{volumeOf}
-use Rattle.quote.specs.Keys.{keyIn}
+use Rattle.prices.specs.Keys.{keyIn}
 use Rattle.quote.specs.Searches.{ColumnsOf}
 use Rattle.quote.specs.Levels.{held, levelAt, levelOf, bestKey, Columns, Searchable}
 use Rattle.quote.proofs.Levels.{held-blanks, levelAt-blanks, levelOf-blanks, bestKey-blanks}

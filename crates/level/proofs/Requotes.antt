@@ -11,7 +11,7 @@ use lib.ListN.{length, getD, take, drop}
 use Rattle.rules.specs.declared.Side.{Side}
 use Rattle.rules.specs.declared.Order.{Order}
 use Rattle.rules.specs.Search.{sumsOf}
-use Rattle.quote.specs.Keys.{quoteAt}
+use Rattle.prices.specs.Keys.{quoteAt}
 use Rattle.quote.specs.Searches.{ColumnsOf}
 use Rattle.rules.specs.Lists.{if_then_else_}
 use Rattle.quote.specs.declared.Level.{Level}

@@ -17,11 +17,11 @@ use Rattle.rules.specs.Lists.{if_then_else_, filter}
 use Rattle.rules.specs.Units.{goodPrice}
 use Rattle.quote.specs.declared.Level.{Level}
 use Rattle.quote.specs.declared.Searched.{Searched}
-use Rattle.quote.specs.Keys.{quoteKey, quoteAt}
+use Rattle.prices.specs.Keys.{quoteKey, quoteAt}
 use Rattle.quote.specs.Levels.{held, enough, greatest, foundBy, depthFrom, bestKey, levelAt, levelOf, isBest, Searchable}
 use Rattle.quote.specs.Searches.{Finds}
 use Rattle.quote.specs.Tries.{made, foundWith, Tried}
-use Rattle.quote.proofs.Keys.{key-quote, good-quote, say-good}
+use Rattle.prices.proofs.Keys.{key-quote, good-quote, say-good}
 use Rattle.quote.proofs.Levels.{level-split, level-best, start-below, found-end}
 use Rattle.side.specs.Slots.{Slot, keysOf, volumesOf, levelIn, bestKeyIn, GoodSlots}
 use Rattle.level.proofs.Parts.{keys-most}

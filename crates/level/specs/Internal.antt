@@ -11,7 +11,7 @@ use Rattle.rules.specs.declared.Order.{Order}
 use Rattle.rules.specs.Lists.{if_then_else_, filter}
 use Rattle.rules.specs.Search.{sumsOf}
 use Rattle.quote.specs.declared.Level.{Level}
-use Rattle.quote.specs.Keys.{quoteAt}
+use Rattle.prices.specs.Keys.{quoteAt}
 use Rattle.quote.specs.Levels.{held, greatest, levelAt, levelOf}
 use Rattle.quote.specs.Searches.{ColumnsOf}
 use Rattle.quote.specs.Tries.{made, foundWith, Tried}

@@ -10,7 +10,7 @@ use Rattle.rules.specs.declared.Side.{Side}
 use Rattle.rules.specs.declared.Order.{Order}
 use Rattle.rules.specs.Lists.{if_then_else_}
 use Rattle.rules.specs.Search.{sumsOf}
-use Rattle.quote.specs.Keys.{quoteAt}
+use Rattle.prices.specs.Keys.{quoteAt}
 use Rattle.quote.specs.Levels.{held}
 use Rattle.quote.specs.Searches.{ColumnsOf}
 use Rattle.quote.specs.Tries.{Tried}

@@ -266,7 +266,7 @@ fn by_search(side: Side, keys: &[u32], volumes: &[u32], guess: Guess, minimum: C
     let quote = found.quote;
     Found {
         level: Level {
-            key: quote::quote_key(side, quote),
+            key: prices::quote_key(side, quote),
             before: found.before,
             at: less(found.depth, found.before),
         },

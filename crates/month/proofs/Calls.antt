@@ -43,13 +43,15 @@ use Rattle.rules.specs.Bounds.{EventBounds, RunningBounds}
 use Rattle.rules.proofs.Answers.{refused-by, accepted-by}
 use Rattle.rules.proofs.Refusals.{skip, stop, clear, passed, first-stops}
 use Rattle.rules.proofs.Bounds.{bounds, event-bounds-none}
-use Rattle.quantum.specs.declared.Duty.{Duty}
-use Rattle.quantum.specs.declared.Clock.{Clock}
+use Rattle.clock.specs.declared.Duty.{Duty}
+use Rattle.clock.specs.declared.Clock.{Clock}
 use Rattle.quantum.specs.declared.Quantum.{Quantum}
 use Rattle.quantum.specs.declared.Sent.{Sent}
-use Rattle.quantum.specs.declared.Totals.{Totals}
+use Rattle.clock.specs.declared.Totals.{Totals}
 use Rattle.quantum.specs.Represents as S
-use Rattle.quantum.specs.Represents.{clockOf, quantumOf, taken}
+use Rattle.clock.specs.Clocks.{clockOf}
+use Rattle.quantum.specs.Represents.{quantumOf}
+use Rattle.events.specs.Represents.{taken}
 use Rattle.quantum.proofs.Answers.{whole-is}
 use Rattle.outlook.specs.Represents.{Represents, Outlooked}
 use Rattle.month.specs.declared.Month.{Month}

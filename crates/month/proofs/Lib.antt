@@ -3,5 +3,5 @@ pub mod Fields
 pub mod CellNames
 pub mod Calls
 pub mod Asks
-pub mod Messages
+pub mod Sides
 pub mod Words

@@ -24,10 +24,12 @@ use Rattle.rules.specs.Lapses.{lapses, lapsesBelow, begins}
 use Rattle.rules.specs.Bounds.{CellBounds}
 use Rattle.rules.specs.Outlook.{canKeep, cellResting}
 use Rattle.rules.proofs.Bounds.{read-bounds, event-bounds-none}
-use Rattle.quantum.specs.declared.Duty.{Duty}
-use Rattle.quantum.specs.declared.Clock.{Clock}
-use Rattle.quantum.specs.Represents.{dutyOf, clockOf, tableAfter}
-use Rattle.quantum.proofs.Represents.{time-is, onward, widest-is}
+use Rattle.clock.specs.declared.Duty.{Duty}
+use Rattle.clock.specs.declared.Clock.{Clock}
+use Rattle.clock.specs.Clocks.{dutyOf, clockOf}
+use Rattle.events.specs.Represents.{tableAfter}
+use Rattle.clock.proofs.Clocks.{time-is, onward}
+use Rattle.events.proofs.Represents.{widest-is}
 use Rattle.outlook.specs.Represents.{Represents}
 use Rattle.outlook.specs.Internal.{Sound, endingCell}
 use Rattle.outlook.proofs.Resting.{oneIf, resting-count, resting-lapses}

@@ -26,7 +26,7 @@ use Rattle.rules.specs.Outlook.{needOf, canKeep, cellResting, isNever, maySo, l
 use Rattle.rules.proofs.Bounds.{read-bounds}
 use Rattle.rules.proofs.Counting.{count-none}
 use Rattle.rules.proofs.Lists.{both, and}
-use Rattle.quantum.specs.Represents.{dutyOf}
+use Rattle.clock.specs.Clocks.{dutyOf}
 use Rattle.outlook.proofs.Latest.{Found, latest-at, latest-found}
 use Rattle.outlook.proofs.Until.{by-law, never-law}
 use Rattle.outlook.proofs.Endings.{widest-law, can-is, beginsNow}

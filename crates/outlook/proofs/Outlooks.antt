@@ -22,9 +22,9 @@ use Rattle.rules.specs.Lapses.{lapsesBelow, withinLapseLimit}
 use Rattle.rules.specs.Pay.{cellMet, cellWeight, viewOf}
 use Rattle.rules.specs.Bounds.{EventBounds}
 use Rattle.rules.specs.Outlook.{needOf, lapsesLeft, isNever, canKeep, cellResting, latest, maySo, latestRest, fullNeed, weightResting, weightKeeping, outlookOf}
-use Rattle.quantum.specs.declared.Duty.{Duty}
-use Rattle.quantum.specs.declared.Clock.{Clock}
-use Rattle.quantum.specs.Represents.{dutyOf, clockOf}
+use Rattle.clock.specs.declared.Duty.{Duty}
+use Rattle.clock.specs.declared.Clock.{Clock}
+use Rattle.clock.specs.Clocks.{dutyOf, clockOf}
 use Rattle.outlook.specs.Represents.{Represents}
 use Rattle.outlook.specs.Internal.{endingCell, fullOf, byOf}
 use Rattle.outlook.proofs.Latest.{latest-ext}

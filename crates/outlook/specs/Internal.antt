@@ -8,9 +8,9 @@ use Rattle.rules.specs.declared.Possible.{Possible}
 use Rattle.rules.specs.declared.Possible.the-variants.{Never, At}
 use Rattle.rules.specs.Lists.{if_then_else_}
 use Rattle.rules.specs.Units.{millis, kopecks}
-use Rattle.quantum.specs.declared.Duty.{Duty}
-use Rattle.quantum.specs.declared.Clock.{Clock}
-use Rattle.quantum.specs.Represents.{ranOn}
+use Rattle.clock.specs.declared.Duty.{Duty}
+use Rattle.clock.specs.declared.Clock.{Clock}
+use Rattle.clock.specs.Clocks.{ranOn}
 
 -- the numbers of an open quantum in their ranges
 pub record Sound (duty : Duty) (clock : Clock) (share : ℕ) : Type 0 where

@@ -10,9 +10,9 @@ use Rattle.rules.specs.declared.Event.{Event}
 use Rattle.rules.specs.Terms.{paper}
 use Rattle.rules.specs.Rows.{goodRowFor}
 use Rattle.rules.specs.Bounds.{EventBounds}
-use Rattle.quantum.specs.declared.Duty.{Duty}
-use Rattle.quantum.specs.declared.Clock.{Clock}
-use Rattle.quantum.specs.Represents.{dutyOf, clockOf}
+use Rattle.clock.specs.declared.Duty.{Duty}
+use Rattle.clock.specs.declared.Clock.{Clock}
+use Rattle.clock.specs.Clocks.{dutyOf, clockOf}
 
 -- they stand for these
 pub record Represents (row : Row) (opening : Opening) (events : List Event) (duty : Duty) (clock : Clock) (share allowed : ℕ) : Type 0 where

@@ -12,8 +12,8 @@ ghost use Rattle.rules.specs.Pay.{viewOf};
 ghost use Rattle.rules.specs.Outlook.{needOf, lapsesLeft, isNever, outlookOf};
 ghost use Rattle.outlook.specs.Represents.{Represents, Outlooked};
 ghost use Rattle.outlook.specs.Internal.{Sound, endingCell, reached, fullOf, byOf};
-use quantum::Clock;
-use quantum::Duty;
+use clock::Clock;
+use clock::Duty;
 use rules::Cell;
 use rules::CellView;
 use rules::Kopecks;
@@ -37,7 +37,7 @@ fn ending(duty: Duty, clock: Clock, keeps: u32, share: u32, allowed: u32) -> Cel
         lapses: clock.lapses,
         last: clock.last,
     };
-    let end = quantum::onward(now, length, 0);
+    let end = clock::onward(now, length, 0);
     let total = end.kept;
     pay::view(Cell {
         filled: true,

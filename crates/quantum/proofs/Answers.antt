@@ -18,13 +18,15 @@ use Rattle.rules.specs.Causes.{Cause, cause, firstNumber, traderCauses, eventCa
 use Rattle.rules.specs.Bounds.{EventBounds}
 use Rattle.book.specs.Table.{tableOf, Held}
 use Rattle.arrivals.specs.Notes.{notesOf}
-use Rattle.quantum.specs.declared.Duty.{Duty}
-use Rattle.quantum.specs.declared.Clock.{Clock}
-use Rattle.quantum.specs.declared.Stepped.{Stepped}
+use Rattle.clock.specs.declared.Duty.{Duty}
+use Rattle.clock.specs.declared.Clock.{Clock}
+use Rattle.events.specs.declared.Stepped.{Stepped}
 use Rattle.quantum.specs.declared.Quantum.{Quantum}
-use Rattle.quantum.specs.Represents.{dutyOf, clockOf, tableAfter, quantumOf, taken, Reached, Answered, ReachedParts, Represents, Stepping}
+use Rattle.clock.specs.Clocks.{dutyOf, clockOf}
+use Rattle.events.specs.Represents.{tableAfter, taken, ReachedParts, Represents, Stepping}
+use Rattle.quantum.specs.Represents.{quantumOf, Reached, Answered}
 use Rattle.quantum.specs.Internal.{Accepts, Noting}
-use Rattle.quantum.proofs.Represents.{good-orders}
+use Rattle.events.proofs.Represents.{good-orders}
 
 -- ---- the numbers
 

@@ -1,6 +1,6 @@
 -- The notes after an accepted event, by the tables before and after it. Assumes nothing.
 use Prim.Native.Nat.{ℕ}
-use mathlib.Core.Path.{_≡_, refl, ap, sym, _∙_}
+use mathlib.Core.Path.{_≡_, refl, ap, _∙_}
 use mathlib.Core.List.{List, [], _∷_, _++_}
 use lib.ListN.{length, take, drop}
 use lib.Seq.{take-at, drop-at}
@@ -17,9 +17,8 @@ use Rattle.book.specs.Table.{Held}
 use Rattle.arrivals.specs.Arrivals.{arrivalsOf, idOf, Follows}
 use Rattle.arrivals.specs.Notes.{rowWords, spreadWords, notesOf}
 use Rattle.arrivals.proofs.Notes.{arrivals-length}
-use Rattle.quantum.specs.Represents.{tableAfter}
 use Rattle.quantum.specs.Internal.{Accepts}
-use Rattle.quantum.proofs.Represents.{good-orders}
+use Rattle.events.proofs.Represents.{good-orders}
 
 -- the id of an event's fields
 fields-id : (e : Event) → fieldsFor e .id ≡ idOf e

@@ -3,12 +3,11 @@ use Prim.Native.Nat.{ℕ, zero, suc}
 use native.Mathlib.Omega.{arith}
 use mathlib.Core.Path.{_≡_, refl, sym, ap, _∙_, subst}
 use mathlib.Core.List.{List, [], _∷_, _++_, append-nil}
-use lib.ListN.{length, getD, take, drop, length-append, length-drop, drop-of-length-le}
+use lib.ListN.{length, take, drop, length-append, length-drop, drop-of-length-le}
 use lib.Seq.{take-all, take-at, drop-at, drop-drop, length-take-le}
 use Rattle.rules.specs.declared.Row.{Row}
 use Rattle.rules.specs.declared.SpreadRule.{SpreadRule}
 use Rattle.rules.specs.declared.Event.{Event}
-use Rattle.rules.specs.Units.{millis, contracts}
 use Rattle.rules.specs.Causes.{eventRefusal}
 use Rattle.rules.specs.Bounds.{EventBounds}
 use Rattle.rules.proofs.Bounds.{event-bounds-more}
@@ -16,21 +15,13 @@ use Rattle.book.proofs.Table.{held-length}
 use Rattle.rules.specs.Orders.{live}
 use Rattle.arrivals.proofs.Notes.{notes-length}
 use Rattle.lent.proofs.Parts.{next-part}
-use Rattle.quantum.specs.declared.Duty.{Duty}
-use Rattle.quantum.specs.declared.Clock.{Clock}
 use Rattle.quantum.specs.declared.Quantum.{Quantum}
-use Rattle.quantum.specs.Words.{dutyWords, clockWords, quantumWords, Sized}
-use Rattle.quantum.specs.Represents.{tableAfter, quantumOf, taken, Reached}
-use Rattle.quantum.proofs.Represents.{good-orders}
-
-pub duty-back : (ws : List ℕ) (d : Duty) → ws ≡ dutyWords d
-    → _≡_ {A = Duty} (record { length = millis (getD ws 0 0); minimum = contracts (getD ws 1 0); widest = getD ws 2 0 }) d
-duty-back ws d e = λ i. record { length = millis (getD (e i) 0 0); minimum = contracts (getD (e i) 1 0); widest = getD (e i) 2 0 }
-
-pub clock-back : (ws : List ℕ) (c : Clock) → ws ≡ clockWords c
-    → _≡_ {A = Clock} (record { time = millis (getD ws 0 0); kept = millis (getD ws 1 0); keeps = getD ws 2 0; lapses = getD ws 3 0; last = getD ws 4 0 }) c
-clock-back ws c e = λ i.
-    record { time = millis (getD (e i) 0 0); kept = millis (getD (e i) 1 0); keeps = getD (e i) 2 0; lapses = getD (e i) 3 0; last = getD (e i) 4 0 }
+use Rattle.clock.proofs.Words.{duty-back, clock-back}
+use Rattle.clock.specs.Words.{dutyWords, clockWords}
+use Rattle.quantum.specs.Words.{quantumWords, Sized}
+use Rattle.events.specs.Represents.{tableAfter, taken}
+use Rattle.quantum.specs.Represents.{quantumOf, Reached}
+use Rattle.events.proofs.Represents.{good-orders}
 
 -- ---- where the parts of a quantum stand
 module _ (ws : List ℕ) (q : Quantum) (e : ws ≡ quantumWords q) where

@@ -2,17 +2,10 @@
 -- words is in proofs/Words.
 use Prim.Native.Nat.{ℕ}
 use mathlib.Core.Path.{_≡_}
-use mathlib.Core.List.{List, [], _∷_, _++_}
+use mathlib.Core.List.{List, _∷_, _++_}
 use lib.ListN.{length}
-use Rattle.quantum.specs.declared.Duty.{Duty}
-use Rattle.quantum.specs.declared.Clock.{Clock}
+use Rattle.clock.specs.Words.{dutyWords, clockWords}
 use Rattle.quantum.specs.declared.Quantum.{Quantum}
-
-abbrev pub dutyWords : Duty → List ℕ
-dutyWords d = d .length .0 ∷ d .minimum .0 ∷ d .widest ∷ []
-
-abbrev pub clockWords : Clock → List ℕ
-clockWords c = c .time .0 ∷ c .kept .0 ∷ c .keeps ∷ c .lapses ∷ c .last ∷ []
 
 unfoldable pub quantumWords : Quantum → List ℕ
 quantumWords q = dutyWords (q .duty) ++ clockWords (q .clock) ++ (0 ∷ 0 ∷ (q .table ++ q .notes))

@@ -24,10 +24,10 @@ use Rattle.rules.proofs.Best.{depth-append, depth-one, sided, one-side}
 use Rattle.rules.proofs.Counting.{count-stretch}
 use Rattle.numbers.proofs.Greatest.{leb-max}
 use Rattle.quote.specs.declared.Searched.{Searched}
-use Rattle.quote.specs.Keys.{keyOf, priceAt, keyIn, quoteKey, quoteAt}
+use Rattle.prices.specs.Keys.{keyOf, priceAt, keyIn, quoteKey, quoteAt}
 use Rattle.quote.specs.Levels.{held, enough, greatest, bestKey, foundBy, triedBy, shortBy, depthFrom}
 use Rattle.quote.specs.Searches.{ColumnsOf, MayStart, Finds}
-use Rattle.quote.proofs.Keys.{key-least, key-most, key-order, key-price, good-price, key-quote, quote-key, better-at}
+use Rattle.prices.proofs.Keys.{key-least, key-most, key-order, key-price, good-price, key-quote, quote-key, better-at}
 use Rattle.quote.proofs.Levels.{held-blanks, enough-blanks, bestKey-blanks}
 use Rattle.quote.proofs.Short.{short-all}
 

@@ -1,7 +1,4 @@
--- What the code's spread test compares with.
-pub mod Widest
--- Prices as keys, and a side's depth in columns of them.
-pub mod Keys
+-- A side's depth in columns of keys.
 pub mod Levels
 pub mod Searches
 pub mod Tries

@@ -14,7 +14,7 @@ use Rattle.rules.specs.Units.{goodPrice}
 use Rattle.rules.specs.Quotes.{same, volumeOf, depth, better, best}
 use Rattle.rules.specs.Search.{sumsOf}
 use Rattle.quote.specs.declared.Searched.{Searched}
-use Rattle.quote.specs.Keys.{keyIn, quoteAt}
+use Rattle.prices.specs.Keys.{keyIn, quoteAt}
 use Rattle.quote.specs.Levels.{held, foundBy, depthFrom}
 
 -- the columns of these orders, all of the side: their keys and volumes, blanks behind them

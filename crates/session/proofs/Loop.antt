@@ -27,8 +27,9 @@ use Rattle.rules.specs.Records.{fieldsOf, eventOf, goodRecord, readRecord}
 use Rattle.rules.specs.Session.{Session, whole, halted, recordsOf, runRecords}
 use Rattle.rules.proofs.Bounds.{event-bounds-none, event-bounds-more}
 use Rattle.book.specs.Table.{tableOf}
-use Rattle.quantum.specs.declared.Duty.{Duty}
-use Rattle.quantum.specs.Represents.{dutyOf, tableAfter}
+use Rattle.clock.specs.declared.Duty.{Duty}
+use Rattle.clock.specs.Clocks.{dutyOf}
+use Rattle.events.specs.Represents.{tableAfter}
 use Rattle.quantum.proofs.Answers.{event-numbered}
 use Rattle.session.specs.declared.Progress.{Progress}
 use Rattle.session.specs.declared.Stepped.{Stepped}

@@ -28,12 +28,13 @@ use Rattle.rules.proofs.Bounds.{row-bounds}
 use Rattle.record.specs.declared.Fields.{Fields}
 use Rattle.record.specs.Fields.{readFields}
 use Rattle.record.proofs.Reading.{only-fifteen}
-use Rattle.quantum.specs.declared.Duty.{Duty}
-use Rattle.quantum.specs.declared.Clock.{Clock}
-use Rattle.quantum.specs.declared.Stepped.{Stepped as SteppedOn}
-use Rattle.quantum.specs.Represents.{clockOf, tableAfter, taken, ReachedParts, Represents, Stepping, SteppingRead, Onward}
+use Rattle.clock.specs.declared.Duty.{Duty}
+use Rattle.clock.specs.declared.Clock.{Clock}
+use Rattle.events.specs.declared.Stepped.{Stepped as SteppedOn}
+use Rattle.clock.specs.Clocks.{clockOf, Onward}
+use Rattle.events.specs.Represents.{tableAfter, taken, ReachedParts, Represents, Stepping, SteppingRead}
 use Rattle.rules.specs.Runs.{before}
-use Rattle.quantum.proofs.Represents.{time-is, keeps-is, last-is, onward}
+use Rattle.clock.proofs.Clocks.{time-is, keeps-is, last-is, onward}
 use Rattle.session.specs.declared.Marks.{Marks}
 use Rattle.session.specs.declared.Progress.{Progress}
 use Rattle.session.specs.Internal.{lastOffset, marksAt, Holds, MarksBounds, MarksAfter, progressAt, pairsOf, ReachedRun, RepresentsRun, Advanced}

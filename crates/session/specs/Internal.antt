@@ -29,8 +29,9 @@ use Rattle.rules.specs.Causes.{eventRefusal}
 use Rattle.rules.specs.Changes.{following}
 use Rattle.rules.specs.Bounds.{EventBounds}
 use Rattle.rules.specs.Session.{Session, whole, halted, recordsOf, withoutLapseLimit, runRecords}
-use Rattle.quantum.specs.declared.Duty.{Duty}
-use Rattle.quantum.specs.Represents.{dutyOf, clockOf, tableAfter}
+use Rattle.clock.specs.declared.Duty.{Duty}
+use Rattle.clock.specs.Clocks.{dutyOf, clockOf}
+use Rattle.events.specs.Represents.{tableAfter}
 use Rattle.session.specs.declared.Marks.{Marks}
 use Rattle.session.specs.declared.Progress.{Progress}
 use Rattle.session.specs.declared.Stepped.{Stepped}

@@ -12,8 +12,8 @@ ghost use Rattle.rules.specs.Answers.{shownSession};
 ghost use Rattle.rules.specs.Records.{readRecord};
 ghost use Rattle.rules.specs.Session.{mostRecords, recordsOf, runRecords, session, sessionBytes, ran, front as frontOf, bufferAfter, oneNumber};
 ghost use Rattle.session.specs.Internal.{putPair, begunAt, MarksBounds, MarksAfter, ReachedRun, Advanced, ReachedEnd, FinalAnswer, progressAt, bookWith, Passed, filledBy, numberBy};
-use quantum::Clock;
-use quantum::Duty;
+use clock::Clock;
+use clock::Duty;
 use rules::Millis;
 use rules::Refusal;
 use rules::Row;
@@ -106,7 +106,7 @@ fn step(
     let clock = progress.clock;
     let marks = progress.marks;
     let fields = record::fields_of(bytes);
-    let stepped = quantum::step_fields(duty, clock, table, hints, fields);
+    let stepped = events::step_fields(duty, clock, table, hints, fields);
     let next = stepped.clock;
     let refusal = stepped.refusal;
     if 0 < refusal {
@@ -133,7 +133,7 @@ fn finish(progress: Progress, row: Row, buffer: &mut [u32]) -> SessionAnswer
     let marks = progress.marks;
     let length = row.length;
     let share = row.share;
-    let end = quantum::onward(clock, length, 0);
+    let end = clock::onward(clock, length, 0);
     let kept = end.kept;
     let from = clock.time;
     let grown = grow(
@@ -156,7 +156,7 @@ fn begin() -> Progress
     ensures { λ r. ⌜ ((row : Row) (sp : SpreadRule) → r ≡ progressAt row sp []) ⌝ }
 {
     Progress {
-        clock: quantum::started(),
+        clock: clock::started(),
         marks: Marks { pairs: 0, start: 0 },
     }
 }
@@ -175,7 +175,7 @@ fn run_records(most: u32, row: Row, sp: Steps, records: &[u8], buffer: &mut [u32
     requires { ⌜ (most ≤ 4000000) × (goodRow paper row ≡ true) ⌝ }
     ensures { λ r. ⌜ ((cell : ℕ) → cell < 186 → Passed (runRecords paper most cell 1 (bookWith cell row sp []) (recordsOf (now (records .entry)))) (now (buffer .entry)) (now (buffer .exit)) r) ⌝ }
 {
-    let duty = quantum::duty_of(row, SpreadRule::Settled(sp));
+    let duty = clock::duty_of(row, SpreadRule::Settled(sp));
     let mut table = book::empty();
     let mut hints = [0u8; 2048];
     let mut progress = begin();

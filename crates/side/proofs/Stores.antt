@@ -9,8 +9,8 @@ use Rattle.rules.specs.declared.Side.{Side}
 use Rattle.rules.specs.declared.Order.{Order}
 use Rattle.rules.specs.Units.{goodPrice}
 use Rattle.quote.specs.declared.Level.{Level}
-use Rattle.quote.specs.Keys.{keyIn}
-use Rattle.quote.proofs.Keys.{key-price, good-price}
+use Rattle.prices.specs.Keys.{keyIn}
+use Rattle.prices.proofs.Keys.{key-price, good-price}
 use Rattle.side.specs.Slots.{Slot, slot, blankSlot, orderOf, idsOf, keysOf, volumesOf, column, header, sideOf}
 use Rattle.side.specs.Internal.{HasOrder, change, slotAt, stored, shifted}
 use Rattle.side.proofs.Lists.{map-set, map-take, map-drop}

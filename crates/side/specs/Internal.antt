@@ -9,7 +9,7 @@ use Rattle.rules.specs.declared.Order.{Order}
 use Rattle.rules.specs.Lists.{if_then_else_}
 use Rattle.rules.specs.Units.{contracts}
 use Rattle.quote.specs.declared.Level.{Level}
-use Rattle.quote.specs.Keys.{keyIn}
+use Rattle.prices.specs.Keys.{keyIn}
 use Rattle.side.specs.declared.Change.{Change}
 use Rattle.side.specs.Slots.{Slot, slot, blankSlot, slotOf, sideOf, heldIn, keptIn, GoodSlots}
 

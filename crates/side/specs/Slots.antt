@@ -11,7 +11,7 @@ use Rattle.rules.specs.declared.Order.{Order}
 use Rattle.rules.specs.Lists.{if_then_else_}
 use Rattle.rules.specs.Units.{steps, contracts}
 use Rattle.quote.specs.declared.Level.{Level}
-use Rattle.quote.specs.Keys.{priceAt, keyIn}
+use Rattle.prices.specs.Keys.{priceAt, keyIn}
 use Rattle.quote.specs.Levels.{held, levelAt, bestKey, levelOf}
 
 -- an order of a side: its id, the key of its price, its volume

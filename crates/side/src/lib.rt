@@ -9,7 +9,7 @@ ghost use Prim.Native.Nat.{_+_, _*_, _/_, _≤_, _<_};
 ghost use lib.ListN.{length, getD};
 ghost use Rattle.rules.specs.Units.{goodPrice};
 ghost use Rattle.quote.specs.declared.Level.{Level};
-ghost use Rattle.quote.specs.Keys.{keyIn};
+ghost use Rattle.prices.specs.Keys.{keyIn};
 ghost use Rattle.side.specs.Slots.{Slot, slotOf, orderOf, sideOf, seenFrom, seen};
 ghost use Rattle.side.specs.Internal.{Sized, HasOrder, Added, Put, Removed, slotAt, stored, shifted};
 use rules::Contracts;
@@ -88,7 +88,7 @@ pub fn order_at(words: &[u32], side: Side, place: usize) -> Order
     Order {
         id: words[place],
         side,
-        price: quote::price_at(side, words[KEYS + place]),
+        price: prices::price_at(side, words[KEYS + place]),
         volume: Contracts(words[VOLUMES + place]),
     }
 }
@@ -100,7 +100,7 @@ fn key_in(order: Order) -> u32
 {
     let side = order.side;
     let price = order.price;
-    quote::key_of(side, price)
+    prices::key_of(side, price)
 }
 
 // An order is written at a place.

@@ -27,15 +27,17 @@ use Rattle.rules.specs.Book.{after}
 use Rattle.rules.proofs.States.{stateAt-now}
 use Rattle.rules.proofs.Bounds.{bounds}
 use Rattle.lent.proofs.Parts.{next-part}
-use Rattle.quote.specs.Widest.{WidestFor}
+use Rattle.prices.specs.Widest.{WidestFor}
 use Rattle.side.specs.Slots.{column}
 use Rattle.book.specs.Table.{tableOf, GoodOrders}
 use Rattle.arrivals.specs.Arrivals.{idsIn, arrivalsOf}
 use Rattle.arrivals.specs.Notes.{rowWords, spreadWords, notesOf}
 use Rattle.arrivals.proofs.Notes.{arrivals-length}
-use Rattle.quantum.specs.Represents.{widestFor, dutyOf, clockOf, tableAfter, quantumOf}
+use Rattle.clock.specs.Clocks.{widestFor, dutyOf, clockOf}
+use Rattle.events.specs.Represents.{tableAfter}
+use Rattle.quantum.specs.Represents.{quantumOf}
 use Rattle.quantum.specs.Words.{quantumWords, Sized}
-use Rattle.quantum.proofs.Represents.{good-orders, widest-is}
+use Rattle.events.proofs.Represents.{good-orders, widest-is}
 use Rattle.quantum.proofs.Words.{of-sized, table-part, notes-behind}
 use Rattle.month.specs.Represents.{monthOf}
 use Rattle.month.proofs.Fields.{in-range, place-inside, closed-is, opened}

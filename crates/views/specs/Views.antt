@@ -16,7 +16,7 @@ use Rattle.rules.specs.Records.{addKind, unsignedOf}
 use Rattle.rules.specs.Calls.{Call, Running, Idle, Quoting}
 use Rattle.rules.specs.Book.{after}
 use Rattle.arrivals.specs.Notes.{rowWords, spreadWords}
-use Rattle.quantum.specs.Represents.{widestFor}
+use Rattle.clock.specs.Clocks.{widestFor}
 use Rattle.in_place.specs.Events.{wordsAfter}
 use Rattle.views.specs.declared.Viewed.{Viewed}
 use Rattle.views.specs.declared.Viewed.the-variants.{WordsShort, BufferShort, Written}

@@ -7,7 +7,7 @@ use lib.ListN.{length}
 use borrow.Author.Needs.{needs}
 use Rattle.rules.specs.declared.Row.{Row}
 use Rattle.rules.specs.declared.SpreadRule.{SpreadRule}
-use Rattle.quantum.specs.Represents.{dutyOf}
+use Rattle.clock.specs.Clocks.{dutyOf}
 use Rattle.accounts.specs.Internal.{LoopState}
 use Rattle.session.proofs.Loop.{LoopBytes, turn-ahead, turn-place, turn-small, turn-rest, turn-next, part-is, part-long, none-live}
 use Rattle.accounts.proofs.Loop.{loop-start, loop-reached, loop-end, loop-short, loop-numbered, loop-refused, loop-on, next-place, placed}

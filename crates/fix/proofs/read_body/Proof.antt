@@ -1,7 +1,7 @@
 -- `fix::read_body` meets its contract. Assumes nothing.
 use mathlib.Core.Path.{refl}
 use borrow.Author.Tests.{not-true, not-false}
-use Rattle.fields.specs.Frames.{kindByte}
+use Rattle.frame.specs.Frames.{kindByte}
 use Rattle.fix.proofs.Reading.{no-spans, filled, said}
 use borrow.Author.Needs.{needs}
 use Rattle.fix.proofs.read_body.Statement.{statement}

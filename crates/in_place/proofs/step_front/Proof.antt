@@ -1,5 +1,5 @@
 -- The duty and the clock are read, the event goes to the table in place, and the clock is put back. Assumes nothing.
-use Rattle.quantum.proofs.Steps.{by-fields}
+use Rattle.events.proofs.Steps.{by-fields}
 use Rattle.in_place.proofs.Quanta.{clock-room, parts-held, steps-front}
 use borrow.Author.Needs.{needs}
 use Rattle.in_place.proofs.step_front.Statement.{statement}

@@ -3,7 +3,7 @@ use borrow.Author.Needs.{needs}
 use mathlib.Core.Path.{ap, _∙_}
 use Rattle.rules.specs.Terms.{paper}
 use Rattle.rules.specs.Pay.{viewOf}
-use Rattle.quantum.specs.declared.Clock.{Clock}
+use Rattle.clock.specs.declared.Clock.{Clock}
 use Rattle.outlook.specs.Internal.{cellAt}
 use Rattle.outlook.proofs.Endings.{ending-bounds}
 use Rattle.outlook.proofs.ending.Statement.{statement}

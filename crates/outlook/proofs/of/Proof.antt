@@ -4,8 +4,8 @@ use mathlib.Core.Path.{_∙_}
 use borrow.Author.Needs.{needs}
 use Rattle.outlook.specs.Represents.{Outlooked}
 use Rattle.outlook.specs.Internal.{Sound}
-use Rattle.quantum.specs.declared.Duty.{Duty}
-use Rattle.quantum.specs.declared.Clock.{Clock}
+use Rattle.clock.specs.declared.Duty.{Duty}
+use Rattle.clock.specs.declared.Clock.{Clock}
 use Prim.Native.Nat.{ℕ}
 use Rattle.outlook.proofs.Endings.{sound}
 use Rattle.outlook.proofs.Outlooks.{called, worked-is}

@@ -1,7 +1,7 @@
 -- The numbers of live orders before and after the event say what becomes of its id (`follows`, `noted-is`). Assumes nothing.
 use mathlib.Core.List.{[], _∷_, _++_}
 use Rattle.rules.specs.Orders.{live}
-use Rattle.quantum.proofs.Represents.{good-orders}
+use Rattle.events.proofs.Represents.{good-orders}
 use Rattle.quantum.proofs.Noting.{next-bounds, held-old, held-new, follows, noted-is}
 use borrow.Author.Needs.{needs}
 use Rattle.quantum.proofs.noted.Statement.{statement}

@@ -9,7 +9,7 @@ use borrow.Author.Tests.{le-leb, lt-leb, le-ltb, lt-ltb}
 use lib.Dec.{leb}
 use lib.ListN.{length, getD, take}
 use Rattle.rules.specs.Lists.{count, filter}
-use Rattle.quote.specs.Keys.{quoteAt}
+use Rattle.prices.specs.Keys.{quoteAt}
 use Rattle.quote.specs.Levels.{enough, greatest, foundBy, triedBy, shortBy, depthFrom}
 use Rattle.quote.specs.Levels as L
 use Rattle.quote.proofs.Loops.{held-next, held-fits, held-all, found-better, found-few, found-worse, tried-one, tried-none}

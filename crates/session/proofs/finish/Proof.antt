@@ -3,8 +3,8 @@ use mathlib.Core.Path.{refl, ap, _∙_}
 use native.Mathlib.Omega.{arith}
 use Rattle.rules.specs.Terms.{paper}
 use Rattle.rules.proofs.Bounds.{row-bounds}
-use Rattle.quantum.specs.declared.Clock.{Clock}
-use Rattle.quantum.proofs.Represents.{time-is, kept-at}
+use Rattle.clock.specs.declared.Clock.{Clock}
+use Rattle.clock.proofs.Clocks.{time-is, kept-at}
 use Rattle.session.proofs.Steps.{clock-is, marks-bounds, may-end, ended-is}
 use borrow.Author.Needs.{needs}
 use Rattle.session.proofs.finish.Statement.{statement}

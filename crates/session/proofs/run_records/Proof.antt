@@ -8,7 +8,7 @@ use borrow.Author.Needs.{needs}
 use Rattle.rules.specs.declared.Steps.{Steps}
 use Rattle.rules.specs.declared.SpreadRule.the-variants.{Settled}
 use Rattle.rules.specs.Rows.{goodRowFor}
-use Rattle.quantum.specs.Represents.{dutyOf}
+use Rattle.clock.specs.Clocks.{dutyOf}
 use Rattle.session.specs.Internal.{LoopState}
 use Rattle.session.proofs.Loop.{loop-start, loop-reached, loop-at-end, loop-end, loop-short, loop-numbered, loop-refused, loop-on, LoopBytes, turn-ahead, turn-place, turn-small, turn-rest, turn-next, next-place, placed, part-is, part-long, none-live}
 use Rattle.session.proofs.run_records.Statement.{statement}

@@ -1,7 +1,7 @@
 -- What stands there is read, and another stored. Assumes nothing.
 use Prim.Native.Nat.{ℕ}
 use mathlib.Core.Path.{ap, _∙_}
-use Rattle.quote.specs.Keys.{keyIn}
+use Rattle.prices.specs.Keys.{keyIn}
 use Rattle.side.specs.Slots.{slotOf}
 use Rattle.side.specs.Internal.{change}
 use Rattle.side.proofs.Stores.{put-is, read-good, read-change}

@@ -1,6 +1,6 @@
 -- The table that stands for the live orders is asked. Assumes nothing.
 use Rattle.rules.specs.Orders.{live as liveOrders}
-use Rattle.quantum.proofs.Represents.{good-orders}
+use Rattle.events.proofs.Represents.{good-orders}
 use Rattle.quantum.proofs.Answers.{represents-all, held-in}
 use borrow.Author.Needs.{needs}
 use Rattle.quantum.proofs.Quantum.on_other_side.Statement.{statement}

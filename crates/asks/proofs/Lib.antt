@@ -1,0 +1,2 @@
+-- What an ask hands back.
+pub mod Handed

@@ -1,0 +1,10 @@
+-- The month as it was handed over. Assumes nothing.
+use mathlib.Core.Path.{refl}
+use Rattle.asks.proofs.asked.Statement.{statement}
+use Rattle.asks.proofs.asked.Tie as tie
+
+returns : tie.Need-returns
+returns c = (refl, refl)
+
+pub asked-spec : {M : Type 1} → statement M
+asked-spec = tie.close (tie.spec returns)

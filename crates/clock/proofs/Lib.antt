@@ -1,0 +1,3 @@
+-- Laws, by subject.
+pub mod Clocks
+pub mod Words

@@ -1,0 +1,102 @@
+// An event of an open quantum, by the fields of its record, on a lent table: its causes in the order of their numbers, the orders, the
+// clock.
+ghost use mathlib.Core.Path.{_≡_};
+ghost use Rattle.record.specs.Fields.{readFields};
+ghost use Rattle.clock.specs.Clocks.{Onward};
+ghost use Rattle.events.specs.Represents.{ReachedParts, Stepping, SteppingRead};
+ghost use Rattle.events.specs.Internal.{InTime, untimelyBy, tickedBy};
+use clock::Clock;
+use clock::Duty;
+use record::Fields;
+use rules::Event;
+
+// What an event hands back: the clock after it, and the refusal's number or 0.
+pub struct Stepped {
+    pub clock: Clock,
+    pub refusal: u32,
+}
+
+fn refused(clock: Clock, refusal: u32) -> Stepped
+    ensures { λ r. ⌜ (r .clock ≡ clock) × (r .refusal ≡ refusal) ⌝ }
+{
+    Stepped { clock, refusal }
+}
+
+// What refuses fields whose time is out of range. Fields that say no event have no time: 15 is their only cause.
+fn untimely(clock: Clock, f: Fields) -> u32
+    ensures { λ r. ⌜ r ≡ untimelyBy clock f ⌝ }
+{
+    let now = clock.time;
+    let t = f.t;
+    if record::is_good(f) {
+        if t.0 < now.0 {
+            return 8;
+        }
+        return 9;
+    }
+    15
+}
+
+// A tick in time changes no order.
+fn ticked(clock: Clock, f: Fields) -> Stepped
+    requires { ⌜ Onward clock (f .t) ⌝ }
+    ensures { λ r. ⌜ r ≡ tickedBy clock f ⌝ }
+{
+    if record::is_good(f) {
+        let t = f.t;
+        return Stepped {
+            clock: clock::onward(clock, t, clock.keeps),
+            refusal: 0,
+        };
+    }
+    Stepped { clock, refusal: 15 }
+}
+
+// The orders and the best quotes after an event in time that is no tick, then the clock.
+fn taken(duty: Duty, clock: Clock, table: &mut [u32], hints: &mut [u8], f: Fields) -> Stepped
+    requires { ⌜ ReachedParts duty clock (now table) (now hints) × InTime duty clock (f .t) × (f .kind ≡ 6 → ⊥) ⌝ }
+    ensures { λ r. ⌜ SteppingRead duty clock (readFields f) (now (table .entry)) (now (table .exit)) r ⌝ }
+{
+    let minimum = duty.minimum;
+    let sent = book::send(table, hints, f, minimum, duty.widest, clock.keeps);
+    let refusal = sent.refusal;
+    if 0 < refusal {
+        return refused(clock, refusal);
+    }
+    let t = f.t;
+    Stepped {
+        clock: clock::onward(clock, t, sent.keeps),
+        refusal: 0,
+    }
+}
+
+// An event by the fields of its record, with its causes in the order of their numbers; fields that say no event are refused by 15. The
+// time is tested once, and 15 and the trader's causes by kind behind it: only where the time is out of range is 15 looked for first.
+pub fn step_fields(
+    duty: Duty,
+    clock: Clock,
+    table: &mut [u32],
+    hints: &mut [u8],
+    f: Fields,
+) -> Stepped
+    requires { ⌜ ReachedParts duty clock (now table) (now hints) ⌝ }
+    ensures { λ r. ⌜ SteppingRead duty clock (readFields f) (now (table .entry)) (now (table .exit)) r ⌝ }
+{
+    let kind = f.kind;
+    let t = f.t;
+    if clock::in_time(duty, clock, t) {
+        if kind == 6 {
+            return ticked(clock, f);
+        }
+        return taken(duty, clock, table, hints, f);
+    }
+    refused(clock, untimely(clock, f))
+}
+
+// An event, by its fields.
+pub fn step(duty: Duty, clock: Clock, table: &mut [u32], hints: &mut [u8], e: Event) -> Stepped
+    requires { ⌜ ReachedParts duty clock (now table) (now hints) ⌝ }
+    ensures { λ r. ⌜ Stepping duty clock e (now (table .entry)) (now (table .exit)) r ⌝ }
+{
+    step_fields(duty, clock, table, hints, record::event_fields(e))
+}

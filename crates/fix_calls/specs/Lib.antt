@@ -1,0 +1,2 @@
+-- What its functions promise to each other.
+pub mod Internal

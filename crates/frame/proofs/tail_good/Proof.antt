@@ -1,0 +1,32 @@
+-- `fields::tail_good` meets its contract. Assumes nothing.
+use mathlib.Core.Path.{refl}
+use Rattle.frame.specs.Frames.{tailRight}
+use borrow.Author.Needs.{needs}
+use Rattle.frame.proofs.tail_good.Statement.{statement}
+use Rattle.frame.proofs.tail_good.Tie as tie
+
+returns : tie.Need-returns
+unfolding tailRight
+returns c = refl
+
+pub tail-good-spec : {M : Type 1} → statement M
+tail-good-spec =
+    tie.close
+    (tie.spec
+    (λ c. search needs)
+    (λ c. search needs)
+    (λ c. search needs)
+    (λ c. search needs)
+    (λ c. search needs)
+    (λ c. search needs)
+    (λ c. search needs)
+    (λ c. search needs)
+    (λ c. search needs)
+    (λ c. search needs)
+    (λ c. search needs)
+    (λ c. search needs)
+    (λ c. search needs)
+    (λ c. search needs)
+    (λ c. search needs)
+    (λ c. search needs)
+    returns)

@@ -1,0 +1,23 @@
+-- `fields::type_good` meets its contract. Assumes nothing.
+use mathlib.Core.Path.{refl}
+use Rattle.frame.specs.Frames.{typeRight}
+use borrow.Author.Needs.{needs}
+use Rattle.frame.proofs.type_good.Statement.{statement}
+use Rattle.frame.proofs.type_good.Tie as tie
+
+returns : tie.Need-returns
+unfolding typeRight
+returns c = refl
+
+pub type-good-spec : {M : Type 1} → statement M
+type-good-spec =
+    tie.close
+    (tie.spec
+    (λ c. search needs)
+    (λ c. search needs)
+    (λ c. search needs)
+    (λ c. search needs)
+    (λ c. search needs)
+    (λ c. search needs)
+    (λ c. search needs)
+    returns)

@@ -1,0 +1,4 @@
+-- Laws about keys, the spread test, and the widths that prices and keys are computed in.
+pub mod Keys
+pub mod Spread
+pub mod Widths
