@@ -1,9 +1,1 @@
-pub mod Accounts
-pub mod Answers
-pub mod Extras
-pub mod Internal
-pub mod Messages
-pub mod Months
-pub mod Sessions
-pub mod Standings
-pub mod Views
+pub mod Lists

@@ -1,22 +1,16 @@
--- What is promised of a piece of the input: the calls of its words run on a month, and what may stand behind them.
+-- What is promised of a piece of the input: the calls of its words run on a month.
 use Prim.Native.Nat.{ℕ, _-_, _*_, _≤_}
 use mathlib.Core.Path.{_≡_}
 use mathlib.Core.List.{List, _++_}
-use lib.Dec.{ltb, eqb}
 use lib.ListN.{take, drop}
-use Rattle.rules.specs.Lists.{if_then_else_}
 use Rattle.rules.specs.Terms.{paper}
 use Rattle.rules.specs.Calls.{Call}
 use Rattle.rules.specs.Book.{after}
 use Rattle.month.specs.declared.Month.{Month}
 use Rattle.month.specs.Represents.{monthOf}
 use Rattle.words.specs.Bytes.{wordsIn}
-use Rattle.blocks.specs.Kinds.{dueAt}
 use Rattle.blocks.specs.Reading.{callsOf, wordsRead}
-use Rattle.blocks.specs.Pieces.{isTold}
 use Rattle.replay.specs.declared.Played.{Played}
-use Rattle.replay.specs.declared.Rest.{Rest}
-use Rattle.replay.specs.declared.Rest.the-variants.{More, NoCall, TooLong}
 
 -- All calls of the words ran: for every list of calls that led to the month, the one left is the month of that list with these behind it.
 pub record Plays (from : Month) (ws : List ℕ) (r : Played) : Type 0 where
@@ -28,9 +22,3 @@ pub record Answers (from : Month) (end : ℕ) (before behind : List ℕ) (r : Pl
   pub plays : Plays from (wordsIn (take end before)) r
   pub inside : 4 * r .words ≤ end
   pub left : take (end - 4 * r .words) behind ≡ drop (4 * r .words) (take end before)
-
--- What the words behind the calls tell: nothing yet, that they are no call, that the block is longer than the room, or that more is due.
-abbrev pub restOf : ℕ → List ℕ → Rest
-restOf room ws =
-    if isTold ws then (if eqb (dueAt ws) 0 then NoCall else if ltb room (dueAt ws) then TooLong else More)
-    else More

@@ -1,6 +1,6 @@
 -- The list that runs, or the refusal. Assumes nothing.
 use mathlib.Core.Path.{refl}
-use Rattle.quoting.proofs.Months.{list-long, list-short, list-answered}
+use Rattle.quoting.proofs.Lists.{list-long, list-short, list-answered}
 use borrow.Author.Needs.{needs}
 use Rattle.quoting.proofs.quoting_calls.Statement.{statement}
 use Rattle.quoting.proofs.quoting_calls.Tie as tie

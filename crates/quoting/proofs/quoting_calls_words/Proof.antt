@@ -1,5 +1,5 @@
 -- The words of the calls, or 3. Assumes nothing.
-use Rattle.quoting.proofs.Months.{words-long, words-read}
+use Rattle.quoting.proofs.Lists.{words-long, words-read}
 use mathlib.Core.List.{[]}
 use borrow.Author.Needs.{needs}
 use Rattle.quoting.proofs.quoting_calls_words.Statement.{statement}

@@ -1,0 +1,90 @@
+-- A month in lent words, as the numbers that are answered. Assumes nothing.
+use Prim.Native.Nat.{ℕ, _+_}
+use native.Mathlib.Omega.{arith}
+use mathlib.Core.Path.{_≡_, refl, sym, ap, subst, _∙_}
+use mathlib.Core.Bool.{Bool, true, false, not}
+use mathlib.Core.List.{List, [], _++_}
+use lib.Dec.{leb}
+use lib.ListN.{length, drop}
+use borrow.Author.Tests.{leb-true, leb-false, not-true, not-false}
+use Rattle.rules.specs.Lists.{if_then_else_}
+use Rattle.rules.specs.Terms.{paper}
+use Rattle.rules.specs.Answers.{accepted}
+use Rattle.rules.specs.Book.{after}
+use Rattle.month.specs.Represents.{monthOf}
+use Rattle.month.proofs.Words.{month-fits, month-length}
+use Rattle.live.specs.declared.Called.{Called}
+use Rattle.live.specs.declared.Called.the-variants.{Done, WordsShort, HintsShort, AnswerShort, NoCall}
+use Rattle.in_place.specs.Events.{wordsAfter}
+use Rattle.live.specs.Calling.{isCall, calledBy, Performs, Calling}
+use Rattle.buffers.specs.Answers.{refusedNumber, Fills}
+use Rattle.month_words.specs.Internal.{calledNumber}
+use Rattle.month_words.specs.Months.{callNumber, CallsMonth}
+use Rattle.buffers.proofs.Filling.{fills-not, fills-whole}
+
+-- ---- the fresh month
+
+fresh-length : length (wordsAfter []) ≡ 2464
+fresh-length = month-length (monthOf (after paper [])) (month-fits [])
+
+module _ (words words′ : List ℕ) (b : Bool) (r : ℕ) (enough : b ≡ leb 2464 (length words)) (left : words′ ≡ (if b then wordsAfter [] ++ drop 2464 words else words)) where
+  pub fresh-short : not b ≡ true → r ≡ refusedNumber 16 → Fills (accepted (wordsAfter [])) words words′ r
+  fresh-short h e =
+      let no = not-true b h in
+      let few = leb-false 2464 (length words) (sym enough ∙ no) in
+      let same : words′ ≡ words = left ∙ ap (λ (t : Bool). if t then wordsAfter [] ++ drop 2464 words else words) no in
+      subst (λ (l : List ℕ). Fills (accepted (wordsAfter [])) words l r) (sym same)
+      (fills-not (wordsAfter []) words r (omega (arith, few, fresh-length)) e)
+
+  pub fresh-written : not b ≡ false → r ≡ 2464 → Fills (accepted (wordsAfter [])) words words′ r
+  fresh-written h e =
+      let yes = not-false b h in
+      let many = leb-true 2464 (length words) (sym enough ∙ yes) in
+      let there : words′ ≡ wordsAfter [] ++ drop 2464 words = left ∙ ap (λ (t : Bool). if t then wordsAfter [] ++ drop 2464 words else words) yes in
+      fills-whole (wordsAfter []) words words′ r (omega (arith, many, fresh-length)) (there ∙ ap (λ (n : ℕ). wordsAfter [] ++ drop n words) (sym fresh-length))
+      (e ∙ sym fresh-length)
+
+-- ---- one call
+
+-- the number by what became of the call
+by-called : (w h a c : Bool) → calledNumber (calledBy w h a c) c ≡ callNumber w h a c
+by-called false h a true = refl
+by-called false h a false = refl
+by-called true false a true = refl
+by-called true false a false = refl
+by-called true true false true = refl
+by-called true true false false = refl
+by-called true true true true = refl
+by-called true true true false = refl
+
+twenty-done : (d : Called) (c : Bool) → calledNumber d c ≡ 20 → d ≡ Done
+twenty-done Done c e = refl
+twenty-done WordsShort true e = absurd (omega arith)
+twenty-done WordsShort false e = absurd (omega arith)
+twenty-done HintsShort true e = absurd (omega arith)
+twenty-done HintsShort false e = absurd (omega arith)
+twenty-done AnswerShort true e = absurd (omega arith)
+twenty-done AnswerShort false e = absurd (omega arith)
+twenty-done NoCall c e = absurd (omega arith)
+
+pub month-called : (words : List ℕ) (hints : ℕ) (out bytes words′ out′ : List ℕ) (d : Called) (r : ℕ) → Calling words hints out bytes words′ out′ d
+    → r ≡ calledNumber d (isCall bytes) → CallsMonth words hints out bytes words′ out′ r
+month-called words hints out bytes words′ out′ d r g e =
+    record {
+      number =
+          e ∙ ap (λ (x : Called). calledNumber x (isCall bytes)) (g .called)
+          ∙ by-called (leb 2464 (length words)) (leb 2048 hints) (leb 20 (length out)) (isCall bytes);
+      done = λ t. g .done (twenty-done d (isCall bytes) (sym e ∙ t));
+      kept = λ never. g .kept (λ is. never (e ∙ ap (λ (x : Called). calledNumber x (isCall bytes)) is));
+    }
+
+pub called-as : (d said : Called) (c : Bool) (r : ℕ) → d ≡ said → r ≡ calledNumber said c → r ≡ calledNumber d c
+called-as d said c r h e = e ∙ ap (λ (x : Called). calledNumber x c) (sym h)
+
+pub short-call : (b : Bool) (place n r : ℕ) (c : Bool) → c ≡ b → b ≡ true → n ≡ refusedNumber 16 → r ≡ n + place
+    → r ≡ (if c then refusedNumber 16 + place else refusedNumber 3)
+short-call b place n r c e h f g = g ∙ ap (λ (m : ℕ). m + place) f ∙ rw (e ∙ h) refl
+
+pub short-no-call : (b : Bool) (place r : ℕ) (c : Bool) → c ≡ b → b ≡ false → r ≡ refusedNumber 3
+    → r ≡ (if c then refusedNumber 16 + place else refusedNumber 3)
+short-no-call b place r c e h f = f ∙ rw (e ∙ h) refl

@@ -1,0 +1,27 @@
+-- 16 at its place, or 3 where the bytes are no call. Assumes nothing.
+use mathlib.Core.Path.{refl, sym}
+use Rattle.month_words.proofs.Months.{short-call, short-no-call}
+use borrow.Author.Needs.{needs}
+use Rattle.month_words.proofs.short_at.Statement.{statement}
+use Rattle.month_words.proofs.short_at.Tie as tie
+
+returns : tie.Need-returns
+returns c =
+    let e = c .before .before .is-call in
+    short-call (e .result) (c .before .before .before .before .args .place) (c .refused .result) _ _ (sym (e .ensures)) (c .before .if1 .taken) (c .refused .ensures) refl
+
+returns-2 : tie.Need-returns-2
+returns-2 c =
+    let e = c .before .before .is-call in
+    short-no-call (e .result) (c .before .before .before .before .args .place) (c .refused2 .result) _ (sym (e .ensures)) (c .before .if1 .left) (c .refused2 .ensures)
+
+pub short-at-spec : {M : Type 1} → statement M
+short-at-spec =
+    tie.close
+    (tie.spec
+    (λ c κs. search needs)
+    (λ c κs. search needs)
+    (λ c. search needs)
+    returns
+    (λ c κs. search needs)
+    returns-2)

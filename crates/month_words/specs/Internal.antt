@@ -1,0 +1,15 @@
+-- What the private functions promise each other.
+use Prim.Native.Nat.{ℕ, _+_}
+use mathlib.Core.Bool.{Bool}
+use Rattle.rules.specs.Lists.{if_then_else_}
+use Rattle.live.specs.declared.Called.{Called}
+use Rattle.live.specs.declared.Called.the-variants.{Done, WordsShort, HintsShort, AnswerShort, NoCall}
+use Rattle.buffers.specs.Answers.{refusedNumber}
+
+-- what became of a call, as a number; the bytes are looked at again only where a buffer is too short
+abbrev pub calledNumber : Called → Bool → ℕ
+calledNumber Done call = 20
+calledNumber WordsShort call = if call then refusedNumber 16 + 1 else refusedNumber 3
+calledNumber HintsShort call = if call then refusedNumber 16 + 2 else refusedNumber 3
+calledNumber AnswerShort call = if call then refusedNumber 16 + 3 else refusedNumber 3
+calledNumber NoCall call = refusedNumber 3

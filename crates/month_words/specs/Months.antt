@@ -1,0 +1,25 @@
+-- A month in lent words for C, one call at a time.
+use Prim.Native.Nat.{ℕ, _+_}
+use mathlib.Core.Path.{_≡_}
+use mathlib.Core.Bool.{Bool}
+use mathlib.Core.List.{List}
+use lib.Dec.{leb}
+use lib.ListN.{length}
+use Rattle.rules.specs.Lists.{if_then_else_}
+use Rattle.live.specs.Calling.{isCall, Performs}
+use Rattle.buffers.specs.Answers.{refusedNumber}
+
+-- 16 at the place of the first lent buffer that is too short: 1 the month's words, 2 the hints, 3 the answer; 3, the bytes are no call,
+-- comes before it. Else twenty words of answer are written, and their kind says whether the book accepted the call.
+abbrev pub callNumber : Bool → Bool → Bool → Bool → ℕ
+callNumber words hints answer call =
+    if call
+    then (if words then (if hints then (if answer then 20 else refusedNumber 16 + 3) else refusedNumber 16 + 2) else refusedNumber 16 + 1)
+    else refusedNumber 3
+
+-- The month's words, the number of hints, the answer's words and the call's bytes before; the words and the answer after; and the number.
+-- For every list of calls whose month the words are, `Performs` says what they and the answer become.
+pub record CallsMonth (words : List ℕ) (hints : ℕ) (out bytes words′ out′ : List ℕ) (r : ℕ) : Type 0 where
+  pub number : r ≡ callNumber (leb 2464 (length words)) (leb 2048 hints) (leb 20 (length out)) (isCall bytes)
+  pub done : r ≡ 20 → Performs words out bytes words′ out′
+  pub kept : (r ≡ 20 → ⊥) → (words′ ≡ words) × (out′ ≡ out)

@@ -1,0 +1,75 @@
+// A month in lent words, for C: a fresh one, one call on it, and what stands now, each answered by one number.
+use live::Called;
+use views::Viewed;
+ghost use mathlib.Core.Path.{_≡_};
+ghost use mathlib.Core.List.{[]};
+ghost use Prim.Native.Nat.{_+_, _≤_};
+ghost use lib.ListN.{length};
+ghost use Rattle.rules.specs.Lists.{if_then_else_};
+ghost use Rattle.rules.specs.Answers.{accepted};
+ghost use Rattle.buffers.specs.Answers.{refusedNumber, Fills};
+ghost use Rattle.month_words.specs.Internal.{calledNumber};
+ghost use Rattle.month_words.specs.Months.{CallsMonth};
+ghost use Rattle.in_place.specs.Events.{wordsAfter, HoldsMonth};
+ghost use Rattle.live.specs.Calling.{isCall};
+ghost use Rattle.month_words.specs.Views.{viewedNumber, ViewsMonth};
+
+// The fresh month.
+pub fn fresh(words: &mut [u32]) -> u64
+    ensures { λ r. ⌜ Fills (accepted (wordsAfter [])) (now (words .entry)) (now (words .exit)) r ⌝ }
+{
+    if !live::fresh(words) {
+        return buffers::refused(16);
+    }
+    2464
+}
+
+// A buffer that is too short, unless the bytes are no call.
+fn short_at(place: u32, call: &[u8]) -> u64
+    ensures { λ r. ⌜ r ≡ (if isCall (now (call .entry)) then refusedNumber 16 + place else refusedNumber 3) ⌝ }
+{
+    if live::is_call(call) {
+        return buffers::refused(16) + (place as u64);
+    }
+    buffers::refused(3)
+}
+
+fn called_number(called: Called, call: &[u8]) -> u64
+    ensures { λ r. ⌜ r ≡ calledNumber called (isCall (now (call .entry))) ⌝ }
+{
+    match called {
+        Called::Done => 20,
+        Called::WordsShort => short_at(1, call),
+        Called::HintsShort => short_at(2, call),
+        Called::AnswerShort => short_at(3, call),
+        Called::NoCall => buffers::refused(3),
+    }
+}
+
+// One call on the month whose words these are.
+pub fn call(words: &mut [u32], hints: &mut [u8], call: &[u8], answer: &mut [u32]) -> u64
+    requires { ⌜ (2464 ≤ length (now words) → HoldsMonth (now words)) ⌝ }
+    ensures { λ r. ⌜ CallsMonth (now (words .entry)) (length (now (hints .entry))) (now (answer .entry)) (now (call .entry)) (now (words .exit)) (now (answer .exit)) r ⌝ }
+{
+    let called = live::call(words, hints, call, answer);
+    called_number(called, call)
+}
+
+fn viewed_number(viewed: Viewed) -> u64
+    ensures { λ r. ⌜ r ≡ viewedNumber viewed ⌝ }
+{
+    match viewed {
+        Viewed::WordsShort => buffers::refused(16) + 1,
+        Viewed::BufferShort => buffers::refused(16) + 2,
+        Viewed::Written(n) => n as u64,
+    }
+}
+
+// The open quantum of the month whose words these are.
+pub fn view(words: &[u32], buffer: &mut [u32]) -> u64
+    requires { ⌜ (2464 ≤ length (now words) → HoldsMonth (now words)) ⌝ }
+    ensures { λ r. ⌜ ViewsMonth (now (words .entry)) (now (buffer .entry)) (now (buffer .exit)) r ⌝ }
+{
+    let viewed = views::view(words, buffer);
+    viewed_number(viewed)
+}
