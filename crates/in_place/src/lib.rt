@@ -6,6 +6,7 @@ ghost use mathlib.Core.List.{List, [], _∷_};
 ghost use Prim.Native.Nat.{_+_, _*_, _≤_};
 ghost use lib.ListN.{length, getD};
 ghost use Rattle.rules.specs.declared.Event.{Event};
+ghost use Rattle.rules.specs.declared.Event.the-variants.{Tick};
 ghost use Rattle.rules.specs.declared.Cell.{Cell};
 ghost use Rattle.rules.specs.Cells.{goodCell, placeOf, cellAt};
 ghost use Rattle.rules.specs.Answers.{shownLooked, shownAsked};
@@ -22,6 +23,7 @@ use rules::Amendment;
 use rules::Asked;
 use rules::Cell;
 use rules::Looked;
+use rules::Millis;
 use rules::Preview;
 use rules::Refusal;
 use rules::Side;
@@ -42,8 +44,36 @@ fn step_front(words: &mut [u32], hints: &mut [u8], f: Fields) -> u32
     refusal
 }
 
-// The same on all 598 words: the notes follow an event that is taken.
-fn step(words: &mut [u32], hints: &mut [u8], f: Fields) -> u32
+// A tick, on all 598 words: it reads no order and changes the clock alone.
+fn tick(words: &mut [u32], t: Millis) -> u32
+    requires { ⌜ HoldsQuantum (now words) × (length (now words) ≡ 598) ⌝ }
+    ensures { λ r. ⌜ StepsWords (now (words .entry)) (Tick t) (now (words .exit)) r ⌝ }
+{
+    let duty = quantum::duty_in(&words[0..3]);
+    let clock = quantum::clock_in(&words[3..8]);
+    let now = clock.time;
+    let end = duty.length;
+    if t.0 < now.0 {
+        return 8;
+    }
+    if end.0 < t.0 {
+        return 9;
+    }
+    let next = quantum::onward(clock, t, clock.keeps);
+    quantum::put_clock(next, &mut words[3..8]);
+    0
+}
+
+// An amendment, on all 598 words: no order comes or goes, so the notes stay.
+fn amend(words: &mut [u32], hints: &mut [u8], f: Fields) -> u32
+    requires { ⌜ HoldsQuantum (now words) × (length (now words) ≡ 598) × (length (now hints) ≡ 2048) × SaysEvent f × (f .kind ≡ 3) ⌝ }
+    ensures { λ r. ⌜ ((e : Event) → f ≡ fieldsFor e → StepsWords (now (words .entry)) e (now (words .exit)) r) ⌝ }
+{
+    step_front(&mut words[0..522], hints, f)
+}
+
+// Any event, on all 598 words: the notes follow one that is taken.
+fn step_noted(words: &mut [u32], hints: &mut [u8], f: Fields) -> u32
     requires { ⌜ HoldsQuantum (now words) × (length (now words) ≡ 598) × (length (now hints) ≡ 2048) × SaysEvent f ⌝ }
     ensures { λ r. ⌜ ((e : Event) → f ≡ fieldsFor e → StepsWords (now (words .entry)) e (now (words .exit)) r) ⌝ }
 {
@@ -55,6 +85,22 @@ fn step(words: &mut [u32], hints: &mut [u8], f: Fields) -> u32
     let has = book::count(&words[10..522]);
     arrivals::note(&mut words[522..586], had, has, f.id);
     0
+}
+
+// An event, by its kind: ticks and amendments need not look at the notes.
+fn step(words: &mut [u32], hints: &mut [u8], f: Fields) -> u32
+    requires { ⌜ HoldsQuantum (now words) × (length (now words) ≡ 598) × (length (now hints) ≡ 2048) × SaysEvent f ⌝ }
+    ensures { λ r. ⌜ ((e : Event) → f ≡ fieldsFor e → StepsWords (now (words .entry)) e (now (words .exit)) r) ⌝ }
+{
+    let kind = f.kind;
+    let t = f.t;
+    if kind == 6 {
+        return tick(words, t);
+    }
+    if kind == 3 {
+        return amend(words, hints, f);
+    }
+    step_noted(words, hints, f)
 }
 
 // One more accepted call, in the count's two words.
@@ -160,7 +206,7 @@ pub fn ask(words: &[u32], hints: &mut [u8], a: Amendment) -> Asked
     let count = lent::wide(words[4], words[5]);
     let mut copy = [0u32; 598];
     lent::copy(&words[6..604], &mut copy);
-    let n = step(&mut copy, hints, amend_fields(a));
+    let n = amend(&mut copy, hints, amend_fields(a));
     if 0 < n {
         return Asked::Refused(rules::refusal_of(n));
     }

@@ -1,98 +1,33 @@
--- The event on the words before the notes; where it is taken, the notes follow it by the numbers of live orders. Assumes nothing.
-use Rattle.in_place.proofs.Whole.{front-held, held-is, front-long, table-held, number-is, refused-words, new-held, follows-on, accepted-words}
-use mathlib.Core.Path.{_∙_, sym}
-use native.Mathlib.Omega.{arith}
+-- By the kind: a tick, an amendment, or another event. Assumes nothing.
+use mathlib.Core.Path.{subst}
+use Rattle.rules.specs.declared.Event.{Event}
+use Rattle.in_place.specs.Events.{StepsWords}
+use Rattle.in_place.proofs.Ticks.{says-tick}
 use borrow.Author.Needs.{needs}
 use Rattle.in_place.proofs.step.Statement.{statement}
 use Rattle.in_place.proofs.step.Tie as tie
 
-count-requires : tie.Need-count-requires
-count-requires c κs =
-    let s = c .before .before .before .before in
-    table-held (s .args .words .now) (s .pre .1) (s .pre .0)
-
-step-front-requires : tie.Need-step-front-requires
-step-front-requires c κs =
-    let s = c .before .before .before .before .before .before .before in
-    let ws = s .args .words .now in
-    (front-held ws (s .pre .1) (s .pre .0), front-long ws (s .pre .1), s .pre .2, s .pre .3)
-
 returns : tie.Need-returns
 returns c =
-    let s = c .before .before .before .before .before .before .before .before .before .before .before .before .before in
-    let ws = s .args .words .now in
-    let x = c .before .before .before .before .before .step-front in
-    λ e f.
-    record {
-      number = λ row sp es g is. number-is ws (x .last .0) e (x .result) (x .ensures e f) row sp es g is;
-      words-after = λ row sp es g is. refused-words ws (x .last .0) e (x .result) (x .ensures e f) row sp es g is (c .if1 .taken);
-    }
+    let s = c .before .before .before .before .before .before .before .before in
+    let x = c .before .before .tick in
+    λ e f. subst (λ (v : Event). StepsWords (s .args .words .now) v (x .last .0) (x .result)) (says-tick e (s .args .f) f (c .before .before .before .before .if1 .taken)) (x .ensures)
 
-count-requires-2 : tie.Need-count-requires-2
-count-requires-2 c κs =
-    let s = c .before .before .before .before .before .before .before .before .before .before .before .before .before .before .before in
-    let x = c .before .before .before .before .before .before .before .step-front in
-    let ws = s .args .words .now in
-    let h = s .pre .0 in
-    let r = h .reached in
-    let y = s .pre .3 in
-    new-held ws (x .last .0) (y .event) (x .result) (x .ensures (y .event) (y .is)) (r .row) (r .sp) (r .events) (r .bounds) (held-is ws (s .pre .1) h) (c .before .before .if1 .left)
-
-note-requires : tie.Need-note-requires
-note-requires c κs =
-    let s = c .before .before .before .before .before .before .before .before .before .before .before .before .before .before .before .before .before in
-    let x = c .before .before .before .before .before .before .before .before .before .step-front in
-    let ws = s .args .words .now in
-    let h = s .pre .0 in
-    let r = h .reached in
-    let y = s .pre .3 in
-    record {
-      row = r .row;
-      events = r .events;
-      event = y .event;
-      follows =
-          follows-on ws (x .last .0) (y .event) (x .result) (x .ensures (y .event) (y .is)) (r .row) (r .sp) (r .events) (r .bounds) (held-is ws (s .pre .1) h) (c .before .before .before .before .if1 .left) _ _ (s .args .f) (y .is)
-          (c .before .before .before .before .before .before .before .before .before .before .before .before .count .ensures) (c .before .count2 .ensures);
-    }
-
-returns-2 : tie.Need-returns-2
-returns-2 c =
-    let s = c .before .before .before .before .before .before .before .before .before .before .before .before .before .before .before .before .before .before .before .before in
-    let ws = s .args .words .now in
-    let x = c .before .before .before .before .before .before .before .before .before .before .before .before .step-front in
-    let left = c .before .before .before .before .before .before .before .if1 .left in
-    λ e f.
-    record {
-      number = λ row sp es g is. omega (arith, left, number-is ws (x .last .0) e (x .result) (x .ensures e f) row sp es g is);
-      words-after = λ row sp es g is.
-          accepted-words ws (x .last .0) e (x .result) (x .ensures e f) row sp es g is left (c .before .before .note .last .0)
-          (c .before .before .note .ensures row es e
-          (follows-on ws (x .last .0) e (x .result) (x .ensures e f) row sp es g is left _ _ (s .args .f) f (c .before .before .before .before .before .before .before .before .before .before .before .before .before .before .before .count .ensures) (c .before .before .before .before .count2 .ensures)));
-    }
+amend-requires : tie.Need-amend-requires
+amend-requires c κs = search needs
 
 pub step-spec : {M : Type 1} → statement M
 step-spec =
     tie.close
     (tie.spec
-    (λ c. search needs)
-    (λ c. search needs)
-    (λ c. search needs)
-    count-requires
-    (λ c. search needs)
-    (λ c. search needs)
-    (λ c. search needs)
-    step-front-requires
-    (λ c. search needs)
+    (λ c κs. search needs)
     (λ c. search needs)
     returns
+    amend-requires
     (λ c. search needs)
     (λ c. search needs)
     (λ c. search needs)
-    count-requires-2
+    (λ c κs. search needs)
     (λ c. search needs)
     (λ c. search needs)
-    (λ c. search needs)
-    note-requires
-    (λ c. search needs)
-    (λ c. search needs)
-    returns-2)
+    (λ c. search needs))
