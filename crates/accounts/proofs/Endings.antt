@@ -21,9 +21,11 @@ use Rattle.accounts.specs.declared.Times.{Times}
 use Rattle.accounts.specs.declared.AccountAnswer.{AccountAnswer}
 use Rattle.accounts.specs.declared.AccountAnswer.the-variants as S
 use Rattle.accounts.specs.Shown.{timesShown, shownAccount, filledBy}
-use Rattle.accounts.specs.Internal.{bookWith, counted, Passed}
+use Rattle.session.specs.Internal.{bookOf}
+use Rattle.session.proofs.Openings.{cellOf}
+use Rattle.accounts.specs.Internal.{counted, Passed}
 use Rattle.accounts.proofs.Growing.{words-length}
-use Rattle.accounts.proofs.Runs.{account-row, account-price, account-strike, account-opens, cellOf}
+use Rattle.accounts.proofs.Runs.{account-row, account-price, account-strike, account-opens}
 use Rattle.accounts.proofs.Loop.{passed-halted}
 
 -- the pass says how the account ends
@@ -109,7 +111,7 @@ module _ (most : ℕ) (words : List ℕ) (sp : SpreadRule) (bytes entry exit : L
       passed-strike g = passed-halted (account paper most words sp bytes) StrikesOutOfRange 0 entry exit (account-strike most words sp bytes row is f g)
 
       pub passed-opened : goodSpreadRule sp ≡ true → (r : AccountAnswer)
-          → ((cell : ℕ) → Passed (accountRecords paper most 1 (bookWith cell row sp []) (recordsOf bytes)) entry exit r)
+          → ((cell : ℕ) → Passed (accountRecords paper most 1 (bookOf cell row sp []) (recordsOf bytes)) entry exit r)
           → Passed (account paper most words sp bytes) entry exit r
       passed-opened g r h =
-          subst (λ (a : Account). Passed a entry exit r) (sym (account-opens most words sp bytes row is f g)) (h (cellOf most words sp bytes))
+          subst (λ (a : Account). Passed a entry exit r) (sym (account-opens most words sp bytes row is f g)) (h (cellOf words sp))

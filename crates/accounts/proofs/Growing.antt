@@ -3,15 +3,16 @@
 use Prim.Native.Nat.{ℕ, zero, suc, _+_, _*_, _-_, _≤_, _<_}
 use native.Mathlib.Omega.{arith}
 use mathlib.Core.Path.{_≡_, refl, sym, ap, _∙_, subst}
-use mathlib.Core.List.{List, [], _∷_, _++_, append-assoc}
+use mathlib.Core.List.{List, [], _∷_, _++_, append-nil}
 use mathlib.Core.Bool.{Bool, true, false}
-use lib.Dec.{leb, eqb}
-use lib.ListN.{length, take, drop, set, length-append, length-set}
-use lib.Seq.{sets-eq, take-at, drop-at, drop-drop, drop-append-add}
-use borrow.Author.Tests.{leb-false, le-leb, lt-leb, leb-true, eqb-true, eqb-false, eq-eqb, ne-eqb}
+use lib.Dec.{eqb}
+use lib.ListN.{length, set, length-append}
+use borrow.Author.Tests.{eqb-true, eqb-false, eq-eqb, ne-eqb}
 use Rattle.rules.specs.Lists.{if_then_else_}
 use Rattle.rules.specs.States.{State, kept, noBid, noAsk, neither, crossed, wide, stateWord}
 use Rattle.rules.specs.Accounts.{Part, part, sameState, grownBy, parts, timeIn, partWords, Tiles}
+use Rattle.session.specs.Internal.{Front, putWords}
+use Rattle.session.proofs.Buffers.{put-fits as words-fit, put-not as words-not, put-front}
 use Rattle.accounts.specs.declared.Times.{Times}
 use Rattle.accounts.specs.declared.Marks.{Marks}
 use Rattle.accounts.specs.Internal.{lastStart, lastWord, timesAt, marksAt, Holds, putPart, addedTo, Addable, begunAt}
@@ -160,90 +161,25 @@ unfolding partWords
 words-length [] = refl
 words-length (p ∷ ps) = let ih = words-length ps in omega arith
 
-put-at : (buffer : List ℕ) (k x y z : ℕ) → k + 3 ≤ length buffer
-    → set (set (set buffer k x) (k + 1) y) (k + 2) z ≡ take k buffer ++ (x ∷ y ∷ z ∷ drop (k + 3) buffer)
-put-at buffer k x y z h =
-    let one : k + 1 ≡ suc k = omega arith in
-    let two : k + 2 ≡ suc (suc k) = omega arith in
-    (λ i. set (set (set buffer k x) (one i) y) (two i) z)
-    ∙ sets-eq (x ∷ y ∷ z ∷ []) buffer k h
-    ∙ append-assoc (take k buffer) (x ∷ y ∷ z ∷ []) (drop (k + 3) buffer)
-
-module _ (base : List ℕ) (init : List Part) (x y : ℕ) (s : State) (buffer : List ℕ) (size : length buffer ≡ length base)
-    (around : 3 * length init + 3 ≤ length base
-    → (take (3 * length init) buffer ≡ partWords init) × (drop (3 * length init + 3) buffer ≡ drop (3 * length init + 3) base)) where
-  abbrev more : List Part
-  more = init ++ (part x y s ∷ [])
-
-  abbrev at : ℕ
-  at = 3 * length init
-
-  put-words : at + 3 ≤ length base → set (set (set buffer at x) (at + 1) y) (at + 2) (stateWord s) ≡ partWords more ++ drop (3 * length more) base
-  unfolding partWords
-  put-words h =
-      let a = around h in
-      let z = stateWord s in
-      let long : 3 * length more ≡ at + 3 = omega (arith, length-snoc init (part x y s)) in
-      put-at buffer at x y z (omega arith)
-      ∙ ap (λ (l : List ℕ). l ++ (x ∷ y ∷ z ∷ drop (at + 3) buffer)) (a .0)
-      ∙ ap (λ (l : List ℕ). partWords init ++ (x ∷ y ∷ z ∷ l)) (a .1)
-      ∙ sym (append-assoc (partWords init) (x ∷ y ∷ z ∷ []) (drop (at + 3) base))
-      ∙ ap (λ (l : List ℕ). l ++ drop (at + 3) base) (sym (words-append init (part x y s ∷ [])))
-      ∙ ap (λ (n : ℕ). partWords more ++ drop n base) (sym long)
-
-  put-holds : Holds base more (putPart buffer (length init) x y (stateWord s))
-  unfolding putPart
-  put-holds = go (leb (at + 3) (length buffer)) refl
-    where
-      go : (b : Bool) → leb (at + 3) (length buffer) ≡ b
-          → Holds base more (if b then set (set (set buffer at x) (at + 1) y) (at + 2) (stateWord s) else buffer)
-      go true e =
-          let h = leb-true (at + 3) (length buffer) e in
-          record {
-            size = length-set (set (set buffer at x) (at + 1) y) (at + 2) (stateWord s) ∙ length-set (set buffer at x) (at + 1) y ∙ length-set buffer at x ∙ size;
-            words = λ l. put-words (omega arith);
-          }
-      go false e =
-          let h = leb-false (at + 3) (length buffer) e in
-          record { size = size; words = λ l. absurd (omega (arith, length-snoc init (part x y s))) }
-
 pub put-fits : (buffer : List ℕ) (n x y z : ℕ) → 3 * n + 3 ≤ length buffer → set (set (set buffer (3 * n) x) (3 * n + 1) y) (3 * n + 2) z ≡ putPart buffer n x y z
-unfolding putPart
-put-fits buffer n x y z h = rw (le-leb (3 * n + 3) (length buffer) h) refl
+put-fits buffer n x y z h =
+    let one : 3 * n + 1 ≡ suc (3 * n) = omega arith in
+    let two : 3 * n + 2 ≡ suc (suc (3 * n)) = omega arith in
+    (λ i. set (set (set buffer (3 * n) x) (one i) y) (two i) z) ∙ words-fit buffer (3 * n) (x ∷ y ∷ z ∷ []) h
 
 pub put-not : (buffer : List ℕ) (n x y z : ℕ) → length buffer < 3 * n + 3 → buffer ≡ putPart buffer n x y z
-unfolding putPart
-put-not buffer n x y z h = rw (lt-leb (3 * n + 3) (length buffer) h) refl
+put-not buffer n x y z h = words-not buffer (3 * n) (x ∷ y ∷ z ∷ []) h
 
--- one more stretch
-holds-new : (base : List ℕ) (ps : List Part) (x y : ℕ) (s : State) (buffer : List ℕ) → Holds base ps buffer
+-- one more stretch, or one in place of the last
+holds-put : (base : List ℕ) (ps old : List Part) (x y : ℕ) (s : State) (buffer : List ℕ) → length old ≤ 1 → Holds base (ps ++ old) buffer
     → Holds base (ps ++ (part x y s ∷ [])) (putPart buffer (length ps) x y (stateWord s))
-holds-new base ps x y s buffer h =
-    put-holds base ps x y s buffer (h .size)
-    (λ l.
-    let is = h .words (omega arith) in
-    let fits = words-length ps in (
-      ap (take (3 * length ps)) is ∙ take-at (partWords ps) (drop (3 * length ps) base) (3 * length ps) fits,
-      ap (drop (3 * length ps + 3)) is
-          ∙ ap (λ (n : ℕ). drop (n + 3) (partWords ps ++ drop (3 * length ps) base)) (sym fits)
-          ∙ drop-append-add (partWords ps) (drop (3 * length ps) base) 3
-          ∙ drop-drop 3 (3 * length ps) base,
-    ))
-
--- the last stretch written over
-holds-longer : (base : List ℕ) (ps : List Part) (p : Part) (x y : ℕ) (s : State) (buffer : List ℕ) → Holds base (ps ++ (p ∷ [])) buffer
-    → Holds base (ps ++ (part x y s ∷ [])) (putPart buffer (length ps) x y (stateWord s))
-holds-longer base ps p x y s buffer h =
-    put-holds base ps x y s buffer (h .size)
-    (λ l.
-    let more : 3 * length (ps ++ (p ∷ [])) ≡ 3 * length ps + 3 = omega (arith, length-snoc ps p) in
-    let is = h .words (omega arith) in
-    let fits = words-length (ps ++ (p ∷ [])) ∙ more in
-    let rest = drop (3 * length (ps ++ (p ∷ []))) base in
-    let split = ap (λ (l : List ℕ). l ++ rest) (words-append ps (p ∷ [])) ∙ append-assoc (partWords ps) (partWords (p ∷ [])) rest in (
-      ap (take (3 * length ps)) (is ∙ split) ∙ take-at (partWords ps) (partWords (p ∷ []) ++ rest) (3 * length ps) (words-length ps),
-      ap (drop (3 * length ps + 3)) is ∙ drop-at (partWords (ps ++ (p ∷ []))) rest (3 * length ps + 3) fits ∙ ap (λ (n : ℕ). drop n base) more,
-    ))
+unfolding partWords
+holds-put base ps old x y s buffer few h =
+    let new = x ∷ y ∷ stateWord s ∷ [] in
+    let long : length (partWords old) ≤ 3 = omega (arith, words-length old, few) in
+    let put = put-front base (partWords ps) (partWords old) new buffer (subst (λ (l : List ℕ). Front base l buffer) (words-append ps old) h) long in
+    subst (λ (l : List ℕ). Front base l (putPart buffer (length ps) x y (stateWord s))) (sym (words-append ps (part x y s ∷ [])))
+    (subst (λ (n : ℕ). Front base (partWords ps ++ new) (putWords buffer n new)) (words-length ps) put)
 
 -- ---- time runs on from a to b
 
@@ -277,7 +213,7 @@ module _ (f : ℕ → State) (a b : ℕ) (m : Marks) (is : m ≡ marksAt f a) (b
         let new : parts f b ≡ parts f a ++ (p ∷ []) = run ∙ grown-new s a (b - a) (parts f a) (ap (λ (w : ℕ). eqb w (stateWord s)) (sym (state-is f a m is)) ∙ e) in
         let n : m .stretches + 1 ≡ length (parts f b) = ap (λ (k : ℕ). k + 1) (stretches-are f a m is) ∙ sym (length-snoc (parts f a) p) ∙ ap length (sym new) in
         let at : m .stretches + 1 - 1 ≡ length (parts f a) = omega (arith, stretches-are f a m is) in
-        let held = holds-new base (parts f a) a (b - a) s entry h in (
+        let held = holds-put base (parts f a) [] a (b - a) s entry (omega arith) (subst (λ (l : List Part). Holds base l entry) (sym (append-nil (parts f a))) h) in (
           marks-path n (sym (ap lastStart new ∙ start-snoc (parts f a) p)) (sym (ap lastWord new ∙ word-snoc (parts f a) p)) timed,
           rw (new, at) held,
         )
@@ -295,7 +231,7 @@ module _ (f : ℕ → State) (a b : ℕ) (m : Marks) (is : m ≡ marksAt f a) (b
         let k : m .stretches - 1 ≡ length ps = omega (arith, stretches-are f a m is, ap length old, length-snoc ps p) in
         let ends = last-ends 0 a ps p (subst (Tiles 0 a) old (parts-account f a .whole)) in
         let long : p .length + (b - a) ≡ b - m .start = omega arith in
-        let held = holds-longer base ps p (p .offset) (p .length + (b - a)) s entry (subst (λ (l : List Part). Holds base l entry) old h) in
+        let held = holds-put base ps (p ∷ []) (p .offset) (p .length + (b - a)) s entry (omega arith) (subst (λ (l : List Part). Holds base l entry) old h) in
         let same : putPart entry (length ps) (p .offset) (p .length + (b - a)) (stateWord s) ≡ putPart entry (m .stretches - 1) (m .start) (b - m .start) (stateWord s) =
         λ i. putPart entry (sym k i) (sym from i) (long i) (stateWord s) in (
           marks-path n o (sym (ap lastWord new ∙ word-snoc ps q)) timed,

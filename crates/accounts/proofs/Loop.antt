@@ -1,13 +1,10 @@
 -- The loop over the records: how it starts, one turn, and each way out. Assumes nothing.
-use Prim.Native.Nat.{ℕ, zero, suc, _+_, _*_, _-_, _/_, _≤_, _<_}
+use Prim.Native.Nat.{ℕ, _+_, _*_, _-_, _/_, _≤_, _<_}
 use native.Mathlib.Omega.{arith}
 use mathlib.Core.Path.{_≡_, refl, sym, ap, _∙_, subst}
 use mathlib.Core.List.{List, [], _∷_, _++_}
-use mathlib.Core.Bool.{Bool, true, false}
-use lib.Dec.{ltb}
-use lib.ListN.{length, take, drop, length-take, length-drop}
-use lib.Seq.{drop-drop}
-use borrow.Author.Tests.{ltb-true, ltb-false}
+use mathlib.Core.Bool.{true}
+use lib.ListN.{length, take, drop}
 use Rattle.rules.specs.declared.Row.{Row}
 use Rattle.rules.specs.declared.SpreadRule.{SpreadRule}
 use Rattle.rules.specs.declared.Event.{Event}
@@ -25,16 +22,17 @@ use Rattle.rules.proofs.Bounds.{event-bounds-none}
 use Rattle.clock.specs.declared.Duty.{Duty}
 use Rattle.clock.specs.Clocks.{dutyOf}
 use Rattle.events.specs.Represents.{tableAfter}
-use Rattle.session.specs.Internal.{refusalBy, followed}
-use Rattle.session.proofs.Runs.{records-none, records-some}
-use Rattle.session.proofs.Loop.{short-record, fifteen-only, record-numbered, followed-bounds}
+use Rattle.session.specs.Internal.{refusalBy, followed, bookOf}
+use Rattle.session.proofs.Walks.{fifteen-only, walk-end, walk-short, walk-stops, walk-on}
+use Rattle.session.proofs.Loop.{record-numbered, followed-bounds}
 use Rattle.accounts.specs.declared.AccountAnswer.{AccountAnswer}
 use Rattle.accounts.specs.declared.AccountAnswer.the-variants as S
 use Rattle.accounts.specs.declared.Progress.{Progress}
 use Rattle.accounts.specs.declared.Stepped.{Stepped}
 use Rattle.accounts.specs.Shown.{shownAccount}
-use Rattle.accounts.specs.Internal.{Holds, progressAt, partsOf, ReachedRun, RepresentsRun, ReachedEnd, FinalAnswer, Advanced, bookWith, counted, LoopState, Passed}
-use Rattle.accounts.proofs.Runs.{runs-past, runs-refused, runs-taken, runs-end}
+use Rattle.accounts.specs.Internal.{Holds, progressAt, partsOf, ReachedRun, RepresentsRun, ReachedEnd, FinalAnswer, Advanced, counted, LoopState, Passed}
+use Rattle.accounts.proofs.Growing.{words-length}
+use Rattle.accounts.proofs.Runs.{walks, runs-end}
 
 -- ---- how a pass ends
 
@@ -57,7 +55,8 @@ passed-whole a times ps entry exit r e s h =
     record {
       answer = s ∙ sym (ap counted e);
       words = λ times′ ps′ f.
-          subst (λ (l : List Part). 3 * length l ≤ length entry → exit ≡ partWords l ++ drop (3 * length l) entry) (same-parts a times times′ ps ps′ e f) (h .words);
+          subst (λ (l : List Part). 3 * length l ≤ length entry → exit ≡ partWords l ++ drop (3 * length l) entry) (same-parts a times times′ ps ps′ e f)
+          (subst (λ (n : ℕ). n ≤ length entry → exit ≡ partWords ps ++ drop n entry) (words-length ps) (h .words));
     }
 
 -- the place of the next record
@@ -74,7 +73,7 @@ placed {run} {base} {exit} {f} e h = subst (λ (n : ℕ). (cell : ℕ) → Passe
 
 module _ (most : ℕ) (row : Row) (sp : SpreadRule) (bytes base : List ℕ) where
   abbrev Run : ℕ → Account
-  Run cell = accountRecords paper most 1 (bookWith cell row sp []) (recordsOf bytes)
+  Run cell = accountRecords paper most 1 (bookOf cell row sp []) (recordsOf bytes)
 
   pub loop-start : (w : Progress) (duty : Duty) (table : List ℕ) → w ≡ progressAt row sp [] → duty ≡ dutyOf row sp → table ≡ tableAfter row []
       → LoopState most row sp bytes base w duty 0 1 table base
@@ -99,8 +98,7 @@ module _ (most : ℕ) (row : Row) (sp : SpreadRule) (bytes base : List ℕ) wher
     loop-end r exit l ends cell =
         let f = stateAt row sp (g .events) in
         let e = ends row sp (g .events) base (g .run) (g .holds) in
-        let none : recordsOf (drop at bytes) ≡ [] = records-none (drop at bytes) (omega (arith, length-drop at bytes)) in
-        let run = g .runs cell ∙ ap (accountRecords paper most place (bookWith cell row sp (g .events))) none ∙ runs-end most cell row sp place (g .events) in
+        let run = walk-end (walks most cell row sp) bytes at place (g .events) (g .runs cell) l ∙ runs-end most cell row sp place (g .events) in
         passed-whole (Run cell) (totals f (row .length .0)) (parts f (row .length .0)) base exit r run (e .0) (e .1)
 
     -- a record is there
@@ -108,34 +106,9 @@ module _ (most : ℕ) (row : Row) (sp : SpreadRule) (bytes base : List ℕ) wher
       abbrev this : List ℕ
       this = take 20 (drop at bytes)
 
-      next-record : (cell : ℕ) → Run cell ≡ accountRecords paper most place (bookWith cell row sp (g .events)) (this ∷ recordsOf (drop 20 (drop at bytes)))
-      next-record cell =
-          g .runs cell
-          ∙ ap (accountRecords paper most place (bookWith cell row sp (g .events))) (records-some (drop at bytes) (omega (arith, length-drop at bytes)))
-
-      -- what refuses the record, by its number
-      stops : (exit : List ℕ) (f : Refusal) (n : ℕ) → numberOf f ≡ suc n → place ≤ most → refusalBy row (g .events) (readRecord this) ≡ suc n
-          → (cell : ℕ) → Passed (Run cell) base exit (S.Refused f place)
-      stops exit f n z p k cell =
-          passed-halted (Run cell) f place base exit
-          (next-record cell
-          ∙ runs-refused most cell row sp place (g .events) this (recordsOf (drop 20 (drop at bytes))) n p k
-          ∙ ap (λ (m : ℕ). halted m place) (sym z))
-
       -- the record past the limit, or fewer than 20 bytes
       pub loop-short : (exit : List ℕ) → (place ≤ most → length bytes < at + 20) → (cell : ℕ) → Passed (Run cell) base exit (S.Refused BadRecord place)
-      loop-short exit h cell = go (ltb most place) refl
-        where
-          few : place ≤ most → length this < 20
-          few p = let l = h p in omega (arith, length-take 20 (drop at bytes), length-drop at bytes)
-
-          go : (b : Bool) → ltb most place ≡ b → Passed (Run cell) base exit (S.Refused BadRecord place)
-          go true e =
-              passed-halted (Run cell) BadRecord place base exit
-              (next-record cell ∙ runs-past most cell row sp place (g .events) this (recordsOf (drop 20 (drop at bytes))) (ltb-true most place e))
-          go false e =
-              let p = ltb-false most place e in
-              stops exit BadRecord 14 refl p (ap (refusalBy row (g .events)) (short-record this (few p))) cell
+      loop-short exit h cell = passed-halted (Run cell) BadRecord place base exit (walk-short (walks most cell row sp) bytes at place (g .events) (g .runs cell) l h)
 
       module _ (p : place ≤ most) (r : Stepped) (next exit : List ℕ) (part : List ℕ) (cut : part ≡ this) (adv : Advanced w duty (readRecord part) r table next buffer exit) where
         judged : r .refusal ≡ refusalBy row (g .events) (readRecord this)
@@ -147,11 +120,9 @@ module _ (most : ℕ) (row : Row) (sp : SpreadRule) (bytes base : List ℕ) wher
             (omega (arith, judged, b .0), omega (arith, judged, b .1))
 
         pub loop-refused : (f : Refusal) → 0 < r .refusal → numberOf f ≡ r .refusal → (cell : ℕ) → Passed (Run cell) base exit (S.Refused f place)
-        loop-refused f h e cell = go (r .refusal) refl
-          where
-            go : (n : ℕ) → r .refusal ≡ n → Passed (Run cell) base exit (S.Refused f place)
-            go zero z = absurd (omega (arith, h, z))
-            go (suc n) z = stops exit f n (e ∙ z) p (sym judged ∙ z) cell
+        loop-refused f h e cell =
+            passed-halted (Run cell) f place base exit
+            (walk-stops (walks most cell row sp) bytes at place (g .events) (g .runs cell) l (r .refusal) h p (sym judged) ∙ ap (λ (m : ℕ). halted m place) (sym e))
 
         pub loop-on : at + 20 ≤ length bytes → r .refusal ≤ 0 → LoopState most row sp bytes base (r .progress) duty (at + 20) (place + 1) next exit
         loop-on room e =
@@ -161,7 +132,6 @@ module _ (most : ℕ) (row : Row) (sp : SpreadRule) (bytes base : List ℕ) wher
             let zero′ : refusalBy row (g .events) (readRecord part) ≡ 0 = ap (refusalBy row (g .events)) same ∙ zero in
             let (progress, held) = adv .progress row sp (g .events) base (g .run) (g .holds) zero′ in
             let more = ap (followed (g .events)) same in
-            let rest : drop 20 (drop at bytes) ≡ drop (at + 20) bytes = drop-drop 20 at bytes in
             record {
               events = followed (g .events) o;
               run = record {
@@ -173,9 +143,5 @@ module _ (most : ℕ) (row : Row) (sp : SpreadRule) (bytes base : List ℕ) wher
               holds = subst (λ (es : List Event). Holds base (partsOf row sp es) exit) more held;
               inside = room;
               small = omega arith;
-              runs = λ cell.
-                  next-record cell
-                  ∙ runs-taken most cell row sp place (g .events) this (recordsOf (drop 20 (drop at bytes))) p zero
-                  ∙ ap (λ (n : ℕ). accountRecords paper most n (bookWith cell row sp (followed (g .events) o)) (recordsOf (drop 20 (drop at bytes)))) (omega arith)
-                  ∙ ap (λ (l : List ℕ). accountRecords paper most (place + 1) (bookWith cell row sp (followed (g .events) o)) (recordsOf l)) rest;
+              runs = λ cell. walk-on (walks most cell row sp) bytes at place (g .events) (g .runs cell) l p zero;
             }

@@ -15,7 +15,7 @@ use Rattle.rules.specs.Terms.{paper}
 use Rattle.rules.specs.Rows.{goodRowFor}
 use Rattle.rules.specs.Orders.{live, present, timeFrom, timeOf}
 use Rattle.rules.specs.States.{State, stateWord, ordersState, stateAt}
-use Rattle.rules.specs.Answers.{Outcome, accepted, refused}
+use Rattle.rules.specs.Answers.{Outcome}
 use Rattle.rules.specs.Causes.{eventRefusal}
 use Rattle.rules.specs.Bounds.{EventBounds}
 use Rattle.rules.specs.Accounts.{Part, parts, timeIn, totals, reckoned}
@@ -28,14 +28,15 @@ use Rattle.book.specs.Table.{tableOf, GoodOrders}
 use Rattle.book.proofs.Table.{table-length}
 use Rattle.record.specs.declared.Fields.{Fields}
 use Rattle.record.specs.Fields.{readFields}
-use Rattle.record.proofs.Reading.{only-fifteen}
 use Rattle.clock.specs.declared.Duty.{Duty}
 use Rattle.clock.specs.declared.Clock.{Clock}
 use Rattle.events.specs.declared.Stepped.{Stepped as SteppedOn}
 use Rattle.clock.specs.Clocks.{clockOf}
-use Rattle.events.specs.Represents.{tableAfter, taken, ReachedParts, Represents, Stepping, SteppingRead}
+use Rattle.events.specs.Represents.{tableAfter, ReachedParts, Represents, SteppingRead}
 use Rattle.clock.proofs.Clocks.{time-is}
 use Rattle.events.proofs.Represents.{good-orders, widest-is, length-is}
+use Rattle.session.specs.Internal.{refusalBy, followed}
+use Rattle.session.proofs.Records.{Took, record-number, record-taken}
 use Rattle.accounts.specs.declared.Times.{Times}
 use Rattle.accounts.specs.declared.Marks.{Marks}
 use Rattle.accounts.specs.declared.Progress.{Progress}
@@ -161,90 +162,44 @@ state-of : (row : Row) (sp : SpreadRule) (es : List Event) (w : Progress) (duty 
 state-of row sp es w duty table h n s =
     s row sp (live es) (good-orders row es (h .bounds)) (h .table-is) (widest-is row sp es duty (w .clock) table (represents row sp es w duty table h))
 
-module _ (w : Progress) (duty : Duty) (e : Event) (table next : List ℕ) (stepped : SteppedOn) (steps : Stepping duty (w .clock) e table next stepped) where
-  number-is : (row : Row) (sp : SpreadRule) (es : List Event) → RepresentsRun row sp es w duty table → stepped .refusal ≡ eventRefusal row es e
-  number-is row sp es h = steps .number row sp es (represents row sp es w duty table h)
-
-  refused-event : (entry exit : List ℕ) → 0 < stepped .refusal
-      → Advanced w duty (accepted e) (record { progress = w; refusal = stepped .refusal }) table next entry exit
-  refused-event entry exit l =
-      record {
-        number = number-is;
-        orders = λ row sp es h z. absurd (omega (arith, l, number-is row sp es h, z));
-        progress = λ row sp es base h b z. absurd (omega (arith, l, number-is row sp es h, z));
-      }
-
-  module _ (l : stepped .refusal ≤ 0) where
-    passes : (row : Row) (sp : SpreadRule) (es : List Event) → RepresentsRun row sp es w duty table → eventRefusal row es e ≡ 0
-    passes row sp es h = omega (arith, number-is row sp es h)
-
-    next-is : (row : Row) (sp : SpreadRule) (es : List Event) → RepresentsRun row sp es w duty table → stepped .clock ≡ clockOf row sp (es ++ (e ∷ []))
-    next-is row sp es h =
-        steps .clock-after row sp es (represents row sp es w duty table h) ∙ ap (λ (n : ℕ). clockOf row sp (taken n es e)) (passes row sp es h)
-
-    event-bounds : ReachedEnd w duty table → (n : ℕ) → StateOf table (duty .widest) n → MarksBounds (w .marks) (w .clock .time) (stepped .clock .time) n
-    event-bounds h n s =
-        let k = h .run in
-        bounds-event (h .row) (h .sp) (h .events) w (k .is) (k .bounds) e (passes (h .row) (h .sp) (h .events) k) (stepped .clock)
-        (next-is (h .row) (h .sp) (h .events) k) (h .good) n (ordersState (h .row) (h .sp) (live (h .events))) (state-of (h .row) (h .sp) (h .events) w duty table k n s)
-
-    taken-event : (n : ℕ) (r : Marks) (entry exit : List ℕ) → StateOf table (duty .widest) n
-        → MarksAfter (w .marks) (w .clock .time) (stepped .clock .time) n r entry exit
-        → Advanced w duty (accepted e) (record { progress = record { clock = stepped .clock; marks = r }; refusal = 0 }) table next entry exit
-    taken-event n r entry exit s grows =
-        record {
-          number = λ row sp es h. sym (passes row sp es h);
-          orders = λ row sp es h z.
-              steps .table-after row sp es (represents row sp es w duty table h) ∙ ap (λ (n : ℕ). tableAfter row (taken n es e)) (passes row sp es h);
-          progress = λ row sp es base h b z.
-              took row sp es w (h .is) (h .bounds) e (passes row sp es h) (stepped .clock) (next-is row sp es h) n r entry exit base (state-of row sp es w duty table h n s) grows b;
-        }
-
--- the same by what a record says; 15 is all that refuses one that is no event
-module _ (w : Progress) (duty : Duty) (table next : List ℕ) (stepped : SteppedOn) where
-  abbrev Read : Outcome Event → Type 0
-  Read o = SteppingRead duty (w .clock) o table next stepped
-
-  refused-read : (o : Outcome Event) → Read o → (entry exit : List ℕ) → 0 < stepped .refusal
-      → Advanced w duty o (record { progress = w; refusal = stepped .refusal }) table next entry exit
-  refused-read (accepted e) steps entry exit l = refused-event w duty e table next stepped steps entry exit l
-  refused-read (refused n) steps entry exit l =
-      record {
-        number = λ row sp es h. steps .1;
-        orders = λ row sp es h z. absurd (omega (arith, l, steps .1, z));
-        progress = λ row sp es base h b z. absurd (omega (arith, l, steps .1, z));
-      }
-
-  module _ (l : stepped .refusal ≤ 0) (n : ℕ) (s : StateOf table (duty .widest) n) where
-    bounds-read : (o : Outcome Event) → ((n : ℕ) → o ≡ refused n → n ≡ 15) → Read o → ReachedEnd w duty table
-        → MarksBounds (w .marks) (w .clock .time) (stepped .clock .time) n
-    bounds-read (accepted e) fifteen steps h = event-bounds w duty e table next stepped steps l h n s
-    bounds-read (refused n) fifteen steps h = absurd (omega (arith, l, steps .1, fifteen n refl))
-
-    taken-read : (o : Outcome Event) → ((n : ℕ) → o ≡ refused n → n ≡ 15) → Read o → (r : Marks) (entry exit : List ℕ)
-        → MarksAfter (w .marks) (w .clock .time) (stepped .clock .time) n r entry exit
-        → Advanced w duty o (record { progress = record { clock = stepped .clock; marks = r }; refusal = 0 }) table next entry exit
-    taken-read (accepted e) fifteen steps r entry exit grows = taken-event w duty e table next stepped steps l n r entry exit s grows
-    taken-read (refused n) fifteen steps r entry exit grows = absurd (omega (arith, l, steps .1, fifteen n refl))
-
--- and by its fields
 module _ (w : Progress) (duty : Duty) (table next : List ℕ) (stepped : SteppedOn) (f : Fields) (steps : SteppingRead duty (w .clock) (readFields f) table next stepped) where
   pub bounds-taken : stepped .refusal ≤ 0 → (n : ℕ) → StateOf table (duty .widest) n → ReachedEnd w duty table
       → MarksBounds (w .marks) (w .clock .time) (stepped .clock .time) n
-  bounds-taken l n s h = bounds-read w duty table next stepped l n s (readFields f) (only-fifteen f) steps h
+  bounds-taken l n s h =
+      let k = h .run in
+      let t = record-taken duty (w .clock) table next stepped (h .row) (h .sp) (h .events) (represents (h .row) (h .sp) (h .events) w duty table k) f steps (readFields f) refl l in
+      bounds-event (h .row) (h .sp) (h .events) w (k .is) (k .bounds) (t .event) (t .passes) (stepped .clock) (t .clock-is) (h .good) n (ordersState (h .row) (h .sp) (live (h .events)))
+      (state-of (h .row) (h .sp) (h .events) w duty table k n s)
 
   module _ (o : Outcome Event) (read : readFields f ≡ o) (entry exit : List ℕ) where
+    number-is : (row : Row) (sp : SpreadRule) (es : List Event) → RepresentsRun row sp es w duty table → stepped .refusal ≡ refusalBy row es o
+    number-is row sp es h = record-number duty (w .clock) table next stepped row sp es (represents row sp es w duty table h) f steps o read
+
     pub advanced-refused : 0 < stepped .refusal → Advanced w duty o (record { progress = w; refusal = stepped .refusal }) table next entry exit
     advanced-refused l =
-        subst (λ (o : Outcome Event). Advanced w duty o (record { progress = w; refusal = stepped .refusal }) table next entry exit) read
-        (refused-read w duty table next stepped (readFields f) steps entry exit l)
+        record {
+          number = number-is;
+          orders = λ row sp es h z. absurd (omega (arith, l, number-is row sp es h, z));
+          progress = λ row sp es base h b z. absurd (omega (arith, l, number-is row sp es h, z));
+        }
 
     pub advanced-taken : stepped .refusal ≤ 0 → (n : ℕ) → StateOf table (duty .widest) n → (r : Marks)
         → MarksAfter (w .marks) (w .clock .time) (stepped .clock .time) n r entry exit
         → Advanced w duty o (record { progress = record { clock = stepped .clock; marks = r }; refusal = 0 }) table next entry exit
     advanced-taken l n s r after =
-        subst (λ (o : Outcome Event). Advanced w duty o (record { progress = record { clock = stepped .clock; marks = r }; refusal = 0 }) table next entry exit) read
-        (taken-read w duty table next stepped l n s (readFields f) (only-fifteen f) steps r entry exit after)
+        record {
+          number = λ row sp es h. omega (arith, number-is row sp es h);
+          orders = λ row sp es h z. let t = this row sp es h in t .table-is ∙ ap (λ (x : Outcome Event). tableAfter row (followed es x)) (sym (t .says));
+          progress = λ row sp es base h b z.
+              let t = this row sp es h in
+              let (is, held) =
+              took row sp es w (h .is) (h .bounds) (t .event) (t .passes) (stepped .clock) (t .clock-is) n r entry exit base (state-of row sp es w duty table h n s) after b in
+              let with = ap (followed es) (sym (t .says)) in
+              (is ∙ ap (progressAt row sp) with, subst (λ (l : List Event). Holds base (partsOf row sp l) exit) with held);
+        }
+      where
+        this : (row : Row) (sp : SpreadRule) (es : List Event) → RepresentsRun row sp es w duty table → Took row sp es o (stepped .clock) next
+        this row sp es h = record-taken duty (w .clock) table next stepped row sp es (represents row sp es w duty table h) f steps o read l
 
 -- ---- the end
 

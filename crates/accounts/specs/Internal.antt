@@ -4,8 +4,8 @@ use Prim.Native.Nat.{ℕ, _+_, _*_, _≤_, _<_}
 use mathlib.Core.Path.{_≡_}
 use mathlib.Core.List.{List, [], _∷_, _++_}
 use mathlib.Core.Bool.{Bool, true}
-use lib.Dec.{leb, eqb}
-use lib.ListN.{length, drop, set}
+use lib.Dec.{eqb}
+use lib.ListN.{length, drop}
 use Rattle.rules.specs.declared.Millis.{Millis}
 use Rattle.rules.specs.declared.Row.{Row}
 use Rattle.rules.specs.declared.SpreadRule.{SpreadRule}
@@ -13,19 +13,16 @@ use Rattle.rules.specs.declared.Event.{Event}
 use Rattle.rules.specs.Lists.{if_then_else_}
 use Rattle.rules.specs.Terms.{paper}
 use Rattle.rules.specs.Rows.{goodRowFor}
-use Rattle.rules.specs.Cells.{blankCells}
 use Rattle.rules.specs.Orders.{present}
 use Rattle.rules.specs.States.{State, kept, noBid, noAsk, neither, crossed, wide, stateWord, stateAt}
 use Rattle.rules.specs.Answers.{Outcome}
-use Rattle.rules.specs.Calls.{Quoting, Book}
-use Rattle.rules.specs.Changes.{following}
 use Rattle.rules.specs.Bounds.{EventBounds}
 use Rattle.rules.specs.Session.{recordsOf}
-use Rattle.rules.specs.Accounts.{Part, parts, timeIn, totals, partWords, Account, accounted, halted, AccountRan, reckoned, stoppedAt, noLimit, accountRecords}
+use Rattle.rules.specs.Accounts.{Part, parts, timeIn, totals, partWords, Account, accounted, halted, AccountRan, reckoned, stoppedAt, accountRecords}
 use Rattle.clock.specs.declared.Duty.{Duty}
 use Rattle.clock.specs.Clocks.{dutyOf, clockOf}
 use Rattle.events.specs.Represents.{tableAfter}
-use Rattle.session.specs.Internal.{countFrom, refusalBy, followed}
+use Rattle.session.specs.Internal.{Front, putWords, refusalBy, followed, bookOf}
 use Rattle.accounts.specs.declared.AccountAnswer.{AccountAnswer}
 use Rattle.accounts.specs.declared.Times.{Times}
 use Rattle.accounts.specs.declared.Marks.{Marks}
@@ -62,15 +59,12 @@ timesAt f n =
 unfoldable pub marksAt : (ℕ → State) → ℕ → Marks
 marksAt f n = record { stretches = length (parts f n); start = lastStart (parts f n); state = lastWord (parts f n); times = timesAt f n }
 
--- a buffer that was base at first and has the stretches at its front, where they fit
-pub record Holds (base : List ℕ) (ps : List Part) (buffer : List ℕ) : Type 0 where
-  pub size : length buffer ≡ length base
-  pub words : 3 * length ps ≤ length base → buffer ≡ partWords ps ++ drop (3 * length ps) base
+-- a buffer that has the stretches at its front, where they fit, and the one counted n from 0
+abbrev pub Holds : List ℕ → List Part → List ℕ → Type 0
+Holds base ps buffer = Front base (partWords ps) buffer
 
--- the stretch counted n from 0, where it fits
-unfoldable pub putPart : List ℕ → ℕ → ℕ → ℕ → ℕ → List ℕ
-putPart buffer n x y z =
-    if leb (3 * n + 3) (length buffer) then set (set (set buffer (3 * n) x) (3 * n + 1) y) (3 * n + 2) z else buffer
+abbrev pub putPart : List ℕ → ℕ → ℕ → ℕ → ℕ → List ℕ
+putPart buffer n x y z = putWords buffer (3 * n) (x ∷ y ∷ z ∷ [])
 
 -- the milliseconds of a state are more
 abbrev pub addedTo : Times → ℕ → ℕ → Times
@@ -155,10 +149,6 @@ FinalAnswer w duty table r entry exit =
 
 -- ---- a whole pass
 
--- the book with an open quantum of a fresh month
-abbrev pub bookWith : ℕ → Row → SpreadRule → List Event → Book
-bookWith cell row sp es = record { running = Quoting cell row (noLimit sp) es; cells = blankCells; count = countFrom (following 0) es }
-
 -- in the loop over the records: at the byte that the record of this place starts with
 pub record LoopState (most : ℕ) (row : Row) (sp : SpreadRule) (bytes base : List ℕ) (w : Progress) (duty : Duty) (at place : ℕ) (table buffer : List ℕ) : Type 0 where
   pub events : List Event
@@ -167,7 +157,7 @@ pub record LoopState (most : ℕ) (row : Row) (sp : SpreadRule) (bytes base : Li
   pub inside : at ≤ length bytes
   pub small : place ≤ most + 1
   pub runs : (cell : ℕ)
-      → accountRecords paper most 1 (bookWith cell row sp []) (recordsOf bytes) ≡ accountRecords paper most place (bookWith cell row sp events) (recordsOf (drop at bytes))
+      → accountRecords paper most 1 (bookOf cell row sp []) (recordsOf bytes) ≡ accountRecords paper most place (bookOf cell row sp events) (recordsOf (drop at bytes))
 
 -- the milliseconds of each state and the number of stretches, or the refusal and its place, whatever the buffer
 unfoldable pub counted : Account → AccountRan

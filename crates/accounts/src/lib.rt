@@ -14,8 +14,9 @@ ghost use Rattle.rules.specs.Causes.{goodSpreadRule};
 ghost use Rattle.rules.specs.Records.{readRecord};
 ghost use Rattle.rules.specs.Session.{mostRecords, recordsOf};
 ghost use Rattle.rules.specs.Accounts.{accountRecords, account, accountRan, accountBuffer};
+ghost use Rattle.session.specs.Internal.{bookOf};
 ghost use Rattle.accounts.specs.Shown.{shownAccount, filledBy};
-ghost use Rattle.accounts.specs.Internal.{putPart, begunAt, addedTo, Addable, MarksBounds, MarksAfter, ReachedRun, Advanced, ReachedEnd, FinalAnswer, progressAt, bookWith, Passed};
+ghost use Rattle.accounts.specs.Internal.{putPart, begunAt, addedTo, Addable, MarksBounds, MarksAfter, ReachedRun, Advanced, ReachedEnd, FinalAnswer, progressAt, Passed};
 use clock::Clock;
 use clock::Duty;
 use rules::Millis;
@@ -217,7 +218,7 @@ fn run_records(
     buffer: &mut [u32],
 ) -> AccountAnswer
     requires { ⌜ (most ≤ 4000000) × (goodRowFor paper spread row ≡ true) × (goodSpreadRule spread ≡ true) ⌝ }
-    ensures { λ r. ⌜ ((cell : ℕ) → Passed (accountRecords paper most 1 (bookWith cell row spread []) (recordsOf (now (records .entry)))) (now (buffer .entry)) (now (buffer .exit)) r) ⌝ }
+    ensures { λ r. ⌜ ((cell : ℕ) → Passed (accountRecords paper most 1 (bookOf cell row spread []) (recordsOf (now (records .entry)))) (now (buffer .entry)) (now (buffer .exit)) r) ⌝ }
 {
     let duty = clock::duty_of(row, spread);
     let mut table = book::empty();

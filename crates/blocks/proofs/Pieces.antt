@@ -13,6 +13,7 @@ use lib.ListN.{length, getD, take, drop, length-append, length-drop}
 use lib.Seq.{getD-take, take-append-seam, drop-append-le, take-append-le, drop-drop}
 use Rattle.rules.specs.Lists.{if_then_else_}
 use Rattle.rules.specs.declared.SpreadRule.the-variants.{Settled, OfStrike}
+use Rattle.rules.specs.declared.Amendment.{Amendment}
 use Rattle.rules.specs.declared.Event.the-variants.{Add, Amend, Cancel, Deal, Tick}
 use Rattle.rules.specs.Units.{millis, steps, contracts, kopecks}
 use Rattle.rules.specs.Records.{signedOf, wordBytes}
@@ -51,27 +52,11 @@ module _ (ws more : List ℕ) where
     of-kind : (k : ℕ) → eqb kind k ≡ true → telling k ≤ length ws
     of-kind k e = subst (λ (j : ℕ). telling j ≤ length ws) (eqb-true kind k e) h
 
-    open-told : eqb kind 1 ≡ true → 2 ≤ length ws
-    unfolding telling
-    open-told e = of-kind 1 e
-
-    add-told : eqb kind 2 ≡ true → 4 ≤ length ws
-    unfolding telling
-    add-told e = of-kind 2 e
-
-    strike-told : eqb kind 13 ≡ true → 2 ≤ length ws
-    unfolding telling
-    strike-told e = of-kind 13 e
-
-    message-told : eqb kind 16 ≡ true → 3 ≤ length ws
-    unfolding telling
-    message-told e = of-kind 16 e
-
     due-stays : due kind (ws ++ more) ≡ due kind ws
-    unfolding due
+    unfolding due telling
     due-stays =
-        if-same (eqb kind 1) (λ e. ap (λ (n : ℕ). 5 + n) (come 1 (let t = open-told e in omega arith)))
-        (if-same (eqb kind 2) (λ e. ap addDue (come 3 (let t = add-told e in omega arith)))
+        if-same (eqb kind 1) (λ e. ap (λ (n : ℕ). 5 + n) (come 1 (let t : 2 ≤ length ws = of-kind 1 e in omega arith)))
+        (if-same (eqb kind 2) (λ e. ap addDue (come 3 (let t : 4 ≤ length ws = of-kind 2 e in omega arith)))
         (if-same (eqb kind 3) (λ e. refl)
         (if-same (eqb kind 4) (λ e. refl)
         (if-same (eqb kind 5) (λ e. refl)
@@ -82,12 +67,12 @@ module _ (ws more : List ℕ) where
         (if-same (eqb kind 10) (λ e. refl)
         (if-same (eqb kind 11) (λ e. refl)
         (if-same (eqb kind 12) (λ e. refl)
-        (if-same (eqb kind 13) (λ e. ap (λ (n : ℕ). 8 + n) (come 1 (let t = strike-told e in omega arith)))
+        (if-same (eqb kind 13) (λ e. ap (λ (n : ℕ). 8 + n) (come 1 (let t : 2 ≤ length ws = of-kind 13 e in omega arith)))
         (if-same (eqb kind 14) (λ e. refl)
         (if-same (eqb kind 15) (λ e. refl)
         (if-same (eqb kind 16)
         (λ e.
-        let t = message-told e in
+        let t : 3 ≤ length ws = of-kind 16 e in
         let a = come 1 (omega arith) in
         let b = come 2 (omega arith) in
         λ i. 3 + (a i + b i + 3) / 4)
@@ -103,20 +88,9 @@ module _ (ws more : List ℕ) where
 -- ---- no block is whole before its length is told
 
 module _ (ws : List ℕ) where
-  short-of : (k n : ℕ) → word ws 0 ≡ k → due k ws ≡ n → length ws < n → blockSize ws ≡ 0
-  short-of k n e d h = cut ws n (ap (λ (j : ℕ). due j ws) e ∙ d) h
-
-  short-open : word ws 0 ≡ 1 → length ws < telling 1 → blockSize ws ≡ 0
-  unfolding due telling
-  short-open e h = let t : length ws < 2 = h in short-of 1 (5 + word ws 1) e refl (omega arith)
-
-  short-strike : word ws 0 ≡ 13 → length ws < telling 13 → blockSize ws ≡ 0
-  unfolding due telling
-  short-strike e h = let t : length ws < 2 = h in short-of 13 (8 + word ws 1) e refl (omega arith)
-
-  short-message : word ws 0 ≡ 16 → length ws < telling 16 → blockSize ws ≡ 0
-  unfolding due telling
-  short-message e h = let t : length ws < 3 = h in short-of 16 (3 + (word ws 1 + word ws 2 + 3) / 4) e refl (omega arith)
+  -- of a kind that is due more words than tell it
+  short-of : (k m n : ℕ) → due k ws ≡ n → telling k ≡ m → m ≤ n → word ws 0 ≡ k → length ws < telling k → blockSize ws ≡ 0
+  short-of k m n d t l e h = cut ws n (ap (λ (j : ℕ). due j ws) e ∙ d) (omega (arith, h, t, l))
 
   by-side : (b : Bool) → dueAt ws ≡ (if b then 6 else 0) → length ws < 4 → blockSize ws ≡ 0
   by-side true d h = cut ws 6 d (omega arith)
@@ -126,19 +100,19 @@ module _ (ws : List ℕ) where
   unfolding due telling addDue
   short-add e h = by-side (eqb (word ws 3) 1 || eqb (word ws 3) 2) (ap (λ (j : ℕ). due j ws) e) h
 
-  untold-by : (kind : ℕ) → word ws 0 ≡ kind → length ws < telling kind → (a b c d : Bool)
-      → eqb kind 1 ≡ a → eqb kind 2 ≡ b → eqb kind 13 ≡ c → eqb kind 16 ≡ d → blockSize ws ≡ 0
-  untold-by kind e h true b c d p q r s =
-      let k = eqb-true kind 1 p in short-open (e ∙ k) (subst (λ (j : ℕ). length ws < telling j) k h)
-  untold-by kind e h false true c d p q r s =
-      let k = eqb-true kind 2 q in short-add (e ∙ k) (subst (λ (j : ℕ). length ws < telling j) k h)
-  untold-by kind e h false false true d p q r s =
-      let k = eqb-true kind 13 r in short-strike (e ∙ k) (subst (λ (j : ℕ). length ws < telling j) k h)
-  untold-by kind e h false false false true p q r s =
-      let k = eqb-true kind 16 s in short-message (e ∙ k) (subst (λ (j : ℕ). length ws < telling j) k h)
-  untold-by kind e h false false false false p q r s =
-      let t = other-telling kind ((((tt, eqb-false kind 1 p), eqb-false kind 2 q), eqb-false kind 13 r), eqb-false kind 16 s) in
-      short ws (omega arith)
+  module _ (kind : ℕ) (e : word ws 0 ≡ kind) (h : length ws < telling kind) where
+    of-this : (k : ℕ) → eqb kind k ≡ true → (word ws 0 ≡ k → length ws < telling k → blockSize ws ≡ 0) → blockSize ws ≡ 0
+    of-this k is f = f (e ∙ eqb-true kind k is) (subst (λ (j : ℕ). length ws < telling j) (eqb-true kind k is) h)
+
+    untold-by : (a b c d : Bool) → eqb kind 1 ≡ a → eqb kind 2 ≡ b → eqb kind 13 ≡ c → eqb kind 16 ≡ d → blockSize ws ≡ 0
+    unfolding due telling
+    untold-by true b c d p q r s = of-this 1 p (short-of 1 2 (5 + word ws 1) refl refl (omega arith))
+    untold-by false true c d p q r s = of-this 2 q short-add
+    untold-by false false true d p q r s = of-this 13 r (short-of 13 2 (8 + word ws 1) refl refl (omega arith))
+    untold-by false false false true p q r s = of-this 16 s (short-of 16 3 (3 + (word ws 1 + word ws 2 + 3) / 4) refl refl (omega arith))
+    untold-by false false false false p q r s =
+        let t = other-telling kind ((((tt, eqb-false kind 1 p), eqb-false kind 2 q), eqb-false kind 13 r), eqb-false kind 16 s) in
+        short ws (omega arith)
 
   untold-none : isTold ws ≡ false → blockSize ws ≡ 0
   unfolding isTold
@@ -223,6 +197,13 @@ module _ (ws more : List ℕ) (kind : ℕ) (d : due kind ws ≤ length ws) (some
   at : (n : ℕ) → n ≤ length ws → (i : ℕ) → i < n → word all i ≡ word ws i
   at n h i p = come ws more i (omega arith)
 
+  three-stay : 4 ≤ length ws → (f : ℕ → ℕ → ℕ → Call) → f (word all 1) (word all 2) (word all 3) ≡ f (word ws 1) (word ws 2) (word ws 3)
+  three-stay h f =
+      let a = at 4 h 1 (omega arith) in
+      let b = at 4 h 2 (omega arith) in
+      let c = at 4 h 3 (omega arith) in
+      λ j. f (a j) (b j) (c j)
+
   amendment-stays : (n : ℕ) → n ≤ length ws → (i : ℕ) → i + 3 < n → amendmentAt all i ≡ amendmentAt ws i
   amendment-stays n h i p =
       let a = at n h i (omega arith) in
@@ -289,13 +270,7 @@ module _ (ws more : List ℕ) (kind : ℕ) (d : due kind ws ≤ length ws) (some
       let v = h 5 (omega arith) in
       λ j. Send (Add (millis (a j)) (b j) (sideOf (c j)) (steps (signedOf (p j))) (contracts (v j))))
       (if-same (eqb kind 3)
-      (λ e.
-      let h = at 5 (has 3 e) in
-      let a = h 1 (omega arith) in
-      let b = h 2 (omega arith) in
-      let p = h 3 (omega arith) in
-      let v = h 4 (omega arith) in
-      λ j. Send (Amend (millis (a j)) (b j) (steps (signedOf (p j))) (contracts (v j))))
+      (λ e. ap (λ (a : Amendment). Send (Amend (a .t) (a .id) (a .price) (a .volume))) (amendment-stays 5 (has 3 e) 1 (omega arith)))
       (if-same (eqb kind 4)
       (λ e.
       let h = at 3 (has 4 e) in
@@ -303,12 +278,7 @@ module _ (ws more : List ℕ) (kind : ℕ) (d : due kind ws ≤ length ws) (some
       let b = h 2 (omega arith) in
       λ j. Send (Cancel (millis (a j)) (b j)))
       (if-same (eqb kind 5)
-      (λ e.
-      let h = at 4 (has 5 e) in
-      let a = h 1 (omega arith) in
-      let b = h 2 (omega arith) in
-      let v = h 3 (omega arith) in
-      λ j. Send (Deal (millis (a j)) (b j) (contracts (v j))))
+      (λ e. three-stay (has 5 e) (λ t id v. Send (Deal (millis t) id (contracts v))))
       (if-same (eqb kind 6) (λ e. ap (λ (t : ℕ). Send (Tick (millis t))) (at 2 (has 6 e) 1 (omega arith)))
       (if-same (eqb kind 7)
       (λ e.
@@ -325,20 +295,8 @@ module _ (ws more : List ℕ) (kind : ℕ) (d : due kind ws ≤ length ws) (some
       let a = wide-stays 8 (has 9 e) 4 (omega arith) in
       let p = wide-stays 8 (has 9 e) 6 (omega arith) in
       λ j. Charge (x j) (y j) (z j) (kopecks (a j)) (kopecks (p j)))
-      (if-same (eqb kind 10)
-      (λ e.
-      let h = at 4 (has 10 e) in
-      let x = h 1 (omega arith) in
-      let y = h 2 (omega arith) in
-      let z = h 3 (omega arith) in
-      λ j. Withdraw (x j) (y j) (z j))
-      (if-same (eqb kind 11)
-      (λ e.
-      let h = at 4 (has 11 e) in
-      let x = h 1 (omega arith) in
-      let y = h 2 (omega arith) in
-      let z = h 3 (omega arith) in
-      λ j. Look (x j) (y j) (z j))
+      (if-same (eqb kind 10) (λ e. three-stay (has 10 e) Withdraw)
+      (if-same (eqb kind 11) (λ e. three-stay (has 11 e) Look)
       (if-same (eqb kind 13) (λ e. strike-stays (has 13 e))
       (if-same (eqb kind 14) (λ e. ap Ask (amendment-stays 5 (has 14 e) 1 (omega arith)))
       (if-same (eqb kind 15)

@@ -24,7 +24,9 @@ use Rattle.words.proofs.Bytes.{words-length}
 use Rattle.words.proofs.Back.{bytes-append, bytes-back, words-fit as words-in-fit}
 use Rattle.blocks.specs.Kinds.{addDue, due, dueAt, blockSize, callOf}
 use Rattle.blocks.specs.Reading.{callsOf, wordsRead}
-use Rattle.blocks.specs.Writing.{sideWord, eventWords, low, high, openKind, openingWords, filled, wordsOf, scriptOf, Words, Wide, SpreadRuleFits, AmendmentFits, CallFits, AllFit}
+use Rattle.lent.specs.Words.{low, high}
+use Rattle.lent.proofs.Back.{wide-back}
+use Rattle.blocks.specs.Writing.{sideWord, eventWords, openKind, openingWords, filled, wordsOf, scriptOf, Words, Wide, SpreadRuleFits, AmendmentFits, CallFits, AllFit}
 use Rattle.blocks.proofs.Reading.{whole, short, calls-none, calls-more, words-none, words-more}
 
 -- ---- the size
@@ -96,9 +98,6 @@ call-some Report = omega arith
 call-some Outlook = omega arith
 
 -- ---- the call
-
-wide-back : (n : ℕ) → low n + 4294967296 * high n ≡ n
-wide-back n = omega arith
 
 charge-back : (k : Kopecks) → kopecks (low (k .0) + 4294967296 * high (k .0)) ≡ k
 charge-back k = ap kopecks (wide-back (k .0))

@@ -1,6 +1,6 @@
 -- The words of a list of calls, and which lists of calls can be so written: those whose numbers fit their types. That they are read back
 -- is in proofs/Writing.
-use Prim.Native.Nat.{ℕ, _/_, _%_, _<_}
+use Prim.Native.Nat.{ℕ, _<_}
 use mathlib.Core.List.{List, [], _∷_, _++_}
 use lib.ListN.{length, getD}
 use Rattle.rules.specs.declared.Side.{Side}
@@ -14,6 +14,7 @@ use Rattle.rules.specs.Records.{unsignedOf}
 use Rattle.rules.specs.Widths.{Word, SignedWord, Fits, Bytes}
 use Rattle.rules.specs.Calls.{Call, Open, Send, Message, Ask, Commit, Close, Drop, Charge, Withdraw, Look, Report, Outlook}
 use Rattle.words.specs.Bytes.{wordsIn}
+use Rattle.lent.specs.Words.{low, high}
 
 -- a side's word
 abbrev pub sideWord : Side → ℕ
@@ -27,13 +28,6 @@ eventWords (Amend t id price volume) = 3 ∷ t .0 ∷ id ∷ unsignedOf (price .
 eventWords (Cancel t id) = 4 ∷ t .0 ∷ id ∷ []
 eventWords (Deal t id volume) = 5 ∷ t .0 ∷ id ∷ volume .0 ∷ []
 eventWords (Tick t) = 6 ∷ t .0 ∷ []
-
--- a number of 64 bits as two words, the low one first
-abbrev pub low : ℕ → ℕ
-low n = n % 4294967296
-
-abbrev pub high : ℕ → ℕ
-high n = n / 4294967296
 
 -- an open's kind: with SP, or of a strike
 abbrev pub openKind : SpreadRule → ℕ

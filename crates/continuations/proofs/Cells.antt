@@ -58,7 +58,8 @@ before-same : (p q : ℕ → Bool) (t m : ℕ) → ((k : ℕ) → k < t → q k 
 before-same p q t zero h l = refl
 before-same p q t (suc m) h l = h m (omega arith)
 
-within-fewer : (allowed a b : ℕ) → a ≤ b → withinLapseLimit allowed b ≡ true → withinLapseLimit allowed a ≡ true
+-- no more lapses are within the limit where more are
+pub within-fewer : (allowed a b : ℕ) → a ≤ b → withinLapseLimit allowed b ≡ true → withinLapseLimit allowed a ≡ true
 unfolding withinLapseLimit
 within-fewer allowed a b h w = go (eqb allowed noLapseLimit) w
   where

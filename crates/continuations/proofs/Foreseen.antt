@@ -39,7 +39,7 @@ use Rattle.rules.proofs.Refusals.{InTurn, passes-call}
 use Rattle.rules.proofs.Histories.{none-parts, parts-none, Sent, sent, closes, sends-pass}
 use Rattle.rules.proofs.Bounds.{bounds, read-bounds}
 use Rattle.continuations.specs.Continuations.{ending, cellLeft, keptThen, keptOfRest, cancelAll, quoteAgain, Foresees, Outlooks}
-use Rattle.continuations.proofs.Latest.{latest-passes, latest-none}
+use Rattle.continuations.proofs.Latest.{latest-passes, never-passes}
 use Rattle.continuations.proofs.Cells.{same-cell, resting-below, resting-from, best-is-keeping, count-from, enough-met, met-enough}
 use Rattle.continuations.proofs.Events.{turn-bounds, turn-below, Cancelled, all-cancelled, none-keep, QuotedAgain, quoted-again, nothing-keeps}
 
@@ -153,7 +153,7 @@ module _ (b : Book) (place : ℕ) (row : Row) (opening : Opening) (events : List
   failed h more p = go can refl (cellMet paper (cellOf row opening (then′ more))) refl
     where
       none : (s : ℕ) → t ≤ s → s ≤ whole → maySo paper row opening events s ≡ false
-      none s low high = latest-none (maySo paper row opening events) t (whole - t) h s low (omega (arith, ends))
+      none s low high = never-passes (maySo paper row opening events) t (whole - t) h s low (omega (arith, ends))
 
       go : (c : Bool) → can ≡ c → (v : Bool) → cellMet paper (cellOf row opening (then′ more)) ≡ v → v ≡ false
       go c e false v = refl

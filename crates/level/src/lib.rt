@@ -14,6 +14,7 @@ ghost use Rattle.side.specs.Slots.{Slot, levelIn, bestKeyIn, GoodSlots};
 ghost use Rattle.side.specs.Internal.{StaleLevel, Changed, brings};
 ghost use Rattle.level.specs.Requotes.{Requotes};
 ghost use Rattle.level.specs.Internal.{IsLevel, SumFits, LevelBefore, Grown, levelRead, keyAbove, keyBelow, Steps, lackingAt, fallsShort, Farther, canBeBest, atChange, Sought, Open, Searches, withLevel, putLevel};
+ghost use Rattle.level.specs.Small.{SmallSide, SmallMoved};
 use quote::Level;
 use rules::Contracts;
 use rules::Side;
@@ -374,6 +375,31 @@ fn put(words: &mut [u32], level: Level)
     words[AT] = level.at;
 }
 
+// The best key of a small side, by its own search; its depths are not kept.
+fn by_small(words: &mut [u32], minimum: Contracts) -> Requoted
+    requires { ⌜ SmallSide (now words) (minimum .0) ⌝ }
+    ensures { λ r. ⌜ SmallMoved (now (words .entry)) (minimum .0) (now (words .exit)) r ⌝ }
+{
+    let found = small::best(
+        &words[KEYS..KEYS + 4],
+        &words[VOLUMES..VOLUMES + 4],
+        minimum,
+    );
+    put(
+        words,
+        Level {
+            key: found.key,
+            before: 0,
+            at: 0,
+        },
+    );
+    Requoted {
+        moves: true,
+        guesses: found.sums,
+        sums: 0,
+    }
+}
+
 // The best level moves to where it belongs after a change.
 pub fn requote(words: &mut [u32], side: Side, change: Change, minimum: Contracts) -> Requoted
     requires { ⌜ StaleLevel (now words) change (minimum .0) × (1 ≤ minimum .0) ⌝ }
@@ -381,24 +407,7 @@ pub fn requote(words: &mut [u32], side: Side, change: Change, minimum: Contracts
 {
     let count = words[COUNT];
     if count <= 4 {
-        let found = small::best(
-            &words[KEYS..KEYS + 4],
-            &words[VOLUMES..VOLUMES + 4],
-            minimum,
-        );
-        put(
-            words,
-            Level {
-                key: found.key,
-                before: 0,
-                at: 0,
-            },
-        );
-        return Requoted {
-            moves: true,
-            guesses: found.sums,
-            sums: 0,
-        };
+        return by_small(words, minimum);
     }
     let old = carried(words, change);
     let measured = quote::volume_where(is_fifth(count, change), 1);

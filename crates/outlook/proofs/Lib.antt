@@ -1,5 +1,4 @@
 -- Laws, by subject.
-pub mod Latest
 pub mod Needs
 pub mod Resting
 pub mod Until

@@ -1,15 +1,12 @@
 -- What `rest` and `lost` say of the other answers. Assumes nothing.
-use Prim.Native.Nat.{ℕ, zero, suc, _-_, _*_, _≤_}
+use Prim.Native.Nat.{ℕ, _-_, _*_, _≤_}
 use native.Mathlib.Nat.{mul-le-mul}
 use native.Mathlib.Omega.{arith}
 use mathlib.Core.Path.{_≡_, refl, sym, ap, _∙_, subst}
 use mathlib.Core.List.{List}
-use mathlib.Core.Bool.{Bool, true, false, not, _&&_, _||_, and-false}
-use lib.Dec.{leb, ltb, eqb}
-use lib.IntN.{ℤ, pos, negsuc}
-use borrow.Author.Tests.{leb-false, lt-leb, eq-eqb}
-use Rattle.rules.specs.declared.Quote.{Quote}
-use Rattle.rules.specs.declared.Quote.the-variants.{Absent, At}
+use mathlib.Core.Bool.{Bool, true, false, not, _&&_, _||_}
+use lib.Dec.{ltb, eqb}
+use borrow.Author.Tests.{eq-eqb}
 use Rattle.rules.specs.declared.Row.{Row}
 use Rattle.rules.specs.declared.SpreadRule.{SpreadRule}
 use Rattle.rules.specs.declared.Opening.{Opening}
@@ -18,7 +15,7 @@ use Rattle.rules.specs.declared.Possible.the-variants as possible
 use Rattle.rules.specs.Terms.{Terms, paper}
 use Rattle.rules.specs.Rows.{goodRowFor}
 use Rattle.rules.specs.Orders.{live, present}
-use Rattle.rules.specs.Kept.{gap, spreadKeeps, quotesKeep, bestBid, bestAsk, ordersKeep, upTo, keptAt, keptBelow}
+use Rattle.rules.specs.Kept.{upTo, keptAt, keptBelow}
 use Rattle.rules.specs.Lapses.{lapsesBelow, withinLapseLimit}
 use Rattle.rules.specs.Pay.{cellMet}
 use Rattle.rules.specs.Bounds.{EventBounds}
@@ -26,10 +23,10 @@ use Rattle.rules.specs.Outlook.{needOf, canKeep, cellResting, isNever, maySo, l
 use Rattle.rules.proofs.Bounds.{read-bounds}
 use Rattle.rules.proofs.Counting.{count-none}
 use Rattle.rules.proofs.Lists.{both, and}
-use Rattle.clock.specs.Clocks.{dutyOf}
-use Rattle.outlook.proofs.Latest.{Found, latest-at, latest-found}
+use Rattle.continuations.proofs.Latest.{Found, latest-at, latest-found}
+use Rattle.continuations.proofs.Events.{nothing-keeps}
 use Rattle.outlook.proofs.Until.{by-law, never-law}
-use Rattle.outlook.proofs.Endings.{widest-law, can-is, beginsNow}
+use Rattle.outlook.proofs.Endings.{beginsNow}
 use Rattle.outlook.proofs.Outlooks.{latest-is}
 
 -- ---- rest: `by` is L
@@ -52,23 +49,9 @@ module _ (terms : Terms) (row : Row) (opening : Opening) (es : List Event) (insi
 -- ---- where nothing can be kept, nothing is
 
 module _ (row : Row) (spread : SpreadRule) (none : canKeep row spread ≡ false) where
-  no-spread : (d : ℤ) → spreadKeeps row spread d ≡ false
-  no-spread (pos zero) = refl
-  no-spread (pos (suc n)) =
-      let w = leb-false 1 (dutyOf row spread .widest) (can-is row spread ∙ none) in
-      ap (λ (b : Bool). leb 1 (suc n) && b) (sym (widest-law row spread (pos (suc n))) ∙ lt-leb (suc n) (dutyOf row spread .widest) (omega arith))
-      ∙ and-false (leb 1 (suc n))
-  no-spread (negsuc n) = refl
-
-  no-quotes : (bid ask : Quote) → quotesKeep row spread bid ask ≡ false
-  unfolding quotesKeep
-  no-quotes Absent ask = refl
-  no-quotes (At bid) Absent = refl
-  no-quotes (At bid) (At ask) = no-spread (gap (bid .0) (ask .0))
-
   pub none-kept : (es : List Event) (m : ℕ) → keptAt row spread es m ≡ false
-  unfolding keptAt ordersKeep
-  none-kept es m = no-quotes (bestBid row (live (upTo m es))) (bestAsk row (live (upTo m es)))
+  unfolding keptAt
+  none-kept es m = nothing-keeps row spread none (live (upTo m es))
 
   none-below : (es : List Event) (n : ℕ) → keptBelow row spread es n ≡ 0
   unfolding keptBelow

@@ -27,7 +27,7 @@ use Rattle.clock.specs.declared.Clock.{Clock}
 use Rattle.clock.specs.Clocks.{dutyOf, clockOf}
 use Rattle.outlook.specs.Represents.{Represents}
 use Rattle.outlook.specs.Internal.{endingCell, fullOf, byOf}
-use Rattle.outlook.proofs.Latest.{latest-ext}
+use Rattle.continuations.proofs.Latest.{latest-ext}
 use Rattle.outlook.proofs.Until.{by-law, testTill}
 use Rattle.outlook.proofs.Endings.{can-is, beginsNow, restingCell, resting-is, end-resting, end-keeping}
 

@@ -10,23 +10,15 @@ use Rattle.rules.specs.declared.Possible.the-variants.{Never, At}
 use Rattle.rules.specs.Lists.{if_then_else_}
 use Rattle.rules.specs.Terms.{paper}
 use Rattle.rules.specs.Units.{millis}
-use Rattle.rules.specs.Lapses.{noLapseLimit, withinLapseLimit}
+use Rattle.rules.specs.Lapses.{withinLapseLimit}
 use Rattle.rules.specs.Pay.{met}
 use Rattle.rules.specs.Outlook.{needOf, latest, isNever}
 use Rattle.rules.proofs.Lists.{both, and}
 use Rattle.outlook.specs.Internal.{byOf}
-use Rattle.outlook.proofs.Latest.{latest-none, latest-at}
+use Rattle.continuations.proofs.Latest.{latest-none, latest-at}
+use Rattle.continuations.proofs.Cells.{within-fewer}
 use Rattle.outlook.proofs.Needs.{needed-enough}
 use Rattle.outlook.proofs.Resting.{oneIf}
-
--- no more lapses are within the limit where more are
-pub within-fewer : (allowed a b : ℕ) → a ≤ b → withinLapseLimit allowed b ≡ true → withinLapseLimit allowed a ≡ true
-unfolding withinLapseLimit
-within-fewer allowed a b h = go (eqb allowed noLapseLimit)
-  where
-    go : (none : Bool) → none || leb b allowed ≡ true → none || leb a allowed ≡ true
-    go true e = refl
-    go false e = le-leb a allowed (omega (arith, leb-true b allowed e))
 
 -- what would make another false is false
 pub not-so : (b c : Bool) → (b ≡ true → c ≡ true) → c ≡ false → b ≡ false

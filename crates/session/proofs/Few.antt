@@ -16,27 +16,24 @@ use Rattle.rules.specs.declared.Event.{Event}
 use Rattle.rules.specs.Lists.{if_then_else_, filter}
 use Rattle.rules.specs.Terms.{paper}
 use Rattle.rules.specs.Rows.{rowOf}
-use Rattle.rules.specs.Cells.{placeOf}
 use Rattle.rules.specs.Orders.{live, present, timeFrom, timeOf, applyAll}
 use Rattle.rules.specs.Quotes.{lead, best}
 use Rattle.rules.specs.Kept.{quotesKeep, ordersKeep, keptAt}
 use Rattle.rules.specs.Stretches.{Stretch, stretch, stretches, keptStretches}
 use Rattle.rules.specs.Runs.{before}
-use Rattle.rules.specs.Answers.{Outcome, accepted, refused}
 use Rattle.rules.specs.Causes.{eventRefusal}
 use Rattle.rules.specs.Bounds.{EventBounds}
-use Rattle.rules.specs.Records.{readRecord}
-use Rattle.rules.specs.Session.{mostSheetRecords, whole, recordsOf, runRecords, session}
+use Rattle.rules.specs.Session.{mostSheetRecords, whole, recordsOf, session}
 use Rattle.rules.proofs.Orders.{present-snoc}
 use Rattle.rules.proofs.Kept.{keptAt-now, keptAt-snoc}
 use Rattle.rules.proofs.Stretches.{stretches-ext, stretches-false, stretches-new, stretches-longer}
 use Rattle.rules.proofs.Refusals.{event-passes}
 use Rattle.rules.proofs.Bounds.{event-bounds-none, event-bounds-more}
-use Rattle.session.specs.Internal.{bookWith, refusalBy, followed}
 use Rattle.session.proofs.Pairs.{length-snoc, before-in, before-ext}
 use Rattle.session.proofs.Loop.{not-whole}
-use Rattle.session.proofs.Runs.{runs-past, runs-refused, runs-taken, runs-end, session-begun, cell-inside}
-use Rattle.session.proofs.Loop.{fifteen-only}
+use Rattle.session.proofs.Walks.{takes}
+use Rattle.session.proofs.Openings.{cellOf}
+use Rattle.session.proofs.Runs.{walks, runs-end, session-begun, cell-inside}
 
 -- what some pairs cost in events: two each, a pair that has begun but has no length yet with them; and one when nothing is kept now
 abbrev cost : ℕ → Bool → Bool → ℕ
@@ -125,62 +122,23 @@ module _ (row : Row) (sp : SpreadRule) (es : List Event) (g : EventBounds row es
   unfolding keptStretches
   few-end few = omega (arith, onward (row .length .0) (g .ends))
 
--- ---- record by record
-
-module _ (most cell : ℕ) (row : Row) (sp : Steps) (inside : cell < 186) (k w : ℕ) (ss : List Stretch) where
-  abbrev Ran : ℕ → List Event → List (List ℕ) → Type 0
-  Ran place es rs = runRecords paper most cell place (bookWith cell row sp es) rs ≡ whole k w ss
-
-  abbrev Halves : ℕ → List Event → List (List ℕ) → Type 0
-  Halves place es rs = (2 * length ss ≤ length es + length rs + 1) × (place + length rs ≤ most + 1)
-
-  abbrev Counts : ℕ → List (List ℕ) → Type 0
-  Counts place rs = (es : List Event) → EventBounds row es → Few row (Settled sp) es → place ≤ most + 1 → Ran place es rs → Halves place es rs
-
-  none-left : (place : ℕ) → Counts place []
-  none-left place es g few small h =
-      let same : keptStretches row (Settled sp) es ≡ ss = parts (sym (runs-end most cell row sp place es inside) ∙ h) in
-      (omega (arith, ap length same, few-end row (Settled sp) es g few), omega arith)
-    where
-      parts : {a b : ℕ} {ts : List Stretch} → whole a b ts ≡ whole k w ss → ts ≡ ss
-      parts e = cc
-
-  module _ (place : ℕ) (r : List ℕ) (rs : List (List ℕ)) (further : Counts (suc place) rs) (es : List Event) (g : EventBounds row es) (few : Few row (Settled sp) es)
-      (h : Ran place es (r ∷ rs)) where
-    taken : (o : Outcome Event) → readRecord r ≡ o → place ≤ most → refusalBy row es (readRecord r) ≡ 0 → Halves place es (r ∷ rs)
-    taken (accepted e) o l z =
-        let passes : eventRefusal row es e ≡ 0 = sym (ap (refusalBy row es) o) ∙ z in
-        let runs =
-        ap (λ (x : Outcome Event). runRecords paper most cell (suc place) (bookWith cell row sp (followed es x)) rs) (sym o)
-        ∙ sym (runs-taken most cell row sp place es r rs l z)
-        ∙ h in
-        let f = further (es ++ (e ∷ [])) (event-bounds-more row es e g passes) (few-more row (Settled sp) es g e passes few) (omega arith) runs in
-        (omega (arith, f .0, length-append es (e ∷ [])), omega (arith, f .1))
-    taken (refused n) o l z = absurd (let a = fifteen-only r n o in let b : n ≡ 0 = sym (ap (refusalBy row es) o) ∙ z in omega arith)
-
-    by-refusal : (n : ℕ) → refusalBy row es (readRecord r) ≡ n → place ≤ most → Halves place es (r ∷ rs)
-    by-refusal zero z l = taken (readRecord r) refl l z
-    by-refusal (suc n) z l = absurd (not-whole (suc n) place k w ss (runs-refused most cell row sp place es r rs n l z) h)
-
-    by-place : (b : Bool) → ltb most place ≡ b → Halves place es (r ∷ rs)
-    by-place true e = absurd (not-whole 15 place k w ss (runs-past most cell row sp place es r rs (ltb-true most place e)) h)
-    by-place false e = by-refusal (refusalBy row es (readRecord r)) refl (ltb-false most place e)
-
-  counts : (place : ℕ) (rs : List (List ℕ)) → Counts place rs
-  counts place [] = none-left place
-  counts place (r ∷ rs) = λ es g few small h. by-place place r rs (counts (suc place) rs) es g few h (ltb most place) refl
-
 -- of a run that is not refused
 pub few-pairs : (most : ℕ) (words : List ℕ) (sp : Steps) (bytes : List ℕ) (k w : ℕ) (ss : List Stretch) → session paper most words sp bytes ≡ whole k w ss
     → (2 * length ss ≤ length (recordsOf bytes) + 1) × (length (recordsOf bytes) ≤ most)
 few-pairs most words sp bytes k w ss h =
     let row = rowOf words in
-    let cell = placeOf 1 (row .expiry) (row .quantum) in
-    let (seven, good, price, runs) = session-begun most words sp bytes k w ss h in
-    let c =
-    counts most cell row sp (cell-inside most words sp bytes good) k w ss 1 (recordsOf bytes) [] (event-bounds-none row) (few-none row (Settled sp)) (omega arith)
-    runs in
-    (omega (arith, c .0), omega (arith, c .1))
+    let cell = cellOf words (Settled sp) in
+    let (none, good, runs) = session-begun most words sp bytes k w ss h in
+    let t =
+    takes (walks most cell row sp) (whole k w ss) (λ n place e. not-whole n place k w ss refl e) (λ es. EventBounds row es × Few row (Settled sp) es)
+    (λ es e passes s. (event-bounds-more row es e (s .0) passes, few-more row (Settled sp) es (s .0) e passes (s .1)))
+    [] (recordsOf bytes) 1 (event-bounds-none row, few-none row (Settled sp)) (omega arith) runs in
+    let last = runs-end most cell row sp (1 + length (recordsOf bytes)) (t .events) (cell-inside most words sp bytes good) in
+    let same : length (keptStretches row (Settled sp) (t .events)) ≡ length ss = whole-long (sym last ∙ t .ends) in
+    (omega (arith, same, few-end row (Settled sp) (t .events) (t .stands .0) (t .stands .1), t .many), omega (arith, t .small))
+  where
+    whole-long : {a b : ℕ} {ts : List Stretch} → whole a b ts ≡ whole k w ss → length ts ≡ length ss
+    whole-long e = cc
 
 pub sheet-fits : (words : List ℕ) (sp : Steps) (bytes : List ℕ) (k w : ℕ) (ss : List Stretch) → session paper mostSheetRecords words sp bytes ≡ whole k w ss
     → length ss ≤ 800

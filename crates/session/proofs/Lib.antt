@@ -1,3 +1,7 @@
+pub mod Buffers
+pub mod Walks
+pub mod Records
+pub mod Openings
 pub mod Runs
 pub mod Pairs
 pub mod Steps

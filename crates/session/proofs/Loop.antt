@@ -4,10 +4,7 @@ use native.Mathlib.Omega.{arith}
 use mathlib.Core.Path.{_≡_, refl, sym, ap, _∙_, subst}
 use mathlib.Core.List.{List, [], _∷_, _++_}
 use mathlib.Core.Bool.{Bool, true, false}
-use lib.Dec.{ltb}
 use lib.ListN.{length, take, drop, length-take, length-drop}
-use lib.Seq.{drop-drop}
-use borrow.Author.Tests.{lt-leb, ltb-true, ltb-false}
 use Rattle.rules.specs.declared.Steps.{Steps}
 use Rattle.rules.specs.declared.Row.{Row}
 use Rattle.rules.specs.declared.SpreadRule.the-variants.{Settled}
@@ -16,15 +13,15 @@ use Rattle.rules.specs.declared.Refusal.{Refusal}
 use Rattle.rules.specs.declared.Refusal.the-variants.{BadRecord}
 use Rattle.rules.specs.declared.SessionAnswer.{SessionAnswer}
 use Rattle.rules.specs.declared.SessionAnswer.the-variants as S
-use Rattle.rules.specs.Lists.{if_then_else_}
 use Rattle.rules.specs.Terms.{paper}
 use Rattle.rules.specs.Rows.{goodRow}
 use Rattle.rules.specs.Orders.{live, applyAll, present, timeFrom}
 use Rattle.rules.specs.Stretches.{Stretch, stretches, keptStretches, pairWords}
 use Rattle.rules.specs.Answers.{Outcome, accepted, refused, numberOf, finished, shownSession}
 use Rattle.rules.specs.Bounds.{EventBounds}
-use Rattle.rules.specs.Records.{fieldsOf, eventOf, goodRecord, readRecord}
+use Rattle.rules.specs.Records.{readRecord}
 use Rattle.rules.specs.Session.{Session, whole, halted, recordsOf, runRecords}
+use Rattle.rules.proofs.Stretches.{pairWords-length}
 use Rattle.rules.proofs.Bounds.{event-bounds-none, event-bounds-more}
 use Rattle.book.specs.Table.{tableOf}
 use Rattle.clock.specs.declared.Duty.{Duty}
@@ -34,7 +31,8 @@ use Rattle.quantum.proofs.Answers.{event-numbered}
 use Rattle.session.specs.declared.Progress.{Progress}
 use Rattle.session.specs.declared.Stepped.{Stepped}
 use Rattle.session.specs.Internal.{Holds, progressAt, pairsOf, refusalBy, followed, ReachedRun, RepresentsRun, ReachedEnd, FinalAnswer, Advanced, bookWith, counted, LoopState, Passed}
-use Rattle.session.proofs.Runs.{records-none, records-some, runs-past, runs-refused, runs-taken, runs-end}
+use Rattle.session.proofs.Walks.{fifteen-only, walk-end, walk-short, walk-stops, walk-on}
+use Rattle.session.proofs.Runs.{walks, runs-end}
 
 -- ---- how a pass ends
 
@@ -57,7 +55,8 @@ passed-whole s k w ss entry exit r e a h =
     record {
       answer = a ∙ sym (ap counted e);
       words = λ k′ w′ ss′ f.
-          subst (λ (l : List Stretch). 2 * length l ≤ length entry → exit ≡ pairWords l ++ drop (2 * length l) entry) (whole-pairs s k w k′ w′ ss ss′ e f) (h .words);
+          subst (λ (l : List Stretch). 2 * length l ≤ length entry → exit ≡ pairWords l ++ drop (2 * length l) entry) (whole-pairs s k w k′ w′ ss ss′ e f)
+          (subst (λ (n : ℕ). n ≤ length entry → exit ≡ pairWords ss ++ drop n entry) (pairWords-length ss) (h .words));
     }
 
 -- ---- the bytes that the loop goes to: the full records, as far as the limit lets it
@@ -109,20 +108,6 @@ pub none-live : (row : Row) (table : List ℕ) → table ≡ tableOf (row .minim
 unfolding live applyAll
 none-live row table e = e
 
--- a record that is cut short is no event
-pub short-record : (bytes : List ℕ) → length bytes < 20 → readRecord bytes ≡ refused 15
-unfolding readRecord goodRecord
-short-record bytes l = rw (lt-leb 20 (length bytes) l) refl
-
--- a record that is no event is refused by 15
-pub fifteen-only : (bytes : List ℕ) (n : ℕ) → readRecord bytes ≡ refused n → n ≡ 15
-unfolding readRecord
-fifteen-only bytes n = go (goodRecord bytes)
-  where
-    go : (b : Bool) → (if b then accepted (eventOf (fieldsOf bytes)) else refused 15) ≡ refused n → n ≡ 15
-    go true e = let z : _≡_ {A = ℕ} 0 1 = cc in absurd (omega arith)
-    go false e = cc
-
 pub record-numbered : (row : Row) (es : List Event) (o : Outcome Event) → ((n : ℕ) → o ≡ refused n → n ≡ 15) → 0 < refusalBy row es o
     → (8 ≤ refusalBy row es o) × (refusalBy row es o ≤ 15)
 record-numbered row es (refused n) h l = let e = h n refl in (omega arith, omega arith)
@@ -173,44 +158,14 @@ module _ (most : ℕ) (row : Row) (sp : Steps) (bytes base : List ℕ) where
         → (cell : ℕ) → cell < 186 → Passed (Run cell) base exit r
     loop-end r exit l ends cell c =
         let e = ends (Settled sp) (g .events) base (g .bounds) (g .is) (g .holds) in
-        let none : recordsOf (drop at bytes) ≡ [] = records-none (drop at bytes) (omega (arith, length-drop at bytes)) in
-        let run = g .runs cell ∙ ap (runRecords paper most cell place (bookWith cell row sp (g .events))) none ∙ runs-end most cell row sp place (g .events) c in
+        let run = walk-end (walks most cell row sp) bytes at place (g .events) (g .runs cell) l ∙ runs-end most cell row sp place (g .events) c in
         passed-whole (Run cell) _ _ (keptStretches row (Settled sp) (g .events)) base exit r run (e .0) (e .1)
 
     -- a record is there
     module _ (l : at < length bytes) where
-      next-record : (cell : ℕ) → Run cell
-          ≡ runRecords paper most cell place (bookWith cell row sp (g .events)) (take 20 (drop at bytes) ∷ recordsOf (drop 20 (drop at bytes)))
-      next-record cell =
-          g .runs cell
-          ∙ ap (runRecords paper most cell place (bookWith cell row sp (g .events))) (records-some (drop at bytes) (omega (arith, length-drop at bytes)))
-
-      loop-past : (exit : List ℕ) → most < place → (cell : ℕ) → cell < 186 → Passed (Run cell) base exit (S.Refused BadRecord place)
-      loop-past exit p cell c =
-          passed-halted (Run cell) BadRecord place base exit
-          (next-record cell ∙ runs-past most cell row sp place (g .events) (take 20 (drop at bytes)) (recordsOf (drop 20 (drop at bytes))) p)
-
-      -- what refuses the record, by its number
-      stops : (exit : List ℕ) (f : Refusal) (n : ℕ) → numberOf f ≡ suc n → place ≤ most
-          → refusalBy row (g .events) (readRecord (take 20 (drop at bytes))) ≡ suc n → (cell : ℕ) → Passed (Run cell) base exit (S.Refused f place)
-      stops exit f n z p k cell =
-          passed-halted (Run cell) f place base exit
-          (next-record cell
-          ∙ runs-refused most cell row sp place (g .events) (take 20 (drop at bytes)) (recordsOf (drop 20 (drop at bytes))) n p k
-          ∙ ap (λ (m : ℕ). halted m place) (sym z))
-
       -- the record past the limit, or fewer than 20 bytes
       pub loop-short : (exit : List ℕ) → (place ≤ most → length bytes < at + 20) → (cell : ℕ) → cell < 186 → Passed (Run cell) base exit (S.Refused BadRecord place)
-      loop-short exit h cell c = go (ltb most place) refl
-        where
-          few : place ≤ most → length (take 20 (drop at bytes)) < 20
-          few p = let l = h p in omega (arith, length-take 20 (drop at bytes), length-drop at bytes)
-
-          go : (b : Bool) → ltb most place ≡ b → Passed (Run cell) base exit (S.Refused BadRecord place)
-          go true e = loop-past exit (ltb-true most place e) cell c
-          go false e =
-              let p = ltb-false most place e in
-              stops exit BadRecord 14 refl p (ap (refusalBy row (g .events)) (short-record (take 20 (drop at bytes)) (few p))) cell
+      loop-short exit h cell c = passed-halted (Run cell) BadRecord place base exit (walk-short (walks most cell row sp) bytes at place (g .events) (g .runs cell) l h)
 
       module _ (p : place ≤ most) (duty : Duty) (d : duty ≡ dutyOf row (Settled sp)) (r : Stepped) (next exit : List ℕ) (part : List ℕ) (cut : part ≡ take 20 (drop at bytes))
           (adv : Advanced w duty (readRecord part) r table next buffer exit) where
@@ -226,11 +181,9 @@ module _ (most : ℕ) (row : Row) (sp : Steps) (bytes base : List ℕ) where
             (omega (arith, judged, b .0), omega (arith, judged, b .1))
 
         pub loop-refused : (f : Refusal) → 0 < r .refusal → numberOf f ≡ r .refusal → (cell : ℕ) → cell < 186 → Passed (Run cell) base exit (S.Refused f place)
-        loop-refused f h e cell c = go (r .refusal) refl
-          where
-            go : (n : ℕ) → r .refusal ≡ n → Passed (Run cell) base exit (S.Refused f place)
-            go zero z = absurd (omega (arith, h, z))
-            go (suc n) z = stops exit f n (e ∙ z) p (sym judged ∙ z) cell
+        loop-refused f h e cell c =
+            passed-halted (Run cell) f place base exit
+            (walk-stops (walks most cell row sp) bytes at place (g .events) (g .runs cell) l (r .refusal) h p (sym judged) ∙ ap (λ (m : ℕ). halted m place) (sym e))
 
         pub loop-on : at + 20 ≤ length bytes → r .refusal ≤ 0 → LoopState most row sp bytes base (r .progress) (at + 20) (place + 1) next exit
         loop-on room e =
@@ -240,7 +193,6 @@ module _ (most : ℕ) (row : Row) (sp : Steps) (bytes base : List ℕ) where
             let zero′ : refusalBy row (g .events) (readRecord part) ≡ 0 = ap (refusalBy row (g .events)) same ∙ zero in
             let (progress, held) = adv .progress row (Settled sp) (g .events) base stood (g .holds) zero′ in
             let more = ap (followed (g .events)) same in
-            let rest : drop 20 (drop at bytes) ≡ drop (at + 20) bytes = drop-drop 20 at bytes in
             record {
               events = followed (g .events) o;
               bounds = followed-bounds row (g .events) o (g .bounds) zero;
@@ -249,9 +201,5 @@ module _ (most : ℕ) (row : Row) (sp : Steps) (bytes base : List ℕ) where
               holds = subst (λ (es : List Event). Holds base (pairsOf row (Settled sp) es) exit) more held;
               inside = room;
               small = omega arith;
-              runs = λ cell.
-                  next-record cell
-                  ∙ runs-taken most cell row sp place (g .events) (take 20 (drop at bytes)) (recordsOf (drop 20 (drop at bytes))) p zero
-                  ∙ ap (λ (n : ℕ). runRecords paper most cell n (bookWith cell row sp (followed (g .events) o)) (recordsOf (drop 20 (drop at bytes)))) (omega arith)
-                  ∙ ap (λ (l : List ℕ). runRecords paper most cell (place + 1) (bookWith cell row sp (followed (g .events) o)) (recordsOf l)) rest;
+              runs = λ cell. walk-on (walks most cell row sp) bytes at place (g .events) (g .runs cell) l p zero;
             }

@@ -2,18 +2,16 @@
 use Prim.Native.Nat.{ℕ, zero, suc, _+_, _*_, _-_, _≤_, _<_}
 use native.Mathlib.Omega.{arith}
 use mathlib.Core.Path.{_≡_, refl, sym, ap, _∙_, subst}
-use mathlib.Core.List.{List, [], _∷_, _++_, append-assoc}
+use mathlib.Core.List.{List, [], _∷_, _++_, append-nil}
 use mathlib.Core.Bool.{Bool, true, false, false≢true}
-use lib.Dec.{leb}
-use lib.ListN.{length, take, drop, set, length-append, length-set}
-use lib.Seq.{sets-eq, take-at, drop-at, drop-drop, drop-append-add}
-use borrow.Author.Tests.{leb-false, le-leb, lt-leb, leb-true}
+use lib.ListN.{length, set, length-append}
 use Rattle.rules.specs.Lists.{if_then_else_}
 use Rattle.rules.specs.Stretches.{Stretch, stretch, stretches, pairWords}
 use Rattle.rules.specs.Runs.{before, endsAt, Inside}
 use Rattle.rules.proofs.Stretches.{stretches-ext, stretches-false, stretches-new, stretches-longer, stretches-few, stretches-run, stretches-ends, pairWords-append, pairWords-length}
 use Rattle.session.specs.declared.Marks.{Marks}
-use Rattle.session.specs.Internal.{lastOffset, marksAt, Holds, putPair, begunAt}
+use Rattle.session.specs.Internal.{lastOffset, marksAt, Front, putWords, Holds, putPair, begunAt}
+use Rattle.session.proofs.Buffers.{put-fits as words-fit, put-not as words-not, put-front}
 
 -- ---- the last one
 
@@ -77,86 +75,24 @@ module _ (p : ℕ → Bool) (n : ℕ) (m : Marks) (is : m ≡ marksAt p n) where
 
 -- ---- the words
 
-put-at : (buffer : List ℕ) (k x y : ℕ) → k + 2 ≤ length buffer → set (set buffer k x) (k + 1) y ≡ take k buffer ++ (x ∷ y ∷ drop (k + 2) buffer)
-put-at buffer k x y h =
-    let to : k + 1 ≡ suc k = omega arith in
-    ap (λ (n : ℕ). set (set buffer k x) n y) to
-    ∙ sets-eq (x ∷ y ∷ []) buffer k h
-    ∙ append-assoc (take k buffer) (x ∷ y ∷ []) (drop (k + 2) buffer)
-
-module _ (base : List ℕ) (init : List Stretch) (x y : ℕ) (buffer : List ℕ) (size : length buffer ≡ length base)
-    (around : 2 * length init + 2 ≤ length base
-    → (take (2 * length init) buffer ≡ pairWords init) × (drop (2 * length init + 2) buffer ≡ drop (2 * length init + 2) base)) where
-  put-words : 2 * length init + 2 ≤ length base
-      → set (set buffer (2 * length init) x) (2 * length init + 1) y
-      ≡ pairWords (init ++ (stretch x y ∷ [])) ++ drop (2 * length (init ++ (stretch x y ∷ []))) base
-  unfolding pairWords
-  put-words h =
-      let k = 2 * length init in
-      let a = around h in
-      let more : 2 * length (init ++ (stretch x y ∷ [])) ≡ 2 * length init + 2 = omega (arith, length-snoc init (stretch x y)) in
-      put-at buffer k x y (omega arith)
-      ∙ ap (λ (l : List ℕ). l ++ (x ∷ y ∷ drop (k + 2) buffer)) (a .0)
-      ∙ ap (λ (l : List ℕ). pairWords init ++ (x ∷ y ∷ l)) (a .1)
-      ∙ sym (append-assoc (pairWords init) (x ∷ y ∷ []) (drop (k + 2) base))
-      ∙ ap (λ (l : List ℕ). l ++ drop (k + 2) base) (sym (pairWords-append init (stretch x y ∷ [])))
-      ∙ ap (λ (n : ℕ). pairWords (init ++ (stretch x y ∷ [])) ++ drop n base) (sym more)
-
-  put-holds : Holds base (init ++ (stretch x y ∷ [])) (putPair buffer (length init) x y)
-  unfolding putPair
-  put-holds = go (leb (2 * length init + 2) (length buffer)) refl
-    where
-      go : (b : Bool) → leb (2 * length init + 2) (length buffer) ≡ b
-          → Holds base (init ++ (stretch x y ∷ [])) (if b then set (set buffer (2 * length init) x) (2 * length init + 1) y else buffer)
-      go true e =
-          let h = leb-true (2 * length init + 2) (length buffer) e in
-          record {
-            size = length-set (set buffer (2 * length init) x) (2 * length init + 1) y ∙ length-set buffer (2 * length init) x ∙ size;
-            words = λ l. put-words (omega arith);
-          }
-      go false e =
-          let h = leb-false (2 * length init + 2) (length buffer) e in
-          record { size = size; words = λ l. absurd (omega (arith, length-snoc init (stretch x y))) }
-
 pub put-fits : (buffer : List ℕ) (n x y : ℕ) → 2 * n + 2 ≤ length buffer → set (set buffer (2 * n) x) (2 * n + 1) y ≡ putPair buffer n x y
-unfolding putPair
-put-fits buffer n x y h = rw (le-leb (2 * n + 2) (length buffer) h) refl
+put-fits buffer n x y h =
+    let to : 2 * n + 1 ≡ suc (2 * n) = omega arith in
+    ap (λ (k : ℕ). set (set buffer (2 * n) x) k y) to ∙ words-fit buffer (2 * n) (x ∷ y ∷ []) h
 
 pub put-not : (buffer : List ℕ) (n x y : ℕ) → length buffer < 2 * n + 2 → buffer ≡ putPair buffer n x y
-unfolding putPair
-put-not buffer n x y h = rw (lt-leb (2 * n + 2) (length buffer) h) refl
+put-not buffer n x y h = words-not buffer (2 * n) (x ∷ y ∷ []) h
 
--- one more pair
-holds-new : (base : List ℕ) (ss : List Stretch) (x y : ℕ) (buffer : List ℕ) → Holds base ss buffer
+-- one more pair, or one in place of the last
+holds-put : (base : List ℕ) (ss old : List Stretch) (x y : ℕ) (buffer : List ℕ) → length old ≤ 1 → Holds base (ss ++ old) buffer
     → Holds base (ss ++ (stretch x y ∷ [])) (putPair buffer (length ss) x y)
-holds-new base ss x y buffer h =
-    put-holds base ss x y buffer (h .size)
-    (λ l.
-    let is = h .words (omega arith) in
-    let fits = pairWords-length ss in (
-      ap (take (2 * length ss)) is ∙ take-at (pairWords ss) (drop (2 * length ss) base) (2 * length ss) fits,
-      ap (drop (2 * length ss + 2)) is
-          ∙ ap (λ (n : ℕ). drop (n + 2) (pairWords ss ++ drop (2 * length ss) base)) (sym fits)
-          ∙ drop-append-add (pairWords ss) (drop (2 * length ss) base) 2
-          ∙ drop-drop 2 (2 * length ss) base,
-    ))
-
--- the last pair written over
-holds-longer : (base : List ℕ) (ss : List Stretch) (s : Stretch) (x y : ℕ) (buffer : List ℕ) → Holds base (ss ++ (s ∷ [])) buffer
-    → Holds base (ss ++ (stretch x y ∷ [])) (putPair buffer (length ss) x y)
-holds-longer base ss s x y buffer h =
-    put-holds base ss x y buffer (h .size)
-    (λ l.
-    let more : 2 * length (ss ++ (s ∷ [])) ≡ 2 * length ss + 2 = omega (arith, length-snoc ss s) in
-    let is = h .words (omega arith) in
-    let fits = pairWords-length (ss ++ (s ∷ [])) ∙ more in
-    let front = pairWords-append ss (s ∷ []) in
-    let split = ap (λ (l : List ℕ). l ++ drop (2 * length (ss ++ (s ∷ []))) base) front ∙ append-assoc (pairWords ss) (pairWords (s ∷ [])) (drop (2 * length (ss ++ (s ∷ []))) base) in (
-      ap (take (2 * length ss)) (is ∙ split) ∙ take-at (pairWords ss) (pairWords (s ∷ []) ++ drop (2 * length (ss ++ (s ∷ []))) base) (2 * length ss) (pairWords-length ss),
-      ap (drop (2 * length ss + 2)) is
-          ∙ drop-at (pairWords (ss ++ (s ∷ []))) (drop (2 * length (ss ++ (s ∷ []))) base) (2 * length ss + 2) fits
-          ∙ ap (λ (n : ℕ). drop n base) more,
-    ))
+unfolding pairWords
+holds-put base ss old x y buffer few h =
+    let new = x ∷ y ∷ [] in
+    let long : length (pairWords old) ≤ 2 = omega (arith, pairWords-length old, few) in
+    let put = put-front base (pairWords ss) (pairWords old) new buffer (subst (λ (l : List ℕ). Front base l buffer) (pairWords-append ss old) h) long in
+    subst (λ (l : List ℕ). Front base l (putPair buffer (length ss) x y)) (sym (pairWords-append ss (stretch x y ∷ [])))
+    (subst (λ (n : ℕ). Front base (pairWords ss ++ new) (putWords buffer n new)) (pairWords-length ss) put)
 
 -- ---- time runs on from a to b
 
@@ -191,7 +127,7 @@ module _ (p : ℕ → Bool) (a b : ℕ) (m : Marks) (is : m ≡ marksAt p a) (ba
       let n : m .pairs + 1 ≡ length (stretches p b) = ap (λ (k : ℕ). k + 1) (pairs-are p a m is) ∙ sym (length-snoc (stretches p a) (stretch a (b - a))) ∙ ap length (sym more) in
       let s : a ≡ lastOffset (stretches p b) = sym (ap lastOffset more ∙ last-snoc (stretches p a) (stretch a (b - a))) in
       let at : m .pairs + 1 - 1 ≡ length (stretches p a) = omega (arith, pairs-are p a m is) in
-      let held = holds-new base (stretches p a) a (b - a) entry h in
+      let held = holds-put base (stretches p a) [] a (b - a) entry (omega arith) (subst (λ (l : List Stretch). Holds base l entry) (sym (append-nil (stretches p a))) h) in
       (marks-path n s, rw (more, at) held)
 
   goes-on : a < b → ((k : ℕ) → a ≤ k → k < b → p k ≡ true) → before p a ≡ true → Goal true
@@ -208,7 +144,7 @@ module _ (p : ℕ → Bool) (a b : ℕ) (m : Marks) (is : m ≡ marksAt p a) (ba
       let at : m .pairs - 1 ≡ length ss = omega (arith, pairs-are p a m is, ap length old, length-snoc ss s) in
       let from : m .start ≡ s .offset = start-is p a m is ∙ ap lastOffset old ∙ last-snoc ss s in
       let long : b - s .offset ≡ s .length + (b - a) = omega arith in
-      let held = holds-longer base ss s (s .offset) (s .length + (b - a)) entry (subst (λ (l : List Stretch). Holds base l entry) old h) in
+      let held = holds-put base ss (s ∷ []) (s .offset) (s .length + (b - a)) entry (omega arith) (subst (λ (l : List Stretch). Holds base l entry) old h) in
       (marks-path (pairs-are p a m is ∙ n) (start-is p a m is ∙ o), rw (more, at, from, long) held)
 
   grows-some : a < b → ((k : ℕ) → a ≤ k → k < b → p k ≡ true) → (reaches : Bool) → before p a ≡ reaches → Goal reaches

@@ -17,7 +17,7 @@ use Rattle.rules.specs.Orders.{live, present, timeFrom, timeOf}
 use Rattle.rules.specs.Kept.{ordersKeep, keptAt, keptBelow}
 use Rattle.rules.specs.Stretches.{Stretch, stretches, keptStretches}
 use Rattle.rules.specs.Pay.{weight}
-use Rattle.rules.specs.Answers.{Outcome, accepted, refused, finished}
+use Rattle.rules.specs.Answers.{Outcome, finished}
 use Rattle.rules.specs.Causes.{eventRefusal}
 use Rattle.rules.specs.Bounds.{EventBounds}
 use Rattle.rules.proofs.Orders.{present-snoc}
@@ -27,17 +27,17 @@ use Rattle.rules.proofs.Refusals.{event-passes}
 use Rattle.rules.proofs.Bounds.{row-bounds}
 use Rattle.record.specs.declared.Fields.{Fields}
 use Rattle.record.specs.Fields.{readFields}
-use Rattle.record.proofs.Reading.{only-fifteen}
 use Rattle.clock.specs.declared.Duty.{Duty}
 use Rattle.clock.specs.declared.Clock.{Clock}
 use Rattle.events.specs.declared.Stepped.{Stepped as SteppedOn}
 use Rattle.clock.specs.Clocks.{clockOf, Onward}
-use Rattle.events.specs.Represents.{tableAfter, taken, ReachedParts, Represents, Stepping, SteppingRead}
+use Rattle.events.specs.Represents.{tableAfter, ReachedParts, Represents, SteppingRead}
 use Rattle.rules.specs.Runs.{before}
 use Rattle.clock.proofs.Clocks.{time-is, keeps-is, last-is, onward}
 use Rattle.session.specs.declared.Marks.{Marks}
 use Rattle.session.specs.declared.Progress.{Progress}
-use Rattle.session.specs.Internal.{lastOffset, marksAt, Holds, MarksBounds, MarksAfter, progressAt, pairsOf, ReachedRun, RepresentsRun, Advanced}
+use Rattle.session.specs.Internal.{lastOffset, marksAt, Holds, MarksBounds, MarksAfter, progressAt, pairsOf, refusalBy, followed, ReachedRun, RepresentsRun, Advanced}
+use Rattle.session.proofs.Records.{Took, record-number, record-taken}
 use Rattle.session.proofs.Pairs.{marks-ext, pairs-are, pairs-few, start-early, last-some}
 
 -- ---- the fields
@@ -154,91 +154,42 @@ represents row sp es w duty table h =
 abbrev pub run-records : (w : Progress) (duty : Duty) (table hints : List ℕ) (h : ReachedRun w duty table hints) → RepresentsRun (h .row) (h .sp) (h .events) w duty table
 run-records w duty table hints h = record { bounds = h .bounds; is = h .is; duty-is = h .duty-is; table-is = h .table-is }
 
-module _ (w : Progress) (duty : Duty) (e : Event) (table next : List ℕ) (stepped : SteppedOn) (steps : Stepping duty (w .clock) e table next stepped) where
-  number-is : (row : Row) (sp : SpreadRule) (es : List Event) → RepresentsRun row sp es w duty table → stepped .refusal ≡ eventRefusal row es e
-  number-is row sp es h = steps .number row sp es (represents row sp es w duty table h)
-
-  refused-event : (entry exit : List ℕ) → 0 < stepped .refusal
-      → Advanced w duty (accepted e) (record { progress = w; refusal = stepped .refusal }) table next entry exit
-  refused-event entry exit l =
-      record {
-        number = number-is;
-        orders = λ row sp es h z. absurd (omega (arith, l, number-is row sp es h, z));
-        progress = λ row sp es base h b z. absurd (omega (arith, l, number-is row sp es h, z));
-      }
-
-  module _ (l : stepped .refusal ≤ 0) where
-    passes : (row : Row) (sp : SpreadRule) (es : List Event) → RepresentsRun row sp es w duty table → eventRefusal row es e ≡ 0
-    passes row sp es h = omega (arith, number-is row sp es h)
-
-    next-is : (row : Row) (sp : SpreadRule) (es : List Event) → RepresentsRun row sp es w duty table → stepped .clock ≡ clockOf row sp (es ++ (e ∷ []))
-    next-is row sp es h =
-        steps .clock-after row sp es (represents row sp es w duty table h) ∙ ap (λ (n : ℕ). clockOf row sp (taken n es e)) (passes row sp es h)
-
-    event-bounds : (hints : List ℕ) → ReachedRun w duty table hints → MarksBounds (w .marks) (w .clock .time) (stepped .clock .time) (eqb (w .clock .last) 1)
-    event-bounds hints h =
-        let k = run-records w duty table hints h in
-        bounds-event (h .row) (h .sp) (h .events) w (h .is) (h .bounds) e (passes (h .row) (h .sp) (h .events) k) (stepped .clock)
-        (next-is (h .row) (h .sp) (h .events) k) (h .good)
-
-    taken-event : (keeps : Bool) (r : Marks) (entry exit : List ℕ) → keeps ≡ eqb (w .clock .keeps) 1
-        → MarksAfter (w .marks) (w .clock .time) (stepped .clock .time) keeps (eqb (w .clock .last) 1) r entry exit
-        → Advanced w duty (accepted e) (record { progress = record { clock = stepped .clock; marks = r }; refusal = 0 }) table next entry exit
-    taken-event keeps r entry exit k grows =
-        record {
-          number = λ row sp es h. sym (passes row sp es h);
-          orders = λ row sp es h z.
-              steps .table-after row sp es (represents row sp es w duty table h) ∙ ap (λ (n : ℕ). tableAfter row (taken n es e)) (passes row sp es h);
-          progress = λ row sp es base h b z.
-              took row sp es w (h .is) (h .bounds) e (passes row sp es h) (stepped .clock) (next-is row sp es h) keeps r entry exit base k grows b;
-        }
-
--- the same by what a record says; 15 is all that refuses one that is no event
-module _ (w : Progress) (duty : Duty) (table next : List ℕ) (stepped : SteppedOn) where
-  abbrev Read : Outcome Event → Type 0
-  Read o = SteppingRead duty (w .clock) o table next stepped
-
-  refused-read : (o : Outcome Event) → Read o → (entry exit : List ℕ) → 0 < stepped .refusal
-      → Advanced w duty o (record { progress = w; refusal = stepped .refusal }) table next entry exit
-  refused-read (accepted e) steps entry exit l = refused-event w duty e table next stepped steps entry exit l
-  refused-read (refused n) steps entry exit l =
-      record {
-        number = λ row sp es h. steps .1;
-        orders = λ row sp es h z. absurd (omega (arith, l, steps .1, z));
-        progress = λ row sp es base h b z. absurd (omega (arith, l, steps .1, z));
-      }
-
-  module _ (l : stepped .refusal ≤ 0) where
-    read-bounds : (o : Outcome Event) → ((n : ℕ) → o ≡ refused n → n ≡ 15) → Read o → (hints : List ℕ) → ReachedRun w duty table hints
-        → MarksBounds (w .marks) (w .clock .time) (stepped .clock .time) (eqb (w .clock .last) 1)
-    read-bounds (accepted e) fifteen steps hints h = event-bounds w duty e table next stepped steps l hints h
-    read-bounds (refused n) fifteen steps hints h = absurd (omega (arith, l, steps .1, fifteen n refl))
-
-    taken-read : (o : Outcome Event) → ((n : ℕ) → o ≡ refused n → n ≡ 15) → Read o → (keeps : Bool) (r : Marks) (entry exit : List ℕ)
-        → keeps ≡ eqb (w .clock .keeps) 1
-        → MarksAfter (w .marks) (w .clock .time) (stepped .clock .time) keeps (eqb (w .clock .last) 1) r entry exit
-        → Advanced w duty o (record { progress = record { clock = stepped .clock; marks = r }; refusal = 0 }) table next entry exit
-    taken-read (accepted e) fifteen steps keeps r entry exit k grows = taken-event w duty e table next stepped steps l keeps r entry exit k grows
-    taken-read (refused n) fifteen steps keeps r entry exit k grows = absurd (omega (arith, l, steps .1, fifteen n refl))
-
--- and by its fields
 module _ (w : Progress) (duty : Duty) (table next : List ℕ) (stepped : SteppedOn) (f : Fields) (steps : SteppingRead duty (w .clock) (readFields f) table next stepped) where
   pub bounds-taken : stepped .refusal ≤ 0 → (hints : List ℕ) → ReachedRun w duty table hints
       → MarksBounds (w .marks) (w .clock .time) (stepped .clock .time) (eqb (w .clock .last) 1)
-  bounds-taken l = read-bounds w duty table next stepped l (readFields f) (only-fifteen f) steps
+  bounds-taken l hints h =
+      let k = represents (h .row) (h .sp) (h .events) w duty table (run-records w duty table hints h) in
+      let t = record-taken duty (w .clock) table next stepped (h .row) (h .sp) (h .events) k f steps (readFields f) refl l in
+      bounds-event (h .row) (h .sp) (h .events) w (h .is) (h .bounds) (t .event) (t .passes) (stepped .clock) (t .clock-is) (h .good)
 
   module _ (o : Outcome Event) (read : readFields f ≡ o) (entry exit : List ℕ) where
+    number-is : (row : Row) (sp : SpreadRule) (es : List Event) → RepresentsRun row sp es w duty table → stepped .refusal ≡ refusalBy row es o
+    number-is row sp es h = record-number duty (w .clock) table next stepped row sp es (represents row sp es w duty table h) f steps o read
+
     pub advanced-refused : 0 < stepped .refusal → Advanced w duty o (record { progress = w; refusal = stepped .refusal }) table next entry exit
     advanced-refused l =
-        subst (λ (o : Outcome Event). Advanced w duty o (record { progress = w; refusal = stepped .refusal }) table next entry exit) read
-        (refused-read w duty table next stepped (readFields f) steps entry exit l)
+        record {
+          number = number-is;
+          orders = λ row sp es h z. absurd (omega (arith, l, number-is row sp es h, z));
+          progress = λ row sp es base h b z. absurd (omega (arith, l, number-is row sp es h, z));
+        }
 
     pub advanced-taken : stepped .refusal ≤ 0 → (keeps : Bool) (r : Marks) → keeps ≡ eqb (w .clock .keeps) 1
         → MarksAfter (w .marks) (w .clock .time) (stepped .clock .time) keeps (eqb (w .clock .last) 1) r entry exit
         → Advanced w duty o (record { progress = record { clock = stepped .clock; marks = r }; refusal = 0 }) table next entry exit
     advanced-taken l keeps r k after =
-        subst (λ (o : Outcome Event). Advanced w duty o (record { progress = record { clock = stepped .clock; marks = r }; refusal = 0 }) table next entry exit) read
-        (taken-read w duty table next stepped l (readFields f) (only-fifteen f) steps keeps r entry exit k after)
+        record {
+          number = λ row sp es h. omega (arith, number-is row sp es h);
+          orders = λ row sp es h z. let t = this row sp es h in t .table-is ∙ ap (λ (x : Outcome Event). tableAfter row (followed es x)) (sym (t .says));
+          progress = λ row sp es base h b z.
+              let t = this row sp es h in
+              let (is, held) = took row sp es w (h .is) (h .bounds) (t .event) (t .passes) (stepped .clock) (t .clock-is) keeps r entry exit base k after b in
+              let with = ap (followed es) (sym (t .says)) in
+              (is ∙ ap (progressAt row sp) with, subst (λ (l : List Event). Holds base (pairsOf row sp l) exit) with held);
+        }
+      where
+        this : (row : Row) (sp : SpreadRule) (es : List Event) → RepresentsRun row sp es w duty table → Took row sp es o (stepped .clock) next
+        this row sp es h = record-taken duty (w .clock) table next stepped row sp es (represents row sp es w duty table h) f steps o read l
 
 module _ (row : Row) (sp : SpreadRule) (es : List Event) (w : Progress) (is : w ≡ progressAt row sp es) (g : EventBounds row es) where
   pub may-end : Onward (w .clock) (row .length)

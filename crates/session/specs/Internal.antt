@@ -5,7 +5,8 @@ use mathlib.Core.Path.{_≡_}
 use mathlib.Core.List.{List, [], _∷_, _++_}
 use mathlib.Core.Bool.{Bool, true}
 use lib.Dec.{leb}
-use lib.ListN.{length, drop, set}
+use lib.ListN.{length, drop}
+use lib.Seq.{sets}
 use Rattle.rules.specs.declared.Millis.{Millis}
 use Rattle.rules.specs.declared.Steps.{Steps}
 use Rattle.rules.specs.declared.Row.{Row}
@@ -28,7 +29,8 @@ use Rattle.rules.specs.Calls.{Quoting, Book}
 use Rattle.rules.specs.Causes.{eventRefusal}
 use Rattle.rules.specs.Changes.{following}
 use Rattle.rules.specs.Bounds.{EventBounds}
-use Rattle.rules.specs.Session.{Session, whole, halted, recordsOf, withoutLapseLimit, runRecords}
+use Rattle.rules.specs.Session.{Session, whole, halted, recordsOf, runRecords}
+use Rattle.rules.specs.Accounts.{noLimit}
 use Rattle.clock.specs.declared.Duty.{Duty}
 use Rattle.clock.specs.Clocks.{dutyOf, clockOf}
 use Rattle.events.specs.Represents.{tableAfter}
@@ -48,14 +50,21 @@ lastOffset (s ∷ t ∷ ss) = lastOffset (t ∷ ss)
 unfoldable pub marksAt : (ℕ → Bool) → ℕ → Marks
 marksAt p n = record { pairs = length (stretches p n); start = lastOffset (stretches p n) }
 
--- a buffer that was base at first and has the pairs at its front, where they fit
-pub record Holds (base : List ℕ) (ss : List Stretch) (buffer : List ℕ) : Type 0 where
+-- a buffer that was base at first and has these words at its front, where they fit
+pub record Front (base front buffer : List ℕ) : Type 0 where
   pub size : length buffer ≡ length base
-  pub words : 2 * length ss ≤ length base → buffer ≡ pairWords ss ++ drop (2 * length ss) base
+  pub words : length front ≤ length base → buffer ≡ front ++ drop (length front) base
 
--- the pair counted n from 0, where it fits
-unfoldable pub putPair : List ℕ → ℕ → ℕ → ℕ → List ℕ
-putPair buffer n x y = if leb (2 * n + 2) (length buffer) then set (set buffer (2 * n) x) (2 * n + 1) y else buffer
+-- words written from a place on, where they fit
+unfoldable pub putWords : List ℕ → ℕ → List ℕ → List ℕ
+putWords buffer at new = if leb (at + length new) (length buffer) then sets buffer at new else buffer
+
+-- the pairs, and the one counted n from 0
+abbrev pub Holds : List ℕ → List Stretch → List ℕ → Type 0
+Holds base ss buffer = Front base (pairWords ss) buffer
+
+abbrev pub putPair : List ℕ → ℕ → ℕ → ℕ → List ℕ
+putPair buffer n x y = putWords buffer (2 * n) (x ∷ y ∷ [])
 
 -- the marks when what passes goes on from a
 unfoldable pub begunAt : Marks → ℕ → Bool → Marks
@@ -141,9 +150,11 @@ countFrom n [] = n
 countFrom n (e ∷ es) = countFrom (following n) es
 
 -- the book with an open quantum of a fresh month
+abbrev pub bookOf : ℕ → Row → SpreadRule → List Event → Book
+bookOf cell row sp es = record { running = Quoting cell row (noLimit sp) es; cells = blankCells; count = countFrom (following 0) es }
+
 abbrev pub bookWith : ℕ → Row → Steps → List Event → Book
-bookWith cell row sp es =
-    record { running = Quoting cell row (withoutLapseLimit sp) es; cells = blankCells; count = countFrom (following 0) es }
+bookWith cell row sp es = bookOf cell row (Settled sp) es
 
 -- in the loop over the records: at the byte that the record of this place starts with
 pub record LoopState (most : ℕ) (row : Row) (sp : Steps) (bytes base : List ℕ) (w : Progress) (at place : ℕ) (table buffer : List ℕ) : Type 0 where

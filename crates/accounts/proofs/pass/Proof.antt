@@ -3,7 +3,7 @@ use mathlib.Core.Path.{ap, sym, _∙_}
 use mathlib.Core.Bool.{true, false}
 use borrow.Author.Tests.{not-true, not-false}
 use Rattle.rules.specs.Answers.{shownRow}
-use Rattle.accounts.proofs.Runs.{read-good}
+use Rattle.session.proofs.Openings.{read-good}
 use Rattle.accounts.proofs.Endings.{passed-row, passed-price, passed-strike, passed-opened}
 use borrow.Author.Needs.{needs}
 use Rattle.accounts.proofs.pass.Statement.{statement}
@@ -28,7 +28,7 @@ run-records-requires c κs =
     let s = c .before .before .before .before .before .before .before .before .before .before .before .before in
     let t = c .before .before .before .before .before .before in
     let read = ap shownRow (sym (t .read3 .given .1)) ∙ t .before .before .read .ensures in
-    (s .pre, read-good (s .args .most) (s .args .row .now) (s .args .spread) (s .args .records .now) _ read, (sym (c .before .before .in-range .ensures) ∙ not-false _ (c .before .if2 .left)))
+    (s .pre, read-good (s .args .row .now) (s .args .spread) _ read, (sym (c .before .before .in-range .ensures) ∙ not-false _ (c .before .if2 .left)))
 
 returns-3 : tie.Need-returns-3
 returns-3 c =

@@ -6,7 +6,7 @@ use mathlib.Core.Bool.{Bool, true, false, _&&_}
 use mathlib.Core.Logic.{inl}
 use mathlib.Core.List.{List}
 use lib.Dec.{eqb}
-use lib.ListN.{length, getD, take, drop, length-take, length-drop}
+use lib.ListN.{length, getD}
 use borrow.Author.Needs.{needs}
 use Rattle.rules.specs.Lists.{if_then_else_}
 use Rattle.quote.specs.declared.Level.{Level}
@@ -14,9 +14,9 @@ use Rattle.quote.specs.Levels.{levelAt, isBest}
 use Rattle.side.specs.Slots.{keysOf, volumesOf, levelIn, bestKeyIn}
 use Rattle.side.proofs.Words.{room-over, room-most}
 use Rattle.level.proofs.Depths.{own-level, level-small, slots-columns}
-use Rattle.level.proofs.Parts.{moving-length, moving-count, moving-few, part-columns, part-searchable, part-level, part-none}
+use Rattle.level.proofs.Parts.{moving-length, moving-count, moving-few, part-searchable, part-level, part-none}
 use Rattle.level.proofs.Starts.{best-key-most}
-use Rattle.level.proofs.Requotes.{small-requotes, same-requotes, sought-requotes}
+use Rattle.level.proofs.Requotes.{same-requotes, sought-requotes}
 use Rattle.level.proofs.requote.Statement.{statement}
 use Rattle.level.proofs.requote.Tie as tie
 
@@ -30,37 +30,13 @@ slice-read-count c =
     let long : length (s .args .words .now) ≡ 256 = moving-length (s .args .words .now) (s .args .change) (s .args .minimum .0) (s .pre .0) in
     search needs
 
-part-best-end : tie.Need-part-best-end
-part-best-end c =
+by-small-requires : tie.Need-by-small-requires
+by-small-requires c κs =
     let s = c .before .before .before .before in
-    let long : length (s .args .words .now) ≡ 256 = moving-length (s .args .words .now) (s .args .change) (s .args .minimum .0) (s .pre .0) in
-    search needs
-
-part-best-end-2 : tie.Need-part-best-end-2
-part-best-end-2 c =
-    let s = c .before .before .before .before .before in
-    let long : length (s .args .words .now) ≡ 256 = moving-length (s .args .words .now) (s .args .change) (s .args .minimum .0) (s .pre .0) in
-    search needs
-
-best-requires : tie.Need-best-requires
-best-requires c κs =
-    let s = c .before .before .before .before .before .before in
-    let words = s .args .words .now in
-    let long : length words ≡ 256 = moving-length (s .args .words .now) (s .args .change) (s .args .minimum .0) (s .pre .0) in (
-      omega (arith, length-take 4 (drop 64 words), length-drop 64 words),
-      part-columns (s .args .words .now) (s .args .change) (s .args .minimum .0) (s .pre .0) 4 4 4 refl refl (c .before .before .before .if1 .taken) (omega arith),
-      s .pre .1,
-    )
-
-put-requires : tie.Need-put-requires
-put-requires c κs =
-    let s = c .before .before .before .before .before .before .before .before in
-    moving-length (s .args .words .now) (s .args .change) (s .args .minimum .0) (s .pre .0)
+    record { change = s .args .change; stale = s .pre .0; few = c .before .if1 .taken; some = s .pre .1 }
 
 returns : tie.Need-returns
-returns c m =
-    let s = c .before .before .before .before .before .before .before .before .before .before .before in
-    small-requotes (s .args .side) (s .args .words .now) (s .args .change) (s .args .minimum .0) m (c .before .before .before .before .before .before .before .before .if1 .taken) (c .before .before .before .before .best .result) (c .before .before .before .before .best .ensures) (c .before .before .put .last .0) (c .before .before .put .ensures)
+returns c m = c .before .before .by-small .ensures (c .before .before .before .before .before .before .before .args .side) _ m
 
 carried-requires : tie.Need-carried-requires
 carried-requires c κs =
@@ -75,8 +51,8 @@ is-best-requires c κs =
     level-small (keysOf (m .after)) (volumesOf (m .after)) (l .result) (slots-columns (m .after) (m .good))
     (own-level (keysOf (m .after)) (volumesOf (m .after)) (bestKeyIn (s .args .minimum .0) (m .before)) (l .result) (l .ensures (s .args .minimum .0) m))
 
-put-requires-2 : tie.Need-put-requires-2
-put-requires-2 c κs =
+put-requires : tie.Need-put-requires
+put-requires c κs =
     let s = c .before .before .before .before .before .before .before .before .before .before in
     moving-length (s .args .words .now) (s .args .change) (s .args .minimum .0) (s .pre .0)
 
@@ -88,7 +64,7 @@ returns-2 c m =
     let f = c .before .before .before .before .before .before .before .is-fifth in
     same-requotes (a .side) (s .args .words .now) (s .args .change) (s .args .minimum .0) m (omega (arith, c .before .before .before .before .before .before .before .before .before .before .if1 .left, moving-count (s .args .words .now) (s .args .change) (s .args .minimum .0) m)) (l .result) (l .ensures (a .minimum .0) m)
     (f .result) (c .before .before .before .before .before .before .volume-where .result) (c .before .before .before .before .before .before .volume-where .ensures) (sym (c .before .before .before .before .before .is-best .ensures) ∙ c .before .before .before .before .if2 .taken)
-    (c .before .before .put2 .last .0) (c .before .before .put2 .ensures)
+    (c .before .before .put .last .0) (c .before .before .put .ensures)
 
 room-requires : tie.Need-room-requires
 room-requires c κs =
@@ -155,21 +131,10 @@ sought-requires c κs =
       record { none = part-none (s .args .words .now) (s .args .change) (s .args .minimum .0) m (to .result) (64 + to .result - 64) (128 + to .result - 128) en ek over most; below = inl refl },
     )
 
-put-requires-3 : tie.Need-put-requires-3
-put-requires-3 c κs =
+put-requires-2 : tie.Need-put-requires-2
+put-requires-2 c κs =
     let s = c .before .before .before .before .before .before .before .before .before .before .before .before .before .before .before .before in
     moving-length (s .args .words .now) (s .args .change) (s .args .minimum .0) (s .pre .0)
-
-add-t13 : tie.Need-add-t13
-add-t13 c =
-    record {
-      fits =
-          omega (
-            arith,
-            at-most-one (c .before .before .before .before .before .before .before .before .before .before .before .before .before .volume-where .result) (c .before .before .before .before .before .before .before .before .before .before .before .before .before .before .is-fifth .result) (c .before .before .before .before .before .before .before .before .before .before .before .before .before .volume-where .ensures),
-            c .before .before .before .before .before .before .sought .ensures .few,
-          );
-    }
 
 returns-3 : tie.Need-returns-3
 returns-3 c m =
@@ -186,30 +151,21 @@ returns-3 c m =
     sought-requotes (a .side) (s .args .words .now) (s .args .change) (s .args .minimum .0) m (omega (arith, c .before .before .before .before .before .before .before .before .before .before .before .before .before .before .before .before .before .if1 .left, moving-count (s .args .words .now) (s .args .change) (s .args .minimum .0) m)) (l .result) (l .ensures (a .minimum .0) m)
     (f .result) (c .before .before .before .before .before .before .before .before .before .before .before .before .before .volume-where .result) (c .before .before .before .before .before .before .before .before .before .before .before .before .before .volume-where .ensures)
     (to .result) (64 + to .result - 64) (128 + to .result - 128) en ek over most
-    (c .before .before .before .before .before .before .sought .result) (c .before .before .before .before .before .before .sought .ensures) (c .before .before .before .put3 .last .0) (c .before .before .before .put3 .ensures)
+    (c .before .before .before .before .before .before .sought .result) (c .before .before .before .before .before .before .sought .ensures) (c .before .before .before .put2 .last .0) (c .before .before .before .put2 .ensures)
 
 pub requote-spec : {M : Type 1} → statement M
 requote-spec =
     tie.close
     (tie.spec
     slice-read-count
-    (λ c. search needs)
-    (λ c. search needs)
-    (λ c. search needs)
-    part-best-end
-    (λ c. search needs)
-    (λ c. search needs)
-    (λ c. search needs)
-    part-best-end-2
-    best-requires
-    put-requires
+    by-small-requires
     (λ c. search needs)
     returns
     carried-requires
     (λ c κs. search needs)
     (λ c κs. search needs)
     is-best-requires
-    put-requires-2
+    put-requires
     (λ c. search needs)
     returns-2
     room-requires
@@ -222,7 +178,15 @@ requote-spec =
     (λ c. search needs)
     part-sought-end-2
     sought-requires
-    put-requires-3
-    add-t13
+    put-requires-2
+    (λ c.
+    record {
+      fits =
+          omega (
+            arith,
+            at-most-one (c .before .before .before .before .before .before .before .before .before .before .before .before .before .volume-where .result) (c .before .before .before .before .before .before .before .before .before .before .before .before .before .before .is-fifth .result) (c .before .before .before .before .before .before .before .before .before .before .before .before .before .volume-where .ensures),
+            c .before .before .before .before .before .before .sought .ensures .few,
+          );
+    })
     (λ c. search needs)
     returns-3)
