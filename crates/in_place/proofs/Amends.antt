@@ -18,7 +18,7 @@ use Rattle.record.specs.Fields.{fieldsFor}
 use Rattle.arrivals.specs.Arrivals.{arrivalsOf, idOf}
 use Rattle.arrivals.specs.Notes.{rowWords, spreadWords, notesOf}
 use Rattle.arrivals.proofs.Effects.{as-many}
-use Rattle.quantum.specs.Represents.{taken}
+use Rattle.events.specs.Represents.{taken}
 
 as-long : (orders : List Order) (e : Event) → fieldsFor e .kind ≡ 3 → length (apply orders e) ≡ length orders
 unfolding apply

@@ -20,12 +20,16 @@ use Rattle.record.specs.declared.Fields.{Fields}
 use Rattle.record.specs.Fields.{fieldsFor}
 use Rattle.book.specs.Table.{tableOf}
 use Rattle.arrivals.specs.Notes.{notesOf}
-use Rattle.quantum.specs.declared.Duty.{Duty}
-use Rattle.quantum.specs.declared.Clock.{Clock}
-use Rattle.quantum.specs.Represents.{dutyOf, clockOf, quantumOf, tableAfter, taken, Represents, Onward, ranOn}
-use Rattle.quantum.specs.Words.{dutyWords, clockWords, quantumWords}
-use Rattle.quantum.specs.Internal.{InTime}
-use Rattle.quantum.proofs.Represents.{one, keeps-is, onward, backwards, past-end, in-time, next-clock}
+use Rattle.clock.specs.declared.Duty.{Duty}
+use Rattle.clock.specs.declared.Clock.{Clock}
+use Rattle.clock.specs.Clocks.{dutyOf, clockOf, Onward, ranOn}
+use Rattle.clock.specs.Words.{dutyWords, clockWords}
+use Rattle.events.specs.Represents.{tableAfter, taken, Represents}
+use Rattle.events.specs.Internal.{InTime}
+use Rattle.quantum.specs.Represents.{quantumOf}
+use Rattle.quantum.specs.Words.{quantumWords}
+use Rattle.clock.proofs.Clocks.{one, keeps-is, onward}
+use Rattle.events.proofs.Represents.{backwards, past-end, in-time, next-clock}
 use Rattle.quantum.proofs.Words.{duty-part, clock-part}
 use Rattle.in_place.specs.Events.{HoldsQuantum, StepsWords}
 use Rattle.in_place.proofs.Quanta.{clocked}

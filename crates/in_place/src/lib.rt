@@ -49,8 +49,8 @@ fn tick(words: &mut [u32], t: Millis) -> u32
     requires { ⌜ HoldsQuantum (now words) × (length (now words) ≡ 598) ⌝ }
     ensures { λ r. ⌜ StepsWords (now (words .entry)) (Tick t) (now (words .exit)) r ⌝ }
 {
-    let duty = quantum::duty_in(&words[0..3]);
-    let clock = quantum::clock_in(&words[3..8]);
+    let duty = clock::duty_in(&words[0..3]);
+    let clock = clock::clock_in(&words[3..8]);
     let now = clock.time;
     let end = duty.length;
     if t.0 < now.0 {
@@ -59,8 +59,8 @@ fn tick(words: &mut [u32], t: Millis) -> u32
     if end.0 < t.0 {
         return 9;
     }
-    let next = quantum::onward(clock, t, clock.keeps);
-    quantum::put_clock(next, &mut words[3..8]);
+    let next = clock::onward(clock, t, clock.keeps);
+    clock::put_clock(next, &mut words[3..8]);
     0
 }
 
