@@ -1,16 +1,17 @@
 -- Asks and commits: they are judged as the amend that they name, then by the ticket. Assumes nothing.
 use Prim.Native.Nat.{ℕ, suc}
-use mathlib.Core.Path.{_≡_, ap, sym, _∙_}
+use mathlib.Core.Path.{_≡_, ap, sym, _∙_, subst₂}
 use mathlib.Core.Bool.{Bool, true, false, not}
 use mathlib.Core.List.{List, [], _∷_, _++_}
 use Rattle.rules.specs.declared.Amendment.{Amendment}
 use Rattle.rules.specs.declared.Ticket.{Ticket}
 use Rattle.rules.specs.declared.Preview.{Preview}
+use Rattle.rules.specs.declared.Asked.{Asked}
 use Rattle.rules.specs.declared.Refusal.{Refusal}
 use Rattle.rules.specs.declared.Answer.{Answer}
 use Rattle.rules.specs.declared.Answer.the-variants.{Accepted, Refused}
 use Rattle.rules.specs.Terms.{paper}
-use Rattle.rules.specs.Answers.{accepted, refused, outcomeBy, done, asked, numberOf, shownAnswer}
+use Rattle.rules.specs.Answers.{accepted, refused, outcomeBy, done, asked, numberOf, shownAnswer, shownAsked}
 use Rattle.rules.specs.Calls.{Call, Send, Ask, Commit, Running, Book, amendOf}
 use Rattle.rules.specs.Causes.{sendCauses, goodTicket, causes, refusalOf, eventRefusal}
 use Rattle.rules.specs.Changes.{changed, noted}
@@ -25,6 +26,7 @@ use Rattle.quantum.specs.Represents as S
 use Rattle.quantum.specs.Represents.{quantumOf}
 use Rattle.events.specs.Represents.{taken}
 use Rattle.month.specs.declared.Month.{Month}
+use Rattle.month.specs.declared.AskedAbout.{AskedAbout}
 use Rattle.month.specs.Represents.{monthOf, Reached, Answered}
 use Rattle.month.specs.Internal.{Previewed}
 use Rattle.month.proofs.Answers.{answered-after, stopped, stopped-by, went}
@@ -98,6 +100,12 @@ module _ (m : Month) (a : Amendment) where
                   ticket = (v .ticket ∙ ap (λ (n : ℕ). record { amendment = a; count = n }) (count-is m b is)) i;
                 }),
           ))
+
+-- what the end `asked` hands on
+pub ask-handed : (m : Month) (c : Call) (r : AskedAbout) (a : Asked) → (r .month ≡ m) × (r .answer ≡ a) → Answered m c m (shownAsked a)
+    → (r .month ≡ m) × Answered m c (r .month) (shownAsked (r .answer))
+ask-handed m c r a e h =
+    (e .0, subst₂ (λ (x : Month) (y : Asked). Answered m c x (shownAsked y)) (sym (e .0)) (sym (e .1)) h)
 
 -- ---- commit
 

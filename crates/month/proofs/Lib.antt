@@ -3,5 +3,5 @@ pub mod Fields
 pub mod CellNames
 pub mod Calls
 pub mod Asks
-pub mod Sides
+pub mod Messages
 pub mod Words

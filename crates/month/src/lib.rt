@@ -10,24 +10,29 @@ ghost use Rattle.rules.specs.Terms.{paper};
 ghost use Rattle.rules.specs.declared.SpreadRule.the-variants.{OfStrike};
 ghost use Rattle.rules.specs.Rows.{goodRowFor, rowOf};
 ghost use Rattle.rules.specs.Cells.{goodCell, placeOf, cellAt};
-ghost use Rattle.rules.specs.Answers.{shownAnswer, shownLooked, shownReport, shownOutlook};
+ghost use Rattle.rules.specs.Answers.{shownAnswer, shownLooked, shownAsked, shownReport, shownOutlook};
 ghost use Rattle.rules.specs.Calls.{Idle};
 ghost use Rattle.rules.specs.Book.{after};
 ghost use Rattle.rules.specs.Causes.{otherSideIn};
 ghost use Rattle.rules.specs.Bounds.{BookBounds};
 ghost use Rattle.rules.specs.Lists.{if_then_else_};
 ghost use Rattle.rules.specs.Dates.{Moment};
-ghost use Rattle.rules.specs.Messages.{replaceOrder};
+ghost use Rattle.rules.specs.Messages.{newOrder, cancelOrder, replaceOrder};
 ghost use Rattle.rules.specs.declared.Refusal.the-variants.{NoQuantumOpen};
+ghost use Rattle.dates.specs.Answers.{shownElapsed};
 ghost use Rattle.rules.specs.Calls as B;
 ghost use Rattle.quantum.specs.Represents as Q;
 ghost use Rattle.month.specs.Represents.{monthOf, quantumIn, Reached, Answered};
 ghost use Rattle.month.specs.declared.Month.{Month};
 ghost use Rattle.month.specs.Words.{monthWords, Fits};
-ghost use Rattle.month.specs.Internal.{withCell, withoutQuantum, counted, namedIn};
+ghost use Rattle.month.specs.Internal.{withCell, withoutQuantum, counted, Previewed, namedIn, MessageAnswered, BothOrNeither};
+use dates::Elapsed;
+use fix::MessageRead;
 use numbers::both;
 use quantum::Quantum;
+use rules::Amendment;
 use rules::Answer;
+use rules::Asked;
 use rules::Cell;
 use rules::Contracts;
 use rules::Event;
@@ -36,6 +41,7 @@ use rules::Looked;
 use rules::Millis;
 use rules::Opening;
 use rules::OutlookAnswer;
+use rules::Preview;
 use rules::Refusal;
 use rules::Report;
 use rules::Row;
@@ -44,6 +50,7 @@ use rules::Side;
 use rules::SpreadRule;
 use rules::Steps;
 use rules::Strike;
+use rules::Ticket;
 
 // A month, which only these calls make: whether a quantum is open, and then its cell's place, p and lapse limit; the count of accepted
 // calls (W5); the open quantum, or an idle one in its place; the cells.
@@ -69,6 +76,12 @@ pub struct LookedAt {
     pub answer: Looked,
 }
 
+// What ask hands back.
+pub struct AskedAbout {
+    pub month: Month,
+    pub answer: Asked,
+}
+
 // What report hands back.
 pub struct Reported {
     pub month: Month,
@@ -89,7 +102,7 @@ enum Named {
 }
 
 // Every refused call ends here, with the month as it was ..
-pub fn refused(month: Month, refusal: Refusal) -> AfterCall
+fn refused(month: Month, refusal: Refusal) -> AfterCall
     ensures { λ r. ⌜ (r .month ≡ month) × (r .answer ≡ Answer.Refused refusal) ⌝ }
 {
     AfterCall {
@@ -109,6 +122,13 @@ fn accepted(month: Month) -> AfterCall
         month: next,
         answer: Answer::Accepted,
     }
+}
+
+// An ask ends here, with the month as it was whatever the answer.
+fn asked(month: Month, answer: Asked) -> AskedAbout
+    ensures { λ r. ⌜ (r .month ≡ month) × (r .answer ≡ answer) ⌝ }
+{
+    AskedAbout { month, answer }
 }
 
 // What stands in the place of the quantum while none is open.
@@ -135,6 +155,33 @@ fn place_of(day: u32, expiry: u32, quantum: u32) -> usize
     ((day - 1) * 6 + ((expiry - 1) * 3 + quantum)) as usize
 }
 
+// What an accepted ask shows: the quotes of the quantum with the amendment taken, and the ticket.
+fn preview(
+    after: Quantum,
+    t: Millis,
+    id: u32,
+    price: Steps,
+    volume: Contracts,
+    count: u64,
+) -> Preview
+    requires { ⌜ Q.Reached after ⌝ }
+    ensures { λ r. ⌜ Previewed after (record { t = t; id = id; price = price; volume = volume }) count r ⌝ }
+{
+    let bid = after.best_bid();
+    let ask = after.best_ask();
+    let amendment = Amendment {
+        t,
+        id,
+        price,
+        volume,
+    };
+    Preview {
+        bid,
+        ask,
+        ticket: Ticket { amendment, count },
+    }
+}
+
 impl Month {
     // The fresh month: no quantum open, 186 blank cells.
     pub fn fresh() -> Month
@@ -152,25 +199,6 @@ impl Month {
             quantum,
             cells,
         }
-    }
-
-    // What an ask goes by: whether a quantum is open, the open one or the idle one in its place, and the count of accepted calls.
-    pub fn is_open(self) -> bool
-        ensures { λ r. ⌜ r ≡ self .running ⌝ }
-    {
-        self.running
-    }
-
-    pub fn quantum(self) -> Quantum
-        ensures { λ r. ⌜ r ≡ self .quantum ⌝ }
-    {
-        self.quantum
-    }
-
-    pub fn count(self) -> u64
-        ensures { λ r. ⌜ r ≡ self .count ⌝ }
-    {
-        self.count
     }
 
     // The cell at a place.
@@ -317,7 +345,7 @@ impl Month {
     }
 
     // Whether the live order that a G's 41 names is not of its side.
-    pub fn other_side(self, side: Side, id: u32) -> bool
+    fn other_side(self, side: Side, id: u32) -> bool
         requires { ⌜ Reached self ⌝ }
         ensures { λ r. ⌜ ((new : ℕ) (volume : Contracts) (price : Steps) (t : Moment) (b : B.Book) → BookBounds paper b → self ≡ monthOf b → r ≡ otherSideIn (b .running) (replaceOrder new id side volume price t)) ⌝ }
     {
@@ -326,13 +354,184 @@ impl Month {
     }
 
     // A message whose time is none of the quantum's: with none open that comes first.
-    pub fn untimely(self, refusal: Refusal) -> AfterCall
+    fn untimely(self, refusal: Refusal) -> AfterCall
         ensures { λ r. ⌜ (r .month ≡ self) × (r .answer ≡ Answer.Refused (if self .running then refusal else NoQuantumOpen)) ⌝ }
     {
         if !self.running {
             return refused(self, Refusal::NoQuantumOpen);
         }
         refused(self, refusal)
+    }
+
+    // D: an order more.
+    fn new_order(
+        self,
+        when: Elapsed,
+        id: u32,
+        side: Side,
+        volume: Contracts,
+        price: Steps,
+    ) -> AfterCall
+        requires { ⌜ Reached self ⌝ }
+        ensures { λ r. ⌜ MessageAnswered self (λ t. newOrder id side volume price t) (shownElapsed when) (r .month) (shownAnswer (r .answer)) ⌝ }
+    {
+        match when {
+            Elapsed::At(t) => self.add(t, id, side, price, volume),
+            Elapsed::Before => self.untimely(Refusal::TimeBackwards),
+            Elapsed::Late => self.untimely(Refusal::TimePastEnd),
+            Elapsed::Unreadable => refused(self, Refusal::FieldWrong),
+        }
+    }
+
+    // F: the order that 41 names goes.
+    fn cancel_order(self, when: Elapsed, id: u32, orig: u32) -> AfterCall
+        requires { ⌜ Reached self ⌝ }
+        ensures { λ r. ⌜ MessageAnswered self (λ t. cancelOrder id orig t) (shownElapsed when) (r .month) (shownAnswer (r .answer)) ⌝ }
+    {
+        match when {
+            Elapsed::At(t) => self.cancel(t, orig),
+            Elapsed::Before => self.untimely(Refusal::TimeBackwards),
+            Elapsed::Late => self.untimely(Refusal::TimePastEnd),
+            Elapsed::Unreadable => refused(self, Refusal::FieldWrong),
+        }
+    }
+
+    // That cancel, and an add on the month after it: both or neither.
+    fn both_or_neither(
+        self,
+        t: Millis,
+        id: u32,
+        orig: u32,
+        side: Side,
+        volume: Contracts,
+        price: Steps,
+    ) -> AfterCall
+        requires { ⌜ Reached self ⌝ }
+        ensures { λ r. ⌜ BothOrNeither self (Cancel t orig) (Add t id side price volume) (r .month) (shownAnswer (r .answer)) ⌝ }
+    {
+        let cancelled = self.cancel(t, orig);
+        let first = cancelled.answer;
+        let between = cancelled.month;
+        if let Answer::Refused(of_cancel) = first {
+            return refused(self, of_cancel);
+        }
+        let added = between.add(t, id, side, price, volume);
+        let second = added.answer;
+        match second {
+            Answer::Accepted => added,
+            Answer::Refused(of_add) => refused(self, of_add),
+        }
+    }
+
+    // G: its side is that of the order that 41 names, where there is one.
+    fn replace_order(
+        self,
+        when: Elapsed,
+        id: u32,
+        orig: u32,
+        side: Side,
+        volume: Contracts,
+        price: Steps,
+    ) -> AfterCall
+        requires { ⌜ Reached self ⌝ }
+        ensures { λ r. ⌜ MessageAnswered self (λ t. replaceOrder id orig side volume price t) (shownElapsed when) (r .month) (shownAnswer (r .answer)) ⌝ }
+    {
+        if self.other_side(side, orig) {
+            return refused(self, Refusal::FieldWrong);
+        }
+        match when {
+            Elapsed::At(t) => self.both_or_neither(t, id, orig, side, volume, price),
+            Elapsed::Before => self.untimely(Refusal::TimeBackwards),
+            Elapsed::Late => self.untimely(Refusal::TimePastEnd),
+            Elapsed::Unreadable => refused(self, Refusal::FieldWrong),
+        }
+    }
+
+    // A FIX message, with the quantum's start: its one or two calls.
+    pub fn message(self, start: &[u8], message: &[u8]) -> AfterCall
+        requires { ⌜ Reached self ⌝ }
+        ensures { λ r. ⌜ Answered self (B.Message (now (start .entry)) (now (message .entry))) (r .month) (shownAnswer (r .answer)) ⌝ }
+    {
+        match fix::read(message) {
+            MessageRead::New {
+                id,
+                side,
+                volume,
+                price,
+                time,
+            } => self.new_order(dates::after(start, time), id, side, volume, price),
+            MessageRead::Cancel { id, orig, time } => {
+                self.cancel_order(dates::after(start, time), id, orig)
+            }
+            MessageRead::Replace {
+                id,
+                orig,
+                side,
+                volume,
+                price,
+                time,
+            } => self.replace_order(dates::after(start, time), id, orig, side, volume, price),
+            MessageRead::FrameWrong => refused(self, Refusal::FrameWrong),
+            MessageRead::FieldWrong => refused(self, Refusal::FieldWrong),
+        }
+    }
+
+    // What that amend would do: its refusal, or both best quotes after it and a ticket. The month is as it was.
+    pub fn ask(self, t: Millis, id: u32, price: Steps, volume: Contracts) -> AskedAbout
+        requires { ⌜ Reached self ⌝ }
+        ensures { λ r. ⌜ (r .month ≡ self) × Answered self (B.Ask (record { t = t; id = id; price = price; volume = volume })) (r .month) (shownAsked (r .answer)) ⌝ }
+    {
+        if !self.running {
+            return asked(self, Asked::Refused(Refusal::NoQuantumOpen));
+        }
+        let before = self.quantum;
+        let sent = before.send(Event::Amend {
+            t,
+            id,
+            price,
+            volume,
+        });
+        let answer = sent.answer;
+        let after = sent.quantum;
+        match answer {
+            Answer::Accepted => {
+                let shown = preview(after, t, id, price, volume, self.count);
+                asked(self, Asked::Shown(shown))
+            }
+            Answer::Refused(r) => asked(self, Asked::Refused(r)),
+        }
+    }
+
+    // Exactly that amend, if its ticket is the present one: amend's own causes first.
+    pub fn commit(
+        self,
+        t: Millis,
+        id: u32,
+        price: Steps,
+        volume: Contracts,
+        ticket: Ticket,
+    ) -> AfterCall
+        requires { ⌜ Reached self ⌝ }
+        ensures { λ r. ⌜ Answered self (B.Commit (record { t = t; id = id; price = price; volume = volume }) ticket) (r .month) (shownAnswer (r .answer)) ⌝ }
+    {
+        let amendment = Amendment {
+            t,
+            id,
+            price,
+            volume,
+        };
+        let present = ticket::is_present(ticket, amendment, self.count);
+        let amended = self.amend(t, id, price, volume);
+        let answer = amended.answer;
+        match answer {
+            Answer::Accepted => {
+                if present {
+                    return amended;
+                }
+                refused(self, Refusal::WrongTicket)
+            }
+            Answer::Refused(own) => refused(self, own),
+        }
     }
 
     // The order is removed; its place and id can be used again.

@@ -19,7 +19,7 @@ use Rattle.rules.specs.Calls as B
 use Rattle.month.specs.declared.AfterCall.{AfterCall}
 use Rattle.month.specs.declared.AfterOutlook.{AfterOutlook}
 use Rattle.month.specs.declared.LookedAt.{LookedAt}
-use Rattle.asks.specs.declared.AskedAbout.{AskedAbout}
+use Rattle.month.specs.declared.AskedAbout.{AskedAbout}
 use Rattle.month.specs.declared.Reported.{Reported}
 use Rattle.month.specs.Represents.{monthOf, Reached, Answered}
 use Rattle.script.specs.declared.Ran.{Ran}

@@ -14,10 +14,10 @@ ghost use Rattle.script.specs.declared.Outcome.the-variants as O;
 ghost use Rattle.script.specs.Blocks.{blankReport, showing, shownOf, outcomeNumber, Performed, Stepped};
 ghost use Rattle.script.specs.Internal.{Tells};
 ghost use Rattle.script.specs.Demand.{ListAnswers};
-use asks::AskedAbout;
 use blocks::Decoded;
 use month::AfterCall;
 use month::AfterOutlook;
+use month::AskedAbout;
 use month::LookedAt;
 use month::Month;
 use month::Reported;
@@ -214,7 +214,7 @@ fn message(month: Month, bytes: &[u8]) -> AfterCall
     requires { ⌜ Reached month ⌝ }
     ensures { λ r. ⌜ Answered month (B.Message (startAt (wordsIn (now (bytes .entry)))) (messageAt (wordsIn (now (bytes .entry))))) (r .month) (shownAnswer (r .answer)) ⌝ }
 {
-    fix_calls::message(month, blocks::start(bytes), blocks::message(bytes))
+    month.message(blocks::start(bytes), blocks::message(bytes))
 }
 
 // The call on the month, with the bytes of its block: one arm a call. Events and messages are most of a list, and `block` does them past
@@ -227,12 +227,9 @@ fn call(month: Month, said: Decoded, bytes: &[u8], next: usize) -> Done
         Decoded::Open { day, opening } => tell(open(month, bytes, day, opening), next),
         Decoded::Send(e) => tell(month.send(e), next),
         Decoded::Message => tell(message(month, bytes), next),
-        Decoded::Ask(a) => tell_asked(asks::ask(month, a.t, a.id, a.price, a.volume), next),
+        Decoded::Ask(a) => tell_asked(month.ask(a.t, a.id, a.price, a.volume), next),
         Decoded::Commit(a, ticket) => {
-            tell(
-                asks::commit(month, a.t, a.id, a.price, a.volume, ticket),
-                next,
-            )
+            tell(month.commit(a.t, a.id, a.price, a.volume, ticket), next)
         }
         Decoded::Close(active, passive) => tell(month.close(active, passive), next),
         Decoded::Drop => tell(month.drop(), next),

@@ -3,11 +3,11 @@ use Rattle.rules.specs.declared.Event.{Event}
 use Rattle.rules.specs.declared.Event.the-variants.{Add, Cancel}
 use Rattle.rules.specs.Answers.{shownAnswer}
 use Rattle.rules.specs.Calls.{Message}
 use Rattle.month.proofs.Answers.{handed}
-use Rattle.fix_calls.proofs.Messages.{message-first, message-second, message-both, between-reached}
+use Rattle.month.proofs.Messages.{message-first, message-second, message-both, between-reached}
 use borrow.Author.Needs.{needs}
-use Rattle.fix_calls.proofs.both_or_neither.Statement.{statement}
-use Rattle.fix_calls.proofs.both_or_neither.Tie as tie
+use Rattle.month.proofs.Month.both_or_neither.Statement.{statement}
+use Rattle.month.proofs.Month.both_or_neither.Tie as tie
 
 abbrev first : tie.Start → Event
 first s = Cancel (s .args .t) (s .args .orig)
@@ -19,21 +19,21 @@ returns : tie.Need-returns
 returns c start bytes x t h time two right =
     let s = c .before .before .before .before .before .before in
     let k = c .before .before .before .before .before .cancel in
-    handed (s .args .month) (Message start bytes) (c .refused .result) (s .args .month) _ (c .refused .ensures)
-    (message-first (s .args .month) start bytes x h right t time (first s) (second s) two (k .result .month) (k .result .answer) (k .ensures) _ (c .before .before .first .given .1))
+    handed (s .args .self) (Message start bytes) (c .refused .result) (s .args .self) _ (c .refused .ensures)
+    (message-first (s .args .self) start bytes x h right t time (first s) (second s) two (k .result .month) (k .result .answer) (k .ensures) _ (c .before .before .first .given .1))
 
 add-requires : tie.Need-add-requires
 add-requires c κs =
     let s = c .before .before .before .before in
     let k = c .before .before .before .cancel in
-    between-reached (s .args .month) (first s) (k .result .month) (shownAnswer (k .result .answer)) (k .ensures) (s .pre)
+    between-reached (s .args .self) (first s) (k .result .month) (shownAnswer (k .result .answer)) (k .ensures) (s .pre)
 
 returns-2 : tie.Need-returns-2
 returns-2 c start bytes x t h time two right =
     let s = c .before .before .before .before .before .before .before in
     let k = c .before .before .before .before .before .before .cancel in
     let a = c .before .before .add in
-    message-both (s .args .month) start bytes x h right t time (first s) (second s) two (k .result .month) (k .result .answer) (k .ensures)
+    message-both (s .args .self) start bytes x h right t time (first s) (second s) two (k .result .month) (k .result .answer) (k .ensures)
     (c .before .before .before .enum-told .given .1) (a .result .month) (a .result .answer) (a .ensures) (c .enum-told2 .given .1)
 
 returns-3 : tie.Need-returns-3
@@ -41,8 +41,8 @@ returns-3 c start bytes x t h time two right =
     let s = c .before .before .before .before .before .before .before .before .before in
     let k = c .before .before .before .before .before .before .before .before .cancel in
     let a = c .before .before .before .before .add in
-    handed (s .args .month) (Message start bytes) (c .refused2 .result) (s .args .month) _ (c .refused2 .ensures)
-    (message-second (s .args .month) start bytes x h right t time (first s) (second s) two (k .result .month) (k .result .answer) (k .ensures)
+    handed (s .args .self) (Message start bytes) (c .refused2 .result) (s .args .self) _ (c .refused2 .ensures)
+    (message-second (s .args .self) start bytes x h right t time (first s) (second s) two (k .result .month) (k .result .answer) (k .ensures)
     (c .before .before .before .before .before .enum-told .given .1) (a .result .month) (a .result .answer) (a .ensures) _ (c .before .before .second .given .1))
 
 pub both-or-neither-spec : {M : Type 1} → statement M

@@ -8,18 +8,18 @@ use Rattle.rules.specs.Calls.{Book}
 use Rattle.rules.specs.Causes.{otherSideIn}
 use Rattle.rules.specs.Bounds.{BookBounds}
 use Rattle.dates.specs.Answers.{shownElapsed}
 use Rattle.month.specs.Represents.{monthOf}
-use Rattle.fix_calls.proofs.Messages.{said-unread, said-side, said-early, said-late, said-both}
+use Rattle.month.proofs.Messages.{said-unread, said-side, said-early, said-late, said-both}
 use borrow.Author.Needs.{needs}
-use Rattle.fix_calls.proofs.replace_order.Statement.{statement}
-use Rattle.fix_calls.proofs.replace_order.Tie as tie
+use Rattle.month.proofs.Month.replace_order.Statement.{statement}
+use Rattle.month.proofs.Month.replace_order.Tie as tie
 
 -- the message that the arguments say
 abbrev said : tie.Start → Moment → Message Moment
 said s t = replaceOrder (s .args .id) (s .args .orig) (s .args .side) (s .args .volume) (s .args .price) t
 
 -- what the test of the side found, of every book
-sided : (c : tie.After-other-side) (k : Bool) → c .other-side .result ≡ k → (t : Moment) (b : Book) → BookBounds paper b → c .before .args .month ≡ monthOf b
+sided : (c : tie.After-other-side) (k : Bool) → c .other-side .result ≡ k → (t : Moment) (b : Book) → BookBounds paper b → c .before .args .self ≡ monthOf b
     → otherSideIn (b .running) (said (c .before) t) ≡ k
 sided c k e t b g is =
     let s = c .before in
@@ -29,33 +29,33 @@ returns : tie.Need-returns
 returns c =
     let o = c .before .before in
     let s = o .before in
-    said-side (s .args .month) (said s) (c .refused .result) (s .args .when) (sided o true (c .before .if1 .taken)) (c .refused .ensures)
+    said-side (s .args .self) (said s) (c .refused .result) (s .args .when) (sided o true (c .before .if1 .taken)) (c .refused .ensures)
 
 returns-2 : tie.Need-returns-2
 returns-2 c =
     let o = c .before .before .before .before .before in
     let s = o .before in
     let k = ap shownElapsed (c .before .before .when .given .1) in
-    said-both (s .args .month) (said s) (λ t. refl) (sided o false (c .before .before .before .before .if1 .left)) (shownElapsed (s .args .when)) _ _ _ (c .both-or-neither .result .month) _ k refl (c .both-or-neither .ensures)
+    said-both (s .args .self) (said s) (λ t. refl) (sided o false (c .before .before .before .before .if1 .left)) (shownElapsed (s .args .when)) _ _ _ (c .both-or-neither .result .month) _ k refl (c .both-or-neither .ensures)
 
 returns-3 : tie.Need-returns-3
 returns-3 c =
     let o = c .before .before .before .before in
     let s = o .before in
     let k = ap shownElapsed (c .before .enum-told .given .1) in
-    said-early (s .args .month) (said s) (λ t. refl) (sided o false (c .before .before .before .if1 .left)) (c .untimely .result) (shownElapsed (s .args .when)) k (c .untimely .ensures)
+    said-early (s .args .self) (said s) (λ t. refl) (sided o false (c .before .before .before .if1 .left)) (c .untimely .result) (shownElapsed (s .args .when)) k (c .untimely .ensures)
 
 returns-4 : tie.Need-returns-4
 returns-4 c =
     let o = c .before .before .before .before in
     let s = o .before in
     let k = ap shownElapsed (c .before .enum-told2 .given .1) in
-    said-late (s .args .month) (said s) (λ t. refl) (sided o false (c .before .before .before .if1 .left)) (c .untimely2 .result) (shownElapsed (s .args .when)) k (c .untimely2 .ensures)
+    said-late (s .args .self) (said s) (λ t. refl) (sided o false (c .before .before .before .if1 .left)) (c .untimely2 .result) (shownElapsed (s .args .when)) k (c .untimely2 .ensures)
 
 returns-5 : tie.Need-returns-5
 returns-5 c =
     let s = c .before .before .before .before .before in
-    said-unread (s .args .month) (said s) (c .refused2 .result) (shownElapsed (s .args .when)) (ap shownElapsed (c .before .enum-told3 .given .1)) (c .refused2 .ensures)
+    said-unread (s .args .self) (said s) (c .refused2 .result) (shownElapsed (s .args .when)) (ap shownElapsed (c .before .enum-told3 .given .1)) (c .refused2 .ensures)
 
 pub replace-order-spec : {M : Type 1} → statement M
 replace-order-spec =

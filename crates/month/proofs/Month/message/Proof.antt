@@ -7,11 +7,11 @@ use Rattle.rules.specs.Calls.{Message}
 use Rattle.dates.specs.Answers.{shownElapsed}
 use Rattle.fix.specs.Answers.{shownMessage}
 use Rattle.fix.proofs.Times.{read-fits}
 use Rattle.month.proofs.Answers.{handed}
-use Rattle.fix_calls.proofs.Messages.{read-at, unread-is, message-unread}
+use Rattle.month.proofs.Messages.{read-at, unread-is, message-unread}
 use borrow.Author.Needs.{needs}
-use Rattle.fix_calls.proofs.message.Statement.{statement}
-use Rattle.fix_calls.proofs.message.Tie as tie
+use Rattle.month.proofs.Month.message.Statement.{statement}
+use Rattle.month.proofs.Month.message.Tie as tie
 
 after-requires : tie.Need-after-requires
 after-requires c κs =
@@ -59,15 +59,15 @@ returns-4 : tie.Need-returns-4
 returns-4 c =
     let s = c .before .before .before .before .before .before in
     let read = sym (ap shownMessage (c .before .enum-told .given .1)) ∙ c .before .before .before .read .ensures in
-    handed (s .args .month) (Message (s .args .start .now) (s .args .message .now)) (c .refused .result) (s .args .month) (Refused FrameWrong) (c .refused .ensures)
-    (message-unread (s .args .month) (s .args .start .now) (s .args .message .now) 19 (unread-is (s .args .start .now) (s .args .message .now) _ read))
+    handed (s .args .self) (Message (s .args .start .now) (s .args .message .now)) (c .refused .result) (s .args .self) (Refused FrameWrong) (c .refused .ensures)
+    (message-unread (s .args .self) (s .args .start .now) (s .args .message .now) 19 (unread-is (s .args .start .now) (s .args .message .now) _ read))
 
 returns-5 : tie.Need-returns-5
 returns-5 c =
     let s = c .before .before .before .before .before .before in
     let read = sym (ap shownMessage (c .before .enum-told2 .given .1)) ∙ c .before .before .before .read .ensures in
-    handed (s .args .month) (Message (s .args .start .now) (s .args .message .now)) (c .refused2 .result) (s .args .month) (Refused FieldWrong) (c .refused2 .ensures)
-    (message-unread (s .args .month) (s .args .start .now) (s .args .message .now) 20 (unread-is (s .args .start .now) (s .args .message .now) _ read))
+    handed (s .args .self) (Message (s .args .start .now) (s .args .message .now)) (c .refused2 .result) (s .args .self) (Refused FieldWrong) (c .refused2 .ensures)
+    (message-unread (s .args .self) (s .args .start .now) (s .args .message .now) 20 (unread-is (s .args .start .now) (s .args .message .now) _ read))
 
 pub message-spec : {M : Type 1} → statement M
 message-spec =

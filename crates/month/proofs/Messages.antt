@@ -1,19 +1,27 @@
 -- A message, by the calls that it stands for: the month answers it as it answers them. Assumes nothing.
 use Prim.Native.Nat.{ℕ, zero, suc}
 use mathlib.Core.Path.{_≡_, refl, ap, sym, _∙_}
-use mathlib.Core.Bool.{Bool, true, false}
+use mathlib.Core.Bool.{Bool, true, false, not, _&&_}
+use lib.IntN.{pos}
 use mathlib.Core.List.{List, [], _∷_, _++_}
 use mathlib.Core.Option.{Option, none, some}
 use Rattle.rules.specs.declared.Side.{Side}
+use Rattle.rules.specs.declared.Row.{Row}
+use Rattle.rules.specs.declared.SpreadRule.{SpreadRule}
+use Rattle.rules.specs.declared.SpreadRule.the-variants.{Settled}
 use Rattle.rules.specs.declared.Contracts.{Contracts}
 use Rattle.rules.specs.declared.Steps.{Steps}
 use Rattle.rules.specs.declared.Event.{Event}
+use Rattle.rules.specs.declared.Order.{Order}
 use Rattle.rules.specs.declared.Timestamp.{Timestamp}
 use Rattle.rules.specs.declared.Answer.{Answer}
 use Rattle.rules.specs.declared.Answer.the-variants.{Accepted, Refused}
 use Rattle.rules.specs.declared.Refusal.{Refusal}
 use Rattle.rules.specs.declared.Refusal.the-variants.{NoQuantumOpen, TimeBackwards, TimePastEnd, FieldWrong}
-use Rattle.rules.specs.Lists.{if_then_else_}
+use Rattle.rules.specs.Lists.{if_then_else_, any}
+use Rattle.rules.specs.Units.{steps}
+use Rattle.rules.specs.Orders.{hasId, live, applyAll}
+use Rattle.rules.specs.Quotes.{same}
 use Rattle.rules.specs.Terms.{paper}
 use Rattle.rules.specs.Answers.{Outcome, accepted, refused, Reply, done, numberOf, shownAnswer}
 use Rattle.rules.specs.Dates.{timeIn, Moment, before, at, late, momentFrom}
@@ -22,20 +30,21 @@ use Rattle.rules.specs.MessageCalls.{timedFrom, timed, messageIn, eventsAt}
 use Rattle.rules.specs.Calls.{Call, Send, Message, Running, Idle, Quoting, Book}
 use Rattle.rules.specs.Causes.{otherSideIn, refusalOf}
 use Rattle.rules.specs.Book.{answerOf, step, after}
-use Rattle.rules.specs.Bounds.{BookBounds}
+use Rattle.rules.specs.Bounds.{EventBounds, RunningBounds, BookBounds}
 use Rattle.rules.proofs.Answers.{accepted-by, refused-by}
 use Rattle.rules.proofs.Refusals.{step-refused, answer-accepted, answer-refused}
-use Rattle.rules.proofs.Bounds.{bounds, after-snoc}
+use Rattle.rules.proofs.Bounds.{bounds, event-bounds-none, after-snoc}
 use Rattle.rules.proofs.MessageCalls.{unread, wrong-side, none-open, early, past, one-answer, one-step, first-refused, second-refusal, both-step}
 use Rattle.dates.specs.declared.Elapsed.{Elapsed}
 use Rattle.dates.specs.declared.Elapsed.the-variants as E
 use Rattle.dates.specs.Answers.{shownElapsed}
 use Rattle.month.specs.declared.Month.{Month}
 use Rattle.month.specs.declared.AfterCall.{AfterCall}
-use Rattle.month.specs.Represents.{monthOf, Reached, Answered}
-use Rattle.fix_calls.specs.Internal.{atTime, MessageAnswered, BothOrNeither}
+use Rattle.quantum.specs.Represents.{quantumOf}
+use Rattle.month.specs.Represents.{idleRow, quantumIn, monthOf, Reached, Answered}
+use Rattle.month.specs.Internal.{atTime, MessageAnswered, BothOrNeither}
 use Rattle.month.proofs.Answers.{answered-after, stopped, handed}
-use Rattle.month.proofs.Fields.{closed-is, open-is}
+use Rattle.month.proofs.Fields.{quantum-is, closed-is, open-is}
 
 -- what the reader and the clock said is what the message is
 pub read-at : (start bytes : List ℕ) (m : M.Message Timestamp) (when : Outcome Moment) → accepted m ≡ M.readMessage bytes
@@ -50,6 +59,20 @@ read-at start bytes m when r w = ap (timed start) (sym r) ∙ go (timeIn start) 
 pub unread-is : (start bytes : List ℕ) (n : ℕ) → refused n ≡ M.readMessage bytes → messageIn start bytes ≡ refused n
 unfolding messageIn
 unread-is start bytes n r = ap (timed start) (sym r)
+
+-- the open quantum is asked for the side, or the idle one, which has no orders
+pub side-is : (m : Month) (side : Side) (id : ℕ) (r : Bool)
+    → ((row : Row) (sp : SpreadRule) (events : List Event) → EventBounds row events → m .quantum ≡ quantumOf row sp events
+    → r ≡ any (λ (o : Order). hasId id o && not (same side (o .side))) (live events))
+    → (new : ℕ) (volume : Contracts) (price : Steps) (t : Moment) (b : Book) → BookBounds paper b → m ≡ monthOf b
+    → r ≡ otherSideIn (b .running) (M.replaceOrder new id side volume price t)
+unfolding live applyAll any
+side-is m side id r found new volume price t b g is = go (b .running) (g .running) (quantum-is m b is)
+  where
+    go : (running : Running) → RunningBounds paper running → m .quantum ≡ quantumIn running
+        → r ≡ otherSideIn running (M.replaceOrder new id side volume price t)
+    go Idle g q = found idleRow (Settled (steps (pos 0))) [] (event-bounds-none idleRow) q
+    go (Quoting place row opening events) g q = found row (opening .spread) events (g .events-good) q
 
 -- a month that a call handed back
 pub between-reached : (m : Month) (e : Event) (next : Month) (shown : Outcome Reply) → Answered m (Send e) next shown → Reached m → Reached next

@@ -1,2 +1,0 @@
--- What an ask hands back.
-pub mod Handed

@@ -1,2 +1,0 @@
--- Laws about a message by the calls that it stands for.
-pub mod Messages

@@ -1,2 +1,0 @@
--- What its functions promise to each other.
-pub mod Internal
