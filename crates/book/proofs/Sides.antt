@@ -178,7 +178,7 @@ module _ (id : ℕ) where
       go true e r = absurd (twice x xs (d .0) m e h)
       go false e r = r
 
-  one-only : (os : List Order) → Distinct os → {a b : Order} → List·Memᴰ a os → List·Memᴰ b os → hasId id a ≡ true → hasId id b ≡ true → a ≡ b
+  pub one-only : (os : List Order) → Distinct os → {a b : Order} → List·Memᴰ a os → List·Memᴰ b os → hasId id a ≡ true → hasId id b ≡ true → a ≡ b
   one-only (x ∷ xs) d (List·Memᴰ·head p) (List·Memᴰ·head q) h k = p ∙ sym q
   one-only (x ∷ xs) d (List·Memᴰ·head p) (List·Memᴰ·tail n) h k = absurd (twice x xs (d .0) n (ap (hasId id) (sym p) ∙ h) k)
   one-only (x ∷ xs) d (List·Memᴰ·tail m) (List·Memᴰ·head q) h k = absurd (twice x xs (d .0) m (ap (hasId id) (sym q) ∙ k) h)

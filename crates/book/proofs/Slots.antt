@@ -40,7 +40,7 @@ position id (o ∷ os) h = go (hasId id o) refl h (λ e. position id os e)
         (suc k, record { inside = omega (arith, h .inside); has = h .has })
 
 module _ (s : Side) (id : ℕ) where
-  seen-none : (n : ℕ) (os : List Order) → isLive id os ≡ false → seenFrom n id (idsOf (map (slotOf s) os)) ≡ 0
+  pub seen-none : (n : ℕ) (os : List Order) → isLive id os ≡ false → seenFrom n id (idsOf (map (slotOf s) os)) ≡ 0
   unfolding seenFrom isLive any
   seen-none n [] h = refl
   seen-none n (o ∷ os) h =
