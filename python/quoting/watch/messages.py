@@ -1,0 +1,285 @@
+"""A log of FIX messages as it grows, with a list of opens and closes, as calls in the list's order.
+
+Each message goes to the quantum of its time (60) and symbol (55), as in a statement (quoting.statement.sources): the first of the list that
+takes it. An open comes when the time seen has reached its start; behind it come the messages of its quantum; the call behind them in the
+list comes when the time seen is past the quantum's end. Time is seen by the messages, and by the clock if it knows the date. A finished
+log is read whole first, so that its calls are those of the statement whatever the order of its messages.
+"""
+
+from collections import deque
+from dataclasses import dataclass, field
+from datetime import datetime, timedelta
+from itertools import chain, islice
+from typing import Iterator, Optional, Union
+
+from quoting import calls as c
+from quoting import fix, logs, reading
+from quoting.reading import STANDARD, Options
+from quoting.statement.sources import SYMBOL, Sent, Span, span_of, time_of
+from quoting.watch.clocks import Clock
+from quoting.watch.feeds import MOST_ITEMS, Growing, Item, Line, Lines, ListLines, Trouble, Turn, of_lines
+
+GRACE = timedelta(seconds=5)  # by which a log may be behind the clock at a quantum's end
+MOST_KEPT = 100_000  # messages in no quantum, kept for opens that are listed later
+IN_NONE = "this message is in no quantum of the list; others like it are counted and not shown"
+LATE = "this message came when its quantum was past and the list had gone on; it is not counted"
+CHANGED = "the list was written anew, and this is not the call that was read here before; what was read stays, and calls behind it are taken"
+BYTES = "messages are put into a text, which says when each quantum starts, and these are bytes"
+
+
+@dataclass(frozen=True)
+class Unplaced:
+    """A message of the log on its way to a quantum."""
+
+    line: int
+    data: bytes
+    time: Optional[datetime]
+    symbol: Optional[bytes]
+
+
+@dataclass
+class Quantum:
+    """One of the list that takes messages; `past` when the list has gone on behind it."""
+
+    span: Span
+    messages: deque[tuple[str, bytes]] = field(default_factory=deque)
+    past: bool = False
+
+    def takes(self, message: Unplaced) -> bool:
+        return message.time is not None and self.span.takes(message.time, message.symbol)
+
+
+# ---------------------------------------------------------------- the list
+
+
+@dataclass(frozen=True)
+class Call:
+    """A call of the list, with the symbol of the `start` before it."""
+
+    sent: Sent
+    symbol: Optional[bytes]
+
+    def same(self, other: "Call") -> bool:
+        return (self.sent.block, self.sent.start, self.symbol) == (other.sent.block, other.sent.start, other.symbol)
+
+
+class ListFile:
+    """The list of opens and closes. Whoever adds a close may save it from an editor, as another file or cut and written again: the calls
+    that were read before are passed over then."""
+
+    def __init__(self, name: str, options: Options, follow: bool) -> None:
+        self.name, self.options = name, options
+        self.growing = Growing(name, follow, anew=True)
+        self.calls: list[Call] = []
+        self.begin()
+
+    def begin(self) -> None:
+        self.lines, self.text = Lines(), ListLines(self.options)
+        self.at = 0  # calls of this file so far
+        self.changed = False
+
+    def read(self) -> Optional[Iterator[Union[Call, Trouble]]]:
+        """The next calls; None where there is nothing now."""
+        piece = self.growing.read()
+        if piece is None:
+            return None
+        return self.turned(piece) if isinstance(piece, Turn) else self.taken(of_lines(self.text, self.lines.take(piece)))
+
+    def taken(self, items: Iterator[Item]) -> Iterator[Union[Call, Trouble]]:
+        for item in items:
+            known = self.at < len(self.calls)
+            if isinstance(item, Trouble):
+                yield from () if known else [Trouble(f"{self.name}: {item.place}", item.text)]
+                continue
+            call = Call(item, self.text.symbol)
+            self.at += 1
+            if not known:
+                self.calls.append(call)
+                yield call
+            elif not self.changed and not call.same(self.calls[self.at - 1]):
+                self.changed = True
+                yield Trouble(f"{self.name}: {item.place}", CHANGED)
+
+    def turned(self, turn: Turn) -> Iterator[Union[Call, Trouble]]:
+        if turn.fresh:
+            self.begin()
+        elif turn.kind == "gone":
+            yield Trouble(self.name, turn.text)
+        elif turn.final:
+            yield from self.taken(chain(of_lines(self.text, self.lines.turn(turn)), self.text.end()))
+
+
+# ---------------------------------------------------------------- the feed
+
+
+class MessagesFeed:
+    """The calls of a list with the messages of a log, as both grow."""
+
+    def __init__(self, log: str, calls_file: str, options: Options, start: Optional[str], clock: Clock, follow: bool) -> None:
+        if log == calls_file == STANDARD:
+            raise reading.failed("the log and the list can't both be standard input")
+        if start is not None:
+            fix.moment(start)
+        self.name, self.start, self.clock, self.follow = log, start, clock, follow
+        self.list, self.log, self.lines = ListFile(calls_file, options, follow), Growing(log, follow), Lines()
+        self.queue: deque[tuple[Sent, Optional[Quantum]]] = deque()  # of the list, still to come
+        self.quanta: list[Quantum] = []
+        self.current: Optional[Quantum] = None
+        self.before: Optional[Quantum] = None  # where the last message went
+        self.seen: Optional[datetime] = None
+        self.unplaced: deque[Unplaced] = deque(maxlen=MOST_KEPT)
+        self.passed_over = 0  # messages in no quantum, or too late for theirs
+        self.idle = False  # the log is read as far as it goes
+        self.ended: Optional[str] = None
+        self.coming: Iterator[Item] = iter(())
+
+    @property
+    def came(self) -> float:
+        return self.log.came
+
+    @property
+    def count(self) -> int:
+        return self.log.count + self.list.growing.count
+
+    def read(self) -> list[Item]:
+        found: list[Item] = []
+        while len(found) < MOST_ITEMS:
+            found += islice(self.coming, MOST_ITEMS - len(found))
+            if len(found) == MOST_ITEMS:
+                break
+            coming = self.next()
+            self.ended = self.log.ended if coming is None else None
+            if coming is None:
+                break
+            self.coming = coming
+        return found
+
+    def next(self) -> Optional[Iterator[Item]]:
+        """What comes next: all of the list, then of the log, then what time brings; None where there is nothing now."""
+        listed = self.list.read()
+        if listed is not None:
+            return self.listed(listed)
+        if not self.follow and self.list.growing.ended is None:
+            return None
+        piece = self.log.read()
+        self.idle = piece is None
+        if piece is not None:
+            return self.turned(piece) if isinstance(piece, Turn) else self.logged(self.lines.take(piece), early=True)
+        due = self.due()
+        first = next(due, None)
+        return None if first is None else chain([first], due)
+
+    # ------------------------------------------------------------ the list
+
+    def listed(self, calls: Iterator[Union[Call, Trouble]]) -> Iterator[Item]:
+        for call in calls:
+            if isinstance(call, Trouble):
+                yield call
+                continue
+            try:
+                self.enqueue(call)
+            except OverflowError:
+                yield Trouble(f"{self.list.name}: {call.sent.place}", f"start: {call.sent.start} is too late, the quantum ends past year 9999")
+        yield from self.due()
+
+    def enqueue(self, call: Call) -> None:
+        sent = call.sent
+        opened = c.call_of(sent.block) if sent.block[0] in (1, 13) else None
+        start = sent.start or (self.start if opened is not None else None)
+        if start is None:
+            self.queue.append((sent, None))
+            return
+        quantum = Quantum(span_of(start, call.symbol, opened))
+        self.queue.append((Sent(sent.block, sent.place, start), quantum))
+        self.quanta.append(quantum)
+        waiting, self.unplaced = self.unplaced, deque(maxlen=MOST_KEPT)
+        for message in waiting:
+            if quantum.takes(message):
+                self.passed_over -= 1
+                self.place(message, quantum)
+            else:
+                self.unplaced.append(message)
+
+    # ------------------------------------------------------------ the log
+
+    def turned(self, turn: Turn) -> Iterator[Item]:
+        yield from self.logged(self.lines.turn(turn))
+        if turn.text:
+            yield Trouble(self.name, turn.text)
+        if turn.fresh:
+            self.lines = Lines()
+
+    def logged(self, lines: Iterator[Union[Line, Trouble]], early: bool = False) -> Iterator[Item]:
+        """The messages of whole lines, and whole ones of a line without an end so far: raw messages may stand without any."""
+        for line in chain(lines, self.lines.messages() if early else ()):
+            if isinstance(line, Trouble):
+                yield Trouble(f"{self.name}: {line.place}", line.text)
+                continue
+            for found in logs.messages(line[1]):
+                if found.kind is None or found.kind in logs.TAKEN:
+                    yield from self.message(line[0], found.data)
+
+    def message(self, line: int, data: bytes) -> Iterator[Item]:
+        symbol = SYMBOL.search(data)
+        message = Unplaced(line, data, time_of(data), symbol[1] if symbol else None)
+        quantum = self.before if message.time is None else next((each for each in self.quanta if each.takes(message)), None)
+        if message.time is not None and is_sound(data):
+            self.seen = max(message.time, self.seen or message.time)
+        if quantum is None:
+            self.passed_over += 1
+            self.unplaced.append(message)
+            yield from [Trouble(f"{self.name}: line {line}", IN_NONE)] if self.passed_over == 1 else ()
+        elif quantum.past:
+            self.passed_over += 1
+            yield Trouble(f"{self.name}: line {line}", LATE)
+        else:
+            self.place(message, quantum)
+        yield from self.due()
+
+    def place(self, message: Unplaced, quantum: Quantum) -> None:
+        quantum.messages.append((f"{self.name}: line {message.line}", message.data))
+        self.before = quantum
+
+    # ------------------------------------------------------------ in the list's order
+
+    def due(self) -> Iterator[Item]:
+        """What can come now."""
+        while True:
+            if self.current is not None:
+                yield from self.sent(self.current)
+                if not self.queue or not self.is_past(self.current.span):
+                    return
+                self.current.past, self.current = True, None
+            if not self.queue or not self.is_reached(self.queue[0][1]):
+                return
+            sent, self.current = self.queue.popleft()
+            yield sent
+
+    def sent(self, quantum: Quantum) -> Iterator[Sent]:
+        start = quantum.span.start.encode()
+        while quantum.messages:
+            place, data = quantum.messages.popleft()
+            yield Sent(c.block(c.Message(start, data)), place)
+
+    def is_reached(self, quantum: Optional[Quantum]) -> bool:
+        if not self.follow:
+            return self.log.ended is not None
+        if quantum is None or (self.seen is not None and self.seen >= quantum.span.begins):
+            return True
+        moment = self.clock.moment()
+        return moment is not None and moment >= quantum.span.begins
+
+    def is_past(self, span: Span) -> bool:
+        """By the clock only if the log is read as far as it goes, and a little later, since a log comes behind it."""
+        if not self.follow:
+            return self.log.ended is not None
+        if self.seen is not None and self.seen > span.ends:
+            return True
+        moment = self.clock.moment() if self.idle else None
+        return moment is not None and moment > span.ends + GRACE
+
+
+def is_sound(data: bytes) -> bool:
+    """Whether its checksum is right: time is not moved by a damaged message."""
+    at = data.rfind(fix.END + b"10=") + 1
+    return at > 0 and data[at:] == b"10=%03d" % (sum(data[:at]) % 256) + fix.END
