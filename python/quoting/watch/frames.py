@@ -146,7 +146,8 @@ def alert(meter: Meter, status: Status) -> Optional[Section]:
         return {"head": f"{silent_text(status)}.", "text": f"{since} {capital(newest.sentence())}." if newest and late else since}
     if newest is None or not is_new:
         return None
-    place = capital(newest.place) or f"The feed at {wall_text(newest.came, status.wall)}"
+    place = newest.place or f"the feed at {wall_text(newest.came, status.wall)}"
+    place = capital(place) if place.split()[0] in ("line", "call", "the") else place  # another is a file's name
     what = ": refused, the rest goes on." if newest.is_refused else ": not read, the rest goes on." if newest.place else ":"
     return {"head": place + what, "text": f"{capital(newest.sentence())}."}
 
@@ -284,15 +285,17 @@ def day(meter: Meter, now: int, status: Status, got: Optional[Got]) -> tuple[Opt
     at, times = moment(meter, now, status), opened.times
     is_fresh = got is None or got.opens != meter.opens
     first = 0 if got is None or is_fresh else max(0, got.parts - 1)
-    by = meter.shown(at)
-    latest = by.outlook.by if by is not None and not by.outlook.rest else None
+    shown = meter.shown(at)
+    assert shown is not None
+    latest = shown.outlook.by if s.band(moment_of(meter, shown)).kind == "keep" else None  # there alone a wait is spoken of
     name = "last" if status.is_still else "now"
     made = {
         "fresh": is_fresh, "length": course.length, "width": course.width, "start": marks(opened), "now": at,
         "now_text": f"{name} {times.down(at)}",
-        "latest": None if latest is None or latest <= at else {"at": latest, "text": f"latest {times.down(latest)}"},
+        "latest": None if latest is None else {"at": latest, "text": f"latest {times.down(latest)}"},
         "running": {"from": course.time, "key": STATE_KEYS[course.state]},
-        "bid": best(meter, "bid", course.bid), "ask": best(meter, "ask", course.ask), "buckets": course.parts[first:],
+        "bid": best(meter, "bid", course.bid), "ask": best(meter, "ask", course.ask),
+        "step": None if meter.price_step is None else f"{meter.price_step:f}", "buckets": course.parts[first:],
     }
     return made, Got(meter.opens, len(course.parts))
 

@@ -8,7 +8,7 @@ import time
 from collections import deque
 from dataclasses import dataclass
 from decimal import Decimal
-from typing import TYPE_CHECKING, Any, Optional
+from typing import TYPE_CHECKING, Any, Callable, Optional
 
 from quoting import calls as c
 from quoting import values
@@ -35,6 +35,10 @@ EVENT_KINDS = frozenset((2, 3, 4, 5, 6, 15, 16))
 OPEN_KINDS, CLOSE, DROP, WITHDRAW, MESSAGE = (1, 13), 7, 8, 10, 16
 CELL_KINDS = frozenset((*OPEN_KINDS, CLOSE, DROP, 9, WITHDRAW))
 LISTED = 20  # problems that are shown
+EXPECTED = {
+    "at": "h:mm:ss, or milliseconds from the quantum's start", "order": "the id of a live order", "price": "a price",
+    "contracts": "a whole number of contracts",
+}
 GROUPED = re.compile(r"-?[0-9]{1,3}(,[0-9]{3})+(\.[0-9]+)?")
 
 
@@ -52,7 +56,7 @@ class Problem:
         return bool(self.block)
 
     def sentence(self) -> str:
-        return f"{self.text}: {call_text(self.block)}" if self.block else self.text
+        return f"{self.text} ({call_text(self.block)})" if self.block else self.text
 
 
 @dataclass(frozen=True)
@@ -101,7 +105,7 @@ class Meter:
         answer = self.month.block(sent.block)
         kind = sent.block[0]
         if isinstance(answer, Refused):
-            self._problem(Problem(came, sent.place, f"refused {answer.number}, {answer.sentence}", sent.block))
+            self._problem(Problem(came, sent.place, str(answer), sent.block))
         elif kind in EVENT_KINDS:
             self._note(sent, came)
         elif kind in CELL_KINDS:
@@ -209,10 +213,10 @@ class Meter:
     def _read(self, t: str, id: str, price: str, volume: str) -> Amend:
         assert self.opened is not None
         opened = self.opened
-        at = field("at", lambda: opened.times.read(t.strip(), opened.length))
-        order = field("order", lambda: values.whole(id.strip(), values.WORD))
-        steps = field("price", lambda: values.steps(plain(price), self.price_step))
-        return Amend(at, order, steps, field("contracts", lambda: values.whole(plain(volume), values.WORD)))
+        at = field("at", t, lambda text: opened.times.read(text, opened.length))
+        order = field("order", id, lambda text: values.whole(text, values.WORD))
+        steps = field("price", price, lambda text: values.steps(text, self.price_step))
+        return Amend(at, order, steps, field("contracts", volume, lambda text: values.whole(text, values.WORD)))
 
     def _answer(self, asked: Asked, view: View) -> dict[str, Any]:
         assert self.opened is not None
@@ -241,12 +245,19 @@ def plain(text: str) -> str:
     return text.replace(",", "") if GROUPED.fullmatch(text) else text
 
 
-def field(name: str, read: Any) -> int:
-    """A field of the form; what can't be read is said with its name."""
+def field(name: str, text: str, read: Callable[[str], int]) -> int:
+    """A field of the form; what can't be read is said with its name.
+
+    >>> field("order", " ", int)
+    Traceback (most recent call last):
+    ValueError: order: nothing stands there; expected is the id of a live order
+    """
     try:
-        return int(read())
+        if not text.strip():
+            raise ValueError("nothing stands there")
+        return read(plain(text))
     except ValueError as error:
-        raise ValueError(f"{name}: {error}") from None
+        raise ValueError(f"{name}: {error}; expected is {EXPECTED[name]}") from None
 
 
 def wall_text(moment: float, now: float) -> str:
