@@ -30,6 +30,7 @@ const TILES = ["kept", "left", "lapses", "spread", "weight"];
 const MOST_PIPS = 8;
 const HIDDEN_FOR = 30_000;            // how long a hidden page stays connected
 const FIRST_WAIT = 500, LAST_WAIT = 5_000;   // before a lost connection is tried again
+const LONGEST_SILENCE = 5_000;        // of a server that follows an open quantum
 const turned = matchMedia("(max-width: 1100px)");   // as in page.css: days down, series across
 
 const $ = id => document.getElementById(id);
@@ -56,10 +57,20 @@ function named(element, name) {
   return element;
 }
 
+function counted(count) {
+  return typeof count === "number" ? count.toLocaleString("en-GB") : String(count);
+}
+
 // Nothing is written that stands there already: what has not changed costs no layout and keeps a selection.
 function say(element, text) {
-  const due = text ?? "";
-  if (element.textContent !== due) element.textContent = due;
+  const due = text ?? "", only = element.firstChild;
+  if (element.textContent === due) return;
+  if (only?.nodeType === Node.TEXT_NODE && only === element.lastChild) only.data = due;
+  else element.textContent = due;
+}
+
+function tell(element, name, value) {
+  if (element.dataset[name] !== String(value)) element.dataset[name] = value;
 }
 
 function put(element, name, value) {
@@ -170,7 +181,7 @@ function paintHead(head) {
   if (!head) return;
   say(figure("name"), head.name);
   say(figure("what"), head.what);
-  say(figure("clock"), link.away && !head.clock.startsWith("last") ? `last ${head.clock}` : head.clock);
+  say(figure("clock"), link.away && /^\d/.test(head.clock) ? `last ${head.clock}` : head.clock);
 }
 
 function lowered(text) {
@@ -179,14 +190,14 @@ function lowered(text) {
 
 // Without the meter nothing is known; what it said last is told as of then.
 function awayBand() {
-  const was = shown.band, clock = shown.head?.clock.replace(/^last /, "");
-  const then = was && !["none", "reading"].includes(was.kind) ? ` It was then: ${lowered(was.head)}, ${lowered(was.sub).replace(/\.$/, "")}.` : "";
-  return { kind: "broken", head: link.head, sub: was && clock ? `Not known since ${clock}` : `Not reached since ${link.since}`,
-    why: `Keep quoting until it is back.${then} Lost at ${link.since} by this computer's clock; it is tried again and again.` };
+  const was = shown.band, clock = shown.head?.clock.replace(/^last /, "") || link.since;
+  const then = was && ["rest", "keep", "hold", "lost"].includes(was.kind) ? ` It was then: ${lowered(was.head)}, ${lowered(was.sub).replace(/\.$/, "")}.` : "";
+  return { kind: "broken", head: link.head, sub: was ? `Not known since ${clock}` : `Not reached since ${link.since}`,
+    why: `Keep quoting until it is back.${then} Lost at ${link.since} by this computer's clock; the page tries again by itself.` };
 }
 
 function stopBand(differs) {
-  const since = differs.call === null || differs.call === undefined ? "" : ` since call ${differs.call}`;
+  const since = differs.call === null ? "" : ` since call ${counted(differs.call)}`;
   return { kind: "stop", head: differs.head, sub: `No figure here can be relied on${since}`, why: "" };
 }
 
@@ -224,7 +235,8 @@ function paintDiffers(differs) {
   show($("stop"), Boolean(differs));
   show($("all"), !differs);
   if (!differs) return;
-  say(figure("stop-after"), differs.call === null || differs.call === undefined ? "" : `After call ${differs.call}`);
+  say(figure("stop-after"), differs.call === null ? "" : `After call ${counted(differs.call)}`);
+  say(figure("stop-theirs"), differs.head.includes("readings") ? "recount" : "as drawn");
   say(figure("stop-text"), differs.text);
   show($("stop-table"), differs.rows.length > 0);
   fillRows($("stop-rows"), differs.rows, () => make("tr", "", headCell(), make("td", "num"), make("td", "num")), (row, item) => {
@@ -232,7 +244,7 @@ function paintDiffers(differs) {
     say(row.children[1], item.ours);
     say(row.children[2], item.theirs);
     row.classList.toggle("unlike", !item.same);
-    row.dataset.same = item.same;
+    tell(row, "same", item.same);
   });
 }
 
@@ -241,8 +253,8 @@ function paintState(state) {
   if (!state) return fitHead();
   const known = !link.away && state.key !== "unknown", word = figure("state");
   say(word, link.away ? "not known" : state.word);
-  word.dataset.key = known ? state.key : "unknown";
-  word.parentElement.classList.toggle("long", word.textContent.length > 9);
+  tell(word, "key", known ? state.key : "unknown");
+  word.parentElement.classList.toggle("long", word.textContent.length > 8);
   setSign($("state-sign"), word.dataset.key);
   say(figure("since"), link.away && state.key !== "unknown" ? `last ${state.word}` : state.since);
   fitHead();
@@ -254,7 +266,7 @@ const FEED_SIGNS = { following: "open", playing: "open", ended: "ended", broken:
 function paintReadings(readings) {
   if (!readings) return;
   show($("checks"), true);
-  $("readings").dataset.kind = readings.kind;
+  tell($("readings"), "kind", readings.kind);
   setSign($("readings").firstElementChild, READING_SIGNS[readings.kind] ?? "blank");
   say(figure("readings"), readings.head);
   say(figure("readings-text"), link.away ? `${readings.text}, when the page lost the meter` : readings.text);
@@ -264,7 +276,7 @@ function paintFeed(feed) {
   if (!feed) return;
   show($("checks"), true);
   const kind = link.away ? "broken" : feed.kind;
-  $("feed").dataset.kind = link.away ? "away" : feed.kind;
+  tell($("feed"), "kind", link.away ? "away" : feed.kind);
   setSign($("feed").firstElementChild, FEED_SIGNS[kind] ?? "open");
   figure("feed").classList.toggle("bad", kind === "broken");
   say(figure("feed"), link.away ? `No connection since ${link.since}` : feed.text);
@@ -324,25 +336,26 @@ function paintBar(bar) {
   layUnderLabels(bar, $("bar").clientWidth);
 }
 
-const GAP = 8;   // between labels, and between a label and its mark
+const GAP = 8;   // between labels
 
-// From the fullest wording to the barest, each label on its own side of its mark or on the other: the first that fits.
+// Wordings of the required share's label and of the full weight's, from the fullest to the barest.
+const WORDINGS = [["", ""], ["brief", "brief"], ["brief", "bare"], ["bare", "bare"]];
+const SIDES = [[true, false], [false, false], [true, true], [false, true]];   // whether each stands before its mark
+
+// The first wording, and the first sides for it, with which both fit and do not touch.
 function layTopLabels(bar, width) {
-  const top = $("l-top"), marks = [["required", bar.required, true], ["full", bar.full, false]].map(([name, at, is_before]) => ({ name, at, is_before, label: $(`l-${name}`) }));
-  for (const wording of ["", "brief", "bare"]) {
-    top.className = `labels ${wording}`;
-    for (const m of marks) { show(m.label, true); m.width = m.label.offsetWidth; }
-    for (const turn of [[false, false], [true, false], [false, true], [true, true]]) {
-      const spans = marks.map((m, k) => { const before = m.is_before !== turn[k], x = m.at * width; return before ? [x - m.width, x, before] : [x, x + m.width, before]; });
-      const [a, b] = spans;
-      if (spans.some(([from, to]) => from < 0 || to > width) || (a[0] < b[1] + GAP && b[0] < a[1] + GAP && a[2] === b[2]) || overlap(a, b)) continue;
-      marks.forEach((m, k) => { m.label.classList.toggle("before", spans[k][2]); place(m.label, "left", percent(m.at)); });
+  const marks = ["required", "full"].map(name => ({ at: bar[name], label: $(`l-${name}`) }));
+  for (const wording of WORDINGS) {
+    marks.forEach((mark, k) => { show(mark.label, true); mark.label.className = wording[k]; mark.width = mark.label.offsetWidth; });
+    for (const sides of SIDES) {
+      const spans = marks.map((mark, k) => [mark.at * width - (sides[k] ? mark.width : 0), mark.at * width + (sides[k] ? 0 : mark.width)]);
+      if (spans.some(([from, to]) => from < 0 || to > width) || overlap(...spans)) continue;
+      marks.forEach((mark, k) => { mark.label.classList.toggle("before", sides[k]); place(mark.label, "left", percent(mark.at)); });
       return;
     }
   }
-  show($("l-full"), false);   // the required share is the one that decides
-  place($("l-required"), "left", "0");
-  $("l-required").classList.remove("before");
+  show(marks[1].label, false);   // the required share is the one that decides
+  place(marks[0].label, "left", "0");
 }
 
 function overlap(a, b) {
@@ -352,7 +365,7 @@ function overlap(a, b) {
 function layUnderLabels(bar, width) {
   const kept = $("u-kept"), may = $("u-may"), out = $("u-out");
   for (const label of [kept, may, out]) show(label, true);
-  const has_out = bar.out_of_reach && bar.reach < 1 - out.offsetWidth / width;
+  const has_out = bar.out_of_reach && bar.reach * width < width - out.offsetWidth + 3 * GAP;
   const may_at = Math.max(bar.kept * width, kept.offsetWidth + GAP), out_at = width - out.offsetWidth;
   const has_may = bar.reach > bar.kept && may_at + may.offsetWidth + GAP <= (has_out ? out_at : width);
   show(out, has_out);
@@ -424,7 +437,7 @@ function paintAccount(open) {
 function paintOrders(open) {
   const build = () => make("tr", "", headCell(), make("td"), make("td", "num"), make("td", "num"));
   fillRows($("orders"), open.orders, build, (row, order) => {
-    row.dataset.order = order.id;
+    tell(row, "order", order.id);
     [order.id, order.side, order.price, order.volume].forEach((text, at) => say(row.children[at], String(text)));
   });
   say(figure("orders-note"), open.orders_note);
@@ -434,12 +447,12 @@ function paintOrders(open) {
 function paintStretches(stretches) {
   const build = () => make("tr", "", headCell(), make("td"), make("td", "num"), make("td", "after", signFor("kept"), " ", make("span")));
   fillRows($("stretches"), stretches?.rows ?? [], build, (row, item) => {
-    row.dataset.key = item.key;
+    tell(row, "key", item.key);
     [item.from, item.to, item.length].forEach((text, at) => say(row.children[at], text));
     setSign(row.lastChild.firstChild, item.key);
     say(row.lastChild.lastChild, item.word);
   });
-  say(figure("stretches-earlier"), stretches?.earlier ? `${stretches.earlier.toLocaleString("en-GB")} earlier ones are not listed.` : "");
+  say(figure("stretches-earlier"), stretches?.earlier ? `${counted(stretches.earlier)} earlier ones are not listed.` : "");
   stopIfScrolling($("stretches-scroll"), "The stretches");
 }
 
@@ -452,7 +465,7 @@ function paintProblems(problems) {
     say(row.lastChild.lastChild, item.text);
   });
   const more = (problems?.count ?? 0) - rows.length;
-  say(figure("problems-note"), !problems?.count ? "None so far." : more > 0 ? `${more.toLocaleString("en-GB")} earlier ones are not listed.` : "");
+  say(figure("problems-note"), !problems?.count ? "None so far." : more > 0 ? `${counted(more)} earlier ones are not listed.` : "");
   stopIfScrolling($("problems-scroll"), "The feed's problems");
 }
 
@@ -474,7 +487,7 @@ function paintForm(open) {
   say(figure("ask-why"), why || PLACES_NOTHING);
   if (why) sayAnswer(null);
   const ask = $("ask").elements;
-  if (!form.edited.has("t")) ask.t.value = open.time;
+  propose(ask.t, open.time);
   if (document.activeElement !== ask.id) fillChoices(open.orders);   // a list that is open under the hand stays as it is
   proposeAmendment();
 }
@@ -499,10 +512,13 @@ function lastBuy(orders) {
 function proposeAmendment() {
   const ask = $("ask").elements, order = shown.open?.orders.find(each => String(each.id) === ask.id.value);
   if (!order) return;
-  for (const name of ["price", "volume"]) {
-    const due = String(order[name]).replaceAll(",", "");
-    if (!form.edited.has(name) && ask[name].value !== due) ask[name].value = due;
-  }
+  for (const name of ["price", "volume"]) propose(ask[name], String(order[name]).replaceAll(",", ""));
+}
+
+// Until a field is edited it follows; one that was emptied shows in grey what it stands for.
+function propose(field, due) {
+  if (field.placeholder !== due) field.placeholder = due;
+  if (!form.edited.has(field.name) && field.value !== due) field.value = due;
 }
 
 function sayAnswer(answer) {
@@ -521,27 +537,25 @@ function paintAnswer(answer) {
 
 function sendAsk(event) {
   event.preventDefault();
-  const { t, id, price, volume } = $("ask").elements;
   if (!socket || socket.readyState !== WebSocket.OPEN) return;
+  const fields = $("ask").elements, typed = name => fields[name].value.trim() || fields[name].placeholder || "";
   form.asked += 1;
   sayAnswer(null);   // emptied first, so that the same answer is announced again
-  socket.send(JSON.stringify({ ask: { n: form.asked, t: t.value.trim(), id: id.value, price: price.value.trim(), volume: volume.value.trim() } }));
+  socket.send(JSON.stringify({ ask: { n: form.asked, t: typed("t"), id: fields.id.value, price: typed("price"), volume: typed("volume") } }));
 }
 
-// What was typed stays; a field that is emptied follows the meter again.
+// What was typed stays.
 function noteEdit(event) {
-  const { name, value } = event.target;
-  if (!name) return;
-  if (value.trim()) form.edited.add(name);
-  else form.edited.delete(name);
-  if (name === "id") proposeAmendment();
+  form.edited.add(event.target.name);
+  if (event.target.name === "id") proposeAmendment();
 }
 
 function startForm() {
   const ask = $("ask");
   ask.addEventListener("submit", sendAsk);
   ask.addEventListener("input", noteEdit);
-  ask.addEventListener("focusout", () => mark("open"));
+  ask.addEventListener("change", noteEdit);
+  ask.addEventListener("focusout", () => mark("open"));   // the list of orders, which stayed as it was under the hand
 }
 
 // ---------------------------------------------------------------- the day
@@ -758,7 +772,7 @@ function paintMarks(info, g) {
   put(parts.ticks, "d", info.start.map(([at]) => `M${g.x(at * info.length).toFixed(1)} ${g.foot}v5`).join(""));
   put(parts.frame, "d", box(g.left, g.strip, g.right, g.foot));
   put(parts.now, "d", `M${now.toFixed(1)} ${g.top - 6}V${g.foot}`);
-  put(parts.latest, "d", latest === null ? "" : `M${latest.toFixed(1)} ${g.top - 4}V${g.foot}${box(latest, g.strip, g.right, g.foot)}`);
+  put(parts.latest, "d", latest === null ? "" : `M${latest.toFixed(1)} ${g.top - 4}V${g.strip}${box(latest, g.strip, g.right, g.foot)}`);
 }
 
 // Each label with the places where it may stand, the best first: [x, y, anchor]. The first ones have the first choice.
@@ -770,7 +784,7 @@ function labelsOf(info, g) {
     if (info[side]) labels.push({ name: side, kind: side, text: info[side].text, avoid: latest, spots: quoteSpots(now, g.y(info[side].price) + 5, side === "ask" ? -1 : 1, g) });
   }
   if (latest !== null) {
-    const spots = [g.top + 8, g.bottom - 4, g.top + 26, g.bottom - 22].flatMap(y => [[latest + 6, y, "start"], [latest - 6, y, "end"]]);
+    const spots = [g.top + 8, g.bottom - 4, g.top + 26, g.bottom - 22].flatMap(y => [[latest + 6, y, "start"], [latest - 6, y, "end"], [g.width, y, "end"]]);
     labels.push({ name: "latest", kind: "strong", text: info.latest.text, avoid: now, spots });
     const inside = g.right - latest - 12 > widthOf("to be kept", "plain");
     if (inside) labels.push({ name: "due", kind: "plain", text: "to be kept", spots: [[(latest + g.right) / 2, g.strip + 18, "middle"]] });
@@ -780,11 +794,12 @@ function labelsOf(info, g) {
   return labels;
 }
 
-// Beside the end of its line, moved away from the other quote's label as far as is needed; before the line of now where there is no room behind it.
+// Behind the end of its line, moved away from the other quote's label as far as is needed; there it may cross the dashed line where
+// nothing else is free; before the line of now at the day's end, where there is no room behind it.
 function quoteSpots(now, y, way, g) {
   const spots = [];
-  for (const [x, anchor] of [[now + 7, "start"], [now - 7, "end"]]) {
-    for (let step = 0; step <= 36; step += 4) spots.push([x, clampY(y + way * step, g), anchor], [x, clampY(y - way * step, g), anchor]);
+  for (const [x, anchor, may_cross] of [[now + 6, "start", false], [now + 6, "start", true], [now - 6, "end", true]]) {
+    for (let step = 0; step <= 36; step += 4) spots.push([x, clampY(y + way * step, g), anchor, may_cross], [x, clampY(y - way * step, g), anchor, may_cross]);
   }
   return spots;
 }
@@ -825,7 +840,7 @@ function layLabels(labels, g) {
   const taken = [], laid = new Set();
   for (const label of labels) {
     const width = widthOf(label.text, label.kind);
-    const spot = label.spots.find(each => isFree(boxOf(each, width), taken, label.avoid, g));
+    const spot = label.spots.find(each => isFree(boxOf(each, width), taken, each[3] ? null : label.avoid, g));
     if (!spot) continue;   // a label that would touch another is left out
     taken.push(boxOf(spot, width));
     laid.add(label.name);
@@ -1051,7 +1066,7 @@ function moveInGrid(event) {
 
 // ---------------------------------------------------------------- the connection
 
-let socket = null, wait = FIRST_WAIT, retry = 0, asleep = 0;
+let socket = null, wait = FIRST_WAIT, retry = 0, asleep = 0, heard_at = 0, silence = 0;
 
 function localTime() {
   return new Date().toLocaleTimeString("en-GB");
@@ -1069,22 +1084,20 @@ function connect() {
   if (socket) return;
   const base = (location.protocol === "https:" ? "wss://" : "ws://") + location.host, mine = new WebSocket(`${base}/live${location.search}`);
   socket = mine;
+  heard_at = Date.now();
+  silence = setInterval(minding, 1_000);
   mine.addEventListener("message", event => {
     if (socket === mine) heard(JSON.parse(event.data));
   });
   mine.addEventListener("close", () => {
-    if (socket !== mine) return;
-    socket = null;
-    lose("The page has lost the meter", "Meter lost");
-    if (document.hidden) return;   // tried again when it is shown
-    retry = setTimeout(connect, wait);
-    wait = Math.min(LAST_WAIT, wait * 2);
+    if (socket === mine) lost();
   });
 }
 
 // The first message of a connection has the whole state, so the page is up to date again with it.
 function heard(message) {
   wait = FIRST_WAIT;
+  heard_at = Date.now();
   if (link.away) {
     link.away = false;
     mark("link");
@@ -1092,11 +1105,31 @@ function heard(message) {
   take(message);
 }
 
-function sleep() {
+function disconnect() {
   const old = socket;
   socket = null;
   clearTimeout(retry);
+  clearInterval(silence);
   if (old) old.close();
+}
+
+function lost() {
+  disconnect();
+  lose("The page has lost the meter", "Meter lost");
+  if (document.hidden) return;   // tried again when it is shown
+  retry = setTimeout(connect, wait);
+  wait = Math.min(LAST_WAIT, wait * 2);
+}
+
+// A connection can die without a word. While an open quantum is followed the server has something new every second (how long ago the last
+// call came); an old answer must not stand there as if it were of now.
+function minding() {
+  const is_due = link.away || (shown.open && shown.feed?.kind === "following");
+  if (is_due && Date.now() - heard_at > LONGEST_SILENCE) lost();
+}
+
+function sleep() {
+  disconnect();
   lose("Not followed while hidden", "Not followed while hidden");
 }
 
