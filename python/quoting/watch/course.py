@@ -53,8 +53,7 @@ class Course:
         self.ask: Optional[int] = None
         self.parts: list[Part] = []  # up to the last event, without a gap
         self._totals, self._lapses, self._going = [0] * STATES, 0, False
-        # One more than is shown: a stretch may be taken up again within the millisecond in which it ended.
-        self._ended: deque[Stretch] = deque(maxlen=NEWEST + 1)
+        self._ended: deque[Stretch] = deque(maxlen=NEWEST)
         self._count = 0
 
     def note(self, time: int, state: int, bid: Optional[int], ask: Optional[int]) -> None:

@@ -9,7 +9,7 @@ from typing import Any, Mapping, Optional, Sequence
 from quoting import calls as c
 from quoting.accounts import STATES as NAMES
 from quoting.answers import Cell, MonthReport, verdict_text
-from quoting.statement.course import SERIES, STATES, Place
+from quoting.statement.course import CROSSED, SERIES, STATES, Place
 from quoting.statement.figures import ALLOWED, CAP, roubles, thousands, told_text
 from quoting.statement.picture import KEYS, TICKS
 from quoting.values import MINUTE, SECOND, clock, milliseconds, part_text, share_text
@@ -19,6 +19,7 @@ from quoting.watch.meter import Meter, Opened, Problem, Shown, wall_text
 
 Section = dict[str, Any]
 STATE_KEYS = [KEYS[state] for state in STATES]
+SHORT = {CROSSED: "crossed"}  # beside the headline there is little room
 MOST_ORDERS = 64
 FULL = 800  # thousandths of the length: the full weight's share
 ALERT = 300.0  # seconds for which the newest problem stands under the band
@@ -103,7 +104,7 @@ def title(band: s.Band, name: str) -> str:
 def state(meter: Meter, shown: Optional[Shown], status: Status) -> Optional[Section]:
     if shown is None or meter.course is None or meter.opened is None:
         return None
-    word = STATES[meter.course.state]
+    word = SHORT.get(STATES[meter.course.state], STATES[meter.course.state])
     if status.feed == "broken":
         return {"key": "unknown", "word": "not known", "since": f"last {word}"}
     since, now = meter.course.since, shown.report.time

@@ -14,6 +14,7 @@ from quoting import calls as c
 from quoting import values
 from quoting.accounts import STATES
 from quoting.answers import Answer, Asked, Cell, MonthReport, Outlook
+from quoting.drawing import short
 from quoting.events import Amend
 from quoting.months import Month
 from quoting.native import Refused
@@ -35,6 +36,7 @@ EVENT_KINDS = frozenset((2, 3, 4, 5, 6, 15, 16))
 OPEN_KINDS, CLOSE, DROP, WITHDRAW, MESSAGE = (1, 13), 7, 8, 10, 16
 CELL_KINDS = frozenset((*OPEN_KINDS, CLOSE, DROP, 9, WITHDRAW))
 LISTED = 20  # problems that are shown
+MOST_SIGNS = 300  # of a problem's text: a message may be as long as it likes
 EXPECTED = {
     "at": "h:mm:ss, or milliseconds from the quantum's start", "order": "the id of a live order", "price": "a price",
     "contracts": "a whole number of contracts",
@@ -56,7 +58,7 @@ class Problem:
         return bool(self.block)
 
     def sentence(self) -> str:
-        return f"{self.text} ({call_text(self.block)})" if self.block else self.text
+        return short(f"{self.text} ({call_text(self.block)})" if self.block else self.text, MOST_SIGNS)
 
 
 @dataclass(frozen=True)
