@@ -88,80 +88,76 @@ def opened(limit=None, row=ROW, sp=8452):
     return f"open row {row} day 15 sp {sp}" + ("" if limit is None else f" lapses {limit}")
 
 
-def said_cases():
+KEEP = ("keep", "Keep 1:30:00 more", "from 17:15:00 at the latest")
+REST = ("rest", "You may rest", "Met even if nothing more is kept.")
+HOLD = ("hold", "Do not let go", "One more lapse loses it: keep on to 18:45:00.")
+END = ("hold", "Keep on to the end", "Nothing to spare: every moment to 18:45:00.")
+QUOTED, LATE = QUOTES.format(t="0"), QUOTES.format(t="0:15:00")
+BACK = QUOTED + "cancel 6:00:00 2\nadd 7:00:00 3 sell 8458 1000"
+
+
+def keep_cases():
     """A list of calls, the time now, and the band: kind, head, line below, last line."""
-    quoted = QUOTES.format(t="0")
-    late = QUOTES.format(t="0:15:00")
-    yield opened() + late, 4 * H, ("keep", "Keep 1:30:00 more", "from 17:15:00 at the latest", "In pieces too, as long as it is 1:30:00 in all.")
-    # 1:30:00 less 0.202 s is still needed: up for what is needed, down for the latest time
-    yield opened() + late, 4 * H + 202, (
-        "keep", "Keep 1:30:00 more", "from 17:15:00 at the latest", "In pieces too, as long as it is 1:30:00 in all.")
-    yield opened() + late, 4 * H - 1, (
+    one_of_two = "A wait until then is one of the 2 lapses still allowed; after it no moment may be missed."
+    last_of_two = "A wait until then is the last lapse allowed (2 of 2); after it no moment may be missed."
+    yield opened() + LATE, 4 * H, (*KEEP, "In pieces too, as long as it is 1:30:00 in all.")
+    # Up for what is needed, down for the latest time.
+    yield opened() + LATE, 4 * H + 202, (*KEEP, "In pieces too, as long as it is 1:30:00 in all.")
+    yield opened() + LATE, 4 * H - 1, (
         "keep", "Keep 1:30:01 more", "from 17:14:59 at the latest", "In pieces too, as long as it is 1:30:01 in all.")
-    yield opened(3) + late, 4 * H, (
-        "keep", "Keep 1:30:00 more", "from 17:15:00 at the latest",
-        "A wait until then is one of the 2 lapses still allowed; after it no moment may be missed.")
-    yield opened(2) + late, 4 * H, (
-        "keep", "Keep 1:30:00 more", "from 17:15:00 at the latest",
-        "A wait until then is the last lapse allowed (2 of 2); after it no moment may be missed.")
-    yield opened(3) + late + "cancel 4:00:00 2", 5 * H, ("keep", "Keep 1:30:00 more", "from 17:15:00 at the latest", WAIT)
-    yield opened(2) + late + "cancel 4:00:00 2", 5 * H, (
-        "keep", "Keep 1:30:00 more", "from 17:15:00 at the latest", f"{WAIT} {LAST.format('2 of 2')}")
-    # from one state that is not kept to another: the lapse goes on, also in the millisecond of the change
-    yield opened(2) + late + "cancel 4:00:00 2\ncancel 5:00:00 1", 5 * H, (
-        "keep", "Keep 1:30:00 more", "from 17:15:00 at the latest", f"{WAIT} {LAST.format('2 of 2')}")
-    yield opened(2) + quoted + "cancel 4:00:00 2\nadd 5:00:00 3 sell 8458 1000", 5 * H + 1, (
-        "keep", "Keep 1:15:00 more", "from 17:30:00 at the latest",
-        "A wait until then is the last lapse allowed (2 of 2); after it no moment may be missed.")
-    yield opened() + quoted, 6 * H, ("rest", "You may rest", "Met even if nothing more is kept.", "")
-    yield opened(2) + quoted, 6 * H, ("rest", "You may rest", "Met even if nothing more is kept.", "")
-    yield opened(1) + quoted, 6 * H, (
-        "rest", "You may rest", "Met even if nothing more is kept.",
-        "Once: resting is the last lapse allowed (1 of 1). A quote that comes back must stay to 18:45:00.")
-    yield opened(2) + quoted + "cancel 6:00:00 2", 7 * H, ("rest", "You may rest", "Met even if nothing more is kept.", "")
-    yield opened(1) + quoted + "cancel 6:00:00 2", 7 * H, (
-        "rest", "You may rest", "Met even if nothing more is kept.", LAST.format("1 of 1"))
-    yield opened(1) + quoted + "cancel 6:00:00 2", 6 * H, (
-        "rest", "You may rest", "Met even if nothing more is kept.",
-        "Once: resting is the last lapse allowed (1 of 1). A quote that comes back must stay to 18:45:00.")
-    yield opened(1) + quoted + "cancel 6:00:00 2", 9 * H, (
-        "rest", "You may rest", "Met even if nothing more is kept.", "Its time is over: nothing is left to be kept.")
-    yield opened(0) + quoted, 6 * H, (
-        "hold", "Do not let go", "One more lapse loses it: keep on to 18:45:00.", "0 lapses of 0 allowed. The time kept is enough already.")
-    yield opened(1) + late, 4 * H - 1, (
-        "hold", "Do not let go", "One more lapse loses it: keep on to 18:45:00.", "1 lapse of 1 allowed. 1:30:01 still to be kept.")
-    back = quoted + "cancel 6:00:00 2\nadd 7:00:00 3 sell 8458 1000"
-    enough = "1 lapse of 1 allowed. The time kept is enough already."
+    yield opened(3) + LATE, 4 * H, (*KEEP, one_of_two)
+    yield opened(2) + LATE, 4 * H, (*KEEP, last_of_two)
+    yield opened(3) + LATE + "cancel 4:00:00 2", 5 * H, (*KEEP, WAIT)
+    yield opened(2) + LATE + "cancel 4:00:00 2", 5 * H, (*KEEP, f"{WAIT} {LAST.format('2 of 2')}")
+    # From one state that is not kept to another the lapse goes on, also in the millisecond of the change.
+    yield opened(2) + LATE + "cancel 4:00:00 2\ncancel 5:00:00 1", 5 * H, (*KEEP, f"{WAIT} {LAST.format('2 of 2')}")
+    yield opened(2) + QUOTED + "cancel 4:00:00 2\nadd 5:00:00 3 sell 8458 1000", 5 * H + 1, (
+        "keep", "Keep 1:15:00 more", "from 17:30:00 at the latest", last_of_two)
+
+
+def rest_cases():
+    once = "Once: resting is the last lapse allowed ({}). A quote that comes back must stay to 18:45:00."
+    yield opened() + QUOTED, 6 * H, (*REST, "")
+    yield opened(2) + QUOTED, 6 * H, (*REST, "")
+    yield opened(1) + QUOTED, 6 * H, (*REST, once.format("1 of 1"))
+    yield opened(2) + QUOTED + "cancel 6:00:00 2", 7 * H, (*REST, "")
+    yield opened(1) + QUOTED + "cancel 6:00:00 2", 7 * H, (*REST, LAST.format("1 of 1"))
+    yield opened(1) + QUOTED + "cancel 6:00:00 2", 6 * H, (*REST, once.format("1 of 1"))
+    yield opened(1) + QUOTED + "cancel 6:00:00 2", 9 * H, (*REST, "Its time is over: nothing is left to be kept.")
+    yield opened(2) + BACK, 7 * H, (*REST, once.format("2 of 2"))
+
+
+def hold_cases():
+    enough = "The time kept is enough already."
+    yield opened(0) + QUOTED, 6 * H, (*HOLD, f"0 lapses of 0 allowed. {enough}")
+    yield opened(1) + LATE, 4 * H - 1, (*HOLD, "1 lapse of 1 allowed. 1:30:01 still to be kept.")
     for now in (7 * H, 7 * H + 1):  # the outlook of the first of them has him rest, if he goes in the millisecond in which he came back
-        yield opened(1) + back, now, ("hold", "Do not let go", "One more lapse loses it: keep on to 18:45:00.", enough)
-    yield opened(1) + quoted + "cancel 1:00:00 2\nadd 2:00:00 3 sell 8458 1000", 2 * H, (
-        "hold", "Do not let go", "One more lapse loses it: keep on to 18:45:00.", "1 lapse of 1 allowed. 4:15:00 still to be kept.")
-    yield opened(2) + back, 7 * H, (
-        "rest", "You may rest", "Met even if nothing more is kept.",
-        "Once: resting is the last lapse allowed (2 of 2). A quote that comes back must stay to 18:45:00.")
-    yield opened(0) + quoted + "cancel 6:00:00 2", 6 * H, (
-        "hold", "Do not let go", "One more lapse loses it: keep on to 18:45:00.",
-        f"0 lapses of 0 allowed. The time kept is enough already. {AT_ONCE}")
-    yield opened(0), 0, (
-        "hold", "Do not let go", "One more lapse loses it: keep on to 18:45:00.",
-        f"0 lapses of 0 allowed. 5:15:00 still to be kept. {AT_ONCE}")
-    end = ("hold", "Keep on to the end", "Nothing to spare: every moment to 18:45:00.")
-    yield opened() + QUOTES.format(t="3:30:00"), 5 * H, (*end, "")
-    yield opened(), 3 * H + 30 * MIN, (*end, AT_ONCE)
-    yield opened(1) + QUOTES.format(t="3:30:00"), 3 * H + 30 * MIN, (*end, "")
-    lost = "It will be failed, weight 0."
-    yield opened(), 3 * H + 30 * MIN + 1, ("lost", "Lost whatever comes", "5:15:00 still to be kept, only 5:14:59 left.", lost)
-    yield opened(), 9 * H, ("lost", "Lost whatever comes", "5:15:00 still to be kept, only 0:00:00 left.", lost)
-    yield opened(0), 1, ("lost", "Lost whatever comes", "1 lapse, 0 allowed.", lost)
-    yield opened(1) + back + "\ncancel 7:30:00 1", 8 * H, ("lost", "Lost whatever comes", "2 lapses, 1 allowed.", lost)
-    yield opened(row="1 1 8:45:00 1000 150 0 60%", sp=0), 1 * H, (
-        "lost", "Lost whatever comes", "Nothing can be kept: the spread limit is below 1.", lost)
+        yield opened(1) + BACK, now, (*HOLD, f"1 lapse of 1 allowed. {enough}")
+    yield opened(1) + QUOTED + "cancel 1:00:00 2\nadd 2:00:00 3 sell 8458 1000", 2 * H, (
+        *HOLD, "1 lapse of 1 allowed. 4:15:00 still to be kept.")
+    yield opened(0) + QUOTED + "cancel 6:00:00 2", 6 * H, (*HOLD, f"0 lapses of 0 allowed. {enough} {AT_ONCE}")
+    yield opened(0), 0, (*HOLD, f"0 lapses of 0 allowed. 5:15:00 still to be kept. {AT_ONCE}")
+    yield opened() + QUOTES.format(t="3:30:00"), 5 * H, (*END, "")
+    yield opened(), 3 * H + 30 * MIN, (*END, AT_ONCE)
+    yield opened(1) + QUOTES.format(t="3:30:00"), 3 * H + 30 * MIN, (*END, "")
+
+
+def lost_cases():
+    lost, why = ("lost", "Lost whatever comes"), "It will be failed, weight 0."
+    yield opened(), 3 * H + 30 * MIN + 1, (*lost, "5:15:00 still to be kept, only 5:14:59 left.", why)
+    yield opened(), 9 * H, (*lost, "5:15:00 still to be kept, only 0:00:00 left.", why)
+    yield opened(0), 1, (*lost, "1 lapse, 0 allowed.", why)
+    yield opened(1) + BACK + "\ncancel 7:30:00 1", 8 * H, (*lost, "2 lapses, 1 allowed.", why)
+    # Too many lapses, though the time kept is enough; and too few milliseconds, though lapses are left.
+    yield opened(0) + QUOTED + "cancel 6:00:00 2", 6 * H + 1, (*lost, "1 lapse, 0 allowed.", why)
+    yield opened(9) + "\ntick 5:00:00", 5 * H, (*lost, "5:15:00 still to be kept, only 3:45:00 left.", why)
+    yield opened(row="1 1 8:45:00 1000 150 0 60%", sp=0), 1 * H, (*lost, "Nothing can be kept: the spread limit is below 1.", why)
 
 
 def check_sentences():
     """By a wall clock's start; in UTC and without a start the same, with what their times are."""
     count = 0
-    for text, now, due in said_cases():
+    for text, now, due in [*keep_cases(), *rest_cases(), *hold_cases(), *lost_cases()]:
         found = band(meter_of(text, 10 * H), now)
         assert found == due, (text, now, found, due)
         found = band(meter_of(text, start=START), now)
@@ -414,7 +410,8 @@ def plain_course(notes, length, width, now):
         stretches.append((start, start + size, state))
         start += size
     lapses = sum(1 for is_lost, _ in groupby(held, key=lambda each: each[0] != 0) if is_lost)
-    return parts, stretches[::-1], tuple(sum(each[0] == state for each in held) for state in range(6)), lapses, bool(held) and held[-1][0] != 0
+    totals = tuple(sum(each[0] == state for each in held) for state in range(6))
+    return parts, stretches[::-1], totals, lapses, bool(held) and held[-1][0] != 0
 
 
 def any_notes(rng, length):
@@ -687,7 +684,8 @@ def main():
     check_faults()
     check_clock()
     best = check_sizes()
-    print(f"frames: {said} sentences, {looked} looks at {lists} lists by both readings, {course} courses, {asked} asks, {best:.0f} µs a call")
+    looks = f"{looked} looks at {lists} lists by both readings"
+    print(f"frames: {said} sentences, {looks}, {course} courses, {asked} asks, {best:.0f} µs a call")
     return 0
 
 

@@ -78,7 +78,9 @@ def head(meter: Meter, shown: Optional[Shown], status: Status) -> Section:
         return {"name": meter.name, "what": "none open" if meter.opened is None else "", "clock": ""}
     opened = meter.opened
     times, (day, *series) = opened.times, opened.place
-    hours = f"{times.exact(0)} to {times.exact(opened.length)}{times.zone}" if times.known else f"{clock(opened.length)} long, times from its start"
+    hours = f"{clock(opened.length)} long, times from its start"
+    if times.known:
+        hours = f"{times.exact(0)} to {times.exact(opened.length)}{times.zone}"
     clock_text = f"{'last ' if status.is_still else ''}{times.down(shown.report.time)}{times.zone}"
     return {"name": meter.name, "what": f"{s.series_text(tuple(series))}, day {day}, {hours}", "clock": clock_text}
 
@@ -172,7 +174,8 @@ def open_quantum(meter: Meter, shown: Optional[Shown], status: Status) -> Option
         return None
     is_stale, view = status.feed == "broken", shown.view
     orders = [
-        {"id": str(each.id), "side": each.side, "price": meter.price_text(each.price), "volume": thousands(each.volume)} for each in view.orders
+        {"id": str(each.id), "side": each.side, "price": meter.price_text(each.price), "volume": thousands(each.volume)}
+        for each in view.orders
     ]
     return {
         "stale": is_stale, "asks": not is_stale, "bar": bar(shown), "tiles": tiles(meter, meter.opened, shown),
