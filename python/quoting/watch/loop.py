@@ -30,7 +30,6 @@ class Watch:
         self.is_reading = True  # through what stood there at the start
         self.differs: Optional[Mapping[str, Any]] = None
         self.made = 0.0  # when the sections were made last
-        self.work = 0.0  # seconds spent in the meter
 
     # ------------------------------------------------------------ the feed
 
@@ -57,10 +56,7 @@ class Watch:
         if isinstance(item, Trouble):
             self.meter.trouble(item, came)
             return
-        began = time.perf_counter()
-        answer = self.meter.take(item, came)
-        self.work += time.perf_counter() - began
-        self.recount.call(item, answer)
+        self.recount.call(item, self.meter.take(item, came))
 
     # ------------------------------------------------------------ what is shown
 

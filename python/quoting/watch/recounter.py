@@ -13,6 +13,7 @@ import signal
 import sys
 import time
 from dataclasses import dataclass
+from itertools import chain
 from typing import Any, BinaryIO, Iterator, Optional, Sequence, Union
 
 from quoting import both
@@ -141,70 +142,63 @@ class Recounter:
     def shown(self, book: Any, looks: bool) -> list[str]:
         return [self.answer(book, block) for block in asked(looks)]
 
-    def take(self, called: Called) -> Optional[Parted]:
-        """A call; where its answer differs, that is the parting."""
+    def take(self, called: Called) -> Iterator[Said]:
+        """A call; where its answer differs, the readings part here or, if it is a look or a report, before."""
         self.since.append(called)
         self.last = called
         theirs = self.answer(self.book, called.block)
-        if theirs == called.line:
-            return None
-        month = month_of(self.point.words)
-        for each in self.since:
-            month.block(each.block)
-        return self.parted(self.calls, theirs, shown_by(month, False), self.shown(self.book, False), True)
-
-    def parted(self, call: int, theirs: str, ours: list[str], others: list[str], is_exact: bool) -> Parted:
-        called = self.since[call - self.point.calls - 1] if self.since else self.last
-        return Parted(call, called, (called.line, theirs), ours, others, self.point.calls, is_exact)
+        if theirs != called.line:
+            month = month_of(self.point.words)
+            for each in self.since:
+                month.block(each.block)
+            yield from self.part(theirs, shown_by(month, False), self.shown(self.book, False))
 
     def check(self, check: Check) -> Iterator[Said]:
-        """Whether both show the same now; if not, that at once, and then the call."""
+        """Whether both show the same now."""
         began = time.monotonic()
-        looks = len(check.shown) > len(STANDING)
-        theirs = self.shown(self.book, looks)
+        theirs = self.shown(self.book, len(check.shown) > len(STANDING))
         if theirs == check.shown:
             self.point, self.since = Point(self.calls, self.copied(self.book), check.words), []
             yield Agreed(self.calls, time.monotonic() - began)
         else:
-            yield self.parted(self.calls, self.last.line, check.shown, theirs, False)
-            yield self.first_parting() or self.parted(self.calls, self.last.line, check.shown, theirs, True)
+            yield from self.part(self.last.line, check.shown, theirs)
 
     # ------------------------------------------------------------ which call it was
 
+    def part(self, answer: str, ours: list[str], theirs: list[str]) -> Iterator[Parted]:
+        """That they differ, at once; then the call. Where both agree on every call, the month that was shown is not the one that these
+        calls make, and it is the last one."""
+        yield self.parted(self.calls, answer, ours, theirs, False)
+        yield self.first_parting() or self.parted(self.calls, answer, ours, theirs, True)
+
+    def parted(self, call: int, answer: str, ours: list[str], theirs: list[str], is_exact: bool) -> Parted:
+        called = self.since[call - self.point.calls - 1] if self.since else self.last
+        return Parted(call, called, (called.line, answer), ours, theirs, self.point.calls, is_exact)
+
     def first_parting(self) -> Optional[Parted]:
-        """From the last agreement on both readings go through the calls again. None: they agree on every call, so that the month that
-        was shown is not the one that these calls make."""
+        """From the last agreement on both readings go through the calls again: one by one, or where that is too much work halving, which
+        names a call behind which they differ and before which they do not."""
         events = len(self.book.quoting.events) if self.book.quoting else 0
         if len(self.since) * (events + 1) <= MOST_WALKED:
-            return self.walked()
-        if not self.differ_after(len(self.since)):
-            return None
+            return self.walked(0, len(self.since))
         agree, differ = 0, len(self.since)
         while differ - agree > 1:
             middle = (agree + differ) // 2
-            agree, differ = (agree, middle) if self.differ_after(middle) else (middle, differ)
-        return self.differ_after(differ)
+            agree, differ = (agree, middle) if self.walked(middle - 1, middle) else (middle, differ)
+        return self.walked(differ - 1, differ)
 
-    def walked(self) -> Optional[Parted]:
-        """Call by call, what both show compared after each."""
+    def walked(self, first: int, last: int) -> Optional[Parted]:
+        """Through that many calls; from the first on what both show is compared after each, and the answers after every one."""
         month, book = month_of(self.point.words), self.copied(self.point.book)
-        for call, called in enumerate(self.since, start=self.point.calls + 1):
-            looks = changes_cells(called.block)
+        for at, called in enumerate(self.since[:last]):
             month.block(called.block)
-            theirs = self.answer(book, called.block)
+            theirs, looks = self.answer(book, called.block), changes_cells(called.block) or last - first == 1
+            if theirs == called.line and at < first:
+                continue
             pair = shown_by(month, looks), self.shown(book, looks)
-            if pair[0] != pair[1]:
-                return self.parted(call, theirs, *pair, True)
+            if pair[0] != pair[1] or theirs != called.line:
+                return self.parted(self.point.calls + at + 1, theirs, *pair, True)
         return None
-
-    def differ_after(self, count: int) -> Optional[Parted]:
-        """What both show after so many of the calls, where it differs."""
-        month, book, theirs = month_of(self.point.words), self.copied(self.point.book), ""
-        for called in self.since[:count]:
-            month.block(called.block)
-            theirs = self.answer(book, called.block)
-        pair = shown_by(month, True), self.shown(book, True)
-        return self.parted(self.point.calls + count, theirs, *pair, True) if pair[0] != pair[1] else None
 
 
 # ---------------------------------------------------------------- the process
@@ -222,7 +216,7 @@ def findings(stream: BinaryIO) -> Iterator[Said]:
     """What is said of the parts; nothing behind a difference."""
     recounter = Recounter()
     for part in parts(stream):
-        for said in recounter.check(part) if isinstance(part, Check) else filter(None, map(recounter.take, part)):
+        for said in recounter.check(part) if isinstance(part, Check) else chain.from_iterable(map(recounter.take, part)):
             yield said
             if isinstance(said, Parted) and said.is_exact:
                 return

@@ -26,7 +26,8 @@ EVERY = 2.0  # seconds between two checks
 SHARE = 4  # after a check that took long, that many times its length goes by before the next, so that the machine is left its other work
 CHEAP = 0.1  # a check that took no longer is made again where no call has come
 MOST_BEHIND = 1_000_000  # calls that may wait for it
-ENTRY = "from quoting.watch.recounter import main; main()"
+# The folder in which the command was run may have a recount of its own: the tree's comes first.
+ENTRY = "import sys; sys.path[0] = sys.argv[1]; from quoting.watch.recounter import main; main()"
 
 
 def started() -> "subprocess.Popen[bytes]":
@@ -34,7 +35,7 @@ def started() -> "subprocess.Popen[bytes]":
     paths = filter(None, [str(native.HERE.parent), os.environ.get("PYTHONPATH")])
     environment = {**os.environ, "PYTHONPATH": os.pathsep.join(paths)}
     return subprocess.Popen(
-        [sys.executable, "-c", ENTRY], env=environment, start_new_session=True,
+        [sys.executable, "-c", ENTRY, str(native.ROOT)], env=environment, start_new_session=True,
         stdin=subprocess.PIPE, stdout=subprocess.PIPE, stderr=subprocess.DEVNULL)
 
 

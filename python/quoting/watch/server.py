@@ -142,7 +142,10 @@ class Client:
                     raise Unwanted(UNREAD)
                 await self.socket.send_text(json.dumps({"answer": self.answer(ask_of(message["text"]))}, ensure_ascii=False))
         except Unwanted as unwanted:
-            await self.socket.close(unwanted.args[0])
+            closing = asyncio.create_task(self.socket.close(unwanted.args[0]))
+            while (await self.socket.receive())["type"] != "websocket.disconnect":
+                pass  # what it has sent behind it stands before its farewell
+            await closing
 
     def answer(self, asked: dict[str, Any]) -> dict[str, Any]:
         now = time.monotonic()
