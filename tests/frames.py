@@ -319,6 +319,24 @@ class Pair:
         before = accounts.account(quoting.row, quoting.sp, self.book.quoting.events, last).times if last else [0] * 6
         assert [sum(each[7 + number] for each in day["buckets"]) for number in range(6)] == list(before)
         assert day["running"] == {"from": last, "key": KEYS[state]} and day["now"] == at
+        self.compare_quotes(day, last)
+
+    def compare_quotes(self, day, last):
+        """The lowest, highest and last quotes of each bucket, and those of now, by going through the events."""
+        row, live, due, now = self.book.quoting.row, {}, {}, 0
+        for event in [*self.book.quoting.events, book.Tick(last)]:
+            quotes = book.best_bid(live, row.least), book.best_ask(live, row.least)
+            for number in range(now // day["width"], -(-event.t // day["width"])) if event.t > now else ():
+                due.setdefault(number, []).append(quotes)
+            now = event.t
+            book.pass_event(live, event)
+        for number, *found in (each[:7] for each in day["buckets"]):
+            for side in (0, 1):
+                prices = [each[side] for each in due[number] if each[side] is not None]
+                shown = [min(prices, default=None), max(prices, default=None), due[number][-1][side]]
+                assert found[3 * side : 3 * side + 3] == shown, (number, found, due[number])
+        for name, price in (("bid", book.best_bid(live, row.least)), ("ask", book.best_ask(live, row.least))):
+            assert day[name] == (None if price is None else {"price": price, "text": f"{name} {price}"}), (name, day[name])
 
     def compare_month(self, section):
         places = [(day, *series) for day in range(1, 32) for series in SERIES]
