@@ -22,6 +22,8 @@ from quoting.statement.sources import Sent
 from quoting.values import clock
 from quoting.watch.recounter import STANDING, Agreed, Called, Check, Ended, Parted, changes_cells, shown_by, words_of
 
+Pair = tuple[str, str, str]  # a figure's name, by the meter, by the recount
+
 EVERY = 2.0  # seconds between two checks
 SHARE = 4  # after a check that took long, that many times its length goes by before the next, so that the machine is left its other work
 CHEAP = 0.1  # a check that took no longer is made again where no call has come
@@ -174,8 +176,11 @@ def ago(seconds: float) -> str:
 
 # ---------------------------------------------------------------- a difference
 
+SHOWN_AS = {"need": "still needed", "by": "nothing need be kept until", "full": "needed for full weight", "of": "length"}
+TIMES = ("need", "left", "by", "full", "kept", "of")
 
-def compared(parted: Parted) -> Iterator[tuple[str, str, str]]:
+
+def compared(parted: Parted) -> Iterator[Pair]:
     """What is shown of both readings: the figures that a maker goes by, and whatever else differs."""
     if parted.answers[0] != parted.answers[1]:
         yield "answer", *parted.answers
@@ -185,12 +190,40 @@ def compared(parted: Parted) -> Iterator[tuple[str, str, str]]:
     yield "best bid", quote_text(ours.bid), quote_text(theirs.bid)
     yield "best ask", quote_text(ours.ask), quote_text(theirs.ask)
     yield "fee", roubles(ours.fee), roubles(theirs.fee)
-    others = [("time", "time"), ("orders", "live orders"), ("failed", "failed in each series"), ("is_open", "a quantum is open")]
-    pairs = [(word, str(getattr(ours, name)), str(getattr(theirs, name))) for name, word in others]
-    pairs.append(("outlook", parted.ours[1], parted.theirs[1]))
+    others = [("is_open", "a quantum is open"), ("time", "time"), ("orders", "live orders"), ("failed", "failed in each series")]
+    found = [(word, str(getattr(ours, name)), str(getattr(theirs, name))) for name, word in others]
+    found += parts_of("outlook", parted.ours[1], parted.theirs[1])
     for cell, *looks in zip(CELLS, parted.ours[len(STANDING) :], parted.theirs[len(STANDING) :]):
-        pairs.append(("day {}, expiry {}, quantum {}".format(*cell), looks[0], looks[1]))
-    yield from (pair for pair in pairs if pair[1] != pair[2])
+        found += parts_of("day {}, expiry {}, quantum {}".format(*cell), looks[0], looks[1])
+    yield from (pair for pair in found if pair[1] != pair[2])
+
+
+def parts_of(what: str, ours: str, theirs: str) -> list[Pair]:
+    """An outlook or a cell figure by figure, where both readings have one.
+
+    >>> parts_of("outlook", "outlook need 5000 weight 0 9", "outlook need 6000 weight 0 9")
+    [('outlook: still needed', '0:00:05', '0:00:06'), ('outlook: weight', '0 9', '0 9')]
+    >>> parts_of("day 1", "refused 5", "cell kept 5")
+    [('day 1', 'refused 5', 'cell kept 5')]
+    """
+    both = figures_of(ours), figures_of(theirs)
+    if ours.split()[0] != theirs.split()[0] or both[0].keys() != both[1].keys():
+        return [(what, ours, theirs)]
+    pairs = ((name, both[0][name], both[1][name]) for name in both[0])
+    return [(f"{what}: {SHOWN_AS.get(name, name)}", time_text(name, left), time_text(name, right)) for name, left, right in pairs]
+
+
+def figures_of(line: str) -> dict[str, str]:
+    """The figures of a line of `replay`: names and numbers by turns; an outlook's weight has two."""
+    words = line.split()[1:]
+    found = dict(zip(words[::2], words[1::2]))
+    if len(words) % 2 and found:
+        found[words[-3]] += f" {words[-1]}"
+    return found
+
+
+def time_text(name: str, figure: str) -> str:
+    return clock(int(figure)) if name in TIMES and figure.isdigit() else figure
 
 
 def parted_text(parted: Parted, agreed_at: float) -> str:
