@@ -231,6 +231,7 @@ class MessagesFeed:
             yield from [Trouble(f"{self.name}: line {line}", IN_NONE)] if self.passed_over == 1 else ()
         elif quantum.past:
             self.passed_over += 1
+            self.before = quantum
             yield Trouble(f"{self.name}: line {line}", LATE)
         else:
             self.place(message, quantum)
