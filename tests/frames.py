@@ -574,11 +574,18 @@ def check_ask_texts():
 def check_problems():
     meter = meter_of(f"{opened()}\ncancel 0:00:01 999", 10 * H)
     found = frames.sections(meter, 0, frames.Status(wall=CAME + 299))
-    text = "refused 11: no order with this id is live (cancel 1000 999)"
+    text = "refused 11: no order with this id is live (cancel 10:00:01 999)"
     assert found["problems"]["count"] == 1 and found["problems"]["rows"][0]["place"] == "line 2"
     assert found["problems"]["rows"][0]["text"] == text
     assert found["alert"] == {"head": "Line 2: refused, the rest goes on.", "text": f"{text.capitalize()}."}, found["alert"]
     assert frames.sections(meter, 0, frames.Status(wall=CAME + 300))["alert"] is None
+    for call, due in (
+        ("add 9:00:00 1 buy 8446 1000", "refused 9: the time is past the quantum's end (add 19:00:00 1 buy 8446 1000)"),
+        ("ask 0 5 1 1", "refused 11: no order with this id is live (ask 10:00:00 5 1 1)"), (opened(), "refused 6: "),
+        ("tick 100_000_000", "refused 9: the time is past the quantum's end (tick 100000000)"), ("look 1 1 1", "refused 5: "),
+    ):
+        again = meter_of(f"{opened()}\n{call}", 10 * H).problems[0].sentence()
+        assert again.startswith(due), (call, again)
     assert found["feed"]["text"] == "Following the feed, 2 calls, last one 0.0 s ago"
     meter.trouble(Trouble("brent.log: line 7", "this is no message"), CAME + 300)
     assert frames.sections(meter, 0, frames.Status(wall=CAME + 301))["alert"] == {

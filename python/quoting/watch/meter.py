@@ -25,7 +25,7 @@ from quoting.statement.picture import KEYS, offset_of
 from quoting.statement.sources import Sent
 from quoting.views import View
 from quoting.watch.course import Course, Seen
-from quoting.watch.sentences import Times
+from quoting.watch.sentences import DAY, Times
 
 if TYPE_CHECKING:
     from quoting.watch.clocks import Clock
@@ -35,6 +35,7 @@ if TYPE_CHECKING:
 EVENT_KINDS = frozenset((2, 3, 4, 5, 6, 15, 16))
 OPEN_KINDS, CLOSE, DROP, WITHDRAW, MESSAGE = (1, 13), 7, 8, 10, 16
 CELL_KINDS = frozenset((*OPEN_KINDS, CLOSE, DROP, 9, WITHDRAW))
+TIMED_KINDS = frozenset((2, 3, 4, 5, 6, 14, 15))
 LISTED = 20  # problems that are shown
 MOST_SIGNS = 300  # of a problem's text: a message may be as long as it likes
 EXPECTED = {
@@ -52,13 +53,21 @@ class Problem:
     place: str
     text: str
     block: bytes = b""
+    times: Times = Times()  # of the quantum that was open
 
     @property
     def is_refused(self) -> bool:
         return bool(self.block)
 
     def sentence(self) -> str:
-        return short(f"{self.text} ({call_text(self.block)})" if self.block else self.text, MOST_SIGNS)
+        return short(f"{self.text} ({self._call()})" if self.block else self.text, MOST_SIGNS)
+
+    def _call(self) -> str:
+        """The call's line, with its time as the page writes times."""
+        name, *words = call_text(self.block).split(" ")
+        if self.block[0] in TIMED_KINDS and int(words[0]) < DAY:
+            words[0] = self.times.exact(int(words[0]))
+        return " ".join([name, *words])
 
 
 @dataclass(frozen=True)
@@ -107,7 +116,7 @@ class Meter:
         answer = self.month.block(sent.block)
         kind = sent.block[0]
         if isinstance(answer, Refused):
-            self._problem(Problem(came, sent.place, str(answer), sent.block))
+            self._problem(Problem(came, sent.place, str(answer), sent.block, self.opened.times if self.opened else Times()))
         elif kind in EVENT_KINDS:
             self._note(sent, came)
         elif kind in CELL_KINDS:
