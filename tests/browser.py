@@ -1,6 +1,5 @@
 """The live page as a maker sees it: the command `quoting watch` on a free port, and its page in Chromium."""
 
-import os
 import re
 import select
 import signal
@@ -164,4 +163,3 @@ class Browser:
 
 TAB, ENTER, SPACE, LEFT, RIGHT, UP, DOWN, HOME, END = (
     Keys.TAB, Keys.ENTER, Keys.SPACE, Keys.ARROW_LEFT, Keys.ARROW_RIGHT, Keys.ARROW_UP, Keys.ARROW_DOWN, Keys.HOME, Keys.END)
-PYTHON = os.environ.get("PYTHON", "/usr/bin/python3")

@@ -26,9 +26,13 @@ import websockets
 
 from quoting import calls as c
 from quoting import inputs, reading
+from quoting.answers import line
+from quoting.months import Month
 from quoting.statement.course import CELLS, cell_of, report_of
 from quoting.statement.sources import Sent
+from quoting.watch import recounter
 from quoting.watch.meter import Meter
+from recount import book
 from tests import browser, command
 from tests.browser import Browser, Served, children
 
@@ -209,8 +213,9 @@ def check_fed(page):
         seen = page.until("nothing is open", lambda seen: seen["band"] == "none" and seen["feed_kind"] == "following")
         text = OPEN + QUOTES
         served.send(text)
-        seen = page.until("the quote is there", lambda seen: seen["state_key"] == "kept")
-        hold(seen, blocks_of(text))
+        page.until("the quote is there", lambda seen: seen["state_key"] == "kept")
+        seen = page.until("time goes on behind the last event", lambda seen: reading.time(seen["account-gone"]) > 1_200)
+        assert hold(seen, blocks_of(text)) > 1_200
         served.send("tik 0:00:02\n")
         seen = page.until("the broken line is shown", lambda seen: seen["problems"])
         assert "line 4" in seen["problems"][0] and "'tik' is not known" in seen["problems"][0], seen["problems"]
@@ -342,6 +347,28 @@ def check_red(page, folder, call, word):
         assert word != "≠ kept" or f"last agreed on {agreed} calls" in seen["stop-text"], seen["stop-text"]
         page.shoot("red-kept" if word == "≠ kept" else "red-answer", widths=(1280, 390) if word == "≠ kept" else (1280,), themes=("light",))
         page.leave()
+
+
+def check_first():
+    """Of many calls the first behind which the readings differ is named, whether each is tried or they are halved."""
+    locked = 137
+    text = OPEN + QUOTES + "".join(f"amend {2_000 + at} 2 {8446 if at == locked else 8458} 1000\n" for at in range(200))
+    calls, within, walked = blocks_of(text), book.within, recounter.MOST_WALKED
+    month, due = Month(), 3 + locked + 2  # the locked quotes have lasted a millisecond when the next call comes
+    called = [recounter.Called(block, f"call {at}", line(month.block(block))) for at, block in enumerate(calls, start=1)]
+    check = recounter.Check(recounter.shown_by(month, False), recounter.words_of(month))
+    try:
+        for most in (walked, 0):
+            book.within, recounter.MOST_WALKED = within, most
+            reader = recounter.Recounter()
+            assert not [said for each in called[:50] for said in reader.take(each)]
+            book.within = lambda row, sp, bid, ask: bid is not None and bid == ask or within(row, sp, bid, ask)
+            assert not [said for each in called[50:] for said in reader.take(each)]
+            first, last = reader.check(check)
+            assert (first.call, first.is_exact) == (len(calls), False), first
+            assert (last.call, last.is_exact, last.called.place) == (due, True, f"call {due}"), last
+    finally:
+        book.within, recounter.MOST_WALKED = within, walked
 
 
 # ---------------------------------------------------------------- many pages, and strangers
@@ -615,6 +642,7 @@ def main():
         check_restarted(page)
         check_listened(page)
         took = check_many(page)
+    check_first()
     check_strangers()
     check_token()
     check_command()
