@@ -30,7 +30,8 @@ from quoting.answers import line
 from quoting.months import Month
 from quoting.statement.course import CELLS, cell_of, report_of
 from quoting.statement.sources import Sent
-from quoting.watch import recounter
+from quoting.watch import loop, recounter
+from quoting.watch.clocks import FeedClock
 from quoting.watch.meter import Meter
 from recount import book
 from tests import browser, command
@@ -291,6 +292,17 @@ def check_broken(page):
         seen = page.until("standard input has closed", lambda seen: "standard input has closed" in seen["feed"])
         assert seen["band"] == "broken", seen
         page.leave()
+
+
+def check_silent():
+    """Silence counts in the open quantum alone: one whose end comes before the feed was silent for too long is not broken off."""
+    watch = object.__new__(loop.Watch)  # without a feed and the recount's process
+    for last, silent, due in [(5_000, 3, False), (5_000, 5, True), (5_000, 500, True), (58_000, 3, False), (58_000, 5, False), (58_000, 500, False)]:
+        watch.silence, watch.meter, watch.clock = 4.0, Meter("quiet"), FeedClock(lambda: 1_000.0)
+        assert not watch.is_silent(silent)
+        for block in blocks_of(f"open row 1 1 0:01:00 1000 150 3 60% day 3 sp 8452\ntick {last}\n"):
+            watch.meter.take(Sent(block, "line 1"), 1_000.0 - silent)
+        assert watch.is_silent(silent) == due, (last, silent)
 
 
 # ---------------------------------------------------------------- both readings
@@ -643,6 +655,7 @@ def main():
         check_listened(page)
         took = check_many(page)
     check_first()
+    check_silent()
     check_strangers()
     check_token()
     check_command()

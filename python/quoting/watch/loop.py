@@ -85,7 +85,15 @@ class Watch:
             return "ended", ""
         if self.speed is not None:
             return "playing", ""
-        return ("broken" if is_open and 0 < self.silence < silent else "following"), ""
+        return ("broken" if self.is_silent(silent) else "following"), ""
+
+    def is_silent(self, silent: float) -> bool:
+        """Whether the feed was silent for too long while the open quantum went on; behind its end nothing need come but the close."""
+        opened = self.meter.opened
+        if opened is None or not 0 < self.silence < silent:
+            return False
+        now = self.clock.now(opened.start, self.meter.last, self.meter.came)
+        return now - 1_000 * (silent - self.silence) < opened.length
 
     def publish(self) -> None:
         """The sections as they stand now."""

@@ -21,6 +21,7 @@ from quoting.statement.page import brief
 from quoting.statement.sources import Sent
 from quoting.values import clock
 from quoting.watch.recounter import STANDING, Agreed, Called, Check, Ended, Parted, changes_cells, shown_by, words_of
+from quoting.watch.sentences import counted_calls
 
 Pair = tuple[str, str, str]  # a figure's name, by the meter, by the recount
 
@@ -148,12 +149,12 @@ class Recounting:
         if self.kind == "absent":
             return {"kind": "absent", "head": "The recount is not here", "text": "it stands in the tree and is not part of an installed package"}
         if self.kind == "stopped":
-            until = f"; both agreed on {thousands(self.agreed)} calls" if self.agreed_at else ""
+            until = f"; both agreed on {counted_calls(self.agreed)}" if self.agreed_at else ""
             return {"kind": "absent", "head": "The recount has stopped", "text": f"{self.why}{until}"}
         if self.kind == "waiting":
-            return {"kind": "waiting", "head": "The recount is at work", "text": f"{thousands(self.sent)} calls, none compared so far"}
+            return {"kind": "waiting", "head": "The recount is at work", "text": f"{counted_calls(self.sent)}, none compared so far"}
         which = "all " if self.agreed == self.sent else ""
-        return {"kind": "agree", "head": "Both readings agree", "text": f"on {which}{thousands(self.agreed)} calls, {ago(now - self.agreed_at)} ago"}
+        return {"kind": "agree", "head": "Both readings agree", "text": f"on {which}{counted_calls(self.agreed)}, {ago(now - self.agreed_at)} ago"}
 
     def differs(self) -> Optional[dict[str, Any]]:
         """The section `differs`."""
@@ -235,4 +236,4 @@ def parted_text(parted: Parted, agreed_at: float) -> str:
     if not agreed_at:
         return f"{which} They had not been compared before."
     when = time.strftime("%H:%M:%S", time.localtime(agreed_at))
-    return f"{which} They last agreed on {thousands(parted.agreed)} calls, at {when}."
+    return f"{which} They last agreed on {counted_calls(parted.agreed)}, at {when}."
