@@ -223,6 +223,8 @@ def check_most(folder):
         while feed.ended is None:
             sizes.append(len(feed.read()))
         assert sizes == [2_000, 2_000, 1_000] and not feed.read(), sizes
+    feed = Steps(folder, data=b"tick 1\n" * 1_999 + b"start 20261102-10:00:00.000\nreport").feed(False)
+    assert len(feed.read()) == 2_000 and feed.ended is None and shown(feed.read()) == ["line 2001"] and feed.ended == "end"
 
 
 # ---------------------------------------------------------------- what happens to a file
@@ -246,12 +248,12 @@ def check_cut(folder):
     assert shown(drained(feed)) == [("", said.format("1,200,000", 0))]
     append(grown.path, c.block(c.Report()))
     assert shown(drained(feed)) == ["call 1"], "a file that was cut to nothing may be of another kind"
-    append(grown.path, c.block(Tick(1))[:5])
+    append(grown.path, c.block(Tick(1)) + c.block(Tick(1))[:5])
     drained(feed)
     os.truncate(grown.path, 4)
-    assert shown(drained(feed)) == [("", said.format(9, 4))]
+    assert shown(drained(feed)) == [("", said.format(17, 4))]
     append(grown.path, c.block(c.Drop()) + c.pack([0]))
-    assert shown(drained(feed)) == ["call 2", ("", f"stopped at word 3: {feeds.NO_CALL}")]
+    assert shown(drained(feed)) == ["call 3", ("", f"stopped at word 3: {feeds.NO_CALL}")]
     short = Steps(folder, "other", b"ti")
     feed = short.feed()
     drained(feed)
@@ -641,8 +643,10 @@ def check_log_ends(folder):
         found = month.read()
         assert found == [] or byte == 1, "a message came before its end"
     assert month.more() == [] and len(raw) > 100
-    append(month.log, raw[-1:] + b"\n")
-    assert month.read() == ["log: line 2"]
+    append(month.log, raw[-1:] + raw + raw[:20])
+    assert month.read() == ["log: line 2"] * 3
+    append(month.log, raw[20:] + b"\n")
+    assert month.read() == ["log: line 2"] * 2
     assert month.more(message(7, "10:00:06.000")) == ["log: line 3"]
     month.log.unlink()
     os.mkfifo(month.log)

@@ -231,10 +231,9 @@ class Lines:
             data = data[1:]
         self.half = data[-1:] == b"\r"
         first, *others = LINE_END.split(data) if b"\r" in data else data.split(b"\n")
-        if not others:
-            yield from self.grow(first)
-            return
         yield from self.grow(first)
+        if not others:
+            return
         yield from self.end()
         for line in others[:-1]:
             yield self.number, line
@@ -251,9 +250,8 @@ class Lines:
             yield Trouble(f"line {self.number}", f"this line has over {LONGEST_LINE:,} bytes and is passed over to its end")
 
     def end(self) -> Iterator[Line]:
-        """The line that stood unfinished, at its end."""
-        if not self.skipped:
-            yield self.number, bytes(self.rest)
+        """The line that stood unfinished, at its end; nothing is left of one that is too long."""
+        yield self.number, bytes(self.rest)
         self.forget(self.number + 1)
 
     def messages(self) -> Iterator[Line]:
