@@ -91,10 +91,7 @@ function setSign(svg, key) {
 
 // Thousandths stand small behind the figure, in the same element, so that it reads as one.
 function sayFine(element, value, fine) {
-  if (!element.fine) {
-    element.replaceChildren(make("span"), make("span", "ms"));
-    element.fine = true;
-  }
+  if (element.children.length !== 2) element.replaceChildren(make("span"), make("span", "ms"));
   say(element.firstChild, value);
   say(element.lastChild, fine);
 }
@@ -191,7 +188,8 @@ function lowered(text) {
 // Without the meter nothing is known; what it said last is told as of then.
 function awayBand() {
   const was = shown.band, clock = shown.head?.clock.replace(/^last /, "") || link.since;
-  const then = was && ["rest", "keep", "hold", "lost"].includes(was.kind) ? ` It was then: ${lowered(was.head)}, ${lowered(was.sub).replace(/\.$/, "")}.` : "";
+  const is_told = was && ["rest", "keep", "hold", "lost"].includes(was.kind);
+  const then = is_told ? ` It was then: ${lowered(was.head)}, ${lowered(was.sub).replace(/\.$/, "")}.` : "";
   return { kind: "broken", head: link.head, sub: was ? `Not known since ${clock}` : `Not reached since ${link.since}`,
     why: `Keep quoting until it is back.${then} Lost at ${link.since} by this computer's clock; the page tries again by itself.` };
 }
@@ -220,7 +218,8 @@ function paintBand() {
 // The headline keeps to one line where a smaller type lets it; measured only when its length or the page's width is another one.
 const fitted = { length: 0, width: 0, kind: "" };
 function fitHead() {
-  const head = figure("band-head"), length = head.textContent.length, width = $("hero").clientWidth, kind = $("hero").dataset.kind + $("h-now").hidden;
+  const head = figure("band-head"), hero = $("hero");
+  const length = head.textContent.length, width = hero.clientWidth, kind = hero.dataset.kind + $("h-now").hidden;
   if (fitted.length === length && fitted.width === width && fitted.kind === kind) return;
   Object.assign(fitted, { length, width, kind });
   head.style.removeProperty("--head");
@@ -250,7 +249,10 @@ function paintDiffers(differs) {
 
 function paintState(state) {
   show($("h-now"), Boolean(state) && !shown.differs);
-  if (!state) return fitHead();
+  if (!state) {
+    for (const name of ["state", "since"]) say(figure(name), "");
+    return fitHead();
+  }
   const known = !link.away && state.key !== "unknown", word = figure("state");
   say(word, link.away ? "not known" : state.word);
   tell(word, "key", known ? state.key : "unknown");
@@ -301,13 +303,22 @@ function paintOpen(open) {
   $("three").classList.toggle("alone", !open);
   $("open").classList.toggle("stale", is_stale);
   $("orders-panel").classList.toggle("stale", is_stale);
-  if (!open) return;
+  if (!open) return forgetOpen();
   show($("three"), true);
   paintBar(open.bar);
   paintTiles(open);
   paintAccount(open);
   paintOrders(open);
   paintForm(open);
+}
+
+// No figure of a quantum that is closed is left behind, hidden or not.
+function forgetOpen() {
+  for (const id of ["tiles", "account", "ahead", "orders"]) $(id).replaceChildren();
+  const names = ["account-gone", "share", "required", "required-time", "full", "full-time", "orders-note"];
+  for (const name of names) figure(name).replaceChildren();
+  for (const text of plot.texts.values()) say(text, "");
+  sayAnswer(null);
 }
 
 function percent(fraction) {
@@ -329,11 +340,12 @@ function paintBar(bar) {
     say(figure(`${name}-time`), bar.labels[name][1]);
   }
   say($("reach-said"), bar.out_of_reach ? "Part of the time is out of reach." : "");
-  const laid = JSON.stringify([$("bar").clientWidth, bar.required, bar.full, bar.labels, Math.round(bar.kept * 500), Math.round(bar.reach * 500), bar.out_of_reach]);
+  const width = $("bar").clientWidth, ends = [bar.kept, bar.reach].map(end => Math.round(end * 500));
+  const laid = JSON.stringify([width, bar.required, bar.full, bar.labels, ends, bar.out_of_reach]);
   if ($("bar").laid === laid) return;   // labels are measured anew only when one could touch another
   $("bar").laid = laid;
-  layTopLabels(bar, $("bar").clientWidth);
-  layUnderLabels(bar, $("bar").clientWidth);
+  layTopLabels(bar, width);
+  layUnderLabels(bar, width);
 }
 
 const GAP = 8;   // between labels
@@ -411,7 +423,8 @@ function paintPips(below, lapses) {
   const pips = make("span", "pips");
   pips.dataset.pips = due;
   pips.setAttribute("aria-hidden", "true");
-  for (let at = 0; at < Math.min(Math.max(limit, count), MOST_PIPS + 4); at++) pips.append(make("i", at >= limit ? "over" : at < count ? "on" : ""));
+  const many = Math.min(Math.max(limit, count), MOST_PIPS + 4);
+  for (let at = 0; at < many; at++) pips.append(make("i", at >= limit ? "over" : at < count ? "on" : ""));
   below.replaceChildren(pips);
   return true;
 }
@@ -421,7 +434,10 @@ function chipFor(key) {
 }
 
 function paintAccount(open) {
-  const build = at => make("tr", "", headCell(chipFor(open.account[at].key), signFor(open.account[at].key), " ", make("span")), named(make("td", "num"), `account-${open.account[at].key}`));
+  const build = at => {
+    const key = open.account[at].key;
+    return make("tr", "", headCell(chipFor(key), signFor(key), " ", make("span")), named(make("td", "num"), `account-${key}`));
+  };
   fillRows($("account"), open.account, build, (row, item) => {
     say(row.firstChild.lastChild, item.word);
     sayFine(row.lastChild, item.value, item.fine);
@@ -477,8 +493,8 @@ const form = { edited: new Set(), asked: 0 };   // what was typed stays
 function whyNoAnswer(open) {
   if (link.away) return "No answers: the page has lost the meter.";
   if (open.asks) return "";
-  const kind = shown.band?.kind;
-  return kind === "broken" ? "No answers while the feed is broken off." : kind === "reading" ? "No answers before the feed is read." : "No answers now.";
+  const reasons = { broken: "No answers while the feed is broken off.", reading: "No answers before the feed is read." };
+  return reasons[shown.band?.kind] ?? "No answers now.";
 }
 
 function paintForm(open) {
@@ -541,7 +557,8 @@ function sendAsk(event) {
   const fields = $("ask").elements, typed = name => fields[name].value.trim() || fields[name].placeholder || "";
   form.asked += 1;
   sayAnswer(null);   // emptied first, so that the same answer is announced again
-  socket.send(JSON.stringify({ ask: { n: form.asked, t: typed("t"), id: fields.id.value, price: typed("price"), volume: typed("volume") } }));
+  const ask = { n: form.asked, t: typed("t"), id: fields.id.value, price: typed("price"), volume: typed("volume") };
+  socket.send(JSON.stringify({ ask }));
 }
 
 // What was typed stays.
@@ -569,9 +586,11 @@ function startChart() {
   for (const key of KEYS) svg.append(parts.strip[key] = drawn("path", { fill: `url(#p-${key})` }));
   svg.append(parts.badges = drawn("g", { class: "badge" }));
   for (const side of ["ask", "bid"]) svg.append(parts[side] = drawn("path", { class: side }));
-  for (const [name, kind] of [["ticks", "tick"], ["latest", "dashed"], ["now", "heavy"], ["frame", "tick"]]) svg.append(parts[name] = drawn("path", { class: kind }));
+  const lines = { ticks: "tick", latest: "dashed", now: "heavy", frame: "tick" };
+  for (const [name, kind] of Object.entries(lines)) svg.append(parts[name] = drawn("path", { class: kind }));
   svg.append(parts.labels = drawn("g", {}));
   plot.parts = parts;
+  for (const side of ["bid", "ask"]) named(textFor(side), side);   // empty where there is none
 }
 
 // Where everything stands: x by the time, y by the price.
@@ -669,14 +688,19 @@ function piecesOf(columns) {
   return loneLapses(pieces);
 }
 
-// A short lapse that stands alone within a kept stretch is drawn in full height; where many follow one another their shares are.
+// A short lapse that stands alone within a kept stretch is drawn in full height, so that it is seen; where many follow one another their
+// shares are drawn. At most two columns that are not of one state, with kept ones or none on both sides, are such a lapse.
 function loneLapses(pieces) {
-  return pieces.map((piece, at) => {
-    const before = pieces[at - 1]?.state, two = pieces[at + 1]?.state === -1 ? pieces[at + 2] : pieces[at + 1];
-    const is_second = before === -1 && pieces[at - 2]?.state === 0 && pieces[at + 1]?.state === 0;
-    if (piece.state !== -1 || !((before === 0 && two?.state === 0) || is_second)) return piece;
-    return { ...piece, held: piece.held.filter(([state]) => state !== 0), is_lone: true };
-  });
+  for (let first = 0, next; first < pieces.length; first = next + 1) {
+    next = first;
+    while (pieces[next]?.state === -1) next++;
+    const is_alone = next > first && next - first <= 2 && !pieces[first - 1]?.state && !pieces[next]?.state;
+    for (const piece of is_alone ? pieces.slice(first, next) : []) {
+      const lost = piece.held.filter(([state]) => state !== 0);
+      Object.assign(piece, { held: lost, is_lone: true });
+    }
+  }
+  return pieces;
 }
 
 function box(x0, y0, x1, y1) {
@@ -775,31 +799,38 @@ function paintMarks(info, g) {
   put(parts.latest, "d", latest === null ? "" : `M${latest.toFixed(1)} ${g.top - 4}V${g.strip}${box(latest, g.strip, g.right, g.foot)}`);
 }
 
-// Each label with the places where it may stand, the best first: [x, y, anchor]. The first ones have the first choice.
+// Each label with the places where it may stand, the best first: [x, y, anchor, whether it may cross the line that it avoids]. The first
+// labels have the first choice.
 function labelsOf(info, g) {
-  const now = g.x(info.now), latest = info.latest && g.x(info.latest.at), labels = [];
-  const half = widthOf(info.now_text, "strong") / 2;
-  labels.push({ name: "now", kind: "strong", text: info.now_text, spots: [[Math.min(Math.max(now, half), g.width - half), 12, "middle"]] });
-  for (const side of ["ask", "bid"]) {
-    if (info[side]) labels.push({ name: side, kind: side, text: info[side].text, avoid: latest, spots: quoteSpots(now, g.y(info[side].price) + 5, side === "ask" ? -1 : 1, g) });
-  }
+  const now = g.x(info.now), latest = info.latest && g.x(info.latest.at), half = widthOf(info.now_text, "strong") / 2, labels = [];
+  const add = (name, kind, text, spots, avoid) => labels.push({ name, kind, text, spots, avoid });
+  add("now", "strong", info.now_text, [[Math.min(Math.max(now, half), g.width - half), 12, "middle"]]);
+  for (const side of ["ask", "bid"]) if (info[side]) add(side, side, info[side].text, quoteSpots(info, side, g), latest);
   if (latest !== null) {
-    const spots = [g.top + 8, g.bottom - 4, g.top + 26, g.bottom - 22].flatMap(y => [[latest + 6, y, "start"], [latest - 6, y, "end"], [g.width, y, "end"]]);
-    labels.push({ name: "latest", kind: "strong", text: info.latest.text, avoid: now, spots });
-    const inside = g.right - latest - 12 > widthOf("to be kept", "plain");
-    if (inside) labels.push({ name: "due", kind: "plain", text: "to be kept", spots: [[(latest + g.right) / 2, g.strip + 18, "middle"]] });
+    add("latest", "strong", info.latest.text, latestSpots(latest, g), now);
+    const is_wide = g.right - latest - 12 > widthOf("to be kept", "plain");
+    if (is_wide) add("due", "plain", "to be kept", [[(latest + g.right) / 2, g.strip + 18, "middle"]]);
   }
-  priceMarks(g).forEach((price, at) => labels.push({ name: `price-${at}`, kind: "plain", text: priceText(info, price), spots: [[g.left - 6, g.y(price) + 4, "end"]] }));
-  info.start.forEach(([at, text], k) => labels.push({ name: `hour-${k}`, kind: "plain", text, spots: hourSpots(g.x(at * info.length), text, g) }));
+  priceMarks(g).forEach((price, at) => add(`price-${at}`, "plain", priceText(info, price), [[g.left - 6, g.y(price) + 4, "end"]]));
+  info.start.forEach(([at, text], k) => add(`hour-${k}`, "plain", text, hourSpots(g.x(at * info.length), text, g)));
   return labels;
 }
 
+function latestSpots(x, g) {
+  const rows = [g.top + 8, g.bottom - 4, g.top + 26, g.bottom - 22], places = [[x + 6, "start"], [x - 6, "end"], [g.width, "end"]];
+  return [false, true].flatMap(may_cross => rows.flatMap(y => places.map(([at, anchor]) => [at, y, anchor, may_cross])));
+}
+
 // Behind the end of its line, moved away from the other quote's label as far as is needed; there it may cross the dashed line where
-// nothing else is free; before the line of now at the day's end, where there is no room behind it.
-function quoteSpots(now, y, way, g) {
-  const spots = [];
-  for (const [x, anchor, may_cross] of [[now + 6, "start", false], [now + 6, "start", true], [now - 6, "end", true]]) {
-    for (let step = 0; step <= 36; step += 4) spots.push([x, clampY(y + way * step, g), anchor, may_cross], [x, clampY(y - way * step, g), anchor, may_cross]);
+// nothing else is free. At the day's end, where there is no room behind it, above the ask's line and below the bid's.
+function quoteSpots(info, side, g) {
+  const now = g.x(info.now), y = g.y(info[side].price) + 5, way = side === "ask" ? -1 : 1, spots = [];
+  const room = Math.max(...["ask", "bid"].map(each => info[each] ? widthOf(info[each].text, each) : 0)) <= g.width - now - 6;
+  const sides = room ? [[now + 6, y, "start", false], [now + 6, y, "start", true]] : [[now - 6, y + way * 14, "end", true]];
+  for (const [x, first, anchor, may_cross] of sides) {
+    for (let step = 0; step <= 36; step += 4) {
+      for (const to of [way, -way]) spots.push([x, clampY(first + to * step, g), anchor, may_cross]);
+    }
   }
   return spots;
 }
@@ -849,7 +880,6 @@ function layLabels(labels, g) {
     put(text, "x", spot[0].toFixed(1));
     put(text, "y", spot[1].toFixed(1));
     put(text, "text-anchor", spot[2]);
-    if (label.name === "bid" || label.name === "ask") text.dataset.figure = label.name;
     say(text, label.text);
   }
   for (const [name, text] of plot.texts) if (!laid.has(name)) say(text, "");
@@ -867,8 +897,9 @@ function isFree(it, taken, line, g) {
 }
 
 function paintDay() {
-  const info = course.info, svg = $("chart"), width = svg.clientWidth;
-  if (!info || !width) return;
+  const svg = $("chart"), width = svg.clientWidth;
+  if (!course.info || !width) return;
+  const info = link.away ? { ...course.info, now_text: course.info.now_text.replace(/^now/, "last") } : course.info;
   const rough = columnsOf(info, course.buckets, Math.floor(width - 64)), g = geometry(info, rough, width);
   const columns = columnsOf(info, course.buckets, Math.max(1, Math.round(g.right - g.left)));
   put(svg, "viewBox", `0 0 ${width} ${g.height}`);
@@ -913,7 +944,8 @@ function startGrid() {
     const row = make("div", "row"), name = gridHead("rowheader", "name head", 0, at + 1);
     row.setAttribute("role", "row");
     name.setAttribute("aria-label", `expiry ${expiry}, quantum ${quantum}`);
-    name.append(make("span", "full", `expiry ${expiry}, quantum ${quantum}`), make("span", "brief", `e${expiry}`, make("br"), `q${quantum}`));
+    name.append(make("span", "full", `expiry ${expiry}, quantum ${quantum}`));
+    name.append(make("span", "brief", `e${expiry}`, make("br"), `q${quantum}`));
     row.append(name);
     for (let day = 1; day <= DAYS; day++) row.append(buildCell(day, at));
     $("grid").append(row);
@@ -1003,7 +1035,10 @@ function paintShownCell() {
   for (const [each, cell] of month.cells) put(cell, "aria-selected", each === id);
   say(figure("cell-head"), placeText(id).replace(/^d/, "D"));
   const rows = filled?.rows ?? [["verdict", "blank"]], kind = filled?.kind ?? "blank";
-  const build = at => make("tr", "", named(headCell(), `cell-${at}-word`), make("td", "num", signFor(kind), " ", named(make("span"), `cell-${at}`)));
+  const build = at => {
+    const value = make("td", "num", signFor(kind), " ", named(make("span"), `cell-${at}`));
+    return make("tr", "", named(headCell(), `cell-${at}-word`), value);
+  };
   fillRows($("cell-rows"), rows, build, (row, [word, value], at) => {
     say(row.firstChild, word);
     say(row.lastChild.lastChild, value);
@@ -1016,7 +1051,10 @@ function paintShownCell() {
 
 function paintFailed(failed) {
   say($("failed-h"), failed.length ? `Failed, against ${failed[0].of}` : "Failed");
-  const build = at => make("tr", "", headCell(), make("td", "share-of", make("span", "against", make("i"))), named(make("td", "num"), `failed-${at}`));
+  const build = at => {
+    const bar = make("td", "share-of", make("span", "against", make("i")));
+    return make("tr", "", headCell(), bar, named(make("td", "num"), `failed-${at}`));
+  };
   fillRows($("failed"), failed, build, (row, item) => {
     say(row.firstChild, item.word);
     place(row.children[1].firstChild.firstChild, "width", percent(item.fraction));
@@ -1045,21 +1083,30 @@ function choose(cell) {
   say($("cell-said"), [...$("cell-rows").children].map(row => row.textContent.replace(/\s+/g, " ")).join(", "));
 }
 
-// Arrows go by what is seen: in the turned grid days are below one another.
+// Where a key leads from a cell, as the places along the line and down the lines; arrows go by what is seen.
+function ledTo(event, along, down, most) {
+  const has_all = event.ctrlKey;
+  const moves = {
+    ArrowRight: [along + 1, down], ArrowLeft: [along - 1, down], ArrowDown: [along, down + 1], ArrowUp: [along, down - 1],
+    Home: [0, has_all ? 0 : down], End: [most[0], has_all ? most[1] : down],
+  };
+  return moves[event.key]?.map((at, k) => Math.min(most[k], Math.max(0, at)));
+}
+
+// In the turned grid days are below one another, and folded ones are passed over.
 function moveInGrid(event) {
   const cell = event.target.closest(".cell");
   if (!cell || event.altKey || event.metaKey) return;
+  const days = Array.from({ length: DAYS }, (_, at) => at + 1).filter(day => isSeen(String(day)));
   const [day, expiry, quantum] = cell.dataset.cell.split(",").map(Number);
-  const days = Array.from({ length: DAYS }, (_, at) => at + 1).filter(each => isSeen(`${each}`));
-  const at = { day: days.indexOf(day), series: SERIES.findIndex(([e, q]) => e === expiry && q === quantum) };
-  const [along, down] = turned.matches ? ["series", "day"] : ["day", "series"], most = { day: days.length - 1, series: SERIES.length - 1 };
-  const moves = { ArrowRight: [along, at[along] + 1], ArrowLeft: [along, at[along] - 1], ArrowDown: [down, at[down] + 1], ArrowUp: [down, at[down] - 1], Home: [along, 0], End: [along, most[along]] };
-  const move = moves[event.key];
-  if (!move) return;
+  const series = SERIES.findIndex(([e, q]) => e === expiry && q === quantum);
+  const places = [days.indexOf(day), series], most = [days.length - 1, SERIES.length - 1];
+  if (turned.matches) [places, most].forEach(each => each.reverse());
+  const led = ledTo(event, ...places, most);
+  if (!led) return;
   event.preventDefault();
-  at[move[0]] = Math.min(most[move[0]], Math.max(0, move[1]));
-  if (event.ctrlKey && ["Home", "End"].includes(event.key)) at[down] = event.key === "Home" ? 0 : most[down];
-  month.at = cellId([days[at.day], ...SERIES[at.series]]);
+  if (turned.matches) led.reverse();
+  month.at = cellId([days[led[0]], ...SERIES[led[1]]]);
   settleStop();
   month.cells.get(month.at).focus();
 }
@@ -1082,8 +1129,8 @@ function lose(head, title) {
 function connect() {
   clearTimeout(retry);
   if (socket) return;
-  const base = (location.protocol === "https:" ? "wss://" : "ws://") + location.host, mine = new WebSocket(`${base}/live${location.search}`);
-  socket = mine;
+  const base = (location.protocol === "https:" ? "wss://" : "ws://") + location.host;
+  const mine = socket = new WebSocket(`${base}/live${location.search}`);
   heard_at = Date.now();
   silence = setInterval(minding, 1_000);
   mine.addEventListener("message", event => {
@@ -1147,9 +1194,9 @@ function seenOrHidden() {
 // ---------------------------------------------------------------- start
 
 const PAINTERS = [
-  ["differs", paintDiffers], ["head", paintHead], ["band", paintBand], ["state", paintState], ["readings", paintReadings], ["feed", paintFeed],
-  ["alert", paintAlert], ["open", paintOpen], ["stretches", paintStretches], ["day", paintDay], ["problems", paintProblems],
-  ["month", paintMonth], ["answer", paintAnswer],
+  ["differs", paintDiffers], ["head", paintHead], ["band", paintBand], ["state", paintState], ["readings", paintReadings],
+  ["feed", paintFeed], ["alert", paintAlert], ["open", paintOpen], ["stretches", paintStretches], ["day", paintDay],
+  ["problems", paintProblems], ["month", paintMonth], ["answer", paintAnswer],
 ];
 
 function start() {
