@@ -16,7 +16,7 @@ ROOT = Path(__file__).resolve().parent.parent
 sys.path[:0] = [str(ROOT), str(ROOT / "python")]
 
 from quoting import calls as c
-from quoting import fix, reading
+from quoting import fix, inputs, reading
 from quoting.events import Tick
 from quoting.reading import PLAIN, Options, TextError
 from quoting.statement import sources
@@ -326,7 +326,9 @@ def check_missing(folder):
     log = str(PROGRAMMES / "brent.log")
     raises(FileNotFoundError, lambda: MessagesFeed(log, path, PLAIN, None, FeedClock(), True))
     raises(FileNotFoundError, lambda: MessagesFeed(path, log, PLAIN, None, FeedClock(), True))
-    raises(TextError, lambda: MessagesFeed("-", "-", PLAIN, None, FeedClock(), True), "can't both be standard input")
+    raises(inputs.WrongUse, lambda: MessagesFeed("-", "-", PLAIN, None, FeedClock(), True), "can't both be standard input")
+    packed = Steps(folder, data=c.block(c.Report())).path
+    raises(TextError, lambda: MessagesFeed(log, str(packed), PLAIN, None, FeedClock(), True), "and these are bytes")
     raises(ValueError, lambda: MessagesFeed(log, log, PLAIN, "10:00", FeedClock(), True), "is not a time")
 
 
@@ -594,6 +596,7 @@ def check_listed_later(folder):
     assert month.listed("\n") == ["line 3", "log: line 1"] and month.feed.passed_over == 2
     assert month.more(message(4, "10:00:09.000")) == ["log: line 4"], "it stays open while nothing is listed behind it"
     assert month.listed("close 1 2\n") == ["line 4"]
+    assert month.feed.count == month.list.stat().st_size + month.log.stat().st_size
     month = Month(folder, f"{OPEN}\nclose 1 2\n", start="20261102-10:00:00.000")
     assert month.more(message(1, "09:59:59.000"), message(2, "10:00:01.000", "B")) == [in_none(1), "line 1", "log: line 2"]
     assert month.more(message(3, "10:00:11.000")) == ["line 2"]
@@ -624,6 +627,11 @@ def check_saved_anew(folder):
     assert month.read() == ["line 5"]
     changed = replaced(first.replace("day 1", "day 2") + "close 3 4\nreport\nreport\n")
     assert [each if isinstance(each, str) else each[0] for each in changed] == ["list: line 3", "line 6"], changed
+    same = first.replace("day 1", "day 2") + "close 3 4\nreport\nreport\n"
+    month.list.write_text("# in place, and longer\n" * 10 + same + "report\n")
+    assert [each if isinstance(each, str) else each[0] for each in month.read()] == ["list: line 13", "line 17"]
+    month.list.write_text(same + "report\nreport\n")
+    assert [each if isinstance(each, str) else each[0] for each in month.read()] == ["list: line 3", "line 8"], "in place, and shorter"
     month.list.unlink()
     assert month.read() + month.read() == [("list", "the file has gone away; it is opened again when it is there")]
 
@@ -786,18 +794,38 @@ def check_clocks():
     time.tzset()
 
 
+def check_listed_by_pipe(folder):
+    """A finished list that comes through a pipe is read to its end before the log is."""
+    path = Path(folder) / "calls"
+    os.mkfifo(path)
+    log = Steps(folder, "log", log_of(message(1, "10:00:01.000")))
+    feed = MessagesFeed(str(log.path), str(path), PLAIN, None, FeedClock(), False)
+    assert drained(feed) == [] and feed.ended is None
+    with open(path, "w") as into:
+        into.write("report\n")
+        into.flush()
+        assert drained(feed) == [] and feed.ended is None
+        into.write(quantum("10:00:00.000").rstrip())
+    assert [item.place for item in drained(feed)] == ["line 1", "line 3", f"{log.path}: line 1", "line 4"] and feed.ended == "end"
+
+
+def cost(feed):
+    """Microseconds of work an item."""
+    began = time.process_time()
+    count = len(drained(feed))
+    assert count >= 3_000
+    return (time.process_time() - began) * 1_000_000 / count
+
+
 def check_cost(folder):
-    """At most 50 microseconds of work a line, of calls and of messages."""
-    lines = "".join(f"amend {t} {t % 50} {8_400 + t % 90} 1200\n" for t in range(10_000))
-    feed = Steps(folder, data=lines.encode()).feed()
-    month = Month(folder, quantum("10:00:00.000"), log_of(*(message(id, f"10:00:0{id // 1_000}.{id % 1_000:03}") for id in range(10_000))))
-    costs = []
-    for each in (feed, month.feed):
-        began = time.process_time()
-        assert len(drained(each)) >= 10_000
-        costs.append((time.process_time() - began) * 100)
-    assert max(costs) < 50, costs
-    return costs
+    """At most 50 microseconds of work a line, of calls and of messages at a month's end: the least of three times, since others work beside."""
+    lines = "".join(f"amend {t} {t % 50} {8_400 + t % 90} 1200\n" for t in range(3_000))
+    before = "".join(quantum(f"0{hour}:00:00.000").replace("1102-", f"10{day}-") for day in range(10, 32) for hour in range(8))
+    log = log_of(*(message(id, f"10:00:0{id // 1_000}.{id % 1_000:03}") for id in range(3_000)))
+    calls = min(cost(Steps(folder, data=lines.encode()).feed()) for _ in range(3))
+    messages = min(cost(Month(folder, before + quantum("10:00:00.000"), log).feed) for _ in range(3))
+    assert calls < 50 and messages < 50, (calls, messages)
+    return calls, messages
 
 
 def main():
@@ -814,6 +842,7 @@ def main():
         check_any_months(folder, random.Random(4))
         for check in (check_time, check_clock, check_listed_later, check_saved_anew, check_log_ends, check_playing, check_playing_clock):
             check(folder)
+        check_listed_by_pipe(folder)
         check_played_months()
         check_clocks()
         costs = check_cost(folder)

@@ -147,6 +147,11 @@ class Growing:
         self.place = self.size = os.lseek(self.descriptor, 0 if self.anew else size, os.SEEK_SET)
         return Turn("cut", text, self.place, 1 + line_ends(self.descriptor, self.place))
 
+    def again(self) -> None:
+        """What comes next is the file's beginning."""
+        self.count -= self.place
+        self.place = os.lseek(self.descriptor, 0, os.SEEK_SET)
+
     def of_name(self) -> Optional[Turn]:
         """At the end of the file that is read: whether its name is another file by now. A new one without bytes may not have its writer yet,
         who still writes to the old one; and once it has some, the old one is read to its end again."""

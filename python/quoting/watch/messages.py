@@ -6,14 +6,15 @@ list comes when the time seen is past the quantum's end. Time is seen by the mes
 log is read whole first, so that its calls are those of the statement whatever the order of its messages.
 """
 
-from collections import deque
+import os
+from collections import defaultdict, deque
 from dataclasses import dataclass, field
-from datetime import datetime, timedelta
+from datetime import date, datetime, timedelta
 from itertools import chain, islice
 from typing import Iterator, Optional, Union
 
 from quoting import calls as c
-from quoting import fix, logs, reading
+from quoting import fix, inputs, logs, reading
 from quoting.reading import STANDARD, Options
 from quoting.statement.sources import SYMBOL, Sent, Span, span_of, time_of
 from quoting.watch.clocks import Clock
@@ -21,6 +22,7 @@ from quoting.watch.feeds import MOST_ITEMS, Growing, Item, Line, Lines, ListLine
 
 GRACE = timedelta(seconds=5)  # by which a log may be behind the clock at a quantum's end
 MOST_KEPT = 100_000  # messages in no quantum, kept for opens that are listed later
+SHORT_LIST = 65_536  # bytes of a list that is read anew when it has changed
 IN_NONE = "this message is in no quantum of the list; others like it are counted and not shown"
 LATE = "this message came when its quantum was past and the list had gone on; it is not counted"
 CHANGED = "the list was written anew, and this is not the call that was read here before; what was read stays, and calls behind it are taken"
@@ -64,13 +66,16 @@ class Call:
 
 
 class ListFile:
-    """The list of opens and closes. Whoever adds a close may save it from an editor, as another file or cut and written again: the calls
-    that were read before are passed over then."""
+    """The list of opens and closes. Whoever adds a close may save it from an editor, as another file, or cut and written again, with lines put
+    in above: so it is read from its beginning whenever it has changed, and the calls that were read before are passed over."""
 
     def __init__(self, name: str, options: Options, follow: bool) -> None:
         self.name, self.options = name, options
         self.growing = Growing(name, follow, anew=True)
+        if self.growing.regular and b"\0" in os.pread(self.growing.descriptor, 4, 0):
+            raise reading.failed(BYTES, name)
         self.calls: list[Call] = []
+        self.idle = False  # it was read as far as it went
         self.begin()
 
     def begin(self) -> None:
@@ -81,9 +86,16 @@ class ListFile:
     def read(self) -> Optional[Iterator[Union[Call, Trouble]]]:
         """The next calls; None where there is nothing now."""
         piece = self.growing.read()
+        changed, self.idle = self.idle and piece is not None, piece is None
         if piece is None:
             return None
-        return self.turned(piece) if isinstance(piece, Turn) else self.taken(of_lines(self.text, self.lines.take(piece)))
+        if isinstance(piece, Turn):
+            return self.turned(piece)
+        if changed and self.growing.regular and self.growing.place < SHORT_LIST:
+            self.growing.again()
+            self.begin()
+            return iter(())
+        return self.taken(of_lines(self.text, self.lines.take(piece)))
 
     def taken(self, items: Iterator[Item]) -> Iterator[Union[Call, Trouble]]:
         for item in items:
@@ -117,13 +129,13 @@ class MessagesFeed:
 
     def __init__(self, log: str, calls_file: str, options: Options, start: Optional[str], clock: Clock, follow: bool) -> None:
         if log == calls_file == STANDARD:
-            raise reading.failed("the log and the list can't both be standard input")
+            raise inputs.WrongUse("the log and the list can't both be standard input")
         if start is not None:
             fix.moment(start)
         self.name, self.start, self.clock, self.follow = log, start, clock, follow
         self.list, self.log, self.lines = ListFile(calls_file, options, follow), Growing(log, follow), Lines()
         self.queue: deque[tuple[Sent, Optional[Quantum]]] = deque()  # of the list, still to come
-        self.quanta: list[Quantum] = []
+        self.days: dict[date, list[Quantum]] = defaultdict(list)  # the quanta of each day, in the list's order
         self.current: Optional[Quantum] = None
         self.before: Optional[Quantum] = None  # where the last message went
         self.seen: Optional[datetime] = None
@@ -191,7 +203,9 @@ class MessagesFeed:
             return
         quantum = Quantum(span_of(start, call.symbol, opened))
         self.queue.append((Sent(sent.block, sent.place, start), quantum))
-        self.quanta.append(quantum)
+        begins, ends = quantum.span.begins.date(), quantum.span.ends.date()
+        for day in range((ends - begins).days + 1):
+            self.days[begins + timedelta(days=day)].append(quantum)
         waiting, self.unplaced = self.unplaced, deque(maxlen=MOST_KEPT)
         for message in waiting:
             if quantum.takes(message):
@@ -222,7 +236,7 @@ class MessagesFeed:
     def message(self, line: int, data: bytes) -> Iterator[Item]:
         symbol = SYMBOL.search(data)
         message = Unplaced(line, data, time_of(data), symbol[1] if symbol else None)
-        quantum = self.before if message.time is None else next((each for each in self.quanta if each.takes(message)), None)
+        quantum = self.before if message.time is None else self.quantum_of(message, message.time)
         if message.time is not None and is_sound(data):
             self.seen = max(message.time, self.seen or message.time)
         if quantum is None:
@@ -236,6 +250,10 @@ class MessagesFeed:
         else:
             self.place(message, quantum)
         yield from self.due()
+
+    def quantum_of(self, message: Unplaced, time: datetime) -> Optional[Quantum]:
+        """The first of the list that takes it."""
+        return next((each for each in self.days.get(time.date(), ()) if each.takes(message)), None)
 
     def place(self, message: Unplaced, quantum: Quantum) -> None:
         quantum.messages.append((f"{self.name}: line {message.line}", message.data))
