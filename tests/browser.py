@@ -31,7 +31,7 @@ class Served:
 
     def __init__(self, *words, tree=ROOT):
         pipes = {"stdin": subprocess.PIPE, "stdout": subprocess.PIPE, "stderr": subprocess.PIPE}
-        self.process = subprocess.Popen([tree / "quoting", "watch", *map(str, words), "--port", "0"], preexec_fn=heeds_interrupts, **pipes)
+        self.process = subprocess.Popen([tree / "quoting", "watch", *map(str, words), "--port", "0"], cwd=ROOT, preexec_fn=heeds_interrupts, **pipes)
         assert select.select([self.process.stdout], [], [], PATIENCE)[0], "the command says nothing"
         line = self.process.stdout.readline().decode()
         found = LINK.fullmatch(line)

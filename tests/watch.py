@@ -10,6 +10,7 @@ import http.client
 import json
 import os
 import re
+import shlex
 import shutil
 import signal
 import subprocess
@@ -116,10 +117,14 @@ def hold_open(seen, report, outlook):
     accounts = [reading.time(seen[f"account-{key}"]) for key in ("kept", "nobid", "noask", "neither", "crossed", "wide")]
     assert sum(accounts) == report.time, (accounts, report)
     need, full = int(outlook["need"]), outlook["full"]
-    assert seen["ahead-0"] in ("nothing",) if need == 0 else reading.time(seen["ahead-0"]) == need or outlook["lost"] == "yes", (seen["ahead-0"], outlook)
-    assert seen["ahead-1"] == {"0": "nothing", "never": "out of reach"}.get(full, seen["ahead-1"]), (seen["ahead-1"], outlook)
-    assert full in ("0", "never") or reading.time(seen["ahead-1"]) == int(full), (seen["ahead-1"], outlook)
+    assert needed(seen["ahead-0"]) == (need if need <= int(outlook["left"]) else None), (seen["ahead-0"], outlook)
+    assert needed(seen["ahead-1"]) == (None if full == "never" else int(full)), (seen["ahead-1"], outlook)
     hold_band(seen, report, outlook)
+
+
+def needed(text):
+    """Milliseconds that are still needed; None where they can't be had."""
+    return {"nothing": 0, "out of reach": None}[text] if text in ("nothing", "out of reach") else reading.time(text)
 
 
 def hold_band(seen, report, outlook):
@@ -156,7 +161,7 @@ def check_played(page):
         assert hold(seen, blocks) == reading.time("0:20:00") and calls_read(seen) == len(blocks), seen
         assert seen["cells"]["1,1,2"] == "met" and seen["cells"]["2,1,2"] == "open", seen["cells"]
         assert len(seen["problems"]) == 2 and "line 11" in seen["problems"][0] and "refused 8" in seen["problems"][0], seen["problems"]
-        page.until("both agree on all", lambda seen: seen["readings"] == "Both readings agree" and f"all {len(blocks)} calls" in seen["readings-text"])
+        page.until("both agree on all", lambda seen: (seen["readings_kind"], f"all {len(blocks)} calls" in seen["readings-text"]) == ("agree", True))
         page.shoot("end")
         check_keyboard(page)
         page.leave()
@@ -307,11 +312,13 @@ def check_silent():
 
 # ---------------------------------------------------------------- both readings
 
+# An edit of the recount, the last call that is sent, the call that is named, what differs. No answer shows the first, nothing but an answer
+# the second.
 EDITS = [
     # locked quotes are kept: they differ once time has gone by at them, behind an agreement on what was before
-    ("return gap >= 1 and narrow", "return gap >= 0 and narrow", "amend 2:12:00 1 8449 1000", "≠ kept"),
+    ("return gap >= 1 and narrow", "return gap >= 0 and narrow", "tick 4:30:00", "amend 2:12:00 1 8449 1000", "≠ kept"),
     # another event at the same time is refused for its time, and not since its order is not there
-    ("if event.t < quoting.time:", "if event.t <= quoting.time and quoting.events:", "cancel 0:55:00 9", "≠ answer"),
+    ("if event.t < quoting.time:", "if event.t <= quoting.time and quoting.events:", "cancel 0:55:00 9", "cancel 0:55:00 9", "≠ answer"),
 ]
 
 
@@ -332,32 +339,29 @@ def check_differs(page):
             page.until("no recount", lambda seen: (seen["readings"], seen["readings_kind"]) == ("The recount is not here", "absent"))
             page.leave()
         shutil.copytree(ROOT / "recount", folder / "recount")
-        book = (folder / "recount" / "book.py").read_text()
-        for old, new, call, word in EDITS:
-            assert book.count(old) == 1, old
-            (folder / "recount" / "book.py").write_text(book.replace(old, new))
-            check_red(page, folder, call, word)
+        book_text = (folder / "recount" / "book.py").read_text()
+        for old, new, *told in EDITS:
+            assert book_text.count(old) == 1, old
+            (folder / "recount" / "book.py").write_text(book_text.replace(old, new))
+            check_red(page, folder, *told)
 
 
-def check_red(page, folder, call, word):
+def check_red(page, folder, last, call, word):
     lines = [line.split("#")[0].strip() for line in EXAMPLE.read_text().splitlines()]
-    at, calls = lines.index(call), [line for line in lines if line]
-    first = "\n".join(lines[: at - 3]) + "\n"
+    at, numbers = lines.index(call), [at for at, line in enumerate(lines) if line]
+    before, due = sum(number < at - 3 for number in numbers), numbers.index(at) + 1
     with Served("--calls", "-", "--silence", "0", tree=folder) as served:
         page.visit(served.link)
-        served.send(first)
-        agreed = len([line for line in lines[: at - 3] if line])
-        if word == "≠ kept":
-            page.until("agreement so far", lambda seen: f"all {agreed} calls" in seen["readings-text"])
-        served.send("\n".join(lines[at - 3 :]) + "\n")
+        served.send("\n".join(lines[: at - 3]) + "\n")
+        page.until("agreement so far", lambda seen: f"all {before} calls" in seen["readings-text"])
+        served.send("\n".join(lines[at - 3 : lines.index(last) + 1]) + "\n")
         seen = page.until("the red page", lambda seen: seen["is_red"] and "looked for" not in seen["stop-text"])
-        due = calls.index(call) + 1
         assert seen["band"] == "stop" and seen["band-head"] == "Stop: readings differ" and seen["all_hidden"], seen
         assert f"Call {due}, line {at + 1}: {call.split()[0]}" in seen["stop-text"], (seen["stop-text"], due)
-        unlike = [row[0] for row in seen["stop"] if row[-1] == "false"]
-        assert word in unlike and all(row[1] != row[2] for row in seen["stop"] if row[-1] == "false"), seen["stop"]
-        assert word != "≠ kept" or f"last agreed on {agreed} calls" in seen["stop-text"], seen["stop-text"]
-        page.shoot("red-kept" if word == "≠ kept" else "red-answer", widths=(1280, 390) if word == "≠ kept" else (1280,), themes=("light",))
+        assert f"last agreed on {before} calls" in seen["stop-text"], seen["stop-text"]
+        unlike = [row for row in seen["stop"] if row[-1] == "false"]
+        assert word in [row[0] for row in unlike] and all((row[1] != row[2]) == (row in unlike) for row in seen["stop"]), seen["stop"]
+        page.shoot(f"red-{word[2:]}", themes=("light",))
         page.leave()
 
 
@@ -431,7 +435,7 @@ def check_many(page):
             page.until("this page too", lambda seen: seen["state_key"] == "kept" and seen["band"] != "away")
         assert not page.console()
         took = asyncio.run(run())
-        assert took < 1, f"Ctrl-C took {took:.2f} s"
+        assert took < 2, f"Ctrl-C took {took:.2f} s"
         page.until("the meter is lost", lambda seen: seen["band"] == "away")
         for handle in handles[1:]:
             page.driver.switch_to.window(handle)
@@ -465,14 +469,19 @@ async def turned_away(served, **more):
 
 
 async def closing_code(served, *messages):
+    """The code by which the server closes a WebSocket on which this was sent."""
     async with connect(served) as page:
-        for message in messages:
-            await page.send(message)
         try:
-            while True:
-                await asyncio.wait_for(page.recv(), browser.PATIENCE)
+            for message in messages:
+                await page.send(message)
+            await asyncio.wait_for(read_on(page), browser.PATIENCE)
         except websockets.exceptions.ConnectionClosed as closed:
             return closed.code
+
+
+async def read_on(page):
+    while True:
+        await page.recv()
 
 
 def ask(n, t="0:00:05"):
@@ -497,15 +506,20 @@ def check_strangers():
     with Served("--calls", "-", "--silence", "0") as served:
         served.send(OPEN + QUOTES)
         here = f"127.0.0.1:{served.port}"
-        for host, status in [(here, 200), (f"localhost:{served.port}", 200), ("127.0.0.1", 421), (f"example.org:{served.port}", 421), (f"{here}.org", 421)]:
+        others = ["127.0.0.1", f"example.org:{served.port}", f"{here}.org", "127.0.0.1:1"]
+        for host, status in [(here, 200), (f"localhost:{served.port}", 200), *((other, 421) for other in others)]:
             assert asked(served, Host=host)[0] == status, host
-        for method, path, status in [("HEAD", "/", 200), ("GET", "/page.js", 200), ("GET", "/page.css", 200), ("POST", "/", 405), ("PUT", "/page.js", 405),
-                                     ("GET", "/live", 404), ("GET", "/server.py", 404), ("GET", "/../server.py", 404), ("GET", "/index.html", 404)]:
-            assert asked(served, method, path)[0] == status, (method, path, asked(served, method, path)[0])
+        for status, method, *paths in [
+            (200, "GET", "/", "/page.js", "/page.css"), (200, "HEAD", "/"), (405, "POST", "/"), (405, "PUT", "/page.js"), (405, "DELETE", "/page.css"),
+            (404, "GET", "/live", "/server.py", "/../server.py", "/%2e%2e/server.py", "/index.html"),
+        ]:
+            assert [asked(served, method, path)[0] for path in paths] == [status] * len(paths), (method, paths)
         _, headers, _ = asked(served)
-        assert headers["Content-Security-Policy"].startswith("default-src 'none'; script-src 'self'; ") and "unsafe" not in headers["Content-Security-Policy"]
+        policy = headers["Content-Security-Policy"]
+        assert policy.startswith("default-src 'none'; script-src 'self'; ") and "unsafe" not in policy, policy
         assert (headers["X-Content-Type-Options"], headers["Referrer-Policy"], headers["Cache-Control"]) == ("nosniff", "no-referrer", "no-store")
-        assert [asyncio.run(turned_away(served, origin=name)) for name in (origin(served), "http://example.org", "null", None)] == [None, 403, 403, 403]
+        names = [origin(served), "http://example.org", "null", None]
+        assert [asyncio.run(turned_away(served, origin=name)) for name in names] == [None, 403, 403, 403]
         upgrade = {"Upgrade": "websocket", "Connection": "Upgrade", "Sec-WebSocket-Key": "x" * 22 + "==", "Sec-WebSocket-Version": "13"}
         assert asked(served, path="/live", Host="example.org", Origin="http://example.org", **upgrade)[0] == 403
         assert asked(served, path="/live", Host=f"example.org:{served.port}", Origin=origin(served), **upgrade)[0] == 403
@@ -523,7 +537,8 @@ def check_token():
     with Served("--calls", EXAMPLE, "--no-follow", "--listen", "127.0.0.1") as served:
         token = re.fullmatch(r"http://127\.0\.0\.1:\d+/\?token=(\S{20,})", served.link)[1]
         for path in ("/", "/page.js", "/page.css"):
-            assert [asked(served, path=f"{path}{query}")[0] for query in ("", "?token=", f"?token={token[:-1]}", f"?token={token}")] == [403, 403, 403, 200], path
+            queries = ["", "?token=", f"?token={token[:-1]}", f"?token={token}"]
+            assert [asked(served, path=path + query)[0] for query in queries] == [403, 403, 403, 200], path
         body = asked(served, path=f"/?token={token}")[2].decode()
         assert f'"page.js?token={token}"' in body and f'"page.css?token={token}"' in body
         assert asyncio.run(turned_away(served)) == 403
@@ -606,23 +621,44 @@ def meter_share():
 # ---------------------------------------------------------------- the command
 
 
+WRONG = [
+    (2, "--calls FILE or --fix LOG is needed", []),
+    (2, "not both", ["--calls", EXAMPLE, "--fix", "x"]),
+    (2, "--fix LOG and --open FILE go together", ["--fix", "x"]),
+    (2, "standard input goes with --calls", ["--fix", "-", "--open", EXAMPLE]),
+    (2, "a speed is above 0", ["--calls", EXAMPLE, "--replay", "0"]),
+    (2, "--replay plays a finished file", ["--calls", EXAMPLE, "--replay", "9", "--follow"]),
+    (2, "--clock goes without --replay", ["--calls", EXAMPLE, "--replay", "9", "--clock", "feed"]),
+    (2, "--start", ["--calls", EXAMPLE, "--start", "25:99"]),
+    (2, "--start", ["--fix", "x", "--open", "y", "--start", "10:00:00"]),
+    (2, "is not a port", ["--calls", EXAMPLE, "--port", "65536"]),
+    (2, "is not a number", ["--calls", EXAMPLE, "--silence", "-1"]),
+    (1, "no-such.calls: No such file or directory", ["--calls", "no-such.calls"]),
+    (1, "no.log: No such file or directory", ["--fix", "no.log", "--open", EXAMPLE]),
+    (1, "Is a directory", ["--calls", ROOT]),
+    (1, "192.0.2.1, port", ["--calls", EXAMPLE, "--listen", "192.0.2.1"]),
+]
+
+
 def check_command():
-    """Wrong use and what is not there, as sentences."""
-    with Served("--calls", EXAMPLE, "--no-follow") as served:
-        taken = command.run("watch", "--calls", EXAMPLE, "--port", served.port)
-        assert taken.status == 1 and "Address already in use" in taken.complaint and "--port" in taken.complaint, taken
-    for words, status, said in [
-        ([], 2, "--calls FILE or --fix LOG is needed"), (["--calls", EXAMPLE, "--fix", "x"], 2, "not both"), (["--fix", "x"], 2, "--fix LOG and --open FILE go together"),
-        (["--calls", "no-such.calls"], 1, "no-such.calls: No such file or directory"), (["--calls", ROOT], 1, "Is a directory"),
-        (["--fix", "no.log", "--open", EXAMPLE], 1, "no.log: No such file or directory"), (["--calls", EXAMPLE, "--replay", "0"], 2, "a speed is above 0"),
-        (["--calls", EXAMPLE, "--replay", "9", "--follow"], 2, "--replay plays a finished file"), (["--calls", EXAMPLE, "--start", "25:99"], 2, "--start"),
-        (["--fix", "x", "--open", "y", "--start", "10:00:00"], 2, "--start"), (["--calls", EXAMPLE, "--port", "65536"], 2, "is not a port"),
-        (["--calls", EXAMPLE, "--listen", "192.0.2.1"], 1, "192.0.2.1, port"), (["--calls", EXAMPLE, "--silence", "-1"], 2, "is not a number"),
-    ]:
+    """Wrong use and what is not there, as sentences; the examples of the help."""
+    for status, said, words in WRONG:
         done = command.run("watch", *words, *([] if "--port" in words else ["--port", "0"]))
         assert done.status == status and said in done.complaint and "Traceback" not in done.complaint, (words, done)
-    shown = command.run("watch", "--help")
-    assert shown.status == 0 and "examples:" in shown.printed, shown
+    sys.modules["uvicorn"], before = None, sys.modules.get("uvicorn")
+    try:
+        done = command.run("watch", "--calls", EXAMPLE)
+        assert done.status == 1 and "apt-get install python3-uvicorn\n" in done.complaint, done
+    finally:
+        sys.modules["uvicorn"] = before
+        if before is None:
+            del sys.modules["uvicorn"]
+    examples = re.findall(r"^  quoting watch (.*examples/.*)$", command.run("watch", "--help").printed, re.M)
+    assert len(examples) == 2, examples
+    for line_ in examples:
+        with Served(*shlex.split(line_)) as served:
+            taken = command.run("watch", "--calls", EXAMPLE, "--port", served.port)
+            assert taken.status == 1 and "Address already in use; --port names another" in taken.complaint, taken
 
 
 def check_restarted(page):

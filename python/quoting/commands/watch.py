@@ -21,6 +21,7 @@ examples:
 import argparse
 import secrets
 from importlib import import_module
+from importlib.util import find_spec
 from pathlib import Path
 from typing import Any
 
@@ -65,11 +66,12 @@ def add(parser: argparse.ArgumentParser) -> None:
         "--start", metavar="TIME", help="with --calls the quantum's start, H:MM:SS: times h:mm:ss are a wall clock's; "
         "with --fix the start, YYYYMMDD-HH:MM:SS.sss, of an open without a line of its own")
     parser.add_argument("--step", type=inputs.step_of, metavar="STEP", help="prices are decimals, in steps of STEP, as 0.01")
-    parser.add_argument("--follow", action=argparse.BooleanOptionalAction, help="go on as the feed grows (the default), or read it to its end")
+    parser.add_argument(
+        "--follow", action=argparse.BooleanOptionalAction, help="go on as the feed grows (the default), or read it to its end")
     parser.add_argument("--replay", type=speed_of, metavar="SPEED", help="play a finished file at SPEED times its own pace")
     parser.add_argument(
-        "--clock", choices=("feed", "wall"), help="what now is: the last event's time and what has gone since it came, or the machine's clock; "
-        "by default the machine's where the date of a quantum's start is known and the feed is followed, else the feed's")
+        "--clock", choices=("feed", "wall"), help="what now is: the last event's time and what has gone since it came, or the machine's "
+        "clock; by default the machine's where the date of a quantum's start is known and the feed is followed, else the feed's")
     parser.add_argument(
         "--silence", type=number_of, default=60.0, metavar="SECONDS", help="how long a feed may be silent in an open quantum before "
         "the page calls it broken off (60; 0: as long as it likes)")
@@ -138,13 +140,10 @@ def name_of(args: argparse.Namespace) -> str:
 
 
 def server() -> Any:
-    try:
-        return import_module("quoting.watch.server")
-    except ImportError as error:
-        package = PACKAGES.get(str(error.name).split(".")[0])
-        if package is None:
-            raise
-        raise Missing(f"watch needs {error.name}: apt-get install {' '.join(PACKAGES.values())}") from None
+    missing = [name for name in PACKAGES if find_spec(name) is None]
+    if missing:
+        raise Missing(f"watch needs {', '.join(missing)}: apt-get install {' '.join(PACKAGES[name] for name in missing)}")
+    return import_module("quoting.watch.server")
 
 
 def run(args: argparse.Namespace) -> int:

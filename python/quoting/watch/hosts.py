@@ -8,8 +8,9 @@ Both are seen in what the browser sends along: Host and Origin.
 ('http://127.0.0.1:8470/', [True, True, False, False])
 >>> door.takes_origin("http://localhost:8470"), door.takes_origin("http://example.org"), door.takes_origin(None)
 (True, False, False)
->>> Door("192.0.2.7", 80, "secret").takes_host("192.0.2.7"), door.takes_token(b""), Door("192.0.2.7", 80, "secret").takes_token(b"token=other")
-(True, True, False)
+>>> other = Door("192.0.2.7", 80, "secret")
+>>> other.link, other.takes_host("192.0.2.7"), door.takes_token(b""), other.takes_token(b"token=other"), other.takes_token(b"token=secret")
+('http://192.0.2.7/?token=secret', True, True, False, True)
 """
 
 import hmac

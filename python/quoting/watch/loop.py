@@ -122,7 +122,8 @@ class Watch:
     def ask(self, t: str, id: str, price: str, volume: str) -> dict[str, Any]:
         """The answer to an ask, on a copy of the month."""
         status = self.status()
-        return self.meter.ask(t, id, price, volume, self.meter.now_at(self.clock), status.feed not in ("broken", "reading") and not status.differs)
+        is_known = status.feed not in ("broken", "reading") and not status.differs
+        return self.meter.ask(t, id, price, volume, self.meter.now_at(self.clock), is_known)
 
     def end(self) -> None:
         self.recount.end()

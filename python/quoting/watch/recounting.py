@@ -147,14 +147,16 @@ class Recounting:
     def readings(self, now: float) -> dict[str, str]:
         """The section `readings`."""
         if self.kind == "absent":
-            return {"kind": "absent", "head": "The recount is not here", "text": "it stands in the tree and is not part of an installed package"}
+            why = "it stands in the tree and is not part of an installed package"
+            return {"kind": "absent", "head": "The recount is not here", "text": why}
         if self.kind == "stopped":
             until = f"; both agreed on {counted_calls(self.agreed)}" if self.agreed_at else ""
             return {"kind": "absent", "head": "The recount has stopped", "text": f"{self.why}{until}"}
         if self.kind == "waiting":
             return {"kind": "waiting", "head": "The recount is at work", "text": f"{counted_calls(self.sent)}, none compared so far"}
         which = "all " if self.agreed == self.sent else ""
-        return {"kind": "agree", "head": "Both readings agree", "text": f"on {which}{counted_calls(self.agreed)}, {ago(now - self.agreed_at)} ago"}
+        text = f"on {which}{counted_calls(self.agreed)}, {ago(now - self.agreed_at)} ago"
+        return {"kind": "agree", "head": "Both readings agree", "text": text}
 
     def differs(self) -> Optional[dict[str, Any]]:
         """The section `differs`."""

@@ -38,7 +38,6 @@ MOST_BYTES = 1_024  # of a message from a page
 MOST_SIGNS = 64  # of a field of an ask
 ASKS, FLOOD = 10, 100  # asks in a second that are answered; messages in a second at which a page is shut out
 UNREAD, UNWANTED, TOO_MANY = 1003, 1008, 1013  # closing codes of a WebSocket
-GRACE = 0.25  # seconds for connections to close at the end
 
 
 class Unwanted(Exception):
@@ -153,7 +152,8 @@ class Client:
         if len(self.asked) == FLOOD and now - self.asked[0] < 1:
             raise Unwanted(UNWANTED)
         if sum(now - each < 1 for each in self.asked) > ASKS:
-            return {"n": asked["n"], "kind": "refused", "head": "Not asked", "lines": [f"At most {ASKS} asks a second are answered: ask again."]}
+            lines = [f"At most {ASKS} asks a second are answered: ask again."]
+            return {"n": asked["n"], "kind": "refused", "head": "Not asked", "lines": lines}
         return {"n": asked["n"], **self.watch.ask(asked["t"], asked["id"], asked["price"], asked["volume"])}
 
 
@@ -203,7 +203,8 @@ def bound(address: str, port: int) -> socket.socket:
         made.listen()
     except OSError as error:
         made.close()
-        raise ValueError(f"{address}, port {port}: {error.strerror or error}; --port names another, and --port 0 takes any that is free") from None
+        why = f"{address}, port {port}: {error.strerror or error}"
+        raise ValueError(f"{why}; --port names another, and --port 0 takes any that is free") from None
     return made
 
 
@@ -220,12 +221,9 @@ async def serve(watch: Watch, door: Door, listening: socket.socket) -> None:
         asyncio.get_running_loop().add_signal_handler(number, stopped.set)
     work: list[Awaitable[Any]] = [server.serve(sockets=[listening]), watch.read(), watch.show(), stopped.wait()]
     tasks = [asyncio.ensure_future(each) for each in work]
-    await asyncio.wait(tasks, return_when=asyncio.FIRST_COMPLETED)
-    server.should_exit = server.force_exit = True
-    await asyncio.wait(tasks[:1], timeout=GRACE)
-    for task in tasks:
-        if task.done():
-            task.result()  # raises what ended it, if it was an error
+    done, _ = await asyncio.wait(tasks, return_when=asyncio.FIRST_COMPLETED)
+    for task in done:
+        task.result()  # raises what ended it, if it was an error; the others are cancelled with the loop, and connections go with them
 
 
 def run(watch: Watch, door: Door, listening: socket.socket, say: Callable[[], None]) -> None:
