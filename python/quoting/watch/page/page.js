@@ -288,9 +288,8 @@ function paintFeed(feed) {
 function paintAlert(alert) {
   say($("said-alert"), alert ? ($("alert").hidden ? `A problem: ${alert.head}` : $("said-alert").textContent) : "");
   show($("alert"), Boolean(alert));
-  if (!alert) return;
-  say(figure("alert"), alert.head);
-  say(figure("alert-text"), alert.text);
+  say(figure("alert"), alert?.head);
+  say(figure("alert-text"), alert?.text);
 }
 
 // ---------------------------------------------------------------- the open quantum
@@ -348,7 +347,7 @@ function paintBar(bar) {
   layUnderLabels(bar, width);
 }
 
-const GAP = 8;   // between labels
+const GAP = 8, LINE = 17;   // between labels; from one line of labels to the next
 
 // Wordings of the required share's label and of the full weight's, from the fullest to the barest.
 const WORDINGS = [["", ""], ["brief", "brief"], ["brief", "bare"], ["bare", "bare"]];
@@ -577,6 +576,7 @@ function startForm() {
 
 // ---------------------------------------------------------------- the day
 
+const RARE = .05, MOST_CUT = 3;   // the share of the time that may be cut off, if it is so many times as far away as the rest is wide
 const plot = { parts: null, texts: new Map(), widths: new Map() };
 
 function startChart() {
@@ -595,18 +595,13 @@ function startChart() {
 
 // Where everything stands: x by the time, y by the price.
 function geometry(info, columns, width) {
-  const narrow = width < 500, height = narrow ? 330 : 430, left = axisRoom(info, columns), right = width - (narrow ? 12 : 20);
-  const strip = height - 62, g = { width, height, narrow, left, right, top: 22, bottom: height - 72, strip, foot: strip + 26 };
-  g.x = t => left + (right - left) * Math.min(1, Math.max(0, t / info.length));
-  const [low, high] = priceRange(columns);
-  Object.assign(g, { low, high });
-  g.y = price => g.bottom - (g.bottom - g.top) * (price - low) / (high - low);
+  const narrow = width < 500, height = narrow ? 330 : 430, strip = height - 62, scale = priceScale(columns, info);
+  const left = Math.max(44, 12 + 7.3 * Math.max(...[scale.low, scale.high].map(price => priceText(info, Math.round(price)).length)));
+  const g = { ...scale, width, height, narrow, left, right: width - (narrow ? 12 : 20), top: 22, bottom: height - 72, strip };
+  g.foot = strip + 26;
+  g.x = t => left + (g.right - left) * Math.min(1, Math.max(0, t / info.length));
+  g.y = price => g.bottom - (g.bottom - g.top) * Math.min(1, Math.max(0, (price - g.low) / (g.high - g.low)));
   return g;
-}
-
-function axisRoom(info, columns) {
-  const longest = Math.max(...priceRange(columns).map(price => priceText(info, Math.round(price)).length));
-  return Math.max(44, 12 + 7.3 * longest);
 }
 
 // A step of the price written in decimals; without one prices are whole numbers.
@@ -615,18 +610,22 @@ function priceText(info, price) {
   return info.step ? (price * Number(info.step)).toFixed(places) : String(price);
 }
 
-function priceRange(columns) {
-  let low = Infinity, high = -Infinity;
-  for (const column of columns) {
-    for (const quote of column ? [column.bid, column.ask] : []) {
-      if (quote.low === null) continue;
-      low = Math.min(low, quote.low);
-      high = Math.max(high, quote.high);
-    }
-  }
-  if (low > high) return [0, 1];
-  const spare = Math.max(2, (high - low) * .06);
-  return [low - spare, high + spare];
+// The prices that the chart spans. A quote far away for a short while would press all others into one line: then it is cut at the edge,
+// and a label there says how far it went.
+function priceScale(columns, info) {
+  const quotes = columns.filter(Boolean).flatMap(column => [column.bid, column.ask].map(quote => ({ ...quote, at: column.from })));
+  const seen = quotes.filter(quote => quote.low !== null);
+  if (!seen.length) return { low: 0, high: 1 };
+  const lows = seen.map(quote => quote.low).sort((a, b) => a - b), highs = seen.map(quote => quote.high).sort((a, b) => a - b);
+  const [least, most] = [lows[0], highs.at(-1)], rare = Math.floor(seen.length * RARE);
+  let [low, high] = [lows[rare], highs.at(-1 - rare)];
+  const usual = Math.max(high - low, 10), now = [info.bid, info.ask].filter(Boolean).map(quote => quote.price);
+  low = low - least > MOST_CUT * usual ? Math.min(low - usual / 2, ...now) : least;
+  high = most - high > MOST_CUT * usual ? Math.max(high + usual / 2, ...now) : most;
+  const spare = Math.max(2, (high - low) * .06), scale = { low: low - spare, high: high + spare };
+  if (most > high) scale.above = { price: most, at: seen.find(quote => quote.high === most).at };
+  if (least < low) scale.below = { price: least, at: seen.find(quote => quote.low === least).at };
+  return scale;
 }
 
 // One column for each pixel, or for each bucket where a bucket is wider than a pixel.
@@ -811,6 +810,10 @@ function labelsOf(info, g) {
     const is_wide = g.right - latest - 12 > widthOf("to be kept", "plain");
     if (is_wide) add("due", "plain", "to be kept", [[(latest + g.right) / 2, g.strip + 18, "middle"]]);
   }
+  for (const [name, sign, y] of [["above", "↑", g.top + 11], ["below", "↓", g.bottom - 3]]) {
+    const cut = g[name], x = cut && g.x(cut.at);
+    if (cut) add(name, "plain", `${sign} ${priceText(info, cut.price)}`, [[x - 6, y, "end"], [x + 6, y, "start"], [x, y, "middle"]]);
+  }
   priceMarks(g).forEach((price, at) => add(`price-${at}`, "plain", priceText(info, price), [[g.left - 6, g.y(price) + 4, "end"]]));
   info.start.forEach(([at, text], k) => add(`hour-${k}`, "plain", text, hourSpots(g.x(at * info.length), text, g)));
   return labels;
@@ -821,10 +824,21 @@ function latestSpots(x, g) {
   return [false, true].flatMap(may_cross => rows.flatMap(y => places.map(([at, anchor]) => [at, y, anchor, may_cross])));
 }
 
-// Behind the end of its line, moved away from the other quote's label as far as is needed; there it may cross the dashed line where
-// nothing else is free. At the day's end, where there is no room behind it, above the ask's line and below the bid's.
+// The heights of both quotes' labels: at the ends of their lines, moved apart where they would touch, the higher price above.
+function quoteHeights(info, g) {
+  const sides = ["ask", "bid"].filter(side => info[side]).sort((a, b) => info[b].price - info[a].price);
+  const heights = sides.map(side => clampY(g.y(info[side].price) + 5, g)), spare = LINE - (heights[1] - heights[0]);
+  if (spare > 0) {
+    const first = Math.min(Math.max(heights[0] - spare / 2, g.top + 12), g.bottom - 2 - LINE);
+    heights.splice(0, 2, first, first + LINE);
+  }
+  return Object.fromEntries(sides.map((side, at) => [side, heights[at]]));
+}
+
+// Behind the end of its line; there it may cross the dashed line where nothing else is free. At the day's end, where there is no room
+// behind it, above the ask's line and below the bid's.
 function quoteSpots(info, side, g) {
-  const now = g.x(info.now), y = g.y(info[side].price) + 5, way = side === "ask" ? -1 : 1, spots = [];
+  const now = g.x(info.now), y = quoteHeights(info, g)[side], way = side === "ask" ? -1 : 1, spots = [];
   const room = Math.max(...["ask", "bid"].map(each => info[each] ? widthOf(info[each].text, each) : 0)) <= g.width - now - 6;
   const sides = room ? [[now + 6, y, "start", false], [now + 6, y, "start", true]] : [[now - 6, y + way * 14, "end", true]];
   for (const [x, first, anchor, may_cross] of sides) {
@@ -900,8 +914,7 @@ function paintDay() {
   const svg = $("chart"), width = svg.clientWidth;
   if (!course.info || !width) return;
   const info = link.away ? { ...course.info, now_text: course.info.now_text.replace(/^now/, "last") } : course.info;
-  const rough = columnsOf(info, course.buckets, Math.floor(width - 64)), g = geometry(info, rough, width);
-  const columns = columnsOf(info, course.buckets, Math.max(1, Math.round(g.right - g.left)));
+  const columns = columnsOf(info, course.buckets, Math.max(1, Math.floor(width - 64))), g = geometry(info, columns, width);
   put(svg, "viewBox", `0 0 ${width} ${g.height}`);
   put(svg, "height", g.height);
   paintStrip(piecesOf(columns), info, g);
