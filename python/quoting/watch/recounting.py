@@ -179,7 +179,10 @@ def ago(seconds: float) -> str:
 
 # ---------------------------------------------------------------- a difference
 
-SHOWN_AS = {"need": "still needed", "by": "nothing need be kept until", "full": "needed for full weight", "of": "length"}
+SHOWN_AS = {
+    "outlook": {"need": "still needed", "by": "nothing need be kept until", "full": "needed for full weight", "lapses": "lapses left"},
+    "cell": {"of": "length"},
+}
 TIMES = ("need", "left", "by", "full", "kept", "of")
 
 
@@ -209,11 +212,11 @@ def parts_of(what: str, ours: str, theirs: str) -> list[Pair]:
     >>> parts_of("day 1", "refused 5", "cell kept 5")
     [('day 1', 'refused 5', 'cell kept 5')]
     """
-    both = figures_of(ours), figures_of(theirs)
-    if ours.split()[0] != theirs.split()[0] or both[0].keys() != both[1].keys():
+    both, kind = (figures_of(ours), figures_of(theirs)), ours.split()[0]
+    if kind not in SHOWN_AS or kind != theirs.split()[0] or both[0].keys() != both[1].keys():
         return [(what, ours, theirs)]
     pairs = ((name, both[0][name], both[1][name]) for name in both[0])
-    return [(f"{what}: {SHOWN_AS.get(name, name)}", time_text(name, left), time_text(name, right)) for name, left, right in pairs]
+    return [(f"{what}: {SHOWN_AS[kind].get(name, name)}", time_text(name, left), time_text(name, right)) for name, left, right in pairs]
 
 
 def figures_of(line: str) -> dict[str, str]:
