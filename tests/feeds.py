@@ -21,7 +21,7 @@ from quoting.events import Tick
 from quoting.reading import PLAIN, Options, TextError
 from quoting.statement import sources
 from quoting.statement.sources import Sent
-from quoting.watch import feeds
+from quoting.watch import feeds, messages
 from quoting.watch.clocks import FeedClock, WallClock
 from quoting.watch.feeds import CallsFeed, Trouble
 from quoting.watch.messages import MessagesFeed
@@ -116,7 +116,8 @@ def check_pieces(folder):
 
 def check_any_pieces(folder, rng):
     """Any text, in any pieces, gives what all of it at once gives."""
-    parts = ["tick 1", "report", "start 20261102-10:00:00.000", "start 20261102-10:00:00.000 BR", OPEN, "\xe9", "tick x", "words 12", "#", "", "\t"]
+    start = "start 20261102-10:00:00.000"
+    parts = ["tick 1", "report", start, f"{start} BR", OPEN, "\xe9", "tick x", "words 12", "#", "", "\t"]
     for turn in range(60):
         text = "".join(rng.choice(parts) + rng.choice(["\n", "\r\n", "\r"]) for _ in range(rng.randrange(1, 40)))
         data = text.encode(rng.choice(["utf-8", "latin-1"])) + rng.choice([b"", b"report"])
@@ -137,8 +138,9 @@ def check_any_pieces(folder, rng):
 def check_bad_lines(folder):
     """What can't be read is said with its line, and the reading goes on."""
     lines = [
-        b"tick 1", b"tock 1", b"\xff\xfe", b"add 1 2 buy 3", b"words 6", b"bytes 06000000 01000000", b"words 12 12", b"tick 4294967296",
-        b"bytes 0", b"close -1 2", b"tick 1\x00", b"message x \\q", b"open row 1 day 1 sp 1 lapses x", b"strike row 1 day 1 sp 1", b"report",
+        b"tick 1", b"tock 1", b"\xff\xfe", b"add 1 2 buy 3", b"words 6", b"bytes 06000000 01000000", b"words 12 12",
+        b"tick 4294967296", b"bytes 0", b"close -1 2", b"tick 1\x00", b"message x \\q",
+        b"open row 1 day 1 sp 1 lapses x", b"strike row 1 day 1 sp 1", b"report",
     ]
     found = drained(Steps(folder, data=b"\n".join(lines)).feed(False))
     places = [item.place for item in found]
@@ -186,7 +188,8 @@ def check_long_lines(folder):
 
 def check_bytes(folder, rng):
     """Whole blocks as they come; where no call stands nothing more is read."""
-    calls = [c.Open([1, 1, 10_000, 500, 100, 1, 600], 1, 2000), c.Withdraw(1, 1, 1), c.Open([1], 1, c.Strike(1, 2, 3, 4)), Tick(5), c.Report()]
+    calls = [c.Open([1, 1, 10_000, 500, 100, 1, 600], 1, 2000), c.Open([1], 1, c.Strike(1, 2, 3, 4)), c.Withdraw(1, 1, 1), Tick(5)]
+    calls += [c.Report()]
     calls += [c.Message(b"20261102-10:00:00.000", b"8=FIX" * size) for size in range(4)]
     rng.shuffle(calls)
     blocks = [c.block(call) for call in calls]
@@ -204,7 +207,8 @@ def check_bytes(folder, rng):
         for follow in (True, False):
             items = drained(stopped.feed(follow))
             assert items[:-1] == found, wrong
-            assert items[-1] == Trouble("", f"stopped at word {word}: no call stands there, and nothing behind it is read"), (wrong, items[-1])
+            text = f"stopped at word {word}: no call stands there, and nothing behind it is read"
+            assert items[-1] == Trouble("", text), (wrong, items[-1])
     feed = stopped.feed()
     drained(feed)
     append(stopped.path, c.block(c.Report()))
@@ -461,8 +465,8 @@ def message(id, time, symbol="A", date="20261102"):
     return fix.framed(body.replace("|", "\x01").encode())
 
 
-def log_of(*messages):
-    return b"".join(each.replace(b"\x01", b"|") + b"\n" for each in messages)
+def log_of(*sent):
+    return b"".join(each.replace(b"\x01", b"|") + b"\n" for each in sent)
 
 
 def quantum(start, symbol="", day=1, expiry=1, number=1):
@@ -483,10 +487,11 @@ class Month:
     def read(self):
         """What comes now, log and list by their plain names."""
         folder = str(self.log.parent) + "/"
-        return [each.replace(folder, "") if isinstance(each, str) else (each[0].replace(folder, ""), each[1]) for each in shown(drained(self.feed))]
+        found = shown(drained(self.feed))
+        return [each.replace(folder, "") if isinstance(each, str) else (each[0].replace(folder, ""), each[1]) for each in found]
 
-    def more(self, *messages):
-        append(self.log, log_of(*messages))
+    def more(self, *sent):
+        append(self.log, log_of(*sent))
         return self.read()
 
     def listed(self, text):
@@ -509,7 +514,7 @@ def check_months():
 
 
 def check_growing_months(folder, rng):
-    """The same as the log grows in any pieces, and the list a call at a time, when the clock is past it all; nothing comes before its time."""
+    """The same as the log grows in any pieces, when the clock is past it all; nothing comes before its time."""
     for name in ("brent", "gold-mini"):
         calls, log = programme(name)
         due = sources.from_list(calls, PLAIN, [log]).calls
@@ -540,8 +545,8 @@ def check_any_months(folder, rng):
         calls = "".join(quantum(f"10:00:{rng.randrange(60):02}.000", rng.choice("AB "), day) for day in range(1, rng.randrange(2, 6)))
         calls = "report\n" + calls.replace("close", rng.choice(["close", "look 1 1 1\nclose"]))
         times = [rng.choice([None, f"10:00:{rng.randrange(60):02}.{rng.randrange(1000):03}"]) for _ in range(30)]
-        messages = [message(id, time, rng.choice("AB")) for id, time in enumerate(times)]
-        log = b"".join(each.replace(b"\x01", rng.choice([b"|", b"\x01"])) + rng.choice([b"\n", b"\r\n", b" "]) for each in messages)
+        sent = [message(id, time, rng.choice("AB")) for id, time in enumerate(times)]
+        log = b"".join(each.replace(b"\x01", rng.choice([b"|", b"\x01"])) + rng.choice([b"\n", b"\r\n", b" "]) for each in sent)
         month = Month(folder, calls, log + b"8=FIX.4.4|35=0|10=000|\n", follow=False)
         due = sources.from_list(str(month.list), PLAIN, [str(month.log)])
         found = drained(month.feed)
@@ -554,6 +559,20 @@ def check_any_months(folder, rng):
 
 def in_none(line):
     return (f"log: line {line}", "this message is in no quantum of the list; others like it are counted and not shown")
+
+
+def check_times(rng):
+    """Times of messages are those that the statement reads."""
+    read = 0
+    for _ in range(500):
+        day = f"{rng.choice([0, 1, 1900, 2024, 2026, 9999]):04}{rng.randrange(14):02}{rng.randrange(33):02}"
+        text = f"{day}-{rng.randrange(26):02}:{rng.randrange(62):02}:{rng.randrange(62):02}.{rng.randrange(1000):03}"
+        text = text[: rng.choice([21, 21, 21, 17])] + rng.choice(["", "", "", "0", "\xb2"])
+        data = f"35=D\x0160={text}\x0160=20261102-10:00:00.000\x01".encode("latin-1")
+        assert messages.time_of(data) == sources.time_of(data), data
+        read += messages.time_of(data) is not None
+    assert 100 < read < 400, read
+    assert messages.time_of(b"\x0135=D\x01") is None
 
 
 def check_time(folder):
@@ -637,7 +656,7 @@ def check_saved_anew(folder):
 
 
 def check_log_ends(folder):
-    """A log that was cut or turned over goes on; raw messages without any line end come as they are whole; a pipe that breaks closes nothing."""
+    """A log that was cut or turned over goes on; raw messages without line ends come as they are whole; a broken pipe closes nothing."""
     month = Month(folder, quantum("10:00:00.000"), moment=at("10:00:01"))
     assert month.more(message(1, "10:00:00.000"), message(2, "10:00:01.000")) == ["line 2", "log: line 1", "log: line 2"]
     os.truncate(month.log, month.log.stat().st_size // 2)
@@ -818,21 +837,21 @@ def cost(feed):
 
 
 def check_cost(folder):
-    """At most 50 microseconds of work a line, of calls and of messages at a month's end: the least of three times, since others work beside."""
+    """At most 50 microseconds of work a line, of calls and of messages at a month's end: the least of three, since others work beside."""
     lines = "".join(f"amend {t} {t % 50} {8_400 + t % 90} 1200\n" for t in range(3_000))
     before = "".join(quantum(f"0{hour}:00:00.000").replace("1102-", f"10{day}-") for day in range(10, 32) for hour in range(8))
     log = log_of(*(message(id, f"10:00:0{id // 1_000}.{id % 1_000:03}") for id in range(3_000)))
     calls = min(cost(Steps(folder, data=lines.encode()).feed()) for _ in range(3))
-    messages = min(cost(Month(folder, before + quantum("10:00:00.000"), log).feed) for _ in range(3))
-    assert calls < 50 and messages < 50, (calls, messages)
-    return calls, messages
+    sent = min(cost(Month(folder, before + quantum("10:00:00.000"), log).feed) for _ in range(3))
+    assert calls < 50 and sent < 50, (calls, sent)
+    return calls, sent
 
 
 def main():
     with tempfile.TemporaryDirectory() as folder:
-        for check in (check_finished, check_pieces, check_bad_lines, check_starts, check_long_lines, check_most, check_cut, check_turned, check_gone):
+        for check in (check_finished, check_pieces, check_bad_lines, check_starts, check_long_lines, check_most):
             check(folder)
-        for check in (check_missing, check_came, check_standard, check_redirected, check_fifo):
+        for check in (check_cut, check_turned, check_gone, check_missing, check_came, check_standard, check_redirected, check_fifo):
             check(folder)
         check_any_pieces(folder, random.Random(1))
         check_bytes(folder, random.Random(2))
@@ -840,13 +859,15 @@ def main():
         check_months()
         check_growing_months(folder, random.Random(3))
         check_any_months(folder, random.Random(4))
+        check_times(random.Random(5))
         for check in (check_time, check_clock, check_listed_later, check_saved_anew, check_log_ends, check_playing, check_playing_clock):
             check(folder)
         check_listed_by_pipe(folder)
         check_played_months()
         check_clocks()
         costs = check_cost(folder)
-    print("feeds: lists, files that change, pipes, logs, playing and clocks are right; a line of a list took {:.0f} µs, of a log {:.0f}".format(*costs))
+    said = "feeds: lists, files that change, pipes, logs, playing and clocks are right"
+    print(f"{said}; a line took {costs[0]:.0f} µs, a message {costs[1]:.0f}")
     return 0
 
 

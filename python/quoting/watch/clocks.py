@@ -39,8 +39,8 @@ class FeedClock:
 
 
 class WallClock:
-    """The machine's clock: UTC where the quantum's start is known by date, else the local time of day less `day_start` (0: not given), else as
-    FeedClock."""
+    """The machine's clock: UTC where the quantum's start is known by date, else the local time of day less `day_start` (0: not given),
+    else as FeedClock."""
 
     def __init__(self, day_start: int = 0, wall: Callable[[], float] = time.time) -> None:
         self.day_start, self.wall = day_start, wall

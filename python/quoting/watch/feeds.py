@@ -153,8 +153,8 @@ class Growing:
         self.place = os.lseek(self.descriptor, 0, os.SEEK_SET)
 
     def of_name(self) -> Optional[Turn]:
-        """At the end of the file that is read: whether its name is another file by now. A new one without bytes may not have its writer yet,
-        who still writes to the old one; and once it has some, the old one is read to its end again."""
+        """At the end of the file that is read: whether its name is another file by now. A new one without bytes may not have its writer
+        yet, who still writes to the old one; and once it has some, the old one is read to its end again."""
         if self.name == STANDARD:
             return None
         if self.other:

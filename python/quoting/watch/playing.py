@@ -1,8 +1,8 @@
 """A finished feed played at a multiple of its own pace: a feed, and the clock that goes with it.
 
-In a quantum time runs from 0 at its open. An event comes when its time has come, a close or a drop when the quantum's length has gone, every
-other call at once; between a close and the next open there is a second of real time. A month of its own tells which calls are accepted, since
-a refused open starts no time.
+In a quantum time runs from 0 at its open. An event comes when its time has come, a close or a drop when the quantum's length has gone,
+every other call at once; between a close and the next open there is a second of real time. A month of its own tells which calls are
+accepted, since a refused open starts no time.
 """
 
 import time
