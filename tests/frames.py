@@ -8,6 +8,7 @@ import random
 import sys
 import time
 import tracemalloc
+from collections import Counter
 from decimal import Decimal
 from itertools import groupby
 from pathlib import Path
@@ -16,7 +17,7 @@ ROOT = Path(__file__).resolve().parent.parent
 sys.path[:0] = [str(ROOT), str(ROOT / "python")]
 
 from quoting import calls as c
-from quoting.events import Add, Amend
+from quoting.events import Add, Amend, Cancel
 from quoting.months import Month
 from quoting.native import Refused
 from quoting.reading import Options
@@ -375,6 +376,75 @@ class Pair:
             assert ("too many lapses" in rows["verdict"], "below" in rows["verdict"]) == (is_over, is_short), rows
 
 
+# ---------------------------------------------------------------- what the sentences promise, tried out on the recount
+
+
+def ends_met(before, now, *ways):
+    """Whether the cell is met if the quote is put up (True) or taken off (False) at these times, and stays so to the end."""
+    ahead = copy.deepcopy(before)
+    cell, length = ahead.quoting.cell, ahead.quoting.row.length
+    for t, is_up in [(now, None), *ways]:
+        if t >= length:
+            break
+        for id in list(ahead.quoting.live) if is_up is not None else ():
+            assert isinstance(ahead.call(book.Cancel(t, id)), book.Accepted)
+        for id, side in ((1, book.BUY), (2, book.SELL)) if is_up else ():
+            assert isinstance(ahead.call(book.Add(t, id, side, 100 + id, 100_000)), book.Accepted)
+        ahead.call(book.Tick(t))
+    assert isinstance(ahead.call(book.Close(0, 0)), book.Accepted)
+    return ahead.call(book.Look(*cell)).met
+
+
+def try_promise(before, now, found, outlook):
+    """Does what the band says from the next millisecond on, since the present one goes as the orders stand; the band's head, if it was tried."""
+    length, then = before.quoting.row.length, now + 1
+    is_kept = accounts.state(before.quoting.row, before.quoting.sp, before.quoting.live) == 0
+    if found["kind"] == "lost":
+        assert not ends_met(before, now, (now, True)) and not ends_met(before, now, (now, False)), (found, outlook)
+    elif now >= length:
+        assert ends_met(before, now), (found, outlook)
+    elif found["kind"] == "rest":
+        assert ends_met(before, now, (then, False)) and ends_met(before, now, (then, True)), (found, outlook)
+    elif found["kind"] == "keep":
+        assert ends_met(before, now, (then, False), (outlook.by, True)), (found, outlook)
+        assert is_kept or not ends_met(before, now, (then, False), (outlook.by + 1, True)), (found, outlook)
+    else:
+        assert found["kind"] == "hold" and ends_met(before, now, (now, True)), (found, outlook)
+        assert not ends_met(before, now, (then, False), (then + 1, True)) or then == length, (found, outlook)
+        assert ends_met(before, now, (then, True)) == is_kept, (found, outlook)
+    return found["kind"] + found["head"][:7]
+
+
+def toggled(rng, length):
+    """A quantum in which the quote is put up and taken off a few times, by both of its orders or by one."""
+    words = [1, 1, length, 10, 0, rng.choice([0, 3, 3, 3, 3]), rng.randrange(200, 799)]
+    yield c.block(c.Open(words, 1, 100, rng.choice([0, 1, 1, 2, 3, c.NO_LIMIT])))
+    live = set()
+    for t in sorted(rng.choice([0, rng.randrange(length)]) for _ in range(rng.randrange(1, 9))):
+        for id in rng.choice([(1,), (1, 2), (1, 2)]):
+            yield c.block(Cancel(t, id) if id in live else Add(t, id, "buy" if id == 1 else "sell", 98 + id, 10))
+            live ^= {id}
+
+
+def check_promises(rng):
+    """At many moments of random quanta; each kind of band comes up."""
+    tried = Counter()
+    for _ in range(120):
+        pair = Pair()
+        for block in toggled(rng, 1000):
+            pair.take(block)
+            now = min(1000, rng.choice(moments(rng, pair.book.quoting)))
+            while now is not None:
+                shown = frames.sections(pair.meter, now, frames.Status())["band"]
+                ahead = copy.deepcopy(pair.book)
+                ahead.call(book.Tick(now))
+                outlook = ahead.call(book.Outlook())
+                tried[try_promise(pair.book, now, shown, outlook)] += 1
+                now = outlook.by if shown["kind"] == "keep" and outlook.by > now else None  # at the latest time too
+    assert len(tried) == 5 and min(tried.values()) >= 5, tried
+    return sum(tried.values())
+
+
 def moments(rng, quoting):
     """Some times to look at: the last event's, just behind it, anywhere, the end, and past it."""
     if quoting is None:
@@ -701,6 +771,7 @@ def main():
     check_other_bands()
     lists, looked = check_lists(random.Random(31))
     check_logs()
+    promises = check_promises(random.Random(35))
     course = check_course(random.Random(32))
     check_day(random.Random(33))
     asked = check_asks(random.Random(34))
@@ -710,7 +781,7 @@ def main():
     check_clock()
     best = check_sizes()
     looks = f"{looked} looks at {lists} lists by both readings"
-    print(f"frames: {said} sentences, {looks}, {course} courses, {asked} asks, {best:.0f} µs a call")
+    print(f"frames: {said} sentences, {promises} promises, {looks}, {course} courses, {asked} asks, {best:.0f} µs a call")
     return 0
 
 
