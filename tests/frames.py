@@ -199,6 +199,9 @@ def check_other_bands():
     assert band(meter_of(opened() + "\nclose 10 20"), 0)[2] == "The last: day 15, expiry 1, quantum 1 failed, weight 0"
     for text in ("", opened() + "\ndrop", kept + "\nwithdraw 15 1 1"):
         assert band(meter_of(text), 0)[2] == "None has been closed so far", text
+    for given, feed, due in (({"start": START}, "following", "13:46:40 UTC"), ({"start": START}, "ended", ""), ({}, "following", "")):
+        found = frames.sections(meter_of(kept, **given), 0, frames.Status(feed, CAME))["head"]
+        assert found == {"name": "Brent", "what": "none open", "clock": due}, found
     title = frames.sections(meter, 4 * H, frames.Status())["band"]["title"]
     assert title == "Keep 1:30:00 more from 17:15:00 at the latest | Brent", title
 
@@ -396,7 +399,7 @@ def ends_met(before, now, *ways):
 
 
 def try_promise(before, now, found, outlook):
-    """Does what the band says from the next millisecond on, since the present one goes as the orders stand; the band's head, if it was tried."""
+    """Does what the band says from the next millisecond on, since the present one goes as the orders stand; which band it was."""
     length, then = before.quoting.row.length, now + 1
     is_kept = accounts.state(before.quoting.row, before.quoting.sp, before.quoting.live) == 0
     if found["kind"] == "lost":
@@ -429,7 +432,7 @@ def toggled(rng, length):
 def check_promises(rng):
     """At many moments of random quanta; each kind of band comes up."""
     tried = Counter()
-    for _ in range(120):
+    for _ in range(60):
         pair = Pair()
         for block in toggled(rng, 1000):
             pair.take(block)
@@ -563,7 +566,7 @@ def check_day(rng):
 def check_asks(rng):
     """Both quotes, whether it would keep, the ticket and refusals, by the recount; the month stays as it is."""
     asked, kinds = 0, set()
-    while asked < 250:
+    while asked < 150:
         pair = Pair()
         for block in c.blocks(calls_text.calls_bytes(months.makers_month(rng)))[0]:
             pair.take(block)

@@ -3,6 +3,7 @@
 `sections` makes all but the day's; `day` makes that one for a client, with the parts of the day that it has not got yet.
 """
 
+import time
 from dataclasses import dataclass, field
 from typing import Any, Mapping, Optional, Sequence
 
@@ -75,7 +76,8 @@ def moment(meter: Meter, now: int, status: Status) -> int:
 
 def head(meter: Meter, shown: Optional[Shown], status: Status) -> Section:
     if meter.opened is None or shown is None:
-        return {"name": meter.name, "what": "none open" if meter.opened is None else "", "clock": ""}
+        what = "" if status.feed == "reading" else "none open"
+        return {"name": meter.name, "what": what, "clock": wall_clock(meter, status)}
     opened = meter.opened
     times, (day, *series) = opened.times, opened.place
     hours = f"{clock(opened.length)} long, times from its start"
@@ -83,6 +85,15 @@ def head(meter: Meter, shown: Optional[Shown], status: Status) -> Section:
         hours = f"{times.exact(0)} to {times.exact(opened.length)}{times.zone}"
     clock_text = f"{'last ' if status.is_still else ''}{times.down(shown.report.time)}{times.zone}"
     return {"name": meter.name, "what": f"{s.series_text(tuple(series))}, day {day}, {hours}", "clock": clock_text}
+
+
+def wall_clock(meter: Meter, status: Status) -> str:
+    """The time of day while no quantum is open, where times of day are shown at all; of a file that is played it says nothing."""
+    if status.feed != "following" or not meter.times.known:
+        return ""
+    zone = meter.times.zone
+    at = time.gmtime(status.wall) if zone else time.localtime(status.wall)
+    return f"{at.tm_hour}:{at.tm_min:02}:{at.tm_sec:02}{zone}"
 
 
 def moment_of(meter: Meter, shown: Shown) -> s.Moment:

@@ -98,6 +98,7 @@ class Meter:
         self.month, self.calls = Month(), 0
         self.opened: Optional[Opened] = None
         self.course: Optional[Course] = None
+        self.times = Times()  # of the quantum that was opened last
         self.opens = 0  # accepted so far: tells one quantum's course from another's
         self.came = 0.0  # when the last call that was accepted in the open quantum was read
         self.closed: Optional[Place] = None  # the cell that was filled last
@@ -155,8 +156,8 @@ class Meter:
             self.closed = None
 
     def _open(self, place: Place, length: int, start: Optional[str]) -> None:
-        times = Times(offset_of(start), " UTC", True) if start else Times(self.day_start, "", bool(self.day_start))
-        self.opened = Opened(place, length, start, times)
+        self.times = Times(offset_of(start), " UTC", True) if start else Times(self.day_start, "", bool(self.day_start))
+        self.opened = Opened(place, length, start, self.times)
 
     # ------------------------------------------------------------ what stands
 
