@@ -47,7 +47,7 @@ def drained(feed):
     while True:
         items = feed.read()
         found += items
-        if not items:
+        if not items and not feed.behind:
             return found
 
 
@@ -229,6 +229,19 @@ def check_most(folder):
         assert sizes == [2_000, 2_000, 1_000] and not feed.read(), sizes
     feed = Steps(folder, data=b"tick 1\n" * 1_999 + b"start 20261102-10:00:00.000\nreport").feed(False)
     assert len(feed.read()) == 2_000 and feed.ended is None and shown(feed.read()) == ["line 2001"] and feed.ended == "end"
+
+
+def check_bounded(folder):
+    """A read that finds nothing to give ends after some pieces, and says that more stands there."""
+    log = log_of(*(message(id, "10:00:01.000") for id in range(5_000)))
+    for feed in (Steps(folder, data=b"# a comment\n" * 50_000).feed(), Month(folder, quantum("10:00:00.000"), log, follow=False).feed):
+        reads, before = 0, 0
+        while not feed.read() and feed.behind:
+            assert before < feed.count <= before + feeds.MOST_PIECES * feeds.PIECE, "one read took too much, or none"
+            reads, before = reads + 1, feed.count
+        assert reads >= 3 and Playing(feed, 1).behind == feed.behind
+    drained(feed)
+    assert not feed.behind and feed.ended == "end"
 
 
 # ---------------------------------------------------------------- what happens to a file
@@ -730,7 +743,7 @@ close 1 2
 look 1 1 1
 {OPEN}
 open row 2 1 0:00:20 500 100 1 60% day 1 sp 2000
-tick 20_000
+commit 15_000 1 2 3 ticket 1 2 3 4 5
 drop
 tick 1
 {OPEN.replace("day 1", "day 2")}
@@ -747,7 +760,7 @@ def check_playing(folder):
         due = [
             (0, ["line 1", "line 2", "line 3", "line 4"]), (2 / speed, ["line 5", "line 6", "line 7", "line 8"]), (4 / speed, ["line 9"]),
             (10 / speed, ["line 10", "line 11", "line 12"]), (10 / speed + 1, ["line 13", "line 14"]),
-            (30 / speed + 1, ["line 15", "line 16", "line 17", "line 18"]), (35 / speed + 1, ["line 19", "line 20"]),
+            (25 / speed + 1, ["line 15"]), (30 / speed + 1, ["line 16", "line 17", "line 18"]), (35 / speed + 1, ["line 19", "line 20"]),
         ]
         places = [(time, [each if isinstance(each, str) else each[0] for each in items]) for time, items in found]
         assert places == due, places
@@ -849,7 +862,7 @@ def check_cost(folder):
 
 def main():
     with tempfile.TemporaryDirectory() as folder:
-        for check in (check_finished, check_pieces, check_bad_lines, check_starts, check_long_lines, check_most):
+        for check in (check_finished, check_pieces, check_bad_lines, check_starts, check_long_lines, check_most, check_bounded):
             check(folder)
         for check in (check_cut, check_turned, check_gone, check_missing, check_came, check_standard, check_redirected, check_fifo):
             check(folder)

@@ -20,7 +20,7 @@ from quoting.reading import STANDARD, Options, TextError
 from quoting.statement.sources import PLACED_BEFORE, Sent, start_of
 
 PIECE = 65_536  # bytes that are read at once
-MOST_ITEMS = 2_000  # of one read
+MOST_ITEMS, MOST_PIECES = 2_000, 3  # of one read
 LONGEST_LINE = 1 << 20
 LONGEST_BLOCK = 4 * 65_536  # docs/FORMATS.md
 KINDS = {1, 13, 16, *c.FIXED}
@@ -52,6 +52,11 @@ class Feed(Protocol):
     def ended(self) -> Optional[str]:
         """None: more may come. "end": a finished feed is read. "broken": standard input has closed, or a pipe's writers have all gone; if
         another opens the pipe, what it writes is read, and this is None again."""
+
+    @property
+    def behind(self) -> bool:
+        """Whether more may stand there to be read at once, also where the last read gave nothing: it was comments, or messages of a
+        quantum that comes later."""
 
     @property
     def count(self) -> int:
@@ -391,21 +396,14 @@ def block_size(data: bytes, at: int) -> Optional[int]:
 # ---------------------------------------------------------------- the feed
 
 
-class CallsFeed:
-    """A list of calls: bytes where a byte 0 is among the first four, which are a call's kind, else text."""
+class Pieces:
+    """A feed of items that come out of a growing file's pieces, so much of it at a read."""
 
-    def __init__(self, name: str, options: Options, follow: bool) -> None:
-        self.name, self.options = name, options
-        self.growing = Growing(name, follow)
+    def __init__(self, growing: Growing) -> None:
+        self.name, self.growing = growing.name, growing
         self.ended: Optional[str] = None
+        self.behind = True
         self.coming: Iterator[Item] = iter(())
-        self.begin()
-
-    def begin(self) -> None:
-        """At the beginning of a file."""
-        self.front: Optional[bytes] = b""  # until it is known what it is
-        self.text: Optional[ListLines] = None
-        self.lines, self.blocks = Lines(), Blocks()
 
     @property
     def came(self) -> float:
@@ -415,18 +413,44 @@ class CallsFeed:
     def count(self) -> int:
         return self.growing.count
 
+    def next(self) -> Optional[Iterator[Item]]:
+        """The items of the next piece; None where there is nothing now."""
+        raise NotImplementedError
+
     def read(self) -> list[Item]:
         found: list[Item] = []
-        while len(found) < MOST_ITEMS:
+        for _ in range(MOST_PIECES):
             found += islice(self.coming, MOST_ITEMS - len(found))
             if len(found) == MOST_ITEMS:
-                break
-            piece = self.growing.read()
-            self.ended = self.growing.ended if piece is None else None
-            if piece is None:
-                break
-            self.coming = self.turned(piece) if isinstance(piece, Turn) else self.took(piece)
-        return found
+                return found
+            coming = self.next()
+            self.behind = coming is not None
+            self.ended = None if self.behind else self.growing.ended
+            if coming is None:
+                return found
+            self.coming = coming
+        return found + list(islice(self.coming, MOST_ITEMS - len(found)))
+
+
+class CallsFeed(Pieces):
+    """A list of calls: bytes where a byte 0 is among the first four, which are a call's kind, else text."""
+
+    def __init__(self, name: str, options: Options, follow: bool) -> None:
+        super().__init__(Growing(name, follow))
+        self.options = options
+        self.begin()
+
+    def begin(self) -> None:
+        """At the beginning of a file."""
+        self.front: Optional[bytes] = b""  # until it is known what it is
+        self.text: Optional[ListLines] = None
+        self.lines, self.blocks = Lines(), Blocks()
+
+    def next(self) -> Optional[Iterator[Item]]:
+        piece = self.growing.read()
+        if piece is None:
+            return None
+        return self.turned(piece) if isinstance(piece, Turn) else self.took(piece)
 
     def took(self, data: bytes) -> Iterator[Item]:
         if self.front is not None:

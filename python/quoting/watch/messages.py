@@ -11,7 +11,7 @@ from collections import defaultdict, deque
 from dataclasses import dataclass, field
 from datetime import date, datetime, timedelta
 from functools import lru_cache
-from itertools import chain, islice
+from itertools import chain
 from typing import Iterator, Optional, Union
 
 from quoting import calls as c
@@ -19,7 +19,7 @@ from quoting import fix, inputs, logs, reading
 from quoting.reading import STANDARD, Options
 from quoting.statement.sources import SYMBOL, TIME, Sent, Span, span_of
 from quoting.watch.clocks import Clock
-from quoting.watch.feeds import MOST_ITEMS, Growing, Item, Line, Lines, ListLines, Trouble, Turn, of_lines
+from quoting.watch.feeds import Growing, Item, Line, Lines, ListLines, Pieces, Trouble, Turn, of_lines
 
 GRACE = timedelta(seconds=5)  # by which a log may be behind the clock at a quantum's end
 MOST_KEPT = 100_000  # messages in no quantum, kept for opens that are listed later
@@ -125,7 +125,7 @@ class ListFile:
 # ---------------------------------------------------------------- the feed
 
 
-class MessagesFeed:
+class MessagesFeed(Pieces):
     """The calls of a list with the messages of a log, as both grow."""
 
     def __init__(self, log: str, calls_file: str, options: Options, start: Optional[str], clock: Clock, follow: bool) -> None:
@@ -133,8 +133,9 @@ class MessagesFeed:
             raise inputs.WrongUse("the log and the list can't both be standard input")
         if start is not None:
             fix.moment(start)
-        self.name, self.start, self.clock, self.follow = log, start, clock, follow
-        self.list, self.log, self.lines = ListFile(calls_file, options, follow), Growing(log, follow), Lines()
+        super().__init__(Growing(log, follow))
+        self.start, self.clock, self.follow = start, clock, follow
+        self.list, self.lines = ListFile(calls_file, options, follow), Lines()
         self.queue: deque[tuple[Sent, Optional[Quantum]]] = deque()  # of the list, still to come
         self.days: dict[date, list[Quantum]] = defaultdict(list)  # the quanta of each day, in the list's order
         self.current: Optional[Quantum] = None
@@ -144,29 +145,10 @@ class MessagesFeed:
         self.passed_over = 0  # messages in no quantum, or too late for theirs
         self.said = False  # that there is one in no quantum
         self.idle = False  # the log is read as far as it goes
-        self.ended: Optional[str] = None
-        self.coming: Iterator[Item] = iter(())
-
-    @property
-    def came(self) -> float:
-        return self.log.came
 
     @property
     def count(self) -> int:
-        return self.log.count + self.list.growing.count
-
-    def read(self) -> list[Item]:
-        found: list[Item] = []
-        while len(found) < MOST_ITEMS:
-            found += islice(self.coming, MOST_ITEMS - len(found))
-            if len(found) == MOST_ITEMS:
-                break
-            coming = self.next()
-            self.ended = self.log.ended if coming is None else None
-            if coming is None:
-                break
-            self.coming = coming
-        return found
+        return self.growing.count + self.list.growing.count
 
     def next(self) -> Optional[Iterator[Item]]:
         """What comes next: all of the list, then of the log, then what time brings; None where there is nothing now."""
@@ -175,7 +157,7 @@ class MessagesFeed:
             return self.listed(listed)
         if not self.follow and self.list.growing.ended is None:
             return None
-        piece = self.log.read()
+        piece = self.growing.read()
         self.idle = piece is None
         if piece is not None:
             return self.turned(piece) if isinstance(piece, Turn) else self.logged(self.lines.take(piece), early=True)
@@ -289,7 +271,7 @@ class MessagesFeed:
 
     def is_reached(self, quantum: Optional[Quantum]) -> bool:
         if not self.follow:
-            return self.log.ended is not None
+            return self.growing.ended is not None
         if quantum is None or (self.seen is not None and self.seen >= quantum.span.begins):
             return True
         moment = self.clock.moment()
@@ -298,7 +280,7 @@ class MessagesFeed:
     def is_past(self, span: Span) -> bool:
         """By the clock only if the log is read as far as it goes, and a little later, since a log comes behind it."""
         if not self.follow:
-            return self.log.ended is not None
+            return self.growing.ended is not None
         if self.seen is not None and self.seen > span.ends:
             return True
         moment = self.clock.moment() if self.idle else None

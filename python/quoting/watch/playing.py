@@ -46,6 +46,10 @@ class Playing:
         return self.feed.name
 
     @property
+    def behind(self) -> bool:
+        return self.next is None and self.feed.behind
+
+    @property
     def count(self) -> int:
         return self.feed.count
 
