@@ -232,7 +232,7 @@ function fitHead() {
 function paintDiffers(differs) {
   document.body.classList.toggle("differs", Boolean(differs));
   show($("stop"), Boolean(differs));
-  show($("all"), !differs);
+  for (const id of ["top", "all"]) show($(id), !differs);
   if (!differs) return;
   say(figure("stop-after"), differs.call === null ? "" : `After call ${counted(differs.call)}`);
   say(figure("stop-theirs"), differs.head.includes("readings") ? "recount" : "as drawn");
