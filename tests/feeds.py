@@ -335,6 +335,19 @@ def check_gone(folder):
     assert shown(drained(feed) + drained(feed)) == [back, "line 1"]
 
 
+def check_unreadable(folder):
+    """A file that fails while it is read: said once; a finished one is at its end then, a followed one goes on when it can."""
+    for follow in (False, True):
+        grown = Steps(folder, data=b"tick 1\n")
+        feed = grown.feed(follow)
+        os.close(feed.growing.descriptor)
+        feed.growing.descriptor = os.open(folder, os.O_RDONLY)  # a directory's descriptor is one that can't be read
+        found = shown(drained(feed))
+        back = [("", "the file is there again, as another one; it is read from its beginning"), "line 1"]
+        assert found == [("", "the file can't be read: Is a directory; it is tried again"), *(back if follow else [])], found
+        assert feed.ended == (None if follow else "end")
+
+
 def check_missing(folder):
     """What can't be opened at first is an error with its name."""
     path = str(Path(folder) / "nothing")
@@ -864,7 +877,9 @@ def main():
     with tempfile.TemporaryDirectory() as folder:
         for check in (check_finished, check_pieces, check_bad_lines, check_starts, check_long_lines, check_most, check_bounded):
             check(folder)
-        for check in (check_cut, check_turned, check_gone, check_missing, check_came, check_standard, check_redirected, check_fifo):
+        for check in (check_cut, check_turned, check_gone, check_unreadable, check_missing, check_came):
+            check(folder)
+        for check in (check_standard, check_redirected, check_fifo):
             check(folder)
         check_any_pieces(folder, random.Random(1))
         check_bytes(folder, random.Random(2))

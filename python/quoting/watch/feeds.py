@@ -142,9 +142,11 @@ class Growing:
             self.size = status.st_size
             data = os.read(self.descriptor, PIECE)
         except OSError as error:
-            return self.failed(error) or self.of_name()
-        if data:
-            return self.took(data, status.st_mtime)
+            said = self.failed(error)
+            return said or self.at_end()
+        return self.took(data, status.st_mtime) if data else self.at_end()
+
+    def at_end(self) -> Optional[Turn]:
         return self.of_name() if self.follow else self.finished("end")
 
     def cut(self, size: int) -> Turn:
