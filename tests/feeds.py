@@ -620,6 +620,16 @@ def check_time(folder):
     assert month.read() == ["line 6", "line 7"] and month.feed.ended is None
 
 
+def check_untimed(folder):
+    """A message whose time can't be read goes where the one before it went: to the quantum that is open, or to one that comes later."""
+    month = Month(folder, quantum("10:00:00.000", "A") + quantum("10:00:00.000", "B", 2) + "report\n")
+    assert month.more(message(1, "10:00:01.000", "A"), message(2, "10:00:02.000", "B")) == ["line 2", "log: line 1"]
+    assert month.more(message(3, None, "A")) == []
+    assert month.more(message(4, "10:00:03.000", "A"), message(5, None, "B")) == ["log: line 4", "log: line 5"]
+    month.clock.time = at("10:01:00")
+    assert month.read() == ["line 3", "line 5", "log: line 2", "log: line 3", "line 6", "line 7"]
+
+
 def check_clock(folder):
     """A quantum opens by the clock without a message; a long log is read to its end before the clock closes one."""
     month = Month(folder, quantum("10:00:00.000"), moment=at("09:59:59"))
@@ -802,6 +812,10 @@ def check_playing_clock(folder):
     moments.time = 1_002.25
     assert shown(playing.read()) == ["line 6"] and playing.ended == "end" and playing.now(None, 2_000, 0) == 2_000
     assert abs(playing.came - time.time()) < 5 and playing.count == len(text) and playing.name.endswith("feed")
+    playing = Playing(Steps(folder, data=f"{OPEN}\ndrop\n".encode()).feed(), 10, moments)
+    playing.read()
+    moments.time += 1
+    assert shown(playing.read()) == ["line 2"] and playing.ended is None and playing.now(None, 7, 0) == 7, "time goes on behind a drop"
 
 
 def check_played_months():
@@ -888,8 +902,10 @@ def main():
         check_growing_months(folder, random.Random(3))
         check_any_months(folder, random.Random(4))
         check_times(random.Random(5))
-        for check in (check_time, check_clock, check_listed_later, check_saved_anew, check_log_ends, check_playing, check_playing_clock):
+        for check in (check_time, check_untimed, check_clock, check_listed_later, check_saved_anew, check_log_ends):
             check(folder)
+        check_playing(folder)
+        check_playing_clock(folder)
         check_listed_by_pipe(folder)
         check_played_months()
         check_clocks()
