@@ -809,7 +809,7 @@ def check_playing_clock(folder):
     assert shown(playing.read()) == ["line 4"] and playing.now(None, 7, 0) == 7 and playing.moment() is None
     moments.time = 1_002.0
     assert shown(playing.read()) == ["line 5"] and playing.now(None, 0, 0) == 0 and playing.moment() is None
-    moments.time = 1_002.25
+    moments.time, playing.came = 1_002.25, 0.0
     assert shown(playing.read()) == ["line 6"] and playing.ended == "end" and playing.now(None, 2_000, 0) == 2_000
     assert abs(playing.came - time.time()) < 5 and playing.count == len(text) and playing.name.endswith("feed")
     playing = Playing(Steps(folder, data=f"{OPEN}\ndrop\n".encode()).feed(), 10, moments)
