@@ -13,7 +13,7 @@ from selenium.webdriver.common.keys import Keys
 
 ROOT = Path(__file__).resolve().parent.parent
 SHOTS = ROOT / "target" / "watch"
-PATIENCE = 20  # seconds: for a machine that has other work
+PATIENCE = 60  # seconds: for a machine that has other work
 LINK = re.compile(r"watching (.+): (http://\S+)\n")
 
 
@@ -32,10 +32,11 @@ class Served:
     def __init__(self, *words, tree=ROOT):
         pipes = {"stdin": subprocess.PIPE, "stdout": subprocess.PIPE, "stderr": subprocess.PIPE}
         self.process = subprocess.Popen([tree / "quoting", "watch", *map(str, words), "--port", "0"], cwd=ROOT, preexec_fn=heeds_interrupts, **pipes)
-        assert select.select([self.process.stdout], [], [], PATIENCE)[0], "the command says nothing"
-        line = self.process.stdout.readline().decode()
+        line = self.process.stdout.readline().decode() if select.select([self.process.stdout], [], [], PATIENCE)[0] else "nothing"
         found = LINK.fullmatch(line)
-        assert found, (line, self.process.stderr.read().decode())
+        if found is None:
+            self.process.kill()
+            raise AssertionError(("the command says", line, self.process.stderr.read().decode()))
         self.name, self.link = found.groups()
         self.port = int(re.search(r":(\d+)/", self.link)[1])
 

@@ -38,8 +38,8 @@ class Watch:
         while self.recount.parted is None and self.differs is None:
             items = self.feed.read()
             await self.take(items)
-            self.is_reading = self.is_reading and bool(items)
-            await asyncio.sleep(0 if items else IDLE)
+            self.is_reading = self.is_reading and self.feed.behind
+            await asyncio.sleep(0 if self.feed.behind else IDLE)
         await asyncio.Event().wait()
 
     async def take(self, items: list[Item]) -> None:

@@ -34,6 +34,7 @@ POLICY = (
 HEADERS = {
     "Content-Security-Policy": POLICY, "X-Content-Type-Options": "nosniff", "Referrer-Policy": "no-referrer", "Cache-Control": "no-store"}
 MOST_CLIENTS = 100
+MOST_CONNECTIONS = 400  # of pages, and of browsers that load one
 MOST_BYTES = 1_024  # of a message from a page
 MOST_SIGNS = 64  # of a field of an ask
 ASKS, FLOOD = 10, 100  # asks in a second that are answered; messages in a second at which a page is shut out
@@ -214,7 +215,7 @@ async def serve(watch: Watch, door: Door, listening: socket.socket) -> None:
     uvicorn: Any = import_module("uvicorn")
     config = uvicorn.Config(
         Pages(watch, door).app(), log_config=None, log_level="critical", access_log=False, lifespan="off", loop="asyncio", http="h11",
-        ws="websockets", ws_max_size=MOST_BYTES, ws_per_message_deflate=False, server_header=False, proxy_headers=False)
+        limit_concurrency=MOST_CONNECTIONS, ws="websockets", ws_max_size=MOST_BYTES, ws_per_message_deflate=False, server_header=False, proxy_headers=False)
     server, stopped = uvicorn.Server(config), asyncio.Event()
     server.install_signal_handlers = lambda: None  # they are ours
     for number in (signal.SIGINT, signal.SIGTERM):
