@@ -630,6 +630,12 @@ def check_untimed(folder):
     assert month.read() == ["line 3", "line 5", "log: line 2", "log: line 3", "line 6", "line 7"]
 
 
+def check_midnight(folder):
+    """A quantum may run into the next day."""
+    month = Month(folder, quantum("23:59:55.000"), log_of(message(1, "23:59:56.000"), message(2, "00:00:05.000", date="20261103")))
+    assert month.read() == ["line 2", "log: line 1", "log: line 2"]
+
+
 def check_clock(folder):
     """A quantum opens by the clock without a message; a long log is read to its end before the clock closes one."""
     month = Month(folder, quantum("10:00:00.000"), moment=at("09:59:59"))
@@ -902,7 +908,7 @@ def main():
         check_growing_months(folder, random.Random(3))
         check_any_months(folder, random.Random(4))
         check_times(random.Random(5))
-        for check in (check_time, check_untimed, check_clock, check_listed_later, check_saved_anew, check_log_ends):
+        for check in (check_time, check_untimed, check_midnight, check_clock, check_listed_later, check_saved_anew, check_log_ends):
             check(folder)
         check_playing(folder)
         check_playing_clock(folder)
