@@ -391,8 +391,8 @@ def check_standard(folder):
             os.write(into, b"\ntick 2\ntick 3")
             assert shown(feed.read()) == ["line 2"] and feed.ended is None
             os.close(into)
-            broke = [("line 3", "the feed broke off within this line; it is read as far as it goes")] * follow
-            assert shown(feed.read()) == [*broke, "line 3"] and feed.ended == ended, follow
+            last = ("line 3", "the feed broke off within this line; it is not read") if follow else "line 3"
+            assert shown(feed.read()) == [last] and feed.ended == ended, follow
             assert not feed.read() and feed.ended == ended
     sys.stdin = None
     raises(TextError, lambda: CallsFeed("-", PLAIN, True), "standard input is closed")
@@ -782,7 +782,7 @@ tock
 
 
 def check_playing(folder):
-    """Each call when its time has come, at one and at two times the pace, with the troubles that stand before it."""
+    """Each call when its time has come, at one and at two times the pace; what can't be read comes with the call before it."""
     tock = "'tock' is not known"
     for speed in (1, 2, 0.5):
         found, playing = played(Steps(folder, data=PLAYED.encode()).feed(False), speed)
@@ -794,6 +794,8 @@ def check_playing(folder):
         places = [(time, [each if isinstance(each, str) else each[0] for each in items]) for time, items in found]
         assert places == due, places
         assert found[0][1][2][1].startswith(tock) and playing.ended == "end" and not playing.read()
+    found, _ = played(Steps(folder, data=f"{OPEN}\ntock\ntick 5_000\n".encode()).feed(False), 1)
+    assert [(time, len(items)) for time, items in found] == [(0, 2), (5, 1)], found
     for speed in (0, -1, float("inf"), float("nan")):
         raises(ValueError, lambda: Playing(Steps(folder).feed(False), speed), "above 0")
 

@@ -279,9 +279,10 @@ class Lines:
         self.skipped, self.number = False, number
 
     def turn(self, turn: Turn) -> Iterator[Union[Line, Trouble]]:
-        """An unfinished line is at its end, or dropped."""
-        if turn.kind == "broken" and self.rest:
-            yield Trouble(f"line {self.number}", "the feed broke off within this line; it is read as far as it goes")
+        """An unfinished line is at its end, or dropped: half a line of a feed that broke off may say another call than the whole."""
+        if turn.kind == "broken" and (self.rest or self.skipped):
+            yield Trouble(f"line {self.number}", "the feed broke off within this line; it is not read")
+            self.forget(self.number + 1)
         if turn.final and (self.rest or self.skipped):
             yield from self.end()
         if turn.kind == "cut":

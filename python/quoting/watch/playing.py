@@ -31,7 +31,7 @@ class Playing:
         self.feed, self.speed, self.monotonic = feed, speed, monotonic
         self.month = Month()
         self.waiting: deque[Item] = deque()
-        self.troubles: list[Item] = []  # before the next call
+        self.troubles: list[Item] = []  # behind the last call
         self.next: Optional[Sent] = None
         self.due = AT_ONCE  # when the next call comes
         self.zero: Optional[float] = None  # when the open quantum was opened
@@ -56,18 +56,20 @@ class Playing:
     # ------------------------------------------------------------ the feed
 
     def read(self) -> list[Item]:
-        """What is due by now: each call with the troubles that stand before it."""
+        """What is due by now; what could not be read has no time of its own and comes with the call before it."""
         found: list[Item] = []
         now = self.monotonic()
         while len(found) < MOST_ITEMS and self.ended is None:
             sent = self.fetched()
+            found += self.troubles
+            self.troubles = []
             if sent is None and self.feed.ended is not None:
                 self.ended = "end"
             elif sent is None or self.due > now:
                 break
-            found += [*self.troubles, *([sent] if sent else [])]
-            self.troubles, self.next = [], None
-            if sent is not None:
+            else:
+                found.append(sent)
+                self.next = None
                 self.take(sent, now)
         if found:
             self.came = time.time()
