@@ -14,11 +14,11 @@ A method a call: it answers what the month shows, or raises `Refused`, and a ref
 """
 
 from types import TracebackType
-from typing import Iterable, Iterator, Optional, Sequence, Union
+from typing import Any, Iterable, Iterator, NamedTuple, Optional, Sequence, Union
 
 from quoting import calls as c
 from quoting import native
-from quoting.answers import WORDS, Answer, Asked, Cell, MonthReport, Outlook, answer_of
+from quoting.answers import WORDS, Answer, Asked, Cell, MonthReport, Outlook, answer_of, quote
 from quoting.events import Add, Amend, Cancel, Deal, Side, Tick
 from quoting.native import Refused
 from quoting.rules import Row
@@ -29,6 +29,18 @@ from quoting.views import View, view_of
 MOST_WORDS = 65_536  # more than a month has
 HINT_BYTES = 2_048
 NO_CALL = 3  # the library's refusal of bytes that are not one block
+STATE_WORD = 15  # of a view
+REPORT_BLOCK = c.block(c.Report())
+REPORT = native.address(REPORT_BLOCK), len(REPORT_BLOCK)
+
+
+class Glance(NamedTuple):
+    """The time of the open quantum's last event, the number of the state that its orders are in, both best quotes."""
+
+    time: int
+    state: int
+    bid: Optional[int]
+    ask: Optional[int]
 
 
 class Month:
@@ -37,12 +49,32 @@ class Month:
     def __init__(self) -> None:
         room = native.words(MOST_WORDS)
         size = native.call("quoting_month_fresh", native.address(room), MOST_WORDS)
-        self._words = (native.WORD * size)(*room[:size])
+        self._hold((native.WORD * size)(*room[:size]))
+
+    def _hold(self, words: Any) -> None:
+        self._words = words
         self._hints = native.bytes_of(HINT_BYTES)
-        self._answer = native.words(WORDS)
+        self._answer, self._view = native.words(WORDS), native.words(VIEW_WORDS)
         self._month = [part for each in (self._words, self._hints) for part in (native.address(each), len(each))]
         self._shown = [native.address(self._answer), WORDS]
+        self._viewed = [*self._month[:2], native.address(self._view), VIEW_WORDS]
         self._ended = False
+
+    def copy(self) -> "Month":
+        """A month of its own with the same words: what is called on the one leaves the other as it is.
+
+        >>> with Month() as month:
+        ...     month.open(Row(1, 1, "8:45:00", 1000, 150, 3, "60%"), day=1, sp=8452)
+        ...     ahead = month.copy()
+        ...     ahead.tick("1:00:00")
+        ...     ahead.report().time, month.report().time
+        (3600000, 0)
+        """
+        if self._ended:
+            raise ValueError("the month has ended with its block")
+        other = Month.__new__(Month)
+        other._hold(type(self._words).from_buffer_copy(self._words))
+        return other
 
     def __enter__(self) -> "Month":
         return self
@@ -131,9 +163,25 @@ class Month:
         """
         if self._ended:
             raise ValueError("the month has ended with its block")
-        buffer = native.words(VIEW_WORDS)
-        written = native.call("quoting_month_view", *self._month[:2], native.address(buffer), VIEW_WORDS)
-        return view_of(list(buffer[:written])) if written else None
+        written = native.call("quoting_month_view", *self._viewed)
+        return view_of(list(self._view[:written])) if written else None
+
+    def glance(self) -> Optional[Glance]:
+        """What a follower notes after each event, without the rest of a report and a view; None where no quantum is open.
+
+        >>> with Month() as month:
+        ...     month.open(Row(1, 1, "8:45:00", 1000, 150, 3, "60%"), day=1, sp=8452)
+        ...     month.add("0:00:10", 7, "buy", 8446, 1000)
+        ...     month.glance()
+        Glance(time=10000, state=2, bid=8446, ask=None)
+        """
+        if self._ended:
+            raise ValueError("the month has ended with its block")
+        if not native.call("quoting_month_view", *self._viewed):
+            return None
+        native.call("quoting_month_call", *self._month, *REPORT, *self._shown)
+        w = self._answer
+        return Glance(w[3], self._view[STATE_WORD], quote(w[5], w[6]), quote(w[7], w[8]))
 
     def ask(self, t: Time, id: int, price: int, volume: int) -> Asked:
         """What an amendment would do, and a ticket for it."""

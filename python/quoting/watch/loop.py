@@ -1,0 +1,133 @@
+"""The loop of the live page: the feed is read, the meter and the recount take each call, and at most ten times a second the sections are
+made of what stands then. Calls are never thinned, only what is shown of them."""
+
+import asyncio
+import time
+from typing import Any, Mapping, Optional
+
+from quoting.reading import STANDARD
+from quoting.watch import frames
+from quoting.watch.changes import Changes, encoded
+from quoting.watch.clocks import Clock
+from quoting.watch.feeds import Feed, Item, Trouble
+from quoting.watch.meter import Meter
+from quoting.watch.recounting import Recounting
+
+IDLE = 0.02  # seconds between two looks at a feed that has nothing new
+SLICE = 0.02  # seconds of work on a long feed, after which pages get their turn
+FRAME = 0.1  # seconds between two states that are shown
+
+
+class Watch:
+    """A feed that is watched."""
+
+    def __init__(self, feed: Feed, clock: Clock, meter: Meter, silence: float, speed: Optional[float]) -> None:
+        self.feed, self.clock, self.meter = feed, clock, meter
+        self.silence, self.speed = silence, speed  # seconds after which a feed has broken off, 0: never; of a feed that is played
+        self.recount = Recounting()
+        self.shown = Changes()
+        self.clients = 0
+        self.is_reading = True  # through what stood there at the start
+        self.differs: Optional[Mapping[str, Any]] = None
+        self.made = 0.0  # when the sections were made last
+
+    # ------------------------------------------------------------ the feed
+
+    async def read(self) -> None:
+        """Reads on for ever, or until the readings differ."""
+        while self.recount.parted is None and self.differs is None:
+            items = self.feed.read()
+            await self.take(items)
+            self.is_reading = self.is_reading and self.feed.behind
+            await asyncio.sleep(0 if self.feed.behind else IDLE)
+        await asyncio.Event().wait()
+
+    async def take(self, items: list[Item]) -> None:
+        until = time.perf_counter() + SLICE
+        for item in items:
+            self.take_one(item, self.feed.came)
+            if time.perf_counter() > until:
+                self.recount.flush()
+                await asyncio.sleep(0)
+                until = time.perf_counter() + SLICE
+        self.recount.flush()
+
+    def take_one(self, item: Item, came: float) -> None:
+        if isinstance(item, Trouble):
+            self.meter.trouble(item, came)
+            return
+        self.recount.call(item, self.meter.take(item, came))
+
+    # ------------------------------------------------------------ what is shown
+
+    async def show(self) -> None:
+        """Makes the sections while a page is open, and has the recount check the month."""
+        while True:
+            if self.clients:
+                self.publish()
+            self.recount.check(self.meter.month)
+            await asyncio.sleep(FRAME)
+
+    def status(self) -> frames.Status:
+        wall, silent = time.time(), max(0.0, time.time() - self.feed.came)
+        kind, why = self.feed_kind(silent)
+        differs = self.recount.differs() or self.differs
+        return frames.Status(kind, wall, silent, self.speed or 1.0, why, self.recount.readings(wall), differs)
+
+    def feed_kind(self, silent: float) -> tuple[str, str]:
+        """How the feed stands, and why it is broken off where it is not by silence. With no quantum open nothing is missed."""
+        ended, is_open = self.feed.ended, self.meter.opened is not None
+        if self.is_reading and self.speed is None:
+            return "reading", ""
+        if ended == "broken" and is_open:
+            return "broken", f"{source_text(self.feed.name)} has closed"
+        if ended is not None:
+            return "ended", ""
+        if self.speed is not None:
+            return "playing", ""
+        return ("broken" if self.is_silent(silent) else "following"), ""
+
+    def is_silent(self, silent: float) -> bool:
+        """Whether the feed was silent for too long while the open quantum went on; behind its end nothing need come but the close."""
+        opened = self.meter.opened
+        if opened is None or not 0 < self.silence < silent:
+            return False
+        now = self.clock.now(opened.start, self.meter.last, self.meter.came)
+        return now - 1_000 * (silent - self.silence) < opened.length
+
+    def publish(self) -> None:
+        """The sections as they stand now."""
+        now, status = self.meter.now_at(self.clock), self.status()
+        sections = frames.sections(self.meter, now, status)
+        self.differs = sections["differs"]
+
+        def day(got: Optional[frames.Got]) -> tuple[str, Optional[frames.Got]]:
+            section, has = frames.day(self.meter, now, status, got)
+            return encoded(section), has
+
+        self.made = time.monotonic()
+        self.shown.take(sections, day)
+
+    # ------------------------------------------------------------ the pages
+
+    def enter(self) -> None:
+        """A page has come: what it sees first is no older than a frame."""
+        self.clients += 1
+        if time.monotonic() - self.made > FRAME:
+            self.publish()
+
+    def leave(self) -> None:
+        self.clients -= 1
+
+    def ask(self, t: str, id: str, price: str, volume: str) -> dict[str, Any]:
+        """The answer to an ask, on a copy of the month."""
+        status = self.status()
+        is_known = status.feed not in ("broken", "reading") and not status.differs
+        return self.meter.ask(t, id, price, volume, self.meter.now_at(self.clock), is_known)
+
+    def end(self) -> None:
+        self.recount.end()
+
+
+def source_text(name: str) -> str:
+    return "standard input" if name == STANDARD else name

@@ -1,0 +1,312 @@
+"""A log of FIX messages as it grows, with a list of opens and closes, as calls in the list's order.
+
+Each message goes to the quantum of its time (60) and symbol (55), as in a statement (quoting.statement.sources): the first of the list that
+takes it. An open comes when the time seen has reached its start; behind it come the messages of its quantum; the call behind them in the
+list comes when the time seen is past the quantum's end. Time is seen by the messages, and by the clock if it knows the date. A finished
+log is read whole first, so that its calls are those of the statement whatever the order of its messages.
+"""
+
+import os
+from collections import defaultdict, deque
+from dataclasses import dataclass, field
+from datetime import date, datetime, timedelta
+from functools import lru_cache
+from itertools import chain
+from typing import Iterator, Optional, Union
+
+from quoting import calls as c
+from quoting import fix, inputs, logs, reading
+from quoting.reading import STANDARD, Options
+from quoting.statement.sources import SYMBOL, TIME, Sent, Span, span_of
+from quoting.watch.clocks import Clock
+from quoting.watch.feeds import Growing, Item, Line, Lines, ListLines, Pieces, Trouble, Turn, of_lines
+
+GRACE = timedelta(seconds=5)  # by which a log may be behind the clock at a quantum's end
+MOST_KEPT = 100_000  # messages in no quantum, kept for opens that are listed later
+SHORT_LIST = 65_536  # bytes of a list that is read anew when it has changed
+IN_NONE = "this message is in no quantum of the list; others like it are counted and not shown"
+LATE = "this message came when its quantum was past and the list had gone on; it is not counted"
+CHANGED = "the list was written anew, and this is not the call that was read here; what was read stays, and calls behind it are taken"
+BYTES = "messages are put into a text, which says when each quantum starts, and these are bytes"
+
+
+@dataclass(frozen=True)
+class Unplaced:
+    """A message of the log on its way to a quantum."""
+
+    line: int
+    data: bytes
+    time: Optional[datetime]
+    symbol: Optional[bytes]
+
+
+@dataclass
+class Quantum:
+    """One of the list that takes messages; `past` when the list has gone on behind it."""
+
+    span: Span
+    messages: deque[tuple[int, bytes]] = field(default_factory=deque)
+    past: bool = False
+
+    def takes(self, message: Unplaced) -> bool:
+        return message.time is not None and self.span.takes(message.time, message.symbol)
+
+
+# ---------------------------------------------------------------- the list
+
+
+@dataclass(frozen=True)
+class Call:
+    """A call of the list, with the symbol of the `start` before it."""
+
+    sent: Sent
+    symbol: Optional[bytes]
+
+    def same(self, other: "Call") -> bool:
+        return (self.sent.block, self.sent.start, self.symbol) == (other.sent.block, other.sent.start, other.symbol)
+
+
+class ListFile:
+    """The list of opens and closes. Whoever adds a close may save it from an editor, as another file, or cut and written again, with
+    lines put in above: so it is read from its beginning whenever it has changed, and the calls that were read before are passed over."""
+
+    def __init__(self, name: str, options: Options, follow: bool) -> None:
+        self.name, self.options = name, options
+        self.growing = Growing(name, follow, anew=True)
+        if self.growing.regular and b"\0" in os.pread(self.growing.descriptor, 4, 0):
+            raise reading.failed(BYTES, name)
+        self.calls: list[Call] = []
+        self.idle = False  # it was read as far as it went
+        self.begin()
+
+    def begin(self) -> None:
+        self.lines, self.text = Lines(), ListLines(self.options)
+        self.at = 0  # calls of this file so far
+        self.changed = False
+
+    def read(self) -> Optional[Iterator[Union[Call, Trouble]]]:
+        """The next calls; None where there is nothing now."""
+        piece = self.growing.read()
+        changed, self.idle = self.idle and piece is not None, piece is None
+        if piece is None:
+            return None
+        if isinstance(piece, Turn):
+            return self.turned(piece)
+        if changed and self.growing.regular and self.growing.place < SHORT_LIST:
+            self.growing.again()
+            self.begin()
+            return iter(())
+        return self.taken(of_lines(self.text, self.lines.take(piece)))
+
+    def taken(self, items: Iterator[Item]) -> Iterator[Union[Call, Trouble]]:
+        for item in items:
+            known = self.at < len(self.calls)
+            if isinstance(item, Trouble):
+                yield from () if known else [Trouble(f"{self.name}: {item.place}", item.text)]
+                continue
+            call = Call(item, self.text.symbol)
+            self.at += 1
+            if not known:
+                self.calls.append(call)
+                yield call
+            elif not self.changed and not call.same(self.calls[self.at - 1]):
+                self.changed = True
+                yield Trouble(f"{self.name}: {item.place}", CHANGED)
+
+    def turned(self, turn: Turn) -> Iterator[Union[Call, Trouble]]:
+        if turn.fresh:
+            self.begin()
+        elif turn.kind == "gone":
+            yield Trouble(self.name, turn.text)
+        elif turn.final:
+            yield from self.taken(chain(of_lines(self.text, self.lines.turn(turn)), self.text.end()))
+
+
+# ---------------------------------------------------------------- the feed
+
+
+class MessagesFeed(Pieces):
+    """The calls of a list with the messages of a log, as both grow."""
+
+    def __init__(self, log: str, calls_file: str, options: Options, start: Optional[str], clock: Clock, follow: bool) -> None:
+        if log == calls_file == STANDARD:
+            raise inputs.WrongUse("the log and the list can't both be standard input")
+        if start is not None:
+            fix.moment(start)
+        super().__init__(Growing(log, follow))
+        self.start, self.clock, self.follow = start, clock, follow
+        self.list, self.lines = ListFile(calls_file, options, follow), Lines()
+        self.queue: deque[tuple[Sent, Optional[Quantum]]] = deque()  # of the list, still to come
+        self.days: dict[date, list[Quantum]] = defaultdict(list)  # the quanta of each day, in the list's order
+        self.current: Optional[Quantum] = None
+        self.before: Optional[Quantum] = None  # where the last message went
+        self.seen: Optional[datetime] = None
+        self.unplaced: deque[Unplaced] = deque(maxlen=MOST_KEPT)
+        self.passed_over = 0  # messages in no quantum, or too late for theirs
+        self.said = False  # that there is one in no quantum
+        self.idle = False  # the log is read as far as it goes
+
+    @property
+    def count(self) -> int:
+        return self.growing.count + self.list.growing.count
+
+    def next(self) -> Optional[Iterator[Item]]:
+        """What comes next: all of the list, then of the log, then what time brings; None where there is nothing now."""
+        listed = self.list.read()
+        if listed is not None:
+            return self.listed(listed)
+        if not self.follow and self.list.growing.ended is None:
+            return None
+        piece = self.growing.read()
+        self.idle = piece is None
+        if piece is not None:
+            return self.turned(piece) if isinstance(piece, Turn) else self.logged(self.lines.take(piece), early=True)
+        due = self.due()
+        first = next(due, None)
+        return None if first is None else chain([first], due)
+
+    # ------------------------------------------------------------ the list
+
+    def listed(self, calls: Iterator[Union[Call, Trouble]]) -> Iterator[Item]:
+        for call in calls:
+            if isinstance(call, Trouble):
+                yield call
+                continue
+            try:
+                self.enqueue(call)
+            except OverflowError:
+                text = f"start: {call.sent.start} is too late, the quantum ends past year 9999"
+                yield Trouble(f"{self.list.name}: {call.sent.place}", text)
+        yield from self.due()
+
+    def enqueue(self, call: Call) -> None:
+        sent = call.sent
+        opened = c.call_of(sent.block) if sent.block[0] in (1, 13) else None
+        start = sent.start or (self.start if opened is not None else None)
+        if start is None:
+            self.queue.append((sent, None))
+            return
+        quantum = Quantum(span_of(start, call.symbol, opened))
+        self.queue.append((Sent(sent.block, sent.place, start), quantum))
+        begins, ends = quantum.span.begins.date(), quantum.span.ends.date()
+        for day in range((ends - begins).days + 1):
+            self.days[begins + timedelta(days=day)].append(quantum)
+        waiting, self.unplaced = self.unplaced, deque(maxlen=MOST_KEPT)
+        for message in waiting:
+            if quantum.takes(message):
+                self.passed_over -= 1
+                self.place(message, quantum)
+            else:
+                self.unplaced.append(message)
+
+    # ------------------------------------------------------------ the log
+
+    def turned(self, turn: Turn) -> Iterator[Item]:
+        yield from self.logged(self.lines.turn(turn))
+        if turn.text:
+            yield Trouble(self.name, turn.text)
+        if turn.fresh:
+            self.lines = Lines()
+
+    def logged(self, lines: Iterator[Union[Line, Trouble]], early: bool = False) -> Iterator[Item]:
+        """The messages of whole lines, and whole ones of a line without an end so far: raw messages may stand without any."""
+        for line in chain(lines, self.lines.messages() if early else ()):
+            if isinstance(line, Trouble):
+                yield Trouble(f"{self.name}: {line.place}", line.text)
+                continue
+            for found in logs.messages(line[1]):
+                if found.kind is None or found.kind in logs.TAKEN:
+                    yield from self.message(line[0], found.data)
+
+    def message(self, line: int, data: bytes) -> Iterator[Item]:
+        symbol = SYMBOL.search(data)
+        message = Unplaced(line, data, time_of(data), symbol[1] if symbol else None)
+        quantum = self.before if message.time is None else self.quantum_of(message, message.time)
+        if message.time is not None and is_sound(data):
+            self.seen = max(message.time, self.seen or message.time)
+        if quantum is None:
+            self.passed_over += 1
+            self.unplaced.append(message)
+            if not self.said:
+                self.said = True
+                yield Trouble(f"{self.name}: line {line}", IN_NONE)
+        elif quantum.past:
+            self.passed_over += 1
+            self.before = quantum
+            yield Trouble(f"{self.name}: line {line}", LATE)
+        elif quantum is self.current:  # where nothing else can be due
+            self.before = quantum
+            yield self.sent_of(quantum, line, data)
+            return
+        else:
+            self.place(message, quantum)
+        yield from self.due()
+
+    def quantum_of(self, message: Unplaced, time: datetime) -> Optional[Quantum]:
+        """The first of the list that takes it."""
+        return next((each for each in self.days.get(time.date(), ()) if each.takes(message)), None)
+
+    def place(self, message: Unplaced, quantum: Quantum) -> None:
+        quantum.messages.append((message.line, message.data))
+        self.before = quantum
+
+    # ------------------------------------------------------------ in the list's order
+
+    def due(self) -> Iterator[Item]:
+        """What can come now."""
+        while True:
+            if self.current is not None:
+                while self.current.messages:
+                    yield self.sent_of(self.current, *self.current.messages.popleft())
+                if not self.queue or not self.is_past(self.current.span):
+                    return
+                self.current.past, self.current = True, None
+            if not self.queue or not self.is_reached(self.queue[0][1]):
+                return
+            sent, self.current = self.queue.popleft()
+            yield sent
+
+    def sent_of(self, quantum: Quantum, line: int, data: bytes) -> Sent:
+        return Sent(c.block(c.Message(quantum.span.start.encode(), data)), f"{self.name}: line {line}")
+
+    def is_reached(self, quantum: Optional[Quantum]) -> bool:
+        if not self.follow:
+            return self.growing.ended is not None
+        if quantum is None or (self.seen is not None and self.seen >= quantum.span.begins):
+            return True
+        moment = self.clock.moment()
+        return moment is not None and moment >= quantum.span.begins
+
+    def is_past(self, span: Span) -> bool:
+        """By the clock only if the log is read as far as it goes, and a little later, since a log comes behind it."""
+        if not self.follow:
+            return self.growing.ended is not None
+        if self.seen is not None and self.seen > span.ends:
+            return True
+        moment = self.clock.moment() if self.idle else None
+        return moment is not None and moment > span.ends + GRACE
+
+
+@lru_cache(maxsize=64)
+def day_of(text: str) -> Optional[datetime]:
+    try:
+        return fix.moment(f"{text}-00:00:00.000")
+    except ValueError:
+        return None
+
+
+def time_of(data: bytes) -> Optional[datetime]:
+    """What sources.time_of says, at a third of the cost: the days are few."""
+    found = TIME.search(data)
+    text = found[1].decode("latin-1") if found else ""
+    day = day_of(text[:8]) if fix.TIME.fullmatch(text) else None
+    hour, minute, second = (int(text[at : at + 2]) for at in (9, 12, 15)) if day else (24, 0, 0)
+    if day is None or hour > 23 or minute > 59 or second > 59:
+        return None
+    return day + timedelta(0, second, 0, int(text[18:]), minute, hour)
+
+
+def is_sound(data: bytes) -> bool:
+    """Whether its checksum is right: time is not moved by a damaged message."""
+    at = data.rfind(fix.END + b"10=") + 1
+    return at > 0 and data[at:] == b"10=%03d" % (sum(data[:at]) % 256) + fix.END

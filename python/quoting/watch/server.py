@@ -1,0 +1,237 @@
+"""The server of the live page: three files, and a WebSocket over which each page gets what has changed since it last got something.
+
+A request can alter nothing; an ask is answered on a copy of the month. Pages that are slow skip states: each is sent the newest one when
+it has taken the one before.
+"""
+
+import asyncio
+import json
+import logging
+import signal
+import socket
+import time
+from collections import deque
+from importlib import import_module
+from pathlib import Path
+from typing import Any, Awaitable, Callable, Optional
+
+from starlette.applications import Starlette
+from starlette.requests import Request
+from starlette.responses import PlainTextResponse, Response
+from starlette.routing import Route, WebSocketRoute
+from starlette.types import ASGIApp, Message, Receive, Scope, Send
+from starlette.websockets import WebSocket, WebSocketDisconnect
+from websockets.exceptions import ConnectionClosed
+
+from quoting.watch.hosts import Door
+from quoting.watch.loop import Watch
+
+PAGE = Path(__file__).resolve().parent / "page"
+FILES = {"/": ("index.html", "text/html"), "/page.css": ("page.css", "text/css"), "/page.js": ("page.js", "text/javascript")}
+POLICY = (
+    "default-src 'none'; script-src 'self'; style-src 'self'; img-src 'self' data:; connect-src 'self'; base-uri 'none'; "
+    "form-action 'none'; frame-ancestors 'none'")
+HEADERS = {
+    "Content-Security-Policy": POLICY, "X-Content-Type-Options": "nosniff", "Referrer-Policy": "no-referrer", "Cache-Control": "no-store"}
+MOST_CLIENTS = 100
+MOST_CONNECTIONS = 400  # of pages, and of browsers that load one
+MOST_BYTES = 1_024  # of a message from a page
+MOST_SIGNS = 64  # of a field of an ask
+ASKS, FLOOD = 10, 100  # asks in a second that are answered; messages in a second at which a page is shut out
+UNREAD, UNWANTED, TOO_MANY = 1003, 1008, 1013  # closing codes of a WebSocket
+
+
+class Unwanted(Exception):
+    """A message that no page of ours sends; the closing code."""
+
+
+# ---------------------------------------------------------------- requests
+
+
+class Guarded:
+    """Lets in what the door takes, and puts the headers on every answer."""
+
+    def __init__(self, app: ASGIApp, door: Door) -> None:
+        self.app, self.door = app, door
+
+    async def __call__(self, scope: Scope, receive: Receive, send: Send) -> None:
+        refusal = self.refusal(scope)
+        if scope["type"] == "websocket" and refusal is not None:
+            await receive()
+            await send({"type": "websocket.close", "code": UNWANTED})
+        elif scope["type"] == "websocket":
+            await self.app(scope, receive, send)
+        else:
+            await (refusal or self.app)(scope, receive, headed(send))
+
+    def refusal(self, scope: Scope) -> Optional[Response]:
+        given = {name.decode("latin-1"): value.decode("latin-1") for name, value in scope["headers"]}
+        if "host" not in given:
+            return PlainTextResponse("the request names no host\n", 400)
+        if not self.door.takes_host(given["host"]):
+            return PlainTextResponse("this server has another address\n", 421)
+        if scope["type"] == "websocket" and not self.door.takes_origin(given.get("origin")):
+            return PlainTextResponse("this page has another origin\n", 403)
+        if not self.door.takes_token(scope["query_string"]):
+            return PlainTextResponse("the link has a token, and this request has none or another\n", 403)
+        return None
+
+
+def headed(send: Send) -> Send:
+    async def with_headers(message: Message) -> None:
+        if message["type"] == "http.response.start":
+            more = [(name.lower().encode(), value.encode()) for name, value in HEADERS.items()]
+            message = {**message, "headers": [*message["headers"], *more]}
+        await send(message)
+
+    return with_headers
+
+
+def file_of(path: str, token: Optional[str]) -> tuple[bytes, str]:
+    """A page's file and its type; where there is a token, the page's links to the other two have it."""
+    name, kind = FILES[path]
+    data = (PAGE / name).read_bytes()
+    if token is not None and path == "/":
+        for other in ("page.css", "page.js"):
+            data = data.replace(f'"{other}"'.encode(), f'"{other}?token={token}"'.encode())
+    return data, kind
+
+
+# ---------------------------------------------------------------- pages
+
+
+def ask_of(text: str) -> dict[str, Any]:
+    """The fields of an ask; whatever else is sent is unwanted."""
+    try:
+        told = json.loads(text)
+    except (ValueError, RecursionError):
+        raise Unwanted(UNREAD) from None
+    asked = told.get("ask") if isinstance(told, dict) and len(told) == 1 else None
+    if not isinstance(asked, dict) or set(asked) != {"n", "t", "id", "price", "volume"}:
+        raise Unwanted(UNWANTED)
+    number, *fields = (asked[name] for name in ("n", "t", "id", "price", "volume"))
+    if type(number) is not int or not 0 <= number < 2**53 or not all(isinstance(each, str) and len(each) <= MOST_SIGNS for each in fields):
+        raise Unwanted(UNWANTED)
+    return asked
+
+
+class Client:
+    """A page: what it was sent last, and when it asked."""
+
+    def __init__(self, socket: WebSocket, watch: Watch) -> None:
+        self.socket, self.watch = socket, watch
+        self.asked: deque[float] = deque(maxlen=FLOOD)
+
+    async def send_changes(self) -> None:
+        """Sends what has changed, and awaits that it is taken: meanwhile states may be skipped."""
+        seen = self.watch.shown.unseen()
+        while True:
+            text, seen = self.watch.shown.since(seen)
+            if text:
+                await self.socket.send_text(text)
+            await self.watch.shown.newer(seen)
+
+    async def receive(self) -> None:
+        """Answers asks until the page goes, or sends what it should not."""
+        try:
+            while True:
+                message = await self.socket.receive()
+                if message["type"] == "websocket.disconnect":
+                    return
+                if message.get("text") is None:
+                    raise Unwanted(UNREAD)
+                await self.socket.send_text(json.dumps({"answer": self.answer(ask_of(message["text"]))}, ensure_ascii=False))
+        except Unwanted as unwanted:
+            closing = asyncio.create_task(self.socket.close(unwanted.args[0]))
+            while (await self.socket.receive())["type"] != "websocket.disconnect":
+                pass  # what it has sent behind it stands before its farewell
+            await closing
+
+    def answer(self, asked: dict[str, Any]) -> dict[str, Any]:
+        now = time.monotonic()
+        self.asked.append(now)
+        if len(self.asked) == FLOOD and now - self.asked[0] < 1:
+            raise Unwanted(UNWANTED)
+        if sum(now - each < 1 for each in self.asked) > ASKS:
+            lines = [f"At most {ASKS} asks a second are answered: ask again."]
+            return {"n": asked["n"], "kind": "refused", "head": "Not asked", "lines": lines}
+        return {"n": asked["n"], **self.watch.ask(asked["t"], asked["id"], asked["price"], asked["volume"])}
+
+
+class Pages:
+    """The files, and the pages that are open."""
+
+    def __init__(self, watch: Watch, door: Door) -> None:
+        self.watch, self.door = watch, door
+        self.made: dict[str, tuple[bytes, str]] = {path: file_of(path, door.token) for path in FILES}
+
+    def app(self) -> ASGIApp:
+        files = [Route(path, self.file, methods=["GET"]) for path in FILES]
+        return Guarded(Starlette(routes=[*files, WebSocketRoute("/live", self.live)]), self.door)
+
+    async def file(self, request: Request) -> Response:
+        data, kind = self.made[request.url.path]
+        return Response(data, media_type=kind)
+
+    async def live(self, page: WebSocket) -> None:
+        await page.accept()
+        if self.watch.clients >= MOST_CLIENTS:
+            await page.close(TOO_MANY)
+            return
+        client = Client(page, self.watch)
+        self.watch.enter()
+        sending = asyncio.create_task(client.send_changes())
+        try:
+            await client.receive()
+        except (ConnectionClosed, WebSocketDisconnect, RuntimeError):
+            pass  # the page has gone
+        finally:
+            self.watch.leave()
+            sending.cancel()
+            await asyncio.gather(sending, return_exceptions=True)
+
+
+# ---------------------------------------------------------------- the run
+
+
+def bound(address: str, port: int) -> socket.socket:
+    """A socket that listens."""
+    family = socket.AF_INET6 if ":" in address else socket.AF_INET
+    made = socket.socket(family, socket.SOCK_STREAM)
+    made.setsockopt(socket.SOL_SOCKET, socket.SO_REUSEADDR, 1)
+    try:
+        made.bind((address, port))
+        made.listen()
+    except OSError as error:
+        made.close()
+        why = f"{address}, port {port}: {error.strerror or error}"
+        raise ValueError(f"{why}; --port names another, and --port 0 takes any that is free") from None
+    return made
+
+
+async def serve(watch: Watch, door: Door, listening: socket.socket) -> None:
+    """Until a signal comes."""
+    logging.getLogger("uvicorn").setLevel(logging.CRITICAL)
+    uvicorn: Any = import_module("uvicorn")
+    config = uvicorn.Config(
+        Pages(watch, door).app(), log_config=None, log_level="critical", access_log=False, lifespan="off", loop="asyncio", http="h11",
+        limit_concurrency=MOST_CONNECTIONS, ws="websockets", ws_max_size=MOST_BYTES, ws_per_message_deflate=False, server_header=False, proxy_headers=False)
+    server, stopped = uvicorn.Server(config), asyncio.Event()
+    server.install_signal_handlers = lambda: None  # they are ours
+    for number in (signal.SIGINT, signal.SIGTERM):
+        asyncio.get_running_loop().add_signal_handler(number, stopped.set)
+    work: list[Awaitable[Any]] = [server.serve(sockets=[listening]), watch.read(), watch.show(), stopped.wait()]
+    tasks = [asyncio.ensure_future(each) for each in work]
+    done, _ = await asyncio.wait(tasks, return_when=asyncio.FIRST_COMPLETED)
+    for task in done:
+        task.result()  # raises what ended it, if it was an error; the others are cancelled with the loop, and connections go with them
+
+
+def run(watch: Watch, door: Door, listening: socket.socket, say: Callable[[], None]) -> None:
+    """Serves the page until Ctrl-C; `say` tells the link, once it can be followed."""
+    try:
+        say()
+        asyncio.run(serve(watch, door, listening))
+        raise KeyboardInterrupt
+    finally:
+        watch.end()
