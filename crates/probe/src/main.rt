@@ -8,20 +8,13 @@ mod boards;
 mod days;
 mod eased;
 mod maker_calls;
-mod messages;
 mod safe;
 
 use console::field;
 use console::field_line;
-use console::number;
 use console::text;
 use console::words_line;
-use rules::Contracts;
-use rules::Event;
-use rules::Millis;
-use rules::RecordRead;
 use rules::SessionAnswer;
-use rules::Side;
 use rules::Steps;
 
 // A lent buffer of the case.
@@ -141,66 +134,26 @@ fn row_case(input: &[u8]) -> bool {
     true
 }
 
-fn fields(kind: u32, t: Millis, id: u32, p: Steps, volume: Contracts) {
-    field(b"event ", kind);
-    field(b" ", t.0);
-    field(b" ", id);
-    text(b" ");
-    console::price(p);
-    field_line(b" ", volume.0);
-}
-
-fn add_kind(side: Side) -> u32 {
-    match side {
-        Side::Buy => 1,
-        Side::Sell => 2,
+// Kinds 5 to 14: days, rows eased on them, messages, the standing of makers, safe minutes.
+fn other_case(kind: u32, input: &[u8]) -> bool
+    requires { ⌜ 4 ≤ length (now input) ⌝ }
+{
+    if days::is_kind(kind) {
+        return days::case(kind, input);
     }
-}
-
-// Read off the event and not off the written bytes, so that a writer's fault shows against it.
-fn event_line(event: Event) {
-    match event {
-        Event::Add {
-            t,
-            id,
-            side,
-            price,
-            volume,
-        } => fields(add_kind(side), t, id, price, volume),
-        Event::Amend {
-            t,
-            id,
-            price,
-            volume,
-        } => fields(3, t, id, price, volume),
-        Event::Cancel { t, id } => fields(4, t, id, Steps(0), Contracts(0)),
-        Event::Deal { t, id, volume } => fields(5, t, id, Steps(0), volume),
-        Event::Tick { t } => fields(6, t, 0, Steps(0), Contracts(0)),
+    if eased::is_kind(kind) {
+        return eased::case(kind, input);
     }
-}
-
-fn bytes_line(bytes: &[u8]) {
-    text(b"bytes");
-    for i in 0..bytes.len() {
-        text(b" ");
-        console::hex(bytes[i]);
+    if byte_cases::is_message_kind(kind) {
+        return byte_cases::message_case(kind, input);
     }
-    text(b"\n");
-}
-
-fn event_lines(event: Event) {
-    event_line(event);
-    let bytes = record::write(event);
-    bytes_line(&bytes);
-}
-
-// `3`, then bytes that begin with a record.
-fn record_case(bytes: &[u8]) {
-    let read = record::read(bytes);
-    match read {
-        RecordRead::Read(event) => event_lines(event),
-        RecordRead::Refused(refusal) => field_line(b"refused ", rules::number(refusal)),
+    if kind == 7 {
+        return maker_calls::standing_case(input);
     }
+    if kind == 8 {
+        return safe::safe_case(input);
+    }
+    false
 }
 
 // Whether the input is a case; where it is, its lines are written.
@@ -216,31 +169,16 @@ fn run_case(input: &[u8]) -> bool {
         return row_case(input);
     }
     if kind == 3 {
-        record_case(&input[4..]);
+        byte_cases::record_case(&input[4..]);
         return true;
     }
     if kind == 4 {
         return boards::board_case(input);
     }
-    if kind == 8 {
-        return safe::safe_case(input);
-    }
     if kind == 15 {
         return accounted::account_case(input);
     }
-    if days::is_kind(kind) {
-        return days::case(kind, input);
-    }
-    if eased::is_kind(kind) {
-        return eased::case(kind, input);
-    }
-    if messages::is_kind(kind) {
-        return messages::case(kind, input);
-    }
-    if kind == 7 {
-        return maker_calls::standing_case(input);
-    }
-    false
+    other_case(kind, input)
 }
 
 // One byte more than a case may have shows that there are more.

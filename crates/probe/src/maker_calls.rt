@@ -1,9 +1,9 @@
 // Standing of makers: join, change and leave on records and a count that the case gives.
 ghost use Prim.Native.Nat.{_+_, _*_, _≤_, _<_};
 ghost use lib.ListN.{length};
-use super::field;
-use super::number;
-use super::text;
+use console::field;
+use console::number;
+use console::text;
 use makers::Maker;
 use places::Left;
 

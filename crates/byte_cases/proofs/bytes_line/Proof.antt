@@ -3,8 +3,8 @@ use Prim.Native.Nat.{_-_, _≤_}
 use mathlib.Core.Path.{_≡_}
 use lib.ListN.{length}
 use borrow.Author.Needs.{needs}
-use Rattle.probe.proofs.bytes_line.Statement.{statement}
-use Rattle.probe.proofs.bytes_line.Tie as tie
+use Rattle.byte_cases.proofs.bytes_line.Statement.{statement}
+use Rattle.byte_cases.proofs.bytes_line.Tie as tie
 
 abbrev Inv-loop : tie.InvT-loop
 Inv-loop bytes i₀ t4 t5 i-end i = (i ≤ i-end) × (i-end ≡ length bytes)

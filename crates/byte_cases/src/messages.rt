@@ -57,6 +57,25 @@ fn terms(side: Side, volume: Contracts, price: Steps) {
     console::price(price);
 }
 
+fn new_line(id: u32, side: Side, volume: Contracts, price: Steps, time: Timestamp) {
+    field(b"message D 11 ", id);
+    terms(side, volume, price);
+    time_line(time);
+}
+
+fn cancel_line(id: u32, orig: u32, time: Timestamp) {
+    field(b"message F 11 ", id);
+    field(b" 41 ", orig);
+    time_line(time);
+}
+
+fn replace_line(id: u32, orig: u32, side: Side, volume: Contracts, price: Steps, time: Timestamp) {
+    field(b"message G 11 ", id);
+    field(b" 41 ", orig);
+    terms(side, volume, price);
+    time_line(time);
+}
+
 fn message_line(read: MessageRead) {
     match read {
         MessageRead::New {
@@ -65,16 +84,8 @@ fn message_line(read: MessageRead) {
             volume,
             price,
             time,
-        } => {
-            field(b"message D 11 ", id);
-            terms(side, volume, price);
-            time_line(time);
-        }
-        MessageRead::Cancel { id, orig, time } => {
-            field(b"message F 11 ", id);
-            field(b" 41 ", orig);
-            time_line(time);
-        }
+        } => new_line(id, side, volume, price, time),
+        MessageRead::Cancel { id, orig, time } => cancel_line(id, orig, time),
         MessageRead::Replace {
             id,
             orig,
@@ -82,14 +93,9 @@ fn message_line(read: MessageRead) {
             volume,
             price,
             time,
-        } => {
-            field(b"message G 11 ", id);
-            field(b" 41 ", orig);
-            terms(side, volume, price);
-            time_line(time);
-        }
-        MessageRead::FrameWrong => text(b"refused 20\n"),
-        MessageRead::FieldWrong => text(b"refused 21\n"),
+        } => replace_line(id, orig, side, volume, price, time),
+        MessageRead::FrameWrong => field_line(b"refused ", 20),
+        MessageRead::FieldWrong => field_line(b"refused ", 21),
     }
 }
 

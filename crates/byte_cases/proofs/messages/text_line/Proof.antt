@@ -2,8 +2,8 @@
 use native.Mathlib.Omega.{arith}
 use lib.ListN.{length-take}
 use borrow.Author.Needs.{needs}
-use Rattle.probe.proofs.messages.text_line.Statement.{statement}
-use Rattle.probe.proofs.messages.text_line.Tie as tie
+use Rattle.byte_cases.proofs.messages.text_line.Statement.{statement}
+use Rattle.byte_cases.proofs.messages.text_line.Tie as tie
 
 slice-aggregate-bytes-line : tie.Need-slice-aggregate-bytes-line
 slice-aggregate-bytes-line c = simp length-take (omega arith)
