@@ -48,7 +48,8 @@ class Check:
 
 @dataclass(frozen=True)
 class Agreed:
-    """Both readings show the same after that many calls; `took` are the seconds that it took to see it."""
+    """Both readings show the same after that many calls; `took` are the seconds of a processor that it took to see it, which don't grow
+    where the machine has other work."""
 
     calls: int
     took: float
@@ -155,11 +156,11 @@ class Recounter:
 
     def check(self, check: Check) -> Iterator[Said]:
         """Whether both show the same now."""
-        began = time.monotonic()
+        began = time.process_time()
         theirs = self.shown(self.book, len(check.shown) > len(STANDING))
         if theirs == check.shown:
             self.point, self.since = Point(self.calls, self.copied(self.book), check.words), []
-            yield Agreed(self.calls, time.monotonic() - began)
+            yield Agreed(self.calls, time.process_time() - began)
         else:
             yield from self.part(self.last.line, check.shown, theirs)
 
