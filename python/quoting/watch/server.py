@@ -1,4 +1,4 @@
-"""The server of the live page: three files, and a WebSocket over which each page gets what has changed since it last got something.
+"""The server of the live page: its files, and a WebSocket over which each page gets what has changed since it last got something.
 
 A request can alter nothing; an ask is answered on a copy of the month. Pages that are slow skip states: each is sent the newest one when
 it has taken the one before.
@@ -7,6 +7,7 @@ it has taken the one before.
 import asyncio
 import json
 import logging
+import re
 import signal
 import socket
 import time
@@ -27,7 +28,8 @@ from quoting.watch.hosts import Door
 from quoting.watch.loop import Watch
 
 PAGE = Path(__file__).resolve().parent / "page"
-FILES = {"/": ("index.html", "text/html"), "/page.css": ("page.css", "text/css"), "/page.js": ("page.js", "text/javascript")}
+FIRST = "index.html"  # stands at / alone
+KINDS = {".html": "text/html", ".css": "text/css", ".js": "text/javascript"}
 POLICY = (
     "default-src 'none'; script-src 'self'; style-src 'self'; img-src 'self' data:; connect-src 'self'; base-uri 'none'; "
     "form-action 'none'; frame-ancestors 'none'")
@@ -87,14 +89,14 @@ def headed(send: Send) -> Send:
     return with_headers
 
 
-def file_of(path: str, token: Optional[str]) -> tuple[bytes, str]:
-    """A page's file and its type; where there is a token, the page's links to the other two have it."""
-    name, kind = FILES[path]
-    data = (PAGE / name).read_bytes()
-    if token is not None and path == "/":
-        for other in ("page.css", "page.js"):
-            data = data.replace(f'"{other}"'.encode(), f'"{other}?token={token}"'.encode())
-    return data, kind
+def files_of(folder: Path, token: Optional[str]) -> dict[str, tuple[bytes, str]]:
+    """The page's files and their types by the paths of requests; where there is a token, their links to one another have it."""
+    found = {each.name: each.read_bytes() for each in sorted(folder.iterdir()) if each.suffix in KINDS}
+    if token is not None:
+        names = "|".join(map(re.escape, found))
+        links = re.compile(rf'"(?:\./)?(?:{names})(?=")'.encode())
+        found = {name: links.sub(lambda link: link[0] + f"?token={token}".encode(), data) for name, data in found.items()}
+    return {"/" if name == FIRST else f"/{name}": (data, KINDS[Path(name).suffix]) for name, data in found.items()}
 
 
 # ---------------------------------------------------------------- pages
@@ -163,14 +165,14 @@ class Pages:
 
     def __init__(self, watch: Watch, door: Door) -> None:
         self.watch, self.door = watch, door
-        self.made: dict[str, tuple[bytes, str]] = {path: file_of(path, door.token) for path in FILES}
+        self.files = files_of(PAGE, door.token)  # read once: no request reaches the folder
 
     def app(self) -> ASGIApp:
-        files = [Route(path, self.file, methods=["GET"]) for path in FILES]
+        files = [Route(path, self.file, methods=["GET"]) for path in self.files]
         return Guarded(Starlette(routes=[*files, WebSocketRoute("/live", self.live)]), self.door)
 
     async def file(self, request: Request) -> Response:
-        data, kind = self.made[request.url.path]
+        data, kind = self.files[request.url.path]
         return Response(data, media_type=kind)
 
     async def live(self, page: WebSocket) -> None:
