@@ -35,6 +35,7 @@ from quoting.watch import loop, recounter, server
 from quoting.watch.changes import Changes
 from quoting.watch.clocks import FeedClock
 from quoting.watch.meter import Meter
+from quoting.watch.recounting import Recounting
 from recount import book
 from tests import browser, command
 from tests.browser import Browser, Served, children
@@ -404,6 +405,24 @@ def check_first():
         book.within, recounter.MOST_WALKED = within, walked
 
 
+def check_prompt():
+    """A check that is answered before the call that gave it has returned is answered, and the next one is made."""
+    recount, month, given = object.__new__(Recounting), Month(), []
+
+    class Prompt:
+        def put(self, part):
+            given.append(part)
+            recount.hear(recounter.Agreed(0, 0.0))
+
+    recount.kind, recount.parted, recount.waiting, recount.queue = "waiting", None, [], Prompt()
+    recount.sent = recount.checked = 0
+    recount.under_way, recount.looks, recount.took = False, False, 0.0
+    for _ in range(2):
+        recount.next = 0.0
+        recount.check(month)
+    assert len(given) == 2 and not recount.under_way, given
+
+
 # ---------------------------------------------------------------- many pages, and strangers
 
 
@@ -750,6 +769,7 @@ def main():
         check_listened(page)
         took = check_many(page)
     check_first()
+    check_prompt()
     check_silent()
     check_slow()
     check_crowd()

@@ -90,8 +90,9 @@ class Recounting:
         if self.sent == self.checked and self.took > CHEAP:
             return
         self.flush()
-        self.queue.put(Check(shown_by(month, self.looks), words_of(month)))
-        self.looks, self.checked, self.under_way = False, self.sent, True
+        check = Check(shown_by(month, self.looks), words_of(month))
+        self.looks, self.checked, self.under_way = False, self.sent, True  # before it is given: it may be answered at once
+        self.queue.put(check)
 
     # ------------------------------------------------------------ the process
 
