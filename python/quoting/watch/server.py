@@ -217,7 +217,8 @@ async def serve(watch: Watch, door: Door, listening: socket.socket) -> None:
     uvicorn: Any = import_module("uvicorn")
     config = uvicorn.Config(
         Pages(watch, door).app(), log_config=None, log_level="critical", access_log=False, lifespan="off", loop="asyncio", http="h11",
-        limit_concurrency=MOST_CONNECTIONS, ws="websockets", ws_max_size=MOST_BYTES, ws_per_message_deflate=False, server_header=False, proxy_headers=False)
+        limit_concurrency=MOST_CONNECTIONS, ws="websockets", ws_max_size=MOST_BYTES, ws_per_message_deflate=False, server_header=False,
+        proxy_headers=False)
     server, stopped = uvicorn.Server(config), asyncio.Event()
     server.install_signal_handlers = lambda: None  # they are ours
     for number in (signal.SIGINT, signal.SIGTERM):

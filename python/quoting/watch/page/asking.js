@@ -48,10 +48,16 @@ function proposeAmendment() {
   for (const name of ["price", "volume"]) propose(ask[name], String(order[name]).replaceAll(",", ""));
 }
 
-// Until a field is edited it follows; one that was emptied shows in grey what it stands for.
+// Until a field is edited it follows, but not under the hand; one that was emptied shows in grey what it stands for.
 function propose(field, due) {
   if (field.placeholder !== due) field.placeholder = due;
-  if (!form.edited.has(field.name) && field.value !== due) field.value = due;
+  if (!form.edited.has(field.name) && field.value !== due && document.activeElement !== field) field.value = due;
+}
+
+// What a field says; one that was not edited says what it would show by now.
+function said(field) {
+  if (!form.edited.has(field.name)) field.value = field.placeholder;
+  return field.value.trim() || field.placeholder;
 }
 
 export function sayAnswer(answer) {
@@ -71,10 +77,10 @@ export function paintAnswer(answer) {
 function sendAsk(event) {
   event.preventDefault();
   if (!connection.socket || connection.socket.readyState !== WebSocket.OPEN) return;
-  const fields = $("ask").elements, typed = name => fields[name].value.trim() || fields[name].placeholder || "";
+  const { t, id, price, volume } = $("ask").elements;
   form.asked += 1;
   sayAnswer(null);   // emptied first, so that the same answer is announced again
-  const ask = { n: form.asked, t: typed("t"), id: fields.id.value, price: typed("price"), volume: typed("volume") };
+  const ask = { n: form.asked, t: said(t), id: id.value, price: said(price), volume: said(volume) };
   connection.socket.send(JSON.stringify({ ask }));
 }
 
