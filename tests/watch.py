@@ -431,7 +431,8 @@ def origin(served):
 
 
 def connect(served, **more):
-    return websockets.connect(f"ws://127.0.0.1:{served.port}/live", **{"origin": origin(served), "max_size": None, **more})
+    patient = {"open_timeout": browser.PATIENCE, "ping_interval": None, "max_size": None}
+    return websockets.connect(f"ws://127.0.0.1:{served.port}/live", **{"origin": origin(served), **patient, **more})
 
 
 async def all_follow(served, count):
