@@ -30,6 +30,7 @@ from quoting import inputs, reading
 from quoting.answers import line
 from quoting.months import Month
 from quoting.statement.course import CELLS, cell_of, report_of
+from quoting.statement import sources
 from quoting.statement.sources import Sent
 from quoting.watch import loop, recounter, server
 from quoting.watch.changes import Changes
@@ -744,7 +745,7 @@ def check_command():
 
 
 def check_restarted(page):
-    """A log of messages with its list, read twice from its beginning: the same figures, which are the statement's."""
+    """A log of messages with its list, read twice from its beginning: the same figures, which are those of the statement's calls."""
     folder = ROOT / "examples" / "programmes"
     words = ["--fix", folder / "brent.log", "--open", folder / "brent.month", "--no-follow", "--title", "Brent"]
     found = []
@@ -758,8 +759,9 @@ def check_restarted(page):
             page.leave()
             served.stop(number_)
     assert found[0] == found[1], found
-    html = command.run("statement", folder / "brent.month", "--fix", folder / "brent.log").printed
-    assert f"{found[0][0]} roubles {found[0][1]} kopecks" in html, found[0]
+    calls = sources.from_list(str(folder / "brent.month"), reading.PLAIN, [str(folder / "brent.log")]).calls
+    assert calls_read(seen) == len(calls), (seen["feed"], len(calls))
+    hold(seen, [sent.block for sent in calls])
 
 
 def main():
