@@ -11,8 +11,8 @@ def recount(name: str) -> Any:
     """A module of the recount."""
     if not (ROOT / "recount" / "book.py").exists():
         raise Missing("the recount stands in the tree (recount/) and is not part of an installed package")
-    if str(ROOT) not in sys.path:
-        sys.path.append(str(ROOT))
+    if str(ROOT) not in sys.path:  # in front: the folder that the command is run in may have a recount of its own
+        sys.path.insert(0, str(ROOT))
     return importlib.import_module(f"recount.{name}")
 
 
