@@ -11,15 +11,18 @@ from selenium import webdriver
 from selenium.webdriver.chrome.service import Service
 from selenium.webdriver.common.keys import Keys
 
+from tests.command import heeds_interrupts
+
 ROOT = Path(__file__).resolve().parent.parent
 SHOTS = ROOT / "target" / "watch"
 PATIENCE = 60  # seconds: for a machine that has other work
 LINK = re.compile(r"watching (.+): (http://\S+)\n")
 
 
-def heeds_interrupts():
-    """For a child: a test that is run in the background has Ctrl-C ignored, and its children with it."""
-    signal.signal(signal.SIGINT, signal.SIG_DFL)
+CUT = """
+const cells = [...document.querySelectorAll(".cell")].filter(cell => cell.scrollWidth > cell.clientWidth);
+return cells.map(cell => [cell.dataset.cell, cell.textContent]);
+"""
 
 
 def children(pid):
@@ -145,7 +148,7 @@ class Browser:
         self.driver.execute_cdp_cmd("Emulation.setEmulatedMedia", {"features": features})
 
     def shoot(self, name, widths=(1280, 390), themes=("light", "dark")):
-        """Pictures to be looked at; nothing may stand out to the right."""
+        """Pictures to be looked at; nothing may stand out to the right, nor may a cell's text be cut."""
         SHOTS.mkdir(parents=True, exist_ok=True)
         for width in widths:
             self.size(width)
@@ -154,6 +157,7 @@ class Browser:
                 time.sleep(0.15)
                 wide, high = self.run("const page = document.documentElement; return [page.scrollWidth, page.scrollHeight]")
                 assert wide <= width, (name, width, wide)
+                assert not self.run(CUT), (name, width, self.run(CUT))
                 self.size(width, high)
                 time.sleep(0.1)
                 (SHOTS / f"{name}-{width}-{theme}.png").write_bytes(self.driver.get_screenshot_as_png())

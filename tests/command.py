@@ -1,6 +1,7 @@
 """The command, run in this process: its exit status, what it prints and its complaints."""
 
 import io
+import signal
 import sys
 from collections import namedtuple
 from contextlib import redirect_stderr, redirect_stdout
@@ -38,6 +39,11 @@ def run(*words, given=""):
     finally:
         sys.stdin = before
     return Done(status, printed.text(), complaint.text())
+
+
+def heeds_interrupts():
+    """For a child: a test that is run in the background has Ctrl-C ignored, and its children with it."""
+    signal.signal(signal.SIGINT, signal.SIG_DFL)
 
 
 def prices(path):

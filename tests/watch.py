@@ -755,7 +755,7 @@ def check_restarted(page):
             seen = page.until("the log is read", lambda seen: seen["feed_kind"] == "ended")
             found.append((seen["fee"], seen["fee-kopecks"], seen["cells"], calls_read(seen), len(seen["problems"])))
             if number_ == signal.SIGTERM:
-                page.shoot("month")
+                page.shoot("month", widths=(1280, 1100, 390, 320))
             page.leave()
             served.stop(number_)
     assert found[0] == found[1], found

@@ -5,7 +5,6 @@ import { shown } from "./sections.js";
 
 const SERIES = [[1, 0], [1, 1], [1, 2], [2, 0], [2, 1], [2, 2]];
 const DAYS = 31;
-const turned = matchMedia("(max-width: 1100px)");   // as in page.css: days down, series across
 
 const month = { cells: new Map(), filled: new Map(), chosen: null, at: null, folded: new Set() };
 
@@ -36,7 +35,7 @@ export function startGrid() {
     const row = make("div", "row"), name = gridHead("rowheader", "name head", 0, at + 1);
     row.setAttribute("role", "row");
     name.setAttribute("aria-label", `expiry ${expiry}, quantum ${quantum}`);
-    name.append(make("span", "full", `expiry ${expiry}, quantum ${quantum}`));
+    name.append(make("span", "full", `expiry ${expiry},`, make("br"), `quantum ${quantum}`));
     name.append(make("span", "brief", `e${expiry}`, make("br"), `q${quantum}`));
     row.append(name);
     for (let day = 1; day <= DAYS; day++) row.append(buildCell(day, at));
@@ -44,7 +43,12 @@ export function startGrid() {
   });
   $("grid").addEventListener("click", event => choose(event.target.closest(".cell")));
   $("grid").addEventListener("keydown", moveInGrid);
-  turned.addEventListener("change", settleStop);
+  new ResizeObserver(settleStop).observe($("grid-room"));
+}
+
+// Whether days go down and series across, as page.css decides by the room that there is.
+function isTurned() {
+  return getComputedStyle($("grid")).getPropertyValue("--turned").trim() === "1";
 }
 
 function gridHead(role, className, day, series, text) {
@@ -155,7 +159,7 @@ function paintFailed(failed) {
 }
 
 function isSeen(id) {
-  return !turned.matches || !month.folded.has(Number(id.split(",")[0]));
+  return !isTurned() || !month.folded.has(Number(id.split(",")[0]));
 }
 
 // One stop for Tab: where the hand was last, else the cell that is shown, else the first one that is to be seen.
@@ -193,11 +197,12 @@ function moveInGrid(event) {
   const [day, expiry, quantum] = cell.dataset.cell.split(",").map(Number);
   const series = SERIES.findIndex(([e, q]) => e === expiry && q === quantum);
   const places = [days.indexOf(day), series], most = [days.length - 1, SERIES.length - 1];
-  if (turned.matches) [places, most].forEach(each => each.reverse());
+  const across = isTurned();
+  if (across) [places, most].forEach(each => each.reverse());
   const led = ledTo(event, ...places, most);
   if (!led) return;
   event.preventDefault();
-  if (turned.matches) led.reverse();
+  if (across) led.reverse();
   month.at = cellId([days[led[0]], ...SERIES[led[1]]]);
   settleStop();
   month.cells.get(month.at).focus();
