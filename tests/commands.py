@@ -178,11 +178,6 @@ def check_letters():
             assert status == ("board" in line), line
 
 
-def heeds_interrupts():
-    """For a child: a test that is run in the background has Ctrl-C ignored, and its children with it."""
-    signal.signal(signal.SIGINT, signal.SIG_DFL)
-
-
 def wait_for_read(child):
     """Until the child waits for its standard input: it is in the system call read (0), of file 0. Where that is not told, some seconds."""
     ends, where = time.monotonic() + 60, Path(f"/proc/{child.pid}/syscall")
@@ -197,7 +192,7 @@ def wait_for_read(child):
 def check_interrupt():
     """Ctrl-C while it waits for input."""
     pipes = {"stdin": subprocess.PIPE, "stdout": subprocess.PIPE, "stderr": subprocess.PIPE}
-    waiting = subprocess.Popen([QUOTING, "sheet", "-"], preexec_fn=heeds_interrupts, **pipes)
+    waiting = subprocess.Popen([QUOTING, "sheet", "-"], preexec_fn=command.heeds_interrupts, **pipes)
     wait_for_read(waiting)
     waiting.send_signal(signal.SIGINT)
     _, said = waiting.communicate(timeout=10)

@@ -6,7 +6,7 @@
 
     --seed N           other cases (1 by default)
     --seconds S        stop making new cases after so long
-    --only NAME        replay, sheet, account, probe or ccall
+    --only NAME ...    of replay, sheet, account, probe and ccall
 
 It fails where an answer differs, where a refusal number, a locked or a crossed quote was never met
 or something else that the cases are to show never showed, and where fewer than a third of the
@@ -651,14 +651,14 @@ def main():
     parser.add_argument("--quick", action="store_true")
     parser.add_argument("--seed", type=int, default=1)
     parser.add_argument("--seconds", type=float)
-    parser.add_argument("--only", choices=[kind.name for kind in PROGRAMS])
+    parser.add_argument("--only", nargs="+", choices=[kind.name for kind in PROGRAMS])
     parser.add_argument("--case")
     args = parser.parse_args()
     if args.case:
         return run_case(args.case)
 
     end = time.monotonic() + (args.seconds or (80 if args.quick else 400))
-    kinds = [kind for kind in PROGRAMS if args.only in (None, kind.name)]
+    kinds = [kind for kind in PROGRAMS if args.only is None or kind.name in args.only]
     wrong, cases = [], 0
     for kind in kinds:
         program = kind()

@@ -5,6 +5,7 @@
 
 import os
 import random
+import signal
 import subprocess
 import sys
 import tempfile
@@ -26,6 +27,7 @@ from quoting.watch.clocks import FeedClock, WallClock
 from quoting.watch.feeds import CallsFeed, Trouble
 from quoting.watch.messages import MessagesFeed
 from quoting.watch.playing import Playing
+from tests import command
 
 EXAMPLES = ROOT / "examples"
 PROGRAMMES = EXAMPLES / "programmes"
@@ -456,12 +458,16 @@ def check_interrupted():
     """Ctrl-C ends a reader of a silent pipe at once."""
     words = [sys.executable, "-c", INTERRUPTED]
     env = {**os.environ, "PYTHONPATH": str(ROOT / "python")}
-    with subprocess.Popen(words, env=env, stdin=subprocess.PIPE, stdout=subprocess.PIPE, text=True) as done:
-        assert done.stdout.readline() == "ready\n"
+    pipes = {"stdin": subprocess.PIPE, "stdout": subprocess.PIPE, "text": True}
+    with subprocess.Popen(words, env=env, preexec_fn=command.heeds_interrupts, **pipes) as reader:
+        assert reader.stdout.readline() == "ready\n"
         began = time.monotonic()
-        done.send_signal(2)
-        assert done.stdout.readline() == "stopped\n" and done.wait(5) == 0
-        assert time.monotonic() - began < 1
+        reader.send_signal(signal.SIGINT)
+        try:
+            said, _ = reader.communicate(timeout=60)
+        finally:
+            reader.kill()
+        assert (said, reader.returncode) == ("stopped\n", 0) and time.monotonic() - began < 1
 
 
 # ---------------------------------------------------------------- logs with a list

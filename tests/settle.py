@@ -21,6 +21,7 @@ sys.path[:0] = [str(ROOT), str(ROOT / "python")]
 from quoting import texts
 from recount import book, programs, records
 from recount import session as recounted
+from tests import command
 
 QUOTING = ROOT / "quoting"
 HEAD = recounted.HEAD
@@ -179,16 +180,11 @@ def wait_for(path, size, process):
     raise AssertionError(f"{path} did not grow to {size} bytes before the run ended")
 
 
-def heeds_interrupts():
-    """For a child: a test that is run in the background has Ctrl-C ignored, and its children with it."""
-    signal.signal(signal.SIGINT, signal.SIG_DFL)
-
-
 def left_off(folder, how):
     """The status and complaints of a run that a signal ended, with its part left."""
     part = folder.parent / "on.csv.part"
     part.unlink(missing_ok=True)
-    run = subprocess.Popen([QUOTING, "settle", folder.name, "-o", "on.csv", "--threads", "1"], cwd=folder.parent, stderr=subprocess.PIPE, preexec_fn=heeds_interrupts)
+    run = subprocess.Popen([QUOTING, "settle", folder.name, "-o", "on.csv", "--threads", "1"], cwd=folder.parent, stderr=subprocess.PIPE, preexec_fn=command.heeds_interrupts)
     wait_for(part, 400, run)
     run.send_signal(how)
     said = run.communicate()[1].decode()
