@@ -27,7 +27,7 @@
 #include <stddef.h>
 #include <stdint.h>
 
-#define QUOTING_VERSION "1.1.0"
+#define QUOTING_VERSION "1.2.0"
 
 /* The longest FIX message that quoting_fix_write writes, in bytes, and the words of one that quoting_fix reads. */
 #define QUOTING_FIX_BYTES 114
@@ -224,6 +224,18 @@ uint64_t quoting_fix_write(
 uint64_t quoting_board(const uint32_t *strikes, size_t strikes_length, uint32_t first, uint32_t second);
 
 /*
+ * The sigma of the last price's day, in millionths: how far its last three changes from day to day lie apart.
+ *
+ * prices  the settlement prices of successive days, oldest first; prices_length is their number. Only the last four count.
+ * buffer  buffer_length words, of which the first is written.
+ *
+ * Answers 1, the words written; or 0, with nothing written, where the day has no sigma: under four prices, or where one of the three changes
+ * is from a price of zero or beyond 1,000,000 millionths either way. Refused by
+ *   16  buffer_length is 0, and the day has a sigma
+ */
+uint64_t quoting_sigma(const int32_t *prices, size_t prices_length, uint32_t *buffer, size_t buffer_length);
+
+/*
  * Whether the day after the last price is inside a disturbed period.
  *
  * prices     the settlement prices of successive days, oldest first; prices_length is their number. Under four answer 0.
@@ -254,7 +266,7 @@ uint64_t quoting_ease(uint32_t *row, size_t row_length, uint32_t strike, const i
 uint64_t quoting_safe_minutes(uint32_t m, uint32_t h, uint32_t k);
 
 /*
- * A month of one side's quanta lives in words that the caller owns: 2,464 of them, every one fixed by the month, the same on every machine.
+ * A month lives in words that the caller owns: 2,464 of them, every one fixed by the month, the same on every machine.
  *
  * Writes the fresh month, in which no call was made.
  *
@@ -271,8 +283,8 @@ uint64_t quoting_month_fresh(uint32_t *words, size_t words_length);
  *
  * words    the words of a month, as quoting_month_fresh or this call left them; those behind QUOTING_MONTH_WORDS are not looked at.
  * hints    at least QUOTING_HINT_BYTES bytes, in which the call may leave where an order was found. They may hold anything, at the first
- *          call and later, and change nothing that is answered or left in the words; kept from call to call they save time. They are the
- *          only bytes of which is not said what the call leaves in them.
+ *          call and later, and change nothing that is answered or left in the words; kept from call to call they save time. What a call
+ *          that was made leaves in them is not said; one that is refused leaves them as they were.
  * call     one block of a list of calls (docs/FORMATS.md, "A list of calls"), and nothing more: words of four bytes, low byte first, of
  *          which the first is the kind (1 open, 2 add, 3 amend, 4 cancel, 5 deal, 6 tick, 7 close .. 17 outlook). call_length is the number of bytes.
  * answer   answer_length words, of which QUOTING_ANSWER_WORDS are written; those that the kind doesn't take are 0:

@@ -45,6 +45,14 @@ def sigmas(prices):
     return [sigma(rs[i - 2 : i + 1]) for i in range(2, len(rs))]
 
 
+def last_sigma(prices):
+    """Of the last price's day; None under four prices, or where one of its three R has a cause of 22."""
+    try:
+        return sigmas(prices[-4:])[0] if len(prices) >= 4 else None
+    except Refused22:
+        return None
+
+
 # ---------------------------------------------------------------- periods
 
 
@@ -110,11 +118,8 @@ def days(prices, threshold):
     for day in range(len(prices) + 1):
         line = f"day {day} {answer(prices[:day], threshold)}"
         if day < len(prices):
-            try:
-                own = sigmas(prices[day - 3 : day + 1]) if day >= 3 else []
-            except Refused22:
-                own = []
-            line += f" sigma {own[0]}" if own else " sigma none"
+            own = last_sigma(prices[: day + 1])
+            line += " sigma none" if own is None else f" sigma {own}"
         yield line
 
 

@@ -99,7 +99,8 @@ static uint64_t run_view(const struct item *it, uint32_t *buffer) {
     return answer;
 }
 
-/* One call on a fresh month in memory of n[0] words and n[1] bytes of hints. Words that are too few for a month must stay as they are. */
+/* One call on a fresh month in memory of n[0] words and n[1] bytes of hints. Words that are too few for a month must stay as they are, and
+   the hints too where the call is refused. */
 static uint64_t run_one(const struct item *it, uint32_t *answer) {
     const uint32_t *n = it->numbers;
     uint32_t *words = room(n[0] * sizeof *words);
@@ -110,6 +111,9 @@ static uint64_t run_one(const struct item *it, uint32_t *answer) {
     uint64_t made = quoting_month_call(words, n[0], hints, n[1], it->parts[0], it->sizes[0], answer, it->count);
     for (size_t i = 0; fresh >= 4294967296 && i < n[0]; i++) {
         if (words[i] != it->fill * 0x01010101u) stop("words too few for a month were written");
+    }
+    for (size_t i = 0; made >= 4294967296 && i < n[1]; i++) {
+        if (hints[i] != (uint8_t) it->fill) stop("a refused call wrote hints");
     }
     free(words);
     free(hints);
@@ -158,6 +162,7 @@ static uint64_t run(const struct item *it, void *buffer) {
     case 16: return run_standing(it, buffer);
     case 17: return quoting_account(others, other / 4, words[0], words[1], words[2], words[3], words[4], words[5], a + 24, size - 24, buffer, count);
     case 18: return run_view(it, buffer);
+    case 19: return quoting_sigma(prices, size / 4, buffer, count);
     default: stop("no such call"); return 0;
     }
 }

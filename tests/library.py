@@ -46,7 +46,7 @@ NAMES = {
     4: ("choose_row", [16]), 5: ("fix", [16, 20, 21]), 6: ("fix_write", [3, 16, 21]), 7: ("board", [18]), 8: ("volatile", [22]),
     9: ("ease", [22]), 10: ("safe_minutes", [26]), 11: ("month_fresh", [16]), 12: ("calls", [16]), 13: ("calls_words", []),
     14: ("month_call, a list", []), 15: ("month_call", [3, 16]), 16: ("standing", [3, 16]),
-    17: ("account", [1, 2, 3, *range(8, 17), 18]), 18: ("month_view", [16]),
+    17: ("account", [1, 2, 3, *range(8, 17), 18]), 18: ("month_view", [16]), 19: ("sigma", [16]),
 }
 MONTH_WORDS, HINT_BYTES, ANSWER_WORDS = 2464, 2048, 20
 
@@ -124,9 +124,18 @@ def written_fix(case, buffer):
         return refused.number << 32, buffer
 
 
+def prices_of(data):
+    return [programs.signed(word) for word in programs.to_words(data)]
+
+
+def last_sigma(case, buffer):
+    found = volatile.last_sigma(prices_of(case.first))
+    return writes([] if found is None else [found], buffer)
+
+
 def inside(data, threshold):
     try:
-        return int(volatile.inside([programs.signed(w) for w in programs.to_words(data)], threshold))
+        return int(volatile.inside(prices_of(data), threshold))
     except volatile.Refused22:
         return 22 << 32
 
@@ -264,8 +273,9 @@ def due(case):
         row = programs.to_words(case.second)
         answer = inside(case.first, numbers[1])
         return answer, volatile.eased(row, numbers[0] != 0) if answer == 1 else row
-    if case.call in (2, 5, 6, 17, 18):
-        return {2: session_pairs, 5: read_fix, 6: written_fix, 17: account, 18: view_case}[case.call](case, buffer)
+    filling = {2: session_pairs, 5: read_fix, 6: written_fix, 17: account, 18: view_case, 19: last_sigma}
+    if case.call in filling:
+        return filling[case.call](case, buffer)
     if case.call == 4:
         tables = programs.to_words(case.first), programs.to_words(case.second)
         return writes(choose(*tables, numbers[0] != 0, *numbers[1:3]), buffer)
@@ -362,6 +372,7 @@ def other_cases(rng, count):
     lists = list(volatile_cases.known_prices()) + [rng.choice([volatile_cases.walk, volatile_cases.repeated, volatile_cases.rough])(rng) for _ in range(count)]
     for prices, threshold in lists:
         yield Case(8, numbers=(threshold,), first=packed(prices))
+        yield Case(19, rng.randrange(3), rng.randrange(256), first=packed(prices[: rng.choice([len(prices), rng.randrange(9)])]))
         row = rng.choice([volatile_cases.any_row, volatile_cases.any_strike_row])(rng)
         yield Case(9, len(row), 0, (rng.choice([0, 0, 1, 7]), threshold), packed(prices), packed(row))
     for _ in range(count):

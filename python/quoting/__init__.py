@@ -12,7 +12,7 @@ from quoting.calls import Strike, Ticket
 from quoting.events import Add, Amend, Cancel, Deal, Event, Tick
 from quoting.months import Month, answers_to
 from quoting.native import Missing, Refused, version
-from quoting.plain import board, choose_row, ease, safe_minutes, volatile_day, weight
+from quoting.plain import board, choose_row, ease, safe_minutes, sigma, volatile_day, weight
 from quoting.rules import Row, Rule
 from quoting.sessions import Session, session
 from quoting.standings import Standing
@@ -22,5 +22,5 @@ from quoting.views import LiveOrder, View
 __all__ = [
     "Accepted", "Account", "Add", "Amend", "Answer", "Asked", "Cancel", "Cell", "Deal", "Event", "LiveOrder", "Missing", "Month", "MonthReport", "Outlook", "Refused", "Row",
     "Rule", "Session", "Standing", "Stretch", "Strike", "Tenths", "Tick", "Ticket", "View", "account", "answers_to", "board", "choose_row", "ease", "fix", "milliseconds", "safe_minutes",
-    "session", "tenths", "version", "volatile_day", "weight",
+    "session", "sigma", "tenths", "version", "volatile_day", "weight",
 ]

@@ -27,6 +27,7 @@ CALLS: dict[str, list[Any]] = {
     "quoting_fix": [BYTES, SIZE, BYTES, SIZE],
     "quoting_fix_write": [BYTES, SIZE, BYTES, SIZE, BYTES, SIZE],
     "quoting_board": [BYTES, SIZE, WORD, WORD],
+    "quoting_sigma": [BYTES, SIZE, BYTES, SIZE],
     "quoting_volatile": [BYTES, SIZE, WORD],
     "quoting_ease": [BYTES, SIZE, WORD, BYTES, SIZE, WORD],
     "quoting_safe_minutes": [WORD, WORD, WORD],

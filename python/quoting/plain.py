@@ -1,4 +1,4 @@
-"""The calls that need no month: the weight, the choice of a row, boards, volatile days, the eased row, safe minutes.
+"""The calls that need no month: the weight, the choice of a row, boards, sigmas, volatile days, the eased row, safe minutes.
 
 >>> weight(7, 10, "60%")
 Traceback (most recent call last):
@@ -48,6 +48,18 @@ def board(strikes: Sequence[tuple[Time, Time]], first: int, second: int) -> bool
 
 def price_list(prices: Sequence[int]) -> Any:
     return (ctypes.c_int32 * len(prices))(*prices)
+
+
+def sigma(prices: Sequence[int]) -> Optional[int]:
+    """The sigma of the last settlement price's day, in millionths; None where it has none: under four prices, or where one of its three
+    changes is from a price of zero or beyond 1,000,000 millionths.
+
+    >>> sigma([7450, 7412, 7429, 7482]), sigma([7450, 7412, 7429])
+    (6161, None)
+    """
+    given, found = price_list(prices[-4:]), native.words(1)
+    count = native.call("quoting_sigma", native.address(given), len(given), native.address(found), 1)
+    return int(found[0]) if count else None
 
 
 def volatile_day(prices: Sequence[int], threshold: int) -> bool:

@@ -1,15 +1,13 @@
 """Volatile days: settlement prices from a text, each day's sigma, which days are inside a disturbed period, as table and picture."""
 
-import struct
 from dataclasses import dataclass
 from typing import Optional
 
-from quoting import drawing, native, programs, reading, values
+from quoting import drawing, native, reading, values
 from quoting.drawing import INK, PALE, Drawing
-from quoting.plain import volatile_day
+from quoting.plain import sigma, volatile_day
 from quoting.reading import TextError
 
-MOST_PRICES = 4_096  # that `probe` takes
 WIDTH, HEIGHT = 920, 420
 LEFT, RIGHT, TOP, BOTTOM = 90, 890, 96, 360
 SIGMA, LIMIT, PERIOD = "#1f5fa8", "#b3381f", "#f3dcc0"
@@ -44,24 +42,15 @@ def read(text: str) -> list[Day]:
         days.append(Day(first if rest else "", reading.number(rest[0] if rest else first, values.SIGNED, "price")))
 
     reading.read_by_lines(text, take)
-    if len(days) > MOST_PRICES:
-        raise TextError(f"{len(days)} prices, of {MOST_PRICES} at most")
     return days
 
 
 # ---------------------------------------------------------------- judged
 
 
-def sigmas(prices: list[int], threshold: int) -> list[Optional[int]]:
-    """Each day's sigma, by the proved program."""
-    data = struct.pack("<3I", 12, threshold, len(prices)) + struct.pack(f"<{len(prices)}i", *prices)
-    words = [line.split()[-1] for line in programs.printed("probe", data).splitlines()[:-1]]
-    return [None if word == "none" else int(word) for word in words]
-
-
 def judge(prices: list[int], threshold: int) -> Judged:
     """What the meter says of each day, by the prices before it."""
-    found, inside = sigmas(prices, threshold), []
+    found, inside = [sigma(prices[: day + 1]) for day in range(len(prices))], []
     for day in range(len(prices) + 1):
         try:
             inside.append(volatile_day(prices[:day], threshold))

@@ -1,14 +1,15 @@
-// For C, as one number or as words in a lent buffer: weights, the choice of a row, boards, volatile days and a row eased on one, safe minutes.
+// For C, as one number or as words in a lent buffer: weights, the choice of a row, boards, sigmas, volatile days and a row eased on one,
+// safe minutes.
 use board::BoardAnswer;
 use game::SafeAnswer;
 use rules::Millis;
 use rules::SpreadRule;
 use rules::Steps;
 use rules::Strike;
+use sigma::SigmaAnswer;
 use volatile::DayAnswer;
 ghost use mathlib.Core.Path.{_≡_};
 ghost use mathlib.Core.Bool.{not};
-ghost use Prim.Native.Nat.{_<_};
 ghost use lib.Dec.{eqb};
 ghost use lib.ListN.{length};
 ghost use Rattle.rules.specs.Answers.{accepted};
@@ -19,7 +20,8 @@ ghost use Rattle.game.specs.Answers.{safeMinutes, shownSafe};
 ghost use Rattle.volatile.specs.Answers.{insideOf, shownDay};
 ghost use Rattle.ease.specs.Easing.{easedIf};
 ghost use Rattle.buffers.specs.Answers.{valueNumber, testNumber, Fills};
-ghost use Rattle.extras.specs.Extras.{weighed, spreadFor};
+ghost use Rattle.sigma.specs.Sigmas.{lastSigma};
+ghost use Rattle.extras.specs.Extras.{weighed, sigmaWords, spreadFor};
 
 // The weight of K, L and p.
 pub fn weight_number(kept: u32, length: u32, share: u32) -> u64
@@ -64,6 +66,25 @@ pub fn board_met(strikes: &[[u32; 2]], first: u32, second: u32) -> u64
     ensures { λ r. ⌜ r ≡ testNumber (judged first second (now (strikes .entry))) ⌝ }
 {
     board_number(board::judge(strikes, first, second))
+}
+
+fn fill_sigma(answer: SigmaAnswer, buffer: &mut [u32]) -> u64
+    ensures { λ r. ⌜ Fills (accepted (sigmaWords answer)) (now (buffer .entry)) (now (buffer .exit)) r ⌝ }
+{
+    match answer {
+        SigmaAnswer::Absent => 0,
+        SigmaAnswer::Of(n) => {
+            let word = [n];
+            buffers::fill_words(&word, buffer)
+        }
+    }
+}
+
+// The sigma of the last price's day, one word or none.
+pub fn last_sigma(prices: &[i32], buffer: &mut [u32]) -> u64
+    ensures { λ r. ⌜ Fills (accepted (sigmaWords (lastSigma (now (prices .entry))))) (now (buffer .entry)) (now (buffer .exit)) r ⌝ }
+{
+    fill_sigma(sigma::last_sigma(prices), buffer)
 }
 
 fn day_number(answer: DayAnswer) -> u64

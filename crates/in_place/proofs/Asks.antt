@@ -4,12 +4,11 @@ use native.Mathlib.Omega.{arith}
 use mathlib.Core.Path.{_≡_, refl, sym, ap, subst, _∙_}
 use mathlib.Core.Bool.{true}
 use mathlib.Core.List.{List}
-use lib.ListN.{length, getD, take, drop}
+use lib.ListN.{getD, take, drop}
 use Rattle.rules.specs.declared.Amendment.{Amendment}
 use Rattle.rules.specs.declared.Preview.{Preview}
 use Rattle.rules.specs.declared.Quote.{Quote}
 use Rattle.rules.specs.declared.Refusal.{Refusal}
-use Rattle.rules.specs.declared.Side.{Side}
 use Rattle.rules.specs.declared.Side.the-variants.{Buy, Sell}
 use Rattle.rules.specs.declared.Order.{Order}
 use Rattle.rules.specs.Terms.{paper}
@@ -17,15 +16,14 @@ use Rattle.rules.specs.Orders.{live}
 use Rattle.rules.specs.Quotes.{best}
 use Rattle.rules.specs.Answers.{Outcome, accepted, refused, outcomeBy, Reply, done, asked, numberOf}
 use Rattle.rules.specs.Calls.{Call, Send, Ask, Book, amendOf}
-use Rattle.rules.specs.Causes.{causes, refusalOf, eventRefusal}
+use Rattle.rules.specs.Causes.{causes, refusalOf}
 use Rattle.rules.specs.Book.{after}
-use Rattle.rules.proofs.Bounds.{bounds}
 use Rattle.lent.proofs.Back.{wide-back}
-use Rattle.book.specs.Table.{tableOf, GoodOrders, Held}
+use Rattle.book.specs.Table.{tableOf, GoodOrders}
 use Rattle.quantum.specs.declared.Quantum.{Quantum}
 use Rattle.quantum.specs.Words.{quantumWords, Sized}
 use Rattle.events.proofs.Represents.{good-orders}
-use Rattle.quantum.proofs.Answers.{event-numbered, represents-all, held-in}
+use Rattle.quantum.proofs.Answers.{event-numbered, represents-all}
 use Rattle.quantum.proofs.Words.{table-part}
 use Rattle.month.specs.Represents.{monthOf}
 use Rattle.month.specs.Internal.{Previewed}
@@ -34,7 +32,9 @@ use Rattle.month.proofs.Fields.{opened}
 use Rattle.month.proofs.Calls.{send-refusal}
 use Rattle.month.proofs.Asks.{ask-idle, ask-reached, ask-done}
 use Rattle.month.proofs.Words.{month-fits, word-in}
-use Rattle.in_place.specs.Events.{wordsAfter, HoldsQuantum, HoldsMonth, StepsWords, Shows}
+use Rattle.month.specs.Words.{wordsAfter, HoldsMonth}
+use Rattle.quantum_in_place.specs.Events.{HoldsQuantum, StepsWords}
+use Rattle.in_place.specs.Events.{Shows}
 use Rattle.in_place.proofs.Months.{flag-is, flag-off, flag-on, number-is, o, next, next-sized, quantum-is, sent, went-on}
 use Rattle.in_place.proofs.Looks.{shown-of}
 

@@ -1,8 +1,4 @@
--- What an event does to the words of a quantum, and to those of a month.
-pub mod Quanta
-pub mod Ticks
-pub mod Amends
-pub mod Whole
+-- What an event does to the words of a month.
 pub mod Months
 -- What is shown of them.
 pub mod Looks

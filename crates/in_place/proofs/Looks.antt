@@ -19,11 +19,11 @@ use Rattle.lent.specs.Words.{cellWords, cellsWords}
 use Rattle.lent.proofs.Back.{cell-at, cells-length}
 use Rattle.month.specs.declared.Month.{Month}
 use Rattle.month.specs.Represents.{monthOf, Answered}
-use Rattle.month.specs.Words.{monthWords}
+use Rattle.month.specs.Words.{monthWords, wordsAfter, HoldsMonth}
 use Rattle.month.proofs.Fields.{cell-good}
 use Rattle.month.proofs.Calls.{look-range, look-blank, look-done}
 use Rattle.month.proofs.Words.{month-fits, cells-in}
-use Rattle.in_place.specs.Events.{wordsAfter, HoldsMonth, Shows}
+use Rattle.in_place.specs.Events.{Shows}
 use Rattle.in_place.proofs.Months.{whole}
 
 -- a call that the month answers without a change

@@ -4,8 +4,8 @@ use native.Mathlib.Omega.{arith}
 use mathlib.Core.Path.{_≡_, refl, sym, ap, _∙_}
 use mathlib.Core.Bool.{Bool, true, false}
 use mathlib.Core.List.{List, [], _∷_, _++_, append-assoc}
-use lib.ListN.{length, getD, take, drop, take-append-drop}
-use lib.Seq.{drop-at, drop-drop}
+use lib.ListN.{getD, take, drop, take-append-drop}
+use lib.Seq.{drop-at}
 use Rattle.rules.specs.declared.Event.{Event}
 use Rattle.rules.specs.declared.Answer.the-variants.{Accepted}
 use Rattle.rules.specs.Terms.{paper}
@@ -26,13 +26,14 @@ use Rattle.quantum.specs.Words.{quantumWords, Sized}
 use Rattle.quantum.proofs.Words.{quantum-length, of-sized, taken-bounds, quantum-back}
 use Rattle.month.specs.declared.Month.{Month}
 use Rattle.month.specs.Represents.{monthOf, Answered}
-use Rattle.month.specs.Words.{monthWords, Fits}
+use Rattle.month.specs.Words.{monthWords, Fits, wordsAfter, HoldsMonth}
 use Rattle.month.specs.Internal.{counted}
 use Rattle.month.proofs.Answers.{stopped-by}
 use Rattle.month.proofs.Fields.{Opened, opened, quantum-reached}
 use Rattle.month.proofs.Calls.{send-idle, send-refusal, send-done}
 use Rattle.month.proofs.Words.{month-fits, headOf, word-in, quantum-in}
-use Rattle.in_place.specs.Events.{wordsAfter, HoldsQuantum, HoldsMonth, StepsWords, Sends}
+use Rattle.quantum_in_place.specs.Events.{HoldsQuantum, StepsWords}
+use Rattle.in_place.specs.Events.{Sends}
 
 -- the words with another quantum, and with another count
 abbrev pub stepped : List ℕ → List ℕ → List ℕ

@@ -1,5 +1,5 @@
 -- What became of a call, and the words that it leaves. Assumes nothing.
-use Prim.Native.Nat.{ℕ, _≤_, _%_}
+use Prim.Native.Nat.{ℕ, _%_}
 use mathlib.Core.Path.{_≡_, refl, sym, ap, subst, _∙_}
 use mathlib.Core.Bool.{Bool, true, false, not, _&&_}
 use mathlib.Core.List.{List, [], _∷_, _++_}
@@ -18,7 +18,7 @@ use Rattle.words.specs.Bytes.{wordsIn}
 use Rattle.blocks.specs.Kinds.{blockSize, callOf}
 use Rattle.month.specs.declared.Month.{Month}
 use Rattle.month.specs.Represents.{monthOf, Reached}
-use Rattle.month.specs.Words.{monthWords, Fits}
+use Rattle.month.specs.Words.{monthWords, Fits, wordsAfter, HoldsMonth}
 use Rattle.month.proofs.Words.{month-fits}
 use Rattle.script.specs.declared.Shown.{Shown}
 use Rattle.script.specs.declared.Done.{Done as Ended}
@@ -26,7 +26,7 @@ use Rattle.script.specs.Blocks.{shownOf, Performed, Stepped}
 use Rattle.answers.specs.Words.{answerWords}
 use Rattle.live.specs.declared.Called.{Called}
 use Rattle.live.specs.declared.Called.the-variants.{Done, WordsShort, HintsShort, AnswerShort, NoCall}
-use Rattle.live.specs.Calling.{isCall, wordsAfter, calledBy, HoldsMonth, Performs, Calling, wordsShown}
+use Rattle.live.specs.Calling.{isCall, calledBy, Performs, Calling, wordsShown}
 
 -- ---- what became of it
 
@@ -58,9 +58,10 @@ pub no-call-not-done : NoCall ≡ Done → ⊥
 no-call-not-done e = let z : _≡_ {A = ℕ} 0 1 = cc in omega arith
 
 -- nothing is changed, whatever the cause
-pub unchanged : (words : List ℕ) (hints : ℕ) (out bytes : List ℕ) (r : Called) → (r ≡ Done → ⊥)
-    → r ≡ calledBy (leb 2464 (length words)) (leb 2048 hints) (leb 20 (length out)) (isCall bytes) → Calling words hints out bytes words out r
-unchanged words hints out bytes r never e = record { called = e; done = λ d. absurd (never d); kept = λ d. (refl, refl) }
+pub unchanged : (words hints out bytes : List ℕ) (r : Called) → (r ≡ Done → ⊥)
+    → r ≡ calledBy (leb 2464 (length words)) (leb 2048 (length hints)) (leb 20 (length out)) (isCall bytes)
+    → Calling words hints out bytes words hints out r
+unchanged words hints out bytes r never e = record { called = e; done = λ d. absurd (never d); kept = λ d. (refl, refl, refl) }
 
 -- ---- the call
 

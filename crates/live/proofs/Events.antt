@@ -6,15 +6,15 @@ use mathlib.Core.Bool.{Bool, true, false, not, _&&_, _||_}
 use mathlib.Core.List.{List, [], _∷_, _++_}
 use borrow.Author.Tests.{eqb-true}
 use lib.Dec.{eqb, leb}
-use lib.ListN.{length, getD, drop, take}
+use lib.ListN.{length, getD, drop}
 use Rattle.rules.specs.declared.Event.{Event}
 use Rattle.rules.specs.declared.Steps.{Steps}
 use Rattle.rules.specs.Lists.{if_then_else_}
 use Rattle.rules.specs.Terms.{paper}
 use Rattle.rules.specs.Units.{millis, contracts}
-use Rattle.rules.specs.Answers.{Outcome, Reply, refused, accepted, done, outcomeBy}
+use Rattle.rules.specs.Answers.{Outcome, Reply, refused, accepted, done}
 use Rattle.rules.specs.Records.{addKind}
-use Rattle.rules.specs.Calls.{Call, Send}
+use Rattle.rules.specs.Calls.{Call}
 use Rattle.rules.specs.Book.{after, answerOf}
 use Rattle.rules.proofs.Lists.{both}
 use Rattle.words.specs.Bytes.{wordsIn}
@@ -23,7 +23,9 @@ use Rattle.record.specs.declared.Fields.{Fields}
 use Rattle.record.specs.Fields.{fieldsFor}
 use Rattle.blocks.specs.Kinds.{word, due, dueAt, addDue, stepsAt, sideOf, blockSize, callBy, callOf}
 use Rattle.answers.specs.Words.{answerWords}
-use Rattle.in_place.specs.Events.{wordsAfter, SaysEvent, Sends, Shows}
+use Rattle.month.specs.Words.{wordsAfter}
+use Rattle.quantum_in_place.specs.Events.{SaysEvent}
+use Rattle.in_place.specs.Events.{Sends, Shows}
 use Rattle.live.specs.Calling.{isCall, Performs}
 use Rattle.live.specs.Internal.{addIn, amendIn, cancelIn, dealIn, tickIn, SaysAdd, SaysBlock, SendsShown, ShowsWords}
 

@@ -1,7 +1,7 @@
 -- What a call promises on a month whose words are lent.
-use Prim.Native.Nat.{ℕ, _≤_, _%_}
+use Prim.Native.Nat.{ℕ, _%_}
 use mathlib.Core.Path.{_≡_}
-use mathlib.Core.Bool.{Bool, true, false, not, _&&_}
+use mathlib.Core.Bool.{Bool, not, _&&_}
 use mathlib.Core.List.{List, [], _∷_, _++_}
 use lib.Dec.{eqb, leb}
 use lib.ListN.{length, take, drop}
@@ -16,8 +16,7 @@ use Rattle.blocks.specs.Kinds.{blockSize, callOf}
 use Rattle.script.specs.declared.Outcome.{Outcome}
 use Rattle.script.specs.declared.Outcome.the-variants as O
 use Rattle.answers.specs.Words.{answerWords}
--- "the words of a month": `fresh` wrote them, or a call
-pub use Rattle.in_place.specs.Events.{wordsAfter, HoldsMonth}
+use Rattle.month.specs.Words.{wordsAfter}
 use Rattle.live.specs.declared.Called.{Called}
 use Rattle.live.specs.declared.Called.the-variants.{Done, WordsShort, HintsShort, AnswerShort, NoCall}
 
@@ -41,12 +40,12 @@ pub record Performs (words out bytes words′ out′ : List ℕ) : Type 0 where
       → out′ ≡ answerWords (answerOf paper (after paper calls) (callOf (wordsIn bytes))) ++ drop 20 out
 
 -- Too few words for a month, too few hints, too few words for an answer, and bytes that are no call, are answered as such, and then
--- nothing is changed. The hints are no function of the month: of them only their number stands here, so what is answered and left is the
--- same whatever they hold.
-pub record Calling (words : List ℕ) (hints : ℕ) (out bytes words′ out′ : List ℕ) (r : Called) : Type 0 where
-  pub called : r ≡ calledBy (leb 2464 (length words)) (leb 2048 hints) (leb 20 (length out)) (isCall bytes)
+-- nothing is changed, nor are the hints. These are no function of the month: of what they hold nothing else stands here, only their number,
+-- so what is answered and left is the same whatever they hold.
+pub record Calling (words hints out bytes words′ hints′ out′ : List ℕ) (r : Called) : Type 0 where
+  pub called : r ≡ calledBy (leb 2464 (length words)) (leb 2048 (length hints)) (leb 20 (length out)) (isCall bytes)
   pub done : r ≡ Done → Performs words out bytes words′ out′
-  pub kept : (r ≡ Done → ⊥) → (words′ ≡ words) × (out′ ≡ out)
+  pub kept : (r ≡ Done → ⊥) → (words′ ≡ words) × (hints′ ≡ hints) × (out′ ≡ out)
 
 -- what an answer's words are, as the struct shows it
 abbrev pub wordsShown : Outcome → Report → List ℕ

@@ -14,8 +14,8 @@ use Rattle.record.specs.declared.Fields.{Fields}
 use Rattle.record.specs.Fields.{fieldsFor}
 use Rattle.words.specs.Bytes.{wordsIn}
 use Rattle.blocks.specs.Kinds.{word, addDue, stepsAt, sideOf, callOf}
-use Rattle.in_place.specs.Events.{wordsAfter}
 use Rattle.answers.specs.Words.{answerWords}
+use Rattle.month.specs.Words.{wordsAfter}
 use Rattle.live.specs.Calling.{isCall}
 
 -- ---- the event of a block of kind 2 to 6

@@ -12,11 +12,11 @@ ghost use Rattle.rules.specs.Terms.{paper};
 ghost use Rattle.rules.specs.Calls.{Look, Ask};
 ghost use Rattle.rules.specs.Book.{after};
 ghost use Rattle.month.specs.Represents.{monthOf};
-ghost use Rattle.month.specs.Words.{monthWords};
+ghost use Rattle.month.specs.Words.{monthWords, HoldsMonth};
 ghost use Rattle.record.specs.Fields.{fieldsFor};
 ghost use Rattle.words.specs.Bytes.{wordsIn};
 ghost use Rattle.blocks.specs.Kinds.{stepsAt};
-ghost use Rattle.in_place.specs.Events.{HoldsMonth, SaysEvent};
+ghost use Rattle.quantum_in_place.specs.Events.{SaysEvent};
 ghost use Rattle.live.specs.Calling.{isCall, wordsShown, Calling, Performs};
 ghost use Rattle.live.specs.Internal.{amendIn, cancelIn, dealIn, tickIn, SaysAdd, SaysBlock, SendsShown, ShowsWords};
 use blocks::Decoded;
@@ -283,10 +283,11 @@ fn other(words: &mut [u32], hints: &mut [u8], bytes: &[u8], answer: &mut [u32])
 // ---- a call
 
 // One call, on the month whose words these are. The hints only say where an id was last found: they may hold anything, and nothing that
-// is answered or left in the words depends on what they hold, so the contract reads their number alone and says nothing of them after.
+// is answered or left in the words depends on what they hold, so the contract reads their number alone. What they hold after a call that
+// was made is left free.
 pub fn call(words: &mut [u32], hints: &mut [u8], bytes: &[u8], answer: &mut [u32]) -> Called
     requires { ⌜ (2464 ≤ length (now words) → HoldsMonth (now words)) ⌝ }
-    ensures { λ r. ⌜ Calling (now (words .entry)) (length (now (hints .entry))) (now (answer .entry)) (now (bytes .entry)) (now (words .exit)) (now (answer .exit)) r ⌝ }
+    ensures { λ r. ⌜ Calling (now (words .entry)) (now (hints .entry)) (now (answer .entry)) (now (bytes .entry)) (now (words .exit)) (now (hints .exit)) (now (answer .exit)) r ⌝ }
 {
     if words.len() < MONTH {
         return Called::WordsShort;

@@ -4,10 +4,14 @@
 use Prim.Native.Nat.{ℕ, _<_}
 use mathlib.Core.Path.{_≡_}
 use mathlib.Core.List.{List, _∷_, _++_}
-use lib.ListN.{length}
+use lib.ListN.{length, take}
+use Rattle.rules.specs.Terms.{paper}
+use Rattle.rules.specs.Calls.{Call}
+use Rattle.rules.specs.Book.{after}
 use Rattle.lent.specs.Words.{flagWord, low, high, cellsWords}
 use Rattle.quantum.specs.Words.{quantumWords, Sized}
 use Rattle.month.specs.declared.Month.{Month}
+use Rattle.month.specs.Represents.{monthOf}
 
 unfoldable pub monthWords : Month → List ℕ
 monthWords m =
@@ -19,3 +23,12 @@ pub record Fits (m : Month) : Type 0 where
   pub place : m .place < 4294967296
   pub quantum : Sized (m .quantum)
   pub cells : length (m .cells) ≡ 186
+
+-- the month after some calls, as words
+abbrev pub wordsAfter : List Call → List ℕ
+wordsAfter calls = monthWords (monthOf (after paper calls))
+
+-- The words of a month: a fresh one's, or those that a call left. "a caller can make no other": a month is read from no other words.
+pub record HoldsMonth (words : List ℕ) : Type 0 where
+  pub calls : List Call
+  pub is : take 2464 words ≡ wordsAfter calls

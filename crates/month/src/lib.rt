@@ -4,7 +4,6 @@ ghost use mathlib.Core.List.{List, [], _++_};
 ghost use mathlib.Core.Bool.{true};
 ghost use Prim.Native.Nat.{ℕ, _≤_, _<_};
 ghost use lib.ListN.{length, take, drop};
-ghost use Rattle.rules.specs.declared.Event.{Event};
 ghost use Rattle.rules.specs.declared.Event.the-variants.{Add, Amend, Cancel, Deal, Tick};
 ghost use Rattle.rules.specs.Terms.{paper};
 ghost use Rattle.rules.specs.declared.SpreadRule.the-variants.{OfStrike};
@@ -24,7 +23,7 @@ ghost use Rattle.rules.specs.Calls as B;
 ghost use Rattle.quantum.specs.Represents as Q;
 ghost use Rattle.month.specs.Represents.{monthOf, quantumIn, Reached, Answered};
 ghost use Rattle.month.specs.declared.Month.{Month};
-ghost use Rattle.month.specs.Words.{monthWords, Fits};
+ghost use Rattle.month.specs.Words.{monthWords, Fits, HoldsMonth};
 ghost use Rattle.month.specs.Internal.{withCell, withoutQuantum, counted, Previewed, namedIn, MessageAnswered, BothOrNeither};
 use dates::Elapsed;
 use fix::MessageRead;
@@ -722,7 +721,7 @@ impl Month {
         }
     }
 
-    // Its 2,388 words; what stands behind them is kept.
+    // Its 2,464 words; what stands behind them is kept.
     pub fn to_words(self, words: &mut [u32])
         requires { ⌜ Fits self × (2464 ≤ length (now words)) ⌝ }
         ensures { λ _. ⌜ now (words .exit) ≡ monthWords self ++ drop 2464 (now (words .entry)) ⌝ }
@@ -745,7 +744,7 @@ impl Month {
 
     // The month whose words these are.
     pub fn of_words(words: &[u32]) -> Month
-        requires { ⌜ 2464 ≤ length (now words) ⌝ }
+        requires { ⌜ HoldsMonth (now words) × (2464 ≤ length (now words)) ⌝ }
         ensures { λ r. ⌜ ((m : Month) → Fits m → take 2464 (now (words .entry)) ≡ monthWords m → r ≡ m) ⌝ }
     {
         let running = lent::is_set(words[0]);

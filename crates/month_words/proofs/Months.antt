@@ -15,8 +15,8 @@ use Rattle.month.specs.Represents.{monthOf}
 use Rattle.month.proofs.Words.{month-fits, month-length}
 use Rattle.live.specs.declared.Called.{Called}
 use Rattle.live.specs.declared.Called.the-variants.{Done, WordsShort, HintsShort, AnswerShort, NoCall}
-use Rattle.in_place.specs.Events.{wordsAfter}
-use Rattle.live.specs.Calling.{isCall, calledBy, Performs, Calling}
+use Rattle.month.specs.Words.{wordsAfter}
+use Rattle.live.specs.Calling.{isCall, calledBy, Calling}
 use Rattle.buffers.specs.Answers.{refusedNumber, Fills}
 use Rattle.month_words.specs.Internal.{calledNumber}
 use Rattle.month_words.specs.Months.{callNumber, CallsMonth}
@@ -67,13 +67,13 @@ twenty-done AnswerShort true e = absurd (omega arith)
 twenty-done AnswerShort false e = absurd (omega arith)
 twenty-done NoCall c e = absurd (omega arith)
 
-pub month-called : (words : List ℕ) (hints : ℕ) (out bytes words′ out′ : List ℕ) (d : Called) (r : ℕ) → Calling words hints out bytes words′ out′ d
-    → r ≡ calledNumber d (isCall bytes) → CallsMonth words hints out bytes words′ out′ r
-month-called words hints out bytes words′ out′ d r g e =
+pub month-called : (words hints out bytes words′ hints′ out′ : List ℕ) (d : Called) (r : ℕ) → Calling words hints out bytes words′ hints′ out′ d
+    → r ≡ calledNumber d (isCall bytes) → CallsMonth words hints out bytes words′ hints′ out′ r
+month-called words hints out bytes words′ hints′ out′ d r g e =
     record {
       number =
           e ∙ ap (λ (x : Called). calledNumber x (isCall bytes)) (g .called)
-          ∙ by-called (leb 2464 (length words)) (leb 2048 hints) (leb 20 (length out)) (isCall bytes);
+          ∙ by-called (leb 2464 (length words)) (leb 2048 (length hints)) (leb 20 (length out)) (isCall bytes);
       done = λ t. g .done (twenty-done d (isCall bytes) (sym e ∙ t));
       kept = λ never. g .kept (λ is. never (e ∙ ap (λ (x : Called). calledNumber x (isCall bytes)) is));
     }

@@ -17,9 +17,10 @@ callNumber words hints answer call =
     then (if words then (if hints then (if answer then 20 else refusedNumber 16 + 3) else refusedNumber 16 + 2) else refusedNumber 16 + 1)
     else refusedNumber 3
 
--- The month's words, the number of hints, the answer's words and the call's bytes before; the words and the answer after; and the number.
--- For every list of calls whose month the words are, `Performs` says what they and the answer become.
-pub record CallsMonth (words : List ℕ) (hints : ℕ) (out bytes words′ out′ : List ℕ) (r : ℕ) : Type 0 where
-  pub number : r ≡ callNumber (leb 2464 (length words)) (leb 2048 hints) (leb 20 (length out)) (isCall bytes)
+-- The month's words, the hints, the answer's words and the call's bytes before; the words, the hints and the answer after; and the number.
+-- For every list of calls whose month the words are, `Performs` says what they and the answer become. Of the hints only the number counts,
+-- and what they hold after a call that was made is left free; a refused call leaves them, as it leaves the rest.
+pub record CallsMonth (words hints out bytes words′ hints′ out′ : List ℕ) (r : ℕ) : Type 0 where
+  pub number : r ≡ callNumber (leb 2464 (length words)) (leb 2048 (length hints)) (leb 20 (length out)) (isCall bytes)
   pub done : r ≡ 20 → Performs words out bytes words′ out′
-  pub kept : (r ≡ 20 → ⊥) → (words′ ≡ words) × (out′ ≡ out)
+  pub kept : (r ≡ 20 → ⊥) → (words′ ≡ words) × (hints′ ≡ hints) × (out′ ≡ out)

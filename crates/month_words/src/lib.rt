@@ -10,7 +10,7 @@ ghost use Rattle.rules.specs.Answers.{accepted};
 ghost use Rattle.buffers.specs.Answers.{refusedNumber, Fills};
 ghost use Rattle.month_words.specs.Internal.{calledNumber};
 ghost use Rattle.month_words.specs.Months.{CallsMonth};
-ghost use Rattle.in_place.specs.Events.{wordsAfter, HoldsMonth};
+ghost use Rattle.month.specs.Words.{wordsAfter, HoldsMonth};
 ghost use Rattle.live.specs.Calling.{isCall};
 ghost use Rattle.month_words.specs.Views.{viewedNumber, ViewsMonth};
 
@@ -49,7 +49,7 @@ fn called_number(called: Called, call: &[u8]) -> u64
 // One call on the month whose words these are.
 pub fn call(words: &mut [u32], hints: &mut [u8], call: &[u8], answer: &mut [u32]) -> u64
     requires { ⌜ (2464 ≤ length (now words) → HoldsMonth (now words)) ⌝ }
-    ensures { λ r. ⌜ CallsMonth (now (words .entry)) (length (now (hints .entry))) (now (answer .entry)) (now (call .entry)) (now (words .exit)) (now (answer .exit)) r ⌝ }
+    ensures { λ r. ⌜ CallsMonth (now (words .entry)) (now (hints .entry)) (now (answer .entry)) (now (call .entry)) (now (words .exit)) (now (hints .exit)) (now (answer .exit)) r ⌝ }
 {
     let called = live::call(words, hints, call, answer);
     called_number(called, call)

@@ -5,7 +5,7 @@ use makers::Maker;
 ghost use mathlib.Core.Path.{_≡_};
 ghost use mathlib.Core.Bool.{not};
 ghost use mathlib.Core.List.{[]};
-ghost use Prim.Native.Nat.{_+_, _≤_, _<_};
+ghost use Prim.Native.Nat.{_≤_};
 ghost use lib.Dec.{eqb};
 ghost use lib.ListN.{length};
 ghost use Rattle.rules.specs.Terms.{paper};
@@ -15,21 +15,22 @@ ghost use Rattle.rules.specs.Records.{signedOf};
 ghost use Rattle.rules.specs.Choosing.{chosenRow};
 ghost use Rattle.rules.specs.Boards.{judged};
 ghost use Rattle.rules.specs.Messages.{readMessage};
-ghost use Rattle.rules.specs.Session.{mostRecords, session, sessionBytes, oneNumber};
+ghost use Rattle.rules.specs.Session.{mostRecords, sessionBytes, oneNumber};
 ghost use Rattle.rules.specs.Accounts.{account};
 ghost use Rattle.game.specs.Answers.{safeMinutes};
+ghost use Rattle.sigma.specs.Sigmas.{lastSigma};
 ghost use Rattle.volatile.specs.Answers.{insideOf};
 ghost use Rattle.ease.specs.Easing.{easedIf};
 ghost use Rattle.buffers.specs.Answers.{valueNumber, testNumber, Fills};
 ghost use Rattle.messages.specs.Messages.{readWords, messageFor, textFor};
-ghost use Rattle.extras.specs.Extras.{weighed, spreadFor};
+ghost use Rattle.extras.specs.Extras.{weighed, sigmaWords, spreadFor};
 ghost use Rattle.pairs.specs.Sessions.{FillsPairs};
 ghost use Rattle.account_words.specs.Accounts.{strikeOf, ruleOf, FillsAccount};
 ghost use Rattle.month_words.specs.Months.{CallsMonth};
 ghost use Rattle.quoting.specs.Lists.{AnswersCalls, wordsOutcome};
 ghost use Rattle.standings.specs.Standings.{AnswersStanding};
 ghost use Rattle.makers.specs.Calls.{standing};
-ghost use Rattle.in_place.specs.Events.{wordsAfter, HoldsMonth};
+ghost use Rattle.month.specs.Words.{wordsAfter, HoldsMonth};
 ghost use Rattle.month_words.specs.Views.{ViewsMonth};
 
 // ---- rows and weights
@@ -65,6 +66,14 @@ pub extern "C" fn quoting_board(strikes: &[[u32; 2]], first: u32, second: u32) -
     ensures { λ r. ⌜ r ≡ testNumber (judged first second (now (strikes .entry))) ⌝ }
 {
     extras::board_met(strikes, first, second)
+}
+
+// The sigma of the last price's day, one word or none.
+#[no_mangle]
+pub extern "C" fn quoting_sigma(prices: &[i32], buffer: &mut [u32]) -> u64
+    ensures { λ r. ⌜ Fills (accepted (sigmaWords (lastSigma (now (prices .entry))))) (now (buffer .entry)) (now (buffer .exit)) r ⌝ }
+{
+    extras::last_sigma(prices, buffer)
 }
 
 // Whether the day after the last price is inside a period.
@@ -165,7 +174,7 @@ pub extern "C" fn quoting_month_call(
     answer: &mut [u32],
 ) -> u64
     requires { ⌜ (2464 ≤ length (now words) → HoldsMonth (now words)) ⌝ }
-    ensures { λ r. ⌜ CallsMonth (now (words .entry)) (length (now (hints .entry))) (now (answer .entry)) (now (call .entry)) (now (words .exit)) (now (answer .exit)) r ⌝ }
+    ensures { λ r. ⌜ CallsMonth (now (words .entry)) (now (hints .entry)) (now (answer .entry)) (now (call .entry)) (now (words .exit)) (now (hints .exit)) (now (answer .exit)) r ⌝ }
 {
     month_words::call(words, hints, call, answer)
 }

@@ -42,8 +42,8 @@ use Rattle.quantum.proofs.Words.{of-sized, table-part, notes-behind}
 use Rattle.month.specs.Represents.{monthOf}
 use Rattle.month.proofs.Fields.{in-range, place-inside, closed-is, opened}
 use Rattle.month.proofs.Words.{month-fits, month-length, word-in, quantum-in}
-use Rattle.in_place.specs.Events.{wordsAfter, HoldsMonth}
 use Rattle.in_place.proofs.Months.{flag-off, flag-on, flag-is}
+use Rattle.month.specs.Words.{wordsAfter, HoldsMonth}
 use Rattle.views.specs.declared.Viewed.{Viewed}
 use Rattle.views.specs.declared.Viewed.the-variants.{WordsShort, BufferShort, Written}
 use Rattle.views.specs.Views.{ordersWords, headWords, quotingWords, viewWords, Shown, Views}

@@ -17,7 +17,7 @@ use Rattle.rules.specs.Calls.{Call, Running, Idle, Quoting}
 use Rattle.rules.specs.Book.{after}
 use Rattle.arrivals.specs.Notes.{rowWords, spreadWords}
 use Rattle.clock.specs.Clocks.{widestFor}
-use Rattle.in_place.specs.Events.{wordsAfter}
+use Rattle.month.specs.Words.{wordsAfter}
 use Rattle.views.specs.declared.Viewed.{Viewed}
 use Rattle.views.specs.declared.Viewed.the-variants.{WordsShort, BufferShort, Written}
 
@@ -29,15 +29,15 @@ unfoldable pub ordersWords : List Order → List ℕ
 ordersWords [] = []
 ordersWords (o ∷ os) = orderWords o ++ ordersWords os
 
--- 17 words: the day, the row (7), what the spread limit goes by (5), the lapse limit, the widest D allowed, the state now ("0 kept, 1 no bid,
--- 2 no ask, 3 neither, 4 crossed, 5 wide"), and the number of live orders
+-- 17 words: the day, the row (7), what the spread limit goes by (5), the lapse limit, the widest D allowed, the state now (0 kept, 1 no bid,
+-- 2 no ask, 3 neither, 4 crossed, 5 wide), and the number of live orders
 unfoldable pub headWords : ℕ → ℕ → Row → SpreadRule → List Event → List ℕ
 headWords day allowed row spread events =
     (day ∷ [])
     ++ ((rowWords row ++ spreadWords spread)
     ++ (allowed ∷ widestFor row spread ∷ stateWord (stateAt row spread events (present events)) ∷ length (live events) ∷ []))
 
--- and the live orders, "in the order in which they were added"
+-- and the live orders, in the order in which they were added
 unfoldable pub quotingWords : ℕ → ℕ → Row → SpreadRule → List Event → List ℕ
 quotingWords day allowed row spread events = headWords day allowed row spread events ++ ordersWords (live events)
 
@@ -46,13 +46,13 @@ abbrev pub viewWords : Running → List ℕ
 viewWords Idle = []
 viewWords (Quoting place row opening events) = quotingWords (place / 6 + 1) (opening .allowed) row (opening .spread) events
 
--- a view in a lent buffer: its words at the front, with what stands behind them kept, and their number; "a short buffer is answered as such
--- and nothing is written"
+-- a view in a lent buffer: its words at the front, with what stands behind them kept, and their number; a short buffer is answered as such
+-- and nothing is written
 pub record Shown (view before behind : List ℕ) (r : Viewed) : Type 0 where
   pub answer : r ≡ (if leb (length view) (length before) then Written (length view) else BufferShort)
   pub buffer : behind ≡ (if leb (length view) (length before) then view ++ drop (length view) before else before)
 
--- "for every list of calls whose month these words are, what it writes is the plain book's"; fewer words than a month's are answered as such
+-- for every list of calls whose month these words are, what it writes is the plain book's; fewer words than a month's are answered as such
 pub record Views (words before behind : List ℕ) (r : Viewed) : Type 0 where
   pub short : length words < 2464 → (r ≡ WordsShort) × (behind ≡ before)
   pub shown : (calls : List Call) → take 2464 words ≡ wordsAfter calls → Shown (viewWords (after paper calls .running)) before behind r

@@ -8,7 +8,7 @@ use lib.Seq.{length-take-le}
 use Rattle.rules.specs.Calls.{amendOf}
 use Rattle.record.specs.declared.Fields.{Fields}
 use Rattle.quantum.proofs.Words.{quantum-sized, quantum-length}
-use Rattle.in_place.specs.Events.{HoldsQuantum, StepsWords}
+use Rattle.quantum_in_place.specs.Events.{HoldsQuantum, StepsWords}
 use Rattle.in_place.proofs.Months.{holds-quantum}
 use Rattle.in_place.proofs.Asks.{asks-none, asks-numbered, asks-refused, asks-held, asks-shown}
 use borrow.Author.Needs.{needs}

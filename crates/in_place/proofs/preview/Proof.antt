@@ -1,5 +1,5 @@
 -- Both quotes off the table. Assumes nothing.
-use Rattle.in_place.proofs.Whole.{table-held}
+use Rattle.quantum_in_place.proofs.Whole.{table-held}
 use Rattle.in_place.proofs.Asks.{previewed}
 use borrow.Author.Needs.{needs}
 use Rattle.in_place.proofs.preview.Statement.{statement}

@@ -15,19 +15,19 @@ use Rattle.live.proofs.call.Tie as tie
 returns : tie.Need-returns
 returns c =
     let a = c .before .before .before .before .before .args in
-    unchanged (a .words .now) (length (a .hints .now)) (a .answer .now) (a .bytes .now) WordsShort words-not-done
+    unchanged (a .words .now) (a .hints .now) (a .answer .now) (a .bytes .now) WordsShort words-not-done
     (words-short (leb 2464 (length (a .words .now))) (leb 2048 (length (a .hints .now))) (leb 20 (length (a .answer .now))) (isCall (a .bytes .now)) (lt-leb _ _ (c .if1 .taken)))
 
 returns-2 : tie.Need-returns-2
 returns-2 c =
     let a = c .before .before .before .before .before .before .args in
-    unchanged (a .words .now) (length (a .hints .now)) (a .answer .now) (a .bytes .now) HintsShort hints-not-done
+    unchanged (a .words .now) (a .hints .now) (a .answer .now) (a .bytes .now) HintsShort hints-not-done
     (hints-short (leb 2464 (length (a .words .now))) (leb 2048 (length (a .hints .now))) (leb 20 (length (a .answer .now))) (isCall (a .bytes .now)) (le-leb _ _ (c .before .if1 .left)) (lt-leb _ _ (c .if2 .taken)))
 
 returns-3 : tie.Need-returns-3
 returns-3 c =
     let a = c .before .before .before .before .before .before .before .args in
-    unchanged (a .words .now) (length (a .hints .now)) (a .answer .now) (a .bytes .now) AnswerShort answer-not-done
+    unchanged (a .words .now) (a .hints .now) (a .answer .now) (a .bytes .now) AnswerShort answer-not-done
     (answer-short (leb 2464 (length (a .words .now))) (leb 2048 (length (a .hints .now))) (leb 20 (length (a .answer .now))) (isCall (a .bytes .now)) (le-leb _ _ (c .before .before .if1 .left)) (le-leb _ _ (c .before .if2 .left)) (lt-leb _ _ (c .if3 .taken)))
 
 send-requires : tie.Need-send-requires
@@ -52,7 +52,7 @@ returns-4 c =
 returns-5 : tie.Need-returns-5
 returns-5 c =
     let a = c .before .before .before .before .before .before .before .before .before .before .before .before .args in
-    unchanged (a .words .now) (length (a .hints .now)) (a .answer .now) (a .bytes .now) NoCall no-call-not-done
+    unchanged (a .words .now) (a .hints .now) (a .answer .now) (a .bytes .now) NoCall no-call-not-done
     (no-call (leb 2464 (length (a .words .now))) (leb 2048 (length (a .hints .now))) (leb 20 (length (a .answer .now))) (isCall (a .bytes .now)) (le-leb _ _ (c .before .before .before .before .before .before .before .if1 .left)) (le-leb _ _ (c .before .before .before .before .before .before .if2 .left)) (le-leb _ _ (c .before .before .before .before .before .if3 .left)) (sym (c .before .is-call .ensures) ∙ not-true _ (c .if5 .taken)))
 
 perform-requires : tie.Need-perform-requires

@@ -12,7 +12,7 @@ returns : tie.Need-returns
 returns c =
     let a = c .before .before .before .before .before .before .before .before .before .before .before .before .before .before .before .args in
     let e = c .before .before .before .before .before .before .before .call in
-    month-called (a .words .now) _ (a .answer .now) (a .call .now) (e .last .0) (e .last .1 .1 .1 .0) (e .result) (c .called-number .result) (e .ensures) (c .called-number .ensures)
+    month-called (a .words .now) (a .hints .now) (a .answer .now) (a .call .now) (e .last .0) (e .last .1 .0) (e .last .1 .1 .1 .0) (e .result) (c .called-number .result) (e .ensures) (c .called-number .ensures)
 
 pub call-spec : {M : Type 1} → statement M
 call-spec =

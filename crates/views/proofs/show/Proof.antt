@@ -1,11 +1,11 @@
 -- The number of live orders says whether the buffer has room; what is written is the view of every list of events. Assumes nothing.
-use Prim.Native.Nat.{ℕ, _+_, _*_, _-_, _≤_}
+use Prim.Native.Nat.{ℕ, _+_, _*_, _-_}
 use native.Mathlib.Omega.{arith}
-use mathlib.Core.Path.{_≡_, refl, sym, ap, _∙_}
+use mathlib.Core.Path.{_≡_, sym, ap, _∙_}
 use lib.ListN.{length, take, drop}
 use borrow.Author.Needs.{needs}
 use Rattle.rules.specs.Orders.{live}
-use Rattle.in_place.proofs.Whole.{table-held, held-is}
+use Rattle.quantum_in_place.proofs.Whole.{table-held, held-is}
 use Rattle.views.proofs.Orders.{as-many}
 use Rattle.views.proofs.Shows.{good, table-is, listed, widest-law, shows-short, shows-all, front-length, orders-room}
 use Rattle.views.proofs.show.Statement.{statement}

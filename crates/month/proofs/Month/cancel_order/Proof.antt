@@ -3,7 +3,6 @@ use mathlib.Core.Path.{refl, ap}
 use Rattle.dates.specs.Answers.{shownElapsed}
 use Rattle.rules.specs.Dates.{Moment}
 use Rattle.rules.specs.Messages.{cancelOrder, Message}
-use Rattle.rules.specs.Calls.{Book}
 use Rattle.month.proofs.Messages.{said-unread, said-early, said-late, said-one, cancel-right}
 use borrow.Author.Needs.{needs}
 use Rattle.month.proofs.Month.cancel_order.Statement.{statement}

@@ -1,7 +1,6 @@
 -- The quantum is asked, open or idle. Assumes nothing.
 use Rattle.month.proofs.Fields.{quantum-reached}
 use Rattle.month.proofs.Messages.{side-is}
-use borrow.Author.Needs.{needs}
 use Rattle.month.proofs.Month.other_side.Statement.{statement}
 use Rattle.month.proofs.Month.other_side.Tie as tie
 

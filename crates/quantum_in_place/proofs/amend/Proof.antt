@@ -1,10 +1,10 @@
 -- The event on the words before the notes, which stay. Assumes nothing.
 use mathlib.Core.Path.{ap, sym, _∙_}
 use Rattle.record.specs.declared.Fields.{Fields}
-use Rattle.in_place.proofs.Whole.{front-held, front-long, number-is, amended-words}
+use Rattle.quantum_in_place.proofs.Whole.{front-held, front-long, number-is, amended-words}
 use borrow.Author.Needs.{needs}
-use Rattle.in_place.proofs.amend.Statement.{statement}
-use Rattle.in_place.proofs.amend.Tie as tie
+use Rattle.quantum_in_place.proofs.amend.Statement.{statement}
+use Rattle.quantum_in_place.proofs.amend.Tie as tie
 
 step-front-requires : tie.Need-step-front-requires
 step-front-requires c κs =

@@ -1,8 +1,8 @@
 -- The duty and the clock are read, the time is tested, and the clock is put back where it is in range. Assumes nothing.
-use Rattle.in_place.proofs.Ticks.{tick-early, tick-late, tick-goes, tick-onward}
+use Rattle.quantum_in_place.proofs.Ticks.{tick-early, tick-late, tick-goes, tick-onward}
 use borrow.Author.Needs.{needs}
-use Rattle.in_place.proofs.tick.Statement.{statement}
-use Rattle.in_place.proofs.tick.Tie as tie
+use Rattle.quantum_in_place.proofs.tick.Statement.{statement}
+use Rattle.quantum_in_place.proofs.tick.Tie as tie
 
 returns : tie.Need-returns
 returns c =

@@ -1,10 +1,9 @@
 -- The event on the words before the notes; where it is taken, the notes follow it by the numbers of live orders. Assumes nothing.
-use Rattle.in_place.proofs.Whole.{front-held, held-is, front-long, table-held, number-is, refused-words, new-held, follows-on, accepted-words}
-use mathlib.Core.Path.{_∙_, sym}
+use Rattle.quantum_in_place.proofs.Whole.{front-held, held-is, front-long, table-held, number-is, refused-words, new-held, follows-on, accepted-words}
 use native.Mathlib.Omega.{arith}
 use borrow.Author.Needs.{needs}
-use Rattle.in_place.proofs.step_noted.Statement.{statement}
-use Rattle.in_place.proofs.step_noted.Tie as tie
+use Rattle.quantum_in_place.proofs.step_noted.Statement.{statement}
+use Rattle.quantum_in_place.proofs.step_noted.Tie as tie
 
 count-requires : tie.Need-count-requires
 count-requires c κs =

@@ -1,9 +1,9 @@
 -- The duty and the clock are read, the event goes to the table in place, and the clock is put back. Assumes nothing.
 use Rattle.events.proofs.Steps.{by-fields}
-use Rattle.in_place.proofs.Quanta.{clock-room, parts-held, steps-front}
+use Rattle.quantum_in_place.proofs.Quanta.{clock-room, parts-held, steps-front}
 use borrow.Author.Needs.{needs}
-use Rattle.in_place.proofs.step_front.Statement.{statement}
-use Rattle.in_place.proofs.step_front.Tie as tie
+use Rattle.quantum_in_place.proofs.step_front.Statement.{statement}
+use Rattle.quantum_in_place.proofs.step_front.Tie as tie
 
 step-fields-requires : tie.Need-step-fields-requires
 step-fields-requires c κs =

@@ -15,19 +15,19 @@ use Rattle.rules.specs.Bounds.{EventBounds}
 use Rattle.record.specs.declared.Fields.{Fields}
 use Rattle.record.specs.Fields.{fieldsFor}
 use Rattle.book.specs.Table.{tableOf, Held, GoodOrders}
-use Rattle.arrivals.specs.Arrivals.{arrivalsOf, Follows, Notable}
+use Rattle.arrivals.specs.Arrivals.{arrivalsOf, Follows}
 use Rattle.arrivals.specs.Notes.{notesOf}
 use Rattle.quantum.specs.declared.Quantum.{Quantum}
 use Rattle.events.specs.Represents.{tableAfter, taken}
-use Rattle.quantum.specs.Represents.{quantumOf, Reached}
+use Rattle.quantum.specs.Represents.{quantumOf}
 use Rattle.quantum.specs.Words.{quantumWords, Sized}
 use Rattle.quantum.specs.Internal.{Accepts}
 use Rattle.events.proofs.Represents.{good-orders}
 use Rattle.quantum.proofs.Answers.{held-in}
 use Rattle.quantum.proofs.Words.{of-sized, quantum-sized, taken-bounds, table-part, notes-behind}
 use Rattle.quantum.proofs.Noting.{next-bounds, held-new, follows, noted-is}
-use Rattle.in_place.specs.Events.{frontWords, HoldsFront, HoldsQuantum, StepsFront, StepsWords}
-use Rattle.in_place.proofs.Amends.{notes-stay}
+use Rattle.quantum_in_place.specs.Events.{frontWords, HoldsFront, HoldsQuantum, StepsFront}
+use Rattle.quantum_in_place.proofs.Amends.{notes-stay}
 
 -- the front, and the notes behind it
 in-two : (q : Quantum) → quantumWords q ≡ frontWords q ++ q .notes

@@ -1,11 +1,11 @@
 -- By the kind: a tick, an amendment, or another event. Assumes nothing.
 use mathlib.Core.Path.{subst}
 use Rattle.rules.specs.declared.Event.{Event}
-use Rattle.in_place.specs.Events.{StepsWords}
-use Rattle.in_place.proofs.Ticks.{says-tick}
+use Rattle.quantum_in_place.specs.Events.{StepsWords}
+use Rattle.quantum_in_place.proofs.Ticks.{says-tick}
 use borrow.Author.Needs.{needs}
-use Rattle.in_place.proofs.step.Statement.{statement}
-use Rattle.in_place.proofs.step.Tie as tie
+use Rattle.quantum_in_place.proofs.step.Statement.{statement}
+use Rattle.quantum_in_place.proofs.step.Tie as tie
 
 returns : tie.Need-returns
 returns c =

@@ -2,7 +2,7 @@
 use Prim.Native.Nat.{ℕ, suc, _≤_, _<_}
 use native.Mathlib.Omega.{arith}
 use mathlib.Core.Path.{_≡_, refl, sym, ap, _∙_}
-use mathlib.Core.List.{List, [], _∷_, _++_}
+use mathlib.Core.List.{List, _∷_, _++_}
 use lib.ListN.{take, drop}
 use Rattle.rules.specs.declared.Millis.{Millis}
 use Rattle.rules.specs.declared.Row.{Row}
@@ -31,8 +31,8 @@ use Rattle.quantum.specs.Words.{quantumWords}
 use Rattle.clock.proofs.Clocks.{one, keeps-is, onward}
 use Rattle.events.proofs.Represents.{backwards, past-end, in-time, next-clock}
 use Rattle.quantum.proofs.Words.{duty-part, clock-part}
-use Rattle.in_place.specs.Events.{HoldsQuantum, StepsWords}
-use Rattle.in_place.proofs.Quanta.{clocked}
+use Rattle.quantum_in_place.specs.Events.{HoldsQuantum, StepsWords}
+use Rattle.quantum_in_place.proofs.Quanta.{clocked}
 
 -- the event that a tick's fields say
 pub says-tick : (e : Event) (f : Fields) → f ≡ fieldsFor e → f .kind ≡ 6 → Tick (f .t) ≡ e

@@ -1,7 +1,7 @@
 -- An event on the words of an open quantum: the table in place, then the clock. Assumes nothing.
 use Prim.Native.Nat.{ℕ, _+_, _≤_}
 use native.Mathlib.Omega.{arith}
-use mathlib.Core.Path.{_≡_, refl, sym, ap, _∙_}
+use mathlib.Core.Path.{_≡_, refl, ap, _∙_}
 use mathlib.Core.List.{List, [], _∷_, _++_, append-nil}
 use lib.ListN.{length, take, drop, length-append, length-drop, drop-of-length-le}
 use lib.Seq.{take-all, length-take-le}
@@ -14,12 +14,12 @@ use Rattle.clock.specs.declared.Duty.{Duty}
 use Rattle.clock.specs.declared.Clock.{Clock}
 use Rattle.events.specs.declared.Stepped.{Stepped}
 use Rattle.quantum.specs.declared.Quantum.{Quantum}
-use Rattle.clock.specs.Clocks.{dutyOf, clockOf}
+use Rattle.clock.specs.Clocks.{dutyOf}
 use Rattle.quantum.specs.Represents.{quantumOf}
 use Rattle.events.specs.Represents.{tableAfter, taken, ReachedParts, Represents, Stepping}
 use Rattle.clock.specs.Words.{dutyWords, clockWords}
 use Rattle.quantum.proofs.Answers.{represents-all}
-use Rattle.in_place.specs.Events.{frontWords, HoldsFront, StepsFront}
+use Rattle.quantum_in_place.specs.Events.{frontWords, HoldsFront, StepsFront}
 
 -- ---- where the parts of a quantum stand before its notes
 
