@@ -21,7 +21,7 @@ use Rattle.accounts.specs.declared.AccountAnswer.the-variants.{Finished, Refuse
 use Rattle.accounts.specs.Shown.{timesShown, shownAccount}
 use Rattle.accounts.proofs.Growing.{words-length}
 use Rattle.buffers.specs.Answers.{refusedNumber}
-use Rattle.account_words.specs.Accounts.{noRoom, accountWords, accountNumber, accountFilled, FillsAccount, shortAccount, ranAccount, headedBy, headedAccount}
+use Rattle.account_words.specs.Accounts.{accountWords, accountNumber, accountFilled, FillsAccount, shortAccount, ranAccount, headedBy, headedAccount}
 
 -- ---- no room for the times and the number of stretches
 

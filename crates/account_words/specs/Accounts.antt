@@ -14,7 +14,6 @@ use Rattle.rules.specs.Accounts.{Part, partWords, Account, accounted, halted, A
 use Rattle.accounts.specs.declared.Times.{Times}
 use Rattle.accounts.specs.declared.AccountAnswer.{AccountAnswer}
 use Rattle.accounts.specs.declared.AccountAnswer.the-variants.{Finished, Refused}
-use Rattle.accounts.specs.Shown.{timesShown}
 use Rattle.buffers.specs.Answers.{refusedNumber}
 
 abbrev pub strikeOf : ℕ → ℕ → ℕ → ℕ → Strike

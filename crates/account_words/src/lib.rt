@@ -4,7 +4,7 @@ use rules::SpreadRule;
 use rules::Steps;
 use rules::Strike;
 ghost use mathlib.Core.Path.{_≡_};
-ghost use Prim.Native.Nat.{ℕ, _+_, _≤_, _<_};
+ghost use Prim.Native.Nat.{ℕ, _≤_, _<_};
 ghost use lib.ListN.{length};
 ghost use Rattle.rules.specs.Terms.{paper};
 ghost use Rattle.rules.specs.Units.{steps};

@@ -1,8 +1,8 @@
 -- What the account's calls make of a pass. Assumes nothing.
-use Prim.Native.Nat.{ℕ, _+_, _*_, _≤_, _<_}
+use Prim.Native.Nat.{ℕ, _*_, _≤_, _<_}
 use native.Mathlib.Omega.{arith}
 use mathlib.Core.Path.{_≡_, refl, sym, ap, _∙_, subst}
-use mathlib.Core.List.{List, [], _∷_, _++_}
+use mathlib.Core.List.{List, [], _++_}
 use mathlib.Core.Bool.{Bool, true, false}
 use lib.Dec.{ltb}
 use lib.ListN.{length, drop}
@@ -16,7 +16,7 @@ use Rattle.rules.specs.Terms.{paper}
 use Rattle.rules.specs.Causes.{readRow, goodSettlement, goodSpreadRule}
 use Rattle.rules.specs.Answers.{accepted, refused, numberOf}
 use Rattle.rules.specs.Session.{recordsOf}
-use Rattle.rules.specs.Accounts.{Part, partWords, Account, accounted, halted, AccountRan, reckoned, stoppedAt, accountRecords, account, accountRan, accountFront, accountBuffer}
+use Rattle.rules.specs.Accounts.{Part, partWords, Account, accounted, halted, reckoned, stoppedAt, accountRecords, account, accountRan, accountFront, accountBuffer}
 use Rattle.accounts.specs.declared.Times.{Times}
 use Rattle.accounts.specs.declared.AccountAnswer.{AccountAnswer}
 use Rattle.accounts.specs.declared.AccountAnswer.the-variants as S

@@ -13,7 +13,7 @@ use Rattle.rules.specs.declared.Event.{Event}
 use Rattle.rules.specs.Lists.{if_then_else_}
 use Rattle.rules.specs.Terms.{paper}
 use Rattle.rules.specs.Rows.{rowOf}
-use Rattle.rules.specs.Orders.{live, present, timeFrom, timeOf}
+use Rattle.rules.specs.Orders.{live, present, timeFrom}
 use Rattle.rules.specs.States.{State, ordersState, stateAt}
 use Rattle.rules.specs.Causes.{eventRefusal}
 use Rattle.rules.specs.Bounds.{EventBounds}

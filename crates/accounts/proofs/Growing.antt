@@ -1,22 +1,22 @@
 -- The stretches so far, as time runs on: their number, where the last one starts and its state, the milliseconds of each state, and the
 -- stretches' words in a buffer. Assumes nothing.
-use Prim.Native.Nat.{ℕ, zero, suc, _+_, _*_, _-_, _≤_, _<_}
+use Prim.Native.Nat.{ℕ, suc, _+_, _*_, _-_, _≤_, _<_}
 use native.Mathlib.Omega.{arith}
 use mathlib.Core.Path.{_≡_, refl, sym, ap, _∙_, subst}
 use mathlib.Core.List.{List, [], _∷_, _++_, append-nil}
 use mathlib.Core.Bool.{Bool, true, false}
 use lib.Dec.{eqb}
 use lib.ListN.{length, set, length-append}
-use borrow.Author.Tests.{eqb-true, eqb-false, eq-eqb, ne-eqb}
+use borrow.Author.Tests.{eqb-true, eq-eqb, ne-eqb}
 use Rattle.rules.specs.Lists.{if_then_else_}
 use Rattle.rules.specs.States.{State, kept, noBid, noAsk, neither, crossed, wide, stateWord}
-use Rattle.rules.specs.Accounts.{Part, part, sameState, grownBy, parts, timeIn, partWords, Tiles}
+use Rattle.rules.specs.Accounts.{Part, part, sameState, grownBy, parts, partWords, Tiles}
 use Rattle.session.specs.Internal.{Front, putWords}
 use Rattle.session.proofs.Buffers.{put-fits as words-fit, put-not as words-not, put-front}
 use Rattle.accounts.specs.declared.Times.{Times}
 use Rattle.accounts.specs.declared.Marks.{Marks}
 use Rattle.accounts.specs.Internal.{lastStart, lastWord, timesAt, marksAt, Holds, putPart, addedTo, Addable, begunAt}
-use Rattle.accounts.proofs.Parts.{word-only, word-most, parts-ext, parts-run, parts-account, tiles-few, time-run, time-most, time-ext}
+use Rattle.accounts.proofs.Parts.{word-most, parts-ext, parts-run, parts-account, tiles-few, time-run, time-most, time-ext}
 
 -- ---- the last one
 

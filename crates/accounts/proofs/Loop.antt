@@ -1,8 +1,8 @@
 -- The loop over the records: how it starts, one turn, and each way out. Assumes nothing.
-use Prim.Native.Nat.{ℕ, _+_, _*_, _-_, _/_, _≤_, _<_}
+use Prim.Native.Nat.{ℕ, _+_, _*_, _/_, _≤_, _<_}
 use native.Mathlib.Omega.{arith}
 use mathlib.Core.Path.{_≡_, refl, sym, ap, _∙_, subst}
-use mathlib.Core.List.{List, [], _∷_, _++_}
+use mathlib.Core.List.{List, [], _++_}
 use mathlib.Core.Bool.{true}
 use lib.ListN.{length, take, drop}
 use Rattle.rules.specs.declared.Row.{Row}
@@ -30,7 +30,7 @@ use Rattle.accounts.specs.declared.AccountAnswer.the-variants as S
 use Rattle.accounts.specs.declared.Progress.{Progress}
 use Rattle.accounts.specs.declared.Stepped.{Stepped}
 use Rattle.accounts.specs.Shown.{shownAccount}
-use Rattle.accounts.specs.Internal.{Holds, progressAt, partsOf, ReachedRun, RepresentsRun, ReachedEnd, FinalAnswer, Advanced, counted, LoopState, Passed}
+use Rattle.accounts.specs.Internal.{Holds, progressAt, partsOf, ReachedEnd, FinalAnswer, Advanced, counted, LoopState, Passed}
 use Rattle.accounts.proofs.Growing.{words-length}
 use Rattle.accounts.proofs.Runs.{walks, runs-end}
 

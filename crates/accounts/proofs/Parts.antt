@@ -1,17 +1,17 @@
 -- The stretches of one state below a bound, for any states: what they are, that no other list is that, how they grow, and how they
 -- stand to the kept stretches and the lapses. Assumes nothing.
-use Prim.Native.Nat.{ℕ, zero, suc, _+_, _*_, _≤_, _<_}
+use Prim.Native.Nat.{ℕ, zero, suc, _+_, _≤_, _<_}
 use native.Mathlib.Omega.{arith}
 use mathlib.Core.Path.{_≡_, refl, sym, ap, _∙_, subst}
 use mathlib.Core.Logic.{_≢_}
-use mathlib.Core.List.{List, [], _∷_, _++_, map}
-use mathlib.Core.Bool.{Bool, true, false, true≢false, false≢true}
+use mathlib.Core.List.{List, [], _∷_, map}
+use mathlib.Core.Bool.{Bool, true, false}
 use lib.Dec.{eqb, leb}
-use lib.ListN.{length, set, getD, length-append}
-use borrow.Author.Tests.{eq-eqb, ne-eqb, eqb-true, eqb-false, leb-true, leb-false}
-use Rattle.rules.specs.Lists.{if_then_else_, sum, count, All}
+use lib.ListN.{length}
+use borrow.Author.Tests.{eq-eqb, eqb-true, eqb-false, leb-true, leb-false}
+use Rattle.rules.specs.Lists.{if_then_else_, sum, All}
 use Rattle.rules.specs.States.{State, kept, noBid, noAsk, neither, crossed, wide, stateWord}
-use Rattle.rules.specs.Accounts.{Part, part, sameState, joinedTo, grownBy, parts, inState, timeIn, totals, partWords, Tiles, Stays, Differ, AccountOf}
+use Rattle.rules.specs.Accounts.{Part, part, sameState, grownBy, parts, inState, timeIn, Tiles, Stays, Differ, AccountOf}
 use Rattle.rules.proofs.Counting.{count-stretch, count-le, count-ext}
 
 -- ---- states by their words

@@ -1,8 +1,8 @@
 -- The account run by its accepted events, with the book taken away: how it starts, what each record does, how it ends.
 -- Assumes nothing.
-use Prim.Native.Nat.{ℕ, suc, _≤_, _<_}
+use Prim.Native.Nat.{ℕ, suc}
 use mathlib.Core.Path.{_≡_, refl, sym, ap, _∙_}
-use mathlib.Core.List.{List, [], _∷_}
+use mathlib.Core.List.{List, []}
 use mathlib.Core.Bool.{true, false}
 use borrow.Author.Tests.{lt-ltb, le-ltb}
 use Rattle.rules.specs.declared.Row.{Row}
@@ -11,12 +11,10 @@ use Rattle.rules.specs.declared.Event.{Event}
 use Rattle.rules.specs.Terms.{paper}
 use Rattle.rules.specs.Rows.{rowOf}
 use Rattle.rules.specs.Answers.{accepted, refused}
-use Rattle.rules.specs.Calls.{Open, Book, freshBook}
 use Rattle.rules.specs.Causes.{goodSettlement, goodSpreadRule, readRow}
-use Rattle.rules.specs.Book.{step}
 use Rattle.rules.specs.Records.{readRecord}
 use Rattle.rules.specs.Session.{recordsOf, recordRefusal}
-use Rattle.rules.specs.Accounts.{Account, halted, accountOf, noLimit, accountRecords, account}
+use Rattle.rules.specs.Accounts.{halted, accountOf, accountRecords, account}
 use Rattle.session.specs.Internal.{bookOf}
 use Rattle.session.proofs.Walks.{Walk}
 use Rattle.session.proofs.Openings.{read-refusal, read-step, openRefusal, cellOf, opened, open-row, read-is, open-price, open-strike, open-passes}

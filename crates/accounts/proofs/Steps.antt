@@ -37,7 +37,6 @@ use Rattle.clock.proofs.Clocks.{time-is}
 use Rattle.events.proofs.Represents.{good-orders, widest-is, length-is}
 use Rattle.session.specs.Internal.{refusalBy, followed}
 use Rattle.session.proofs.Records.{Took, record-number, record-taken}
-use Rattle.accounts.specs.declared.Times.{Times}
 use Rattle.accounts.specs.declared.Marks.{Marks}
 use Rattle.accounts.specs.declared.Progress.{Progress}
 use Rattle.accounts.specs.Shown.{timesShown}

@@ -1,13 +1,11 @@
 -- The theorems: the lengths of an account add up to L and the states' sums do; its kept stretches are the session run's pairs; its other
 -- stretches, joined where they touch, are W1's lapses; no other list is the account; and the run is refused as the session run is.
 -- Assumes nothing.
-use Prim.Native.Nat.{ℕ, zero, suc, _+_, _*_, _≤_, _<_}
+use Prim.Native.Nat.{ℕ, zero, suc, _+_, _≤_, _<_}
 use native.Mathlib.Omega.{arith}
-use mathlib.Core.Path.{_≡_, refl, sym, ap, _∙_, subst}
-use mathlib.Core.Logic.{_≢_}
+use mathlib.Core.Path.{_≡_, refl, sym, ap, _∙_}
 use mathlib.Core.List.{List, [], _∷_, _++_, map, append-assoc, append-nil}
 use mathlib.Core.Bool.{Bool, true, false, true≢false, false≢true, not}
-use lib.Dec.{eqb}
 use lib.ListN.{length}
 use borrow.Author.Tests.{eq-eqb, ne-eqb}
 use Rattle.rules.specs.declared.Steps.{Steps}
@@ -21,7 +19,7 @@ use Rattle.rules.specs.Rows.{rowOf}
 use Rattle.rules.specs.Units.{kopecks}
 use Rattle.rules.specs.Cells.{placeOf, cellAt}
 use Rattle.rules.specs.Kept.{keptAt, keptBelow}
-use Rattle.rules.specs.States.{State, kept, noBid, noAsk, neither, crossed, wide, stateWord, isKept, stateAt}
+use Rattle.rules.specs.States.{State, kept, noBid, noAsk, neither, crossed, wide, isKept, stateAt}
 use Rattle.rules.specs.Stretches.{Stretch, stretch, stretches, keptStretches}
 use Rattle.rules.specs.Runs.{end, Inside, before, endsAt, lengthened, extended}
 use Rattle.rules.specs.Lapses.{missing, lapses}
@@ -31,11 +29,11 @@ use Rattle.rules.specs.Causes.{refusalOf}
 use Rattle.rules.specs.Book.{step}
 use Rattle.rules.specs.Records.{readRecord}
 use Rattle.rules.specs.Session as S
-use Rattle.rules.specs.Accounts.{Part, part, sameState, parts, inState, timeIn, totals, Tiles, Stays, Differ, AccountOf, joinedUp, asStretch, keptParts, lostParts, Account, accounted, halted, accountUnless, noLimit, accountOf, accountIn, accountRecords, account}
+use Rattle.rules.specs.Accounts.{Part, sameState, parts, inState, timeIn, totals, Tiles, Stays, Differ, AccountOf, joinedUp, asStretch, keptParts, lostParts, Account, accounted, halted, accountUnless, noLimit, accountOf, accountIn, accountRecords, account}
 use Rattle.rules.proofs.Counting.{count-ext}
 use Rattle.rules.proofs.States.{kept-state}
 use Rattle.rules.proofs.Stretches.{stretches-ext, stretches-false, stretches-new, stretches-longer, stretches-ends}
-use Rattle.accounts.proofs.Parts.{same-refl, parts-account, account-only, tiles-sum, time-run}
+use Rattle.accounts.proofs.Parts.{parts-account, account-only, tiles-sum, time-run}
 
 -- ---- one list and no other
 

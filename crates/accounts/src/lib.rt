@@ -1,7 +1,7 @@
 // The account run: where the time of a session went, as stretches of one state and the milliseconds of each state. Records go through one
 // open quantum, twice where stretches are written, as in a session run.
 ghost use mathlib.Core.Path.{_≡_};
-ghost use Prim.Native.Nat.{ℕ, _≤_, _<_};
+ghost use Prim.Native.Nat.{ℕ, _≤_};
 ghost use mathlib.Core.Bool.{true};
 ghost use mathlib.Core.List.{[]};
 ghost use lib.ListN.{length};
@@ -239,7 +239,7 @@ fn run_records(
         if 0 < n {
             return AccountAnswer::Refused {
                 refusal: rules::refusal_of(n),
-                place: session::place_of(at),
+                place: record::place_of(at),
             };
         }
         progress = stepped.progress;
@@ -248,7 +248,7 @@ fn run_records(
     if at < records.len() {
         return AccountAnswer::Refused {
             refusal: Refusal::BadRecord,
-            place: session::place_of(at),
+            place: record::place_of(at),
         };
     }
     finish(progress, duty, &table, buffer)

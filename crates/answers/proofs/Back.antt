@@ -2,12 +2,10 @@
 use Prim.Native.Nat.{ℕ, zero, suc, _+_, _*_}
 use native.Mathlib.Omega.{arith}
 use mathlib.Core.Path.{_≡_, refl, sym, ap, _∙_}
-use mathlib.Core.Bool.{Bool}
-use mathlib.Core.List.{List, [], _∷_, _++_}
+use mathlib.Core.List.{List, [], _∷_}
 use lib.Dec.{eqb}
 use lib.IntN.{ℤ}
 use lib.ListN.{length, getD, take, drop}
-use Rattle.rules.specs.declared.Cell.{Cell}
 use Rattle.rules.specs.declared.CellView.{CellView}
 use Rattle.rules.specs.declared.Preview.{Preview}
 use Rattle.rules.specs.declared.Report.{Report}
@@ -20,7 +18,7 @@ use Rattle.rules.specs.declared.LapsesLeft.the-variants as L
 use Rattle.rules.specs.declared.Outlook.{Outlook}
 use Rattle.rules.specs.Lists.{if_then_else_}
 use Rattle.rules.specs.Units.{millis, steps, contracts, kopecks}
-use Rattle.rules.specs.Records.{signedOf, unsignedOf}
+use Rattle.rules.specs.Records.{signedOf}
 use Rattle.rules.specs.Answers.{Outcome, accepted, refused, Reply, done, cell, asked, report, outlook}
 use Rattle.rules.proofs.Records.{signed-unsigned}
 use Rattle.lent.specs.Words.{cellWords}

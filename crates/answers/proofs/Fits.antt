@@ -1,12 +1,12 @@
 -- Every answer of the plain book fits its words: after any list of calls its prices are within their type, and it has six failure counts.
 -- So no two answers that the book ever gives have the same words. Assumes nothing.
-use Prim.Native.Nat.{ℕ, zero, suc, _<_}
+use Prim.Native.Nat.{ℕ, zero, suc}
 use native.Mathlib.Omega.{arith}
 use mathlib.Core.Path.{_≡_, refl, subst}
 use mathlib.Core.Bool.{true}
 use mathlib.Core.List.{List, [], _∷_, _++_, List·Memᴰ}
 use lib.IntN.{ℤ, pos, negsuc, negℤ}
-use lib.Signed.{leZ, mag}
+use lib.Signed.{leZ}
 use lib.ListN.{length}
 use borrow.Author.Tests.{leb-true}
 use Rattle.rules.specs.declared.Side.{Side}
@@ -24,13 +24,13 @@ use Rattle.rules.specs.Units.{goodPrice}
 use Rattle.rules.specs.Orders.{live}
 use Rattle.rules.specs.Quotes.{best, Means}
 use Rattle.rules.specs.Pay.{allFailures}
-use Rattle.rules.specs.Answers.{Outcome, outcomeBy, Reply}
+use Rattle.rules.specs.Answers.{outcomeBy}
 use Rattle.rules.specs.Calls.{Call, Open, Send, Message, Ask, Commit, Close, Drop, Charge, Withdraw, Look, Report, Outlook, Running, Idle, Quoting, Book, amendOf}
 use Rattle.rules.specs.Causes.{sendCauses, firstNumber, eventRefusal, causes, refusalOf}
 use Rattle.rules.specs.Changes.{noted}
 use Rattle.rules.specs.Replies.{bidIn, askIn, previewOf, reportOf, replyOf}
 use Rattle.rules.specs.Book.{answerOf, after}
-use Rattle.rules.specs.Bounds.{RunningBounds, EventBounds, BookBounds}
+use Rattle.rules.specs.Bounds.{RunningBounds, EventBounds}
 use Rattle.rules.proofs.Lists.{both}
 use Rattle.rules.proofs.Best.{means}
 use Rattle.rules.proofs.Refusals.{SendPasses, call-passes}

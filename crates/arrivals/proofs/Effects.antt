@@ -4,10 +4,10 @@ use Prim.Native.Nat.{ℕ, suc, _+_, _-_, _≤_, _<_}
 use native.Mathlib.Omega.{arith}
 use mathlib.Core.Path.{_≡_, refl, sym, ap, _∙_, subst}
 use mathlib.Core.List.{List, [], _∷_, _++_, map, map-append, append-nil, List·Memᴰ}
-use mathlib.Core.Bool.{Bool, true, false, not}
+use mathlib.Core.Bool.{Bool, true, false}
 use lib.Dec.{ltb}
 use lib.Seq.{map-set-same}
-use lib.ListN.{length, getD, take, drop, set, length-map, length-append, length-take, length-drop, replicate}
+use lib.ListN.{length, take, drop, set, length-map, length-append, length-take, length-drop, replicate}
 use borrow.Author.Tests.{ltb-true, ltb-false}
 use Rattle.rules.specs.declared.Order.{Order}
 use Rattle.rules.specs.declared.Row.{Row}
@@ -17,9 +17,8 @@ use Rattle.rules.specs.Lists.{if_then_else_}
 use Rattle.rules.specs.declared.Side.the-variants.{Buy}
 use Rattle.rules.specs.declared.Event.{Event}
 use Rattle.rules.specs.declared.Event.the-variants.{Add, Amend, Cancel, Deal, Tick}
-use Rattle.rules.specs.Orders.{hasId, isLive, left, apply, live, amendedOrder}
-use Rattle.rules.specs.Causes.{eventRefusal}
-use Rattle.rules.specs.Bounds.{Distinct, EventBounds}
+use Rattle.rules.specs.Orders.{hasId, left, apply, live, amendedOrder}
+use Rattle.rules.specs.Bounds.{Distinct}
 use Rattle.rules.proofs.Orders.{live-snoc, cancel-at, deal-some, deal-all}
 use Rattle.rules.proofs.Bounds.{volume-bounds, event-bounds-more}
 use Rattle.rules.proofs.Refusals.{TraderPasses, event-passes}

@@ -17,7 +17,7 @@ use Rattle.rules.specs.declared.Amendment.{Amendment}
 use Rattle.rules.specs.declared.Event.the-variants.{Add, Amend, Cancel, Deal, Tick}
 use Rattle.rules.specs.Units.{millis, steps, contracts, kopecks}
 use Rattle.rules.specs.Records.{signedOf, wordBytes}
-use Rattle.rules.specs.Calls.{Call, Open, Send, Message, Ask, Commit, Close, Drop, Charge, Withdraw, Look, Report}
+use Rattle.rules.specs.Calls.{Call, Open, Send, Message, Ask, Commit, Close, Charge, Withdraw, Look}
 use Rattle.words.specs.Bytes.{bytesOf}
 use Rattle.words.proofs.Back.{bytes-append}
 use Rattle.blocks.specs.Kinds.{word, addDue, due, dueAt, blockSize, rowAt, openingAt, strikeOpeningAt, wideAt, amendmentAt, startAt, messageAt, sideOf, callBy, callOf}

@@ -2,7 +2,7 @@
 // call it says, and how many calls and words are read from a list. The words are those of `wordsIn`: all that is read of the bytes goes
 // through `word`, `part` and `count`.
 //
-// One more kind of block is one arm of `due` and one of `decode`, with a variant of `Decoded` if it says a call that has none; in specs/
+// One more kind of block is one arm of `due_words` and one of `decode`, with a variant of `Decoded` if it says a call that has none; in specs/
 // a clause of `due` and of `callBy`, `callWith`, `wordsOf` and `CallFits`; in `script` an arm of `call`.
 ghost use mathlib.Core.Path.{_≡_};
 ghost use Prim.Native.Nat.{_+_, _*_, _/_, _≤_, _<_};

@@ -3,7 +3,7 @@
 ghost use mathlib.Core.Path.{_≡_};
 ghost use mathlib.Core.List.{List, []};
 ghost use mathlib.Core.Bool.{_&&_, not};
-ghost use Prim.Native.Nat.{ℕ, _+_, _≤_, _<_};
+ghost use Prim.Native.Nat.{ℕ, _≤_, _<_};
 ghost use lib.Dec.{eqb};
 ghost use lib.ListN.{length};
 ghost use Rattle.rules.specs.declared.Order.{Order};
@@ -16,7 +16,6 @@ ghost use Rattle.rules.specs.Lists.{if_then_else_, within, any};
 ghost use Rattle.rules.specs.Orders.{hasId};
 ghost use Rattle.rules.specs.Units.{goodPrice, goodVolume};
 ghost use Rattle.rules.specs.Quotes.{same, best as bestQuote};
-ghost use Rattle.rules.specs.Kept.{ordersKeep};
 ghost use Rattle.rules.specs.States.{stateWord, ordersState};
 ghost use Rattle.prices.specs.Widest.{WidestFor};
 ghost use Rattle.book.specs.Table.{tableOf, slotBy, slotIn, GoodOrders, Held, Holding};
@@ -422,14 +421,6 @@ pub fn send(
 }
 
 // ---- the quotes
-
-// Whether the live orders keep the quote, 1 or 0, by the row's spread limit.
-pub fn keeps(table: &[u32], widest: u32) -> u32
-    requires { ⌜ length (now table) ≡ 512 ⌝ }
-    ensures { λ r. ⌜ ((row : Row) (sp : SpreadRule) (live : List Order) → GoodOrders live → now (table .entry) ≡ tableOf (row .minimum .0) live → WidestFor row sp widest → r ≡ (if ordersKeep row sp live then 1 else 0)) ⌝ }
-{
-    prices::keys_keep(widest, table[BEST], table[WORDS + BEST])
-}
 
 // The word of the live orders' state, by the row's spread limit.
 pub fn state(table: &[u32], widest: u32) -> u32

@@ -1,7 +1,7 @@
 // What a call for C answers: one number, and the words or bytes that it puts at the front of a lent buffer.
 ghost use mathlib.Core.Path.{_≡_};
 ghost use mathlib.Core.List.{_++_};
-ghost use Prim.Native.Nat.{_+_, _≤_, _<_};
+ghost use Prim.Native.Nat.{_≤_};
 ghost use lib.ListN.{length, take, drop};
 ghost use Rattle.rules.specs.Answers.{accepted};
 ghost use Rattle.buffers.specs.Answers.{refusedNumber, Fills};

@@ -1,24 +1,21 @@
 -- Cells of milliseconds that are kept or not, whatever the reason: the best that may follow is that all is kept, and how many are needed.
 -- Assumes nothing.
-use Prim.Native.Nat.{ℕ, zero, suc, _+_, _-_, _*_, _/_, _≤_, _<_}
+use Prim.Native.Nat.{ℕ, zero, suc, _+_, _*_, _≤_, _<_}
 use native.Mathlib.Omega.{arith}
-use mathlib.Core.Path.{_≡_, refl, sym, ap, _∙_, subst}
-use mathlib.Core.List.{List}
-use mathlib.Core.Bool.{Bool, true, false, not, true≢false, false≢true, _&&_, _||_}
+use mathlib.Core.Path.{_≡_, refl, sym, ap, _∙_}
+use mathlib.Core.Bool.{Bool, true, false, not, false≢true, _||_}
 use lib.Dec.{leb, ltb, eqb}
 use lib.ListN.{length}
-use borrow.Author.Tests.{leb-true, leb-false, le-leb, lt-leb, lt-ltb, le-ltb, ltb-true, ltb-false}
+use borrow.Author.Tests.{leb-true, leb-false, le-leb, lt-ltb, le-ltb, ltb-true, ltb-false}
 use Rattle.rules.specs.declared.Row.{Row}
 use Rattle.rules.specs.declared.Opening.{Opening}
-use Rattle.rules.specs.declared.Cell.{Cell}
 use Rattle.rules.specs.Lists.{if_then_else_, count}
 use Rattle.rules.specs.Terms.{paper}
 use Rattle.rules.specs.Units.{millis, kopecks}
 use Rattle.rules.specs.Runs.{before}
-use Rattle.rules.specs.Stretches.{stretches}
 use Rattle.rules.specs.Lapses.{missing, lapses, begins, lapseStarts, noLapseLimit, withinLapseLimit}
-use Rattle.rules.specs.Pay.{met, cellMet, cellWeight}
-use Rattle.rules.specs.Outlook.{roundedUp, needOf, restingTill, cellOf}
+use Rattle.rules.specs.Pay.{met, cellMet}
+use Rattle.rules.specs.Outlook.{needOf, restingTill, cellOf}
 use Rattle.rules.proofs.Counting.{count-ext, count-more}
 use Rattle.rules.proofs.Stretches.{stretches-ext}
 use Rattle.rules.proofs.Lapses.{lapses-counted}

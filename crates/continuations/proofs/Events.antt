@@ -3,12 +3,12 @@ use Prim.Native.Nat.{ℕ, zero, suc, _+_, _-_, _*_, _^_, _≤_, _<_}
 use native.Mathlib.Omega.{arith}
 use mathlib.Core.Path.{_≡_, refl, sym, ap, _∙_, subst}
 use mathlib.Core.List.{List, [], _∷_, _++_, map, append-assoc, append-nil}
-use mathlib.Core.Bool.{Bool, true, false, not, true≢false, false≢true, _&&_, _||_}
-use lib.Dec.{leb, ltb, eqb}
+use mathlib.Core.Bool.{Bool, true, false, not, false≢true, _&&_, _||_}
+use lib.Dec.{leb}
 use lib.IntN.{ℤ, pos, negsuc, _*ℤ_}
 use lib.Signed.{leZ}
 use lib.ListN.{length}
-use borrow.Author.Tests.{leb-true, le-leb, lt-leb, eq-eqb, leb-false}
+use borrow.Author.Tests.{leb-true, le-leb, eq-eqb}
 use Rattle.rules.specs.declared.Order.{Order}
 use Rattle.rules.specs.declared.Row.{Row}
 use Rattle.rules.specs.declared.SpreadRule.{SpreadRule}
@@ -19,15 +19,15 @@ use Rattle.rules.specs.declared.Quote.the-variants.{Absent, At}
 use Rattle.rules.specs.declared.Side.the-variants.{Buy, Sell}
 use Rattle.rules.specs.declared.Event.{Event}
 use Rattle.rules.specs.declared.Event.the-variants.{Add, Cancel}
-use Rattle.rules.specs.Lists.{if_then_else_, within, filter, any, sum}
+use Rattle.rules.specs.Lists.{filter, any, sum}
 use Rattle.rules.specs.Units.{millis, steps, goodPrice, goodVolume}
 use Rattle.rules.specs.Orders.{hasId, isLive, apply, live, timeOf, present}
-use Rattle.rules.specs.Quotes.{inDepth, depth, qualifies, lead, best}
+use Rattle.rules.specs.Quotes.{depth, qualifies, lead, best}
 use Rattle.rules.specs.Strikes.{squareOf, halfBelow, strikeWithin}
-use Rattle.rules.specs.Kept.{gap, spreadWithin, spreadKeeps, bestBid, bestAsk, quotesKeep, ordersKeep, upTo, keptAt}
+use Rattle.rules.specs.Kept.{gap, spreadWithin, spreadKeeps, bestBid, bestAsk, quotesKeep, ordersKeep, keptAt}
 use Rattle.rules.specs.Bounds.{Distinct, EventBounds}
 use Rattle.rules.specs.Outlook.{canKeep}
-use Rattle.rules.proofs.Kept.{below-one, keptAt-now, keptAt-snoc}
+use Rattle.rules.proofs.Kept.{keptAt-snoc}
 use Rattle.rules.proofs.Orders.{live-snoc, present-snoc}
 use Rattle.rules.proofs.Lists.{and}
 use Rattle.rules.proofs.Members.{filter-all, none-any, or-second}

@@ -4,7 +4,7 @@ use Prim.Native.Nat.{ℕ, _+_, _-_, _≤_, _<_}
 use native.Mathlib.Omega.{arith}
 use mathlib.Core.Path.{_≡_, refl, sym, ap, _∙_, subst}
 use mathlib.Core.List.{List, [], _∷_, _++_, map}
-use mathlib.Core.Bool.{Bool, true, false, true≢false, false≢true, _&&_, _||_}
+use mathlib.Core.Bool.{Bool, true, false, false≢true, _&&_, _||_}
 use lib.Dec.{leb, eqb}
 use lib.ListN.{length}
 use lib.Seq.{getD-set-same}
@@ -14,7 +14,6 @@ use Rattle.rules.specs.declared.Opening.{Opening}
 use Rattle.rules.specs.declared.Row.{Row}
 use Rattle.rules.specs.declared.Cell.{Cell}
 use Rattle.rules.specs.declared.Event.{Event}
-use Rattle.rules.specs.declared.Outlook.{Outlook}
 use Rattle.rules.specs.Lists.{if_then_else_, count}
 use Rattle.rules.specs.Terms.{paper}
 use Rattle.rules.specs.Units.{kopecks, goodCharge}
@@ -23,25 +22,24 @@ use Rattle.rules.specs.Orders.{live, present}
 use Rattle.rules.specs.Kept.{ordersKeep, upTo, keptAt, keptBelow}
 use Rattle.rules.specs.Lapses.{lapses, lapsesBelow, noLapseLimit, withinLapseLimit}
 use Rattle.rules.specs.Pay.{met, cellMet, cellWeight}
-use Rattle.rules.specs.Outlook.{canKeep, restingTill, cellOf, cellResting, latest, isNever, maySo, latestRest, weightResting, weightKeeping, outlookOf}
-use Rattle.rules.specs.Calls.{Call, Send, Close, Running, Quoting, Book, isOpen}
-use Rattle.rules.specs.Causes.{refusalOf}
+use Rattle.rules.specs.Outlook.{canKeep, restingTill, cellOf, cellResting, isNever, maySo, latestRest, weightResting, weightKeeping, outlookOf}
+use Rattle.rules.specs.Calls.{Send, Close, Running, Quoting, Book, isOpen}
 use Rattle.rules.specs.Changes.{notedAll, closedCell}
 use Rattle.rules.specs.Book.{run, after}
 use Rattle.rules.specs.Replies.{outlookIn}
 use Rattle.rules.specs.Histories.{NoneRefused}
-use Rattle.rules.specs.Bounds.{BookBounds, RunningBounds, OpenBounds, EventBounds}
+use Rattle.rules.specs.Bounds.{BookBounds, RunningBounds, OpenBounds}
 use Rattle.rules.proofs.Lists.{both, and}
 use Rattle.rules.proofs.Counting.{count-ext}
 use Rattle.rules.proofs.Members.{or-second}
 use Rattle.rules.proofs.Kept.{keptAt-now}
 use Rattle.rules.proofs.Refusals.{InTurn, passes-call}
-use Rattle.rules.proofs.Histories.{none-parts, parts-none, Sent, sent, closes, sends-pass}
+use Rattle.rules.proofs.Histories.{none-parts, parts-none, sent, closes, sends-pass}
 use Rattle.rules.proofs.Bounds.{bounds, read-bounds}
-use Rattle.continuations.specs.Continuations.{ending, cellLeft, keptThen, keptOfRest, cancelAll, quoteAgain, Foresees, Outlooks}
+use Rattle.continuations.specs.Continuations.{ending, cellLeft, keptOfRest, cancelAll, quoteAgain, Foresees, Outlooks}
 use Rattle.continuations.proofs.Latest.{latest-passes, never-passes}
 use Rattle.continuations.proofs.Cells.{same-cell, resting-below, resting-from, best-is-keeping, count-from, enough-met, met-enough}
-use Rattle.continuations.proofs.Events.{turn-bounds, turn-below, Cancelled, all-cancelled, none-keep, QuotedAgain, quoted-again, nothing-keeps}
+use Rattle.continuations.proofs.Events.{turn-bounds, turn-below, all-cancelled, none-keep, quoted-again, nothing-keeps}
 
 or-first : (a c : Bool) → c ≡ false → (a || c) ≡ true → a ≡ true
 or-first true c e h = refl

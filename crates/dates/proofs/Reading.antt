@@ -7,8 +7,8 @@ use mathlib.Core.Option.{Option, none, some}
 use native.Mathlib.Omega.{arith}
 use lib.ListN.{length, getD}
 use Rattle.rules.specs.declared.Timestamp.{Timestamp}
-use Rattle.rules.specs.Answers.{accepted, refused}
-use Rattle.rules.specs.Dates.{form, hasForm, part, partsOf, goodDate, goodClock, timeIn, momentOf, momentFrom, since}
+use Rattle.rules.specs.Answers.{refused}
+use Rattle.rules.specs.Dates.{form, hasForm, part, partsOf, goodDate, goodClock, timeIn, momentFrom, since}
 use Rattle.rules.proofs.Lists.{both}
 use Rattle.dates.specs.Times.{Timed}
 use Rattle.dates.proofs.Forms.{form-length, digits-at, three-is, four-is}

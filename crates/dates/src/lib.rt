@@ -5,7 +5,7 @@ use rules::Timestamp;
 ghost use mathlib.Core.Path.{_≡_};
 ghost use mathlib.Core.Bool.{true, _&&_, _||_};
 ghost use lib.Dec.{eqb};
-ghost use Prim.Native.Nat.{_+_, _-_, _*_, _≤_, _<_};
+ghost use Prim.Native.Nat.{_+_, _-_, _≤_, _<_};
 ghost use lib.ListN.{length, getD};
 ghost use Rattle.rules.specs.Lists.{if_then_else_};
 ghost use mathlib.Core.Option.{some};
@@ -258,7 +258,7 @@ fn between(start: u64, time: u64) -> Elapsed
 }
 
 // One time from another, both as they are read.
-pub fn moment(start: Timestamp, time: Timestamp) -> Elapsed
+fn moment(start: Timestamp, time: Timestamp) -> Elapsed
     requires { ⌜ Timed start × Timed time ⌝ }
     ensures { λ r. ⌜ shownElapsed r ≡ accepted (momentOf start time) ⌝ }
 {

@@ -2,11 +2,10 @@
 -- accepted one notes the altered row, and the quantum's events are noted, its time kept and its cell closed by that row. Assumes nothing.
 use Prim.Native.Nat.{ℕ}
 use mathlib.Core.Path.{_≡_, refl, sym, ap, _∙_}
-use mathlib.Core.List.{List, [], _∷_, _++_, map, append-nil}
+use mathlib.Core.List.{List, [], _∷_, _++_, map}
 use mathlib.Core.Bool.{true}
 use borrow.Author.Tests.{eq-eqb}
 use lib.ListN.{length, set}
-use lib.Seq.{append-snoc}
 use Rattle.rules.specs.declared.Opening.{Opening}
 use Rattle.rules.specs.declared.Kopecks.{Kopecks}
 use Rattle.rules.specs.declared.Row.{Row}
@@ -16,9 +15,9 @@ use Rattle.rules.specs.Terms.{paper}
 use Rattle.rules.specs.Rows.{rowOf, goodRowFor}
 use Rattle.rules.specs.Answers.{Outcome, accepted, refused}
 use Rattle.rules.specs.Cells.{placeOf}
-use Rattle.rules.specs.Calls.{Call, Open, Send, Close, Running, Quoting, Book}
+use Rattle.rules.specs.Calls.{Call, Open, Send, Close, Quoting, Book}
 use Rattle.rules.specs.Causes.{firstNumber, causes, refusalOf, readRow}
-use Rattle.rules.specs.Changes.{noted, changed, closedCell, closed, following}
+use Rattle.rules.specs.Changes.{changed, closedCell, following}
 use Rattle.rules.specs.Book.{step, run}
 use Rattle.rules.specs.Histories.{NoneRefused}
 use Rattle.rules.proofs.Histories.{closes}
@@ -83,7 +82,7 @@ module _ (b : Book) (words : List ℕ) (day : ℕ) (opening : Opening) where
         same-quantum spread words row e,
       )
 
-  -- "refused exactly when the other is, by the same number"
+  -- refused exactly when the other is, by the same number
   pub same-refusal : refusalOf paper b after ≡ refusalOf paper b before
   unfolding refusalOf
   same-refusal = go (readRow paper spread words) refl

@@ -1,19 +1,18 @@
 -- The fields behind 35, one in front of the others: none of the frame but the last, a 10 of three bytes. Assumes nothing.
-use Prim.Native.Nat.{ℕ, zero, suc, _+_, _<_}
+use Prim.Native.Nat.{ℕ, _+_, _<_}
 use native.Mathlib.Omega.{arith}
-use mathlib.Core.Path.{_≡_, refl, sym, ap, _∙_}
-use mathlib.Core.Bool.{Bool, true, false, _&&_, _||_, not, true≢false, and-false, or-true}
-use mathlib.Core.List.{List, [], _∷_, _++_, append-assoc, append-nil}
+use mathlib.Core.Path.{_≡_, refl, ap, _∙_}
+use mathlib.Core.Bool.{Bool, true, false, _&&_, _||_, not, true≢false}
+use mathlib.Core.List.{List, [], _∷_, _++_, append-nil}
 use mathlib.Core.Option.{Option, none, some}
 use borrow.Author.Tests.{eqb-true}
 use lib.Dec.{eqb}
 use lib.ListN.{length, length-append}
 use Rattle.rules.specs.Lists.{any}
-use Rattle.rules.specs.Fields.{Field, fieldBytes, fieldsBytes, pieces, fieldOf, addField, fieldsIn, fieldsOf, sameBytes, hasTag}
+use Rattle.rules.specs.Fields.{Field, fieldBytes, fieldsBytes, pieces, fieldOf, addField, fieldsIn, fieldsOf, hasTag}
 use Rattle.rules.specs.Frame.{versionTag, lengthTag, typeTag, checksumTag, isFrameTag, Ending, behind, endingOf}
 use Rattle.fields.specs.Tags.{pieceOf}
 use Rattle.fields.specs.Spans.{closes, closingBy, closingOf, closingIn, closed}
-use Rattle.digits.proofs.Numbers.{both}
 use Rattle.fields.proofs.Pieces.{one-field, clear, no-field, no-first}
 use Rattle.fields.proofs.Bytes.{fields-bytes}
 use Rattle.fields.proofs.SlotTags.{same-is}

@@ -1,21 +1,21 @@
 -- The search for fields, turn by turn. Assumes nothing.
-use Prim.Native.Nat.{ℕ, zero, suc, _+_, _-_, _≤_, _<_}
+use Prim.Native.Nat.{ℕ, suc, _+_, _-_, _≤_, _<_}
 use native.Mathlib.Omega.{arith}
 use mathlib.Core.Path.{_≡_, refl, sym, ap, subst, _∙_}
 use mathlib.Core.Bool.{Bool, true, false}
 use mathlib.Core.List.{List, [], _∷_, _++_, append-nil}
-use mathlib.Core.Option.{Option, none, some}
+use mathlib.Core.Option.{none, some}
 use borrow.Author.Tests.{eqb-true, eqb-false, leb-true, leb-false}
 use lib.Dec.{eqb, leb}
 use lib.ListN.{length, getD, take, drop, replicate, length-drop, length-append, drop-of-length-le}
 use lib.Seq.{drop-cons}
-use Rattle.rules.specs.Fields.{Field, goodTag}
-use Rattle.fields.specs.Ends.{ClosedFrom, EndOf}
-use Rattle.fields.specs.Tags.{slotOf, TagAt, tag, bad}
+use Rattle.rules.specs.Fields.{Field}
+use Rattle.fields.specs.Ends.{EndOf}
+use Rattle.fields.specs.Tags.{TagAt, tag, bad}
 use Rattle.fields.specs.Spans.{closed, Spanned, noted, EndsAt, SpansFound, found, wrong}
 use Rattle.fields.proofs.Pieces.{clear}
 use Rattle.fields.proofs.Spanning.{value-length, value-clear, split-value, widen, turn-body, turn-empty, framed-tag}
-use Rattle.fields.proofs.Closing.{inFront, allInFront, front-snoc, front-none, front-some, closed-bad, closed-end}
+use Rattle.fields.proofs.Closing.{allInFront, front-snoc, front-none, front-some, closed-bad, closed-end}
 use Rattle.fields.proofs.Holding.{slot-below, nothing-yet, spanned-more}
 
 -- the fields read so far, in front of those that are left

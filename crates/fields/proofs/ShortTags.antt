@@ -3,15 +3,14 @@ use Prim.Native.Nat.{ℕ, suc, _+_, _*_, _-_, _≤_, _<_}
 use native.Mathlib.Omega.{arith}
 use native.Mathlib.Numerals.{add-one}
 use mathlib.Core.Path.{_≡_, refl, sym, ap, _∙_}
-use mathlib.Core.Bool.{Bool, true, false, _&&_, _||_}
+use mathlib.Core.Bool.{true, false, _||_}
 use mathlib.Core.List.{List, [], _∷_, _++_}
-use mathlib.Core.Option.{none}
 use borrow.Author.Tests.{le-leb, lt-leb}
-use lib.Dec.{ltb, leb}
+use lib.Dec.{ltb}
 use lib.ListN.{length, getD, drop}
-use lib.Seq.{drop-cons, getD-drop}
+use lib.Seq.{drop-cons}
 use Rattle.rules.specs.Digits.{isDigit, allDigits, numberFrom}
-use Rattle.rules.specs.Fields.{goodTag, fieldOf}
+use Rattle.rules.specs.Fields.{fieldOf}
 use Rattle.fields.specs.Tags.{slotNumber, slotOf, pieceOf, TagAt, tag, bad, LongTag, ends, stops}
 use Rattle.fields.proofs.Tags.{no-tag, no-first-digit, first-outside, first-inside, good-tag}
 

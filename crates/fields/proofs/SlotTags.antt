@@ -1,10 +1,10 @@
 -- A tag's slot and its digits. Assumes nothing.
-use Prim.Native.Nat.{ℕ, zero, suc, _+_, _*_, _-_, _≤_, _<_}
+use Prim.Native.Nat.{ℕ, zero, suc, _≤_, _<_}
 use native.Mathlib.Omega.{arith}
 use mathlib.Core.Path.{_≡_, refl, sym, ap, _∙_}
-use mathlib.Core.Bool.{Bool, true, false, _&&_, _||_, true≢false, or-true}
+use mathlib.Core.Bool.{Bool, true, false, _||_, true≢false, or-true}
 use mathlib.Core.List.{List, [], _∷_}
-use borrow.Author.Tests.{ne-eqb, eq-eqb, eqb-true, eqb-false, leb-true, leb-false, le-leb, lt-leb}
+use borrow.Author.Tests.{eq-eqb, eqb-true, eqb-false, leb-true}
 use lib.Dec.{eqb, leb}
 use mathlib.Core.Logic.{_⊎_, inl, inr}
 use lib.ListN.{length}
@@ -15,7 +15,7 @@ use Rattle.rules.specs.Frame.{versionTag, lengthTag, typeTag, checksumTag, isFr
 use Rattle.fields.specs.Tags.{slotNumber, slotOf}
 use Rattle.fields.specs.Spans.{slotTag}
 use Rattle.digits.proofs.Numbers.{both, digit-from, digit-to}
-use Rattle.fields.proofs.Tags.{GoodTag, tag-ranges}
+use Rattle.fields.proofs.Tags.{tag-ranges}
 
 -- ---- equal bytes
 pub same-is : (l m : List ℕ) → sameBytes l m ≡ true → l ≡ m

@@ -5,10 +5,10 @@ use mathlib.Core.Bool.{Bool, true, false}
 use mathlib.Core.Option.{Option, none, some}
 use native.Mathlib.Omega.{arith}
 use lib.Dec.{leb, eqb}
-use borrow.Author.Tests.{ne-eqb, eq-eqb, leb-true, leb-false}
+use borrow.Author.Tests.{ne-eqb, leb-false}
 use Rattle.rules.specs.Lists.{if_then_else_}
 use Rattle.rules.specs.Frame.{isNumber}
-use Rattle.digits.specs.Answers.{capped, cappedBy}
+use Rattle.digits.specs.Answers.{cappedBy}
 use Rattle.digits.proofs.Numbers.{gone}
 use Rattle.fields.specs.Tags.{slotNumber}
 

@@ -1,27 +1,24 @@
 -- A turn of the search for fields: the field that is found, and its slot. Assumes nothing.
-use Prim.Native.Nat.{ℕ, zero, suc, _+_, _-_, _≤_, _<_}
+use Prim.Native.Nat.{ℕ, suc, _+_, _-_, _<_}
 use native.Mathlib.Nat.{le-of-lt, eq-or-lt-of-le}
 use native.Mathlib.Omega.{arith}
-use mathlib.Core.Path.{_≡_, refl, sym, ap, subst, _∙_}
-use mathlib.Core.Bool.{Bool, true, false, true≢false}
+use mathlib.Core.Path.{_≡_, refl, sym, ap, _∙_}
+use mathlib.Core.Bool.{Bool, true, false}
 use mathlib.Core.Logic.{⊎-elim}
-use mathlib.Core.List.{List, [], _∷_, _++_, append-assoc, append-nil}
-use mathlib.Core.Option.{Option, none, some}
+use mathlib.Core.List.{List, [], _∷_, _++_, append-assoc}
+use mathlib.Core.Option.{none}
 use borrow.Author.Tests.{ne-eqb, eq-eqb, eqb-true, eqb-false}
-use lib.Dec.{eqb, leb}
-use lib.ListN.{length, getD, take, drop, set, replicate, length-drop, length-take, length-set, length-append, getD-replicate, drop-of-length-le}
-use lib.Seq.{length-take-le, split-at, getD-take, getD-drop, drop-drop, drop-cons, getD-set-same, getD-set-other}
-use Rattle.rules.specs.Lists.{if_then_else_}
-use Rattle.rules.specs.Digits.{numberFrom}
-use Rattle.rules.specs.Fields.{Field, goodTag, fieldOf, fieldsOf, fieldsIn, hasTag, sameBytes, valuesOf}
-use Rattle.rules.specs.Frame.{isFrameTag}
+use lib.Dec.{eqb}
+use lib.ListN.{length, getD, take, drop, length-drop}
+use lib.Seq.{length-take-le, split-at, getD-take, getD-drop, drop-drop}
+use Rattle.rules.specs.Fields.{goodTag, fieldOf, fieldsOf, fieldsIn}
 use Rattle.fields.specs.Ends.{EndOf}
-use Rattle.fields.specs.Tags.{slotNumber, slotOf, pieceOf, TagAt, tag, bad}
-use Rattle.fields.specs.Spans.{closingIn, closed, slotTag, SlotHolds, Spanned, noted, EndsAt, SpansFound, found, wrong}
+use Rattle.fields.specs.Tags.{slotOf, tag}
+use Rattle.fields.specs.Spans.{closingIn, closed}
 use Rattle.fields.proofs.Pieces.{clear, clear-by, clear-cons, clear-append, Cut, whole, at, cut-of, all-one, unended}
 use Rattle.fields.proofs.Tags.{good-digits, digits-clear, a-field, no-value}
-use Rattle.fields.proofs.SlotTags.{has-slot, frame-is}
-use Rattle.fields.proofs.Closing.{inFront, allInFront, front-snoc, front-none, front-some, closed-body, closed-frame, closed-none, closed-bad, closed-end}
+use Rattle.fields.proofs.SlotTags.{frame-is}
+use Rattle.fields.proofs.Closing.{inFront, closed-body, closed-frame, closed-none}
 
 -- ---- the bytes from a place up to the first byte 1
 module _ (b : List ℕ) (from r : ℕ) (e : EndOf b from r) where

@@ -1,19 +1,19 @@
 -- What is a field and what is none, by the bytes up to the first that is no digit. Assumes nothing.
-use Prim.Native.Nat.{ℕ, zero, suc, _+_, _≤_, _<_}
+use Prim.Native.Nat.{ℕ, _≤_, _<_}
 use native.Mathlib.Omega.{arith}
 use mathlib.Core.Path.{_≡_, refl, sym, ap, _∙_}
 use mathlib.Core.Bool.{Bool, true, false, _&&_, _||_, not, true≢false, and-false}
 use mathlib.Core.List.{List, [], _∷_, _++_, append-nil}
 use mathlib.Core.Option.{Option, none, some}
-use borrow.Author.Tests.{ne-eqb, eq-eqb, eqb-false, le-leb, lt-leb, ltb-true, ltb-false, not-true}
+use borrow.Author.Tests.{ne-eqb, eqb-false, le-leb, lt-leb, ltb-true, ltb-false, not-true}
 use lib.Dec.{eqb, leb, ltb}
 use lib.ListN.{length}
 use Rattle.rules.specs.Lists.{if_then_else_}
 use Rattle.rules.specs.Digits.{isDigit, allDigits}
-use Rattle.rules.specs.Fields.{Field, taggedBy, splitField, goodTag, goodValue, goodField, fieldOf}
+use Rattle.rules.specs.Fields.{Field, taggedBy, splitField, goodTag, goodField, fieldOf}
 use Rattle.fields.specs.Tags.{pieceOf}
 use Rattle.digits.proofs.Numbers.{both, digit-from, digit-to}
-use Rattle.fields.proofs.Pieces.{clear, clear-head, clear-tail, clear-cons}
+use Rattle.fields.proofs.Pieces.{clear, clear-head, clear-tail}
 
 -- ---- digits
 pub digit-not-one : (b : ℕ) → isDigit b ≡ true → b ≡ 1 → ⊥

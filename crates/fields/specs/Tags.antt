@@ -1,9 +1,9 @@
 -- The slots that tags belong to, and what is found where a tag should stand.
 use Prim.Native.Nat.{ℕ, _<_}
 use mathlib.Core.Path.{_≡_}
-use mathlib.Core.Bool.{Bool, true, false}
+use mathlib.Core.Bool.{true, false}
 use mathlib.Core.List.{List, [], _∷_, _++_}
-use mathlib.Core.Option.{Option, none}
+use mathlib.Core.Option.{none}
 use lib.Dec.{eqb, leb}
 use lib.ListN.{length, drop}
 use Rattle.rules.specs.Lists.{if_then_else_}

@@ -1,13 +1,11 @@
 -- The definitions on small messages, by computation; the bar stands for byte 1. Assumes nothing.
-use Prim.Native.Nat.{ℕ, _-_}
+use Prim.Native.Nat.{ℕ}
 use mathlib.Core.Path.{_≡_, refl}
 use mathlib.Core.List.{List, [], _∷_}
-use mathlib.Core.Bool.{Bool, true, false}
 use mathlib.Core.Option.{none, some}
 use lib.Dec.{eqb}
 use lib.IntN.{pos, negsuc}
 use Rattle.rules.specs.declared.Side.the-variants.{Buy, Sell}
-use Rattle.rules.specs.declared.Timestamp.{Timestamp}
 use Rattle.rules.specs.Lists.{if_then_else_, sum, any}
 use Rattle.rules.specs.Units.{steps, contracts}
 use Rattle.rules.specs.Answers.{accepted, refused}

@@ -3,18 +3,18 @@ use Prim.Native.Nat.{ℕ}
 use mathlib.Core.Path.{_≡_, refl, sym, ap, subst, _∙_}
 use mathlib.Core.Bool.{Bool, true, false, true≢false}
 use mathlib.Core.List.{List}
-use mathlib.Core.Option.{Option, none, some}
+use mathlib.Core.Option.{none}
 use borrow.Author.Tests.{eq-eqb, ne-eqb}
 use lib.ListN.{drop}
 use Rattle.rules.specs.declared.Timestamp.{Timestamp}
-use Rattle.rules.specs.Answers.{Outcome, accepted, refused}
+use Rattle.rules.specs.Answers.{Outcome, refused}
 use Rattle.rules.specs.Fields.{Field}
-use Rattle.rules.specs.Frame.{Kind, new, cancel, replace, Body, bodyIn}
+use Rattle.rules.specs.Frame.{Kind, new, cancel, replace, bodyIn}
 use Rattle.rules.specs.Messages.{Message, messageOf, readable, readBody, readMessage}
 use Rattle.frame.specs.declared.Frame.{Frame}
 use Rattle.frame.specs.declared.Frame.the-variants.{Of, Wrong}
 use Rattle.fields.specs.Spans.{closed, Spanned, EndsAt, SpansFound, found, wrong}
-use Rattle.frame.specs.Frames.{isKind, kindByte, bodyWith, FrameFound}
+use Rattle.frame.specs.Frames.{kindByte, bodyWith, FrameFound}
 use Rattle.fix.specs.Internal.{Filled}
 
 -- ---- the type's byte

@@ -9,7 +9,6 @@ use Rattle.rules.specs.declared.Contracts.{Contracts}
 use Rattle.rules.specs.declared.Steps.{Steps}
 use Rattle.rules.specs.declared.Timestamp.{Timestamp}
 use Rattle.rules.specs.Units.{steps, contracts}
-use Rattle.rules.specs.Answers.{Outcome, accepted, refused}
 use Rattle.rules.specs.Digits.{wordIn, stepsIn}
 use Rattle.rules.specs.Dates.{timeIn}
 use Rattle.rules.specs.Fields.{Field, valuesOf}

@@ -1,25 +1,24 @@
 -- What every message that was read keeps: its time is a time, and its numbers are of 32 bits. Assumes nothing.
-use Prim.Native.Nat.{ℕ, zero, suc, _<_}
+use Prim.Native.Nat.{ℕ, zero, suc}
 use native.Mathlib.Omega.{arith}
-use mathlib.Core.Path.{_≡_, refl, sym, ap, subst, _∙_}
+use mathlib.Core.Path.{_≡_, refl, subst}
 use mathlib.Core.Bool.{Bool, true, false}
 use mathlib.Core.List.{List, [], _∷_}
 use mathlib.Core.Option.{Option, none, some}
 use borrow.Author.Tests.{ltb-true}
 use lib.Dec.{ltb, eqb}
 use lib.IntN.{ℤ, pos, negsuc}
-use lib.Signed.{mag}
 use Rattle.rules.specs.declared.Timestamp.{Timestamp}
 use Rattle.rules.specs.Lists.{if_then_else_}
 use Rattle.rules.specs.Units.{steps, contracts}
 use Rattle.rules.specs.Widths.{Word, SignedWord}
-use Rattle.rules.specs.Answers.{Outcome, accepted, refused}
+use Rattle.rules.specs.Answers.{accepted, refused}
 use Rattle.rules.specs.Digits.{inDigits, wordWithin, wordIn, positive, negative, stepsIn}
 use Rattle.rules.specs.Dates.{timeIn}
 use Rattle.rules.specs.Fields.{Field, valuesOf}
 use Rattle.rules.specs.Frame.{Kind, new, cancel, replace, Body, bodyIn}
 use Rattle.rules.specs.declared.Side.{Side}
-use Rattle.rules.specs.Messages.{idTag, origTag, sideTag, volumeTag, priceTag, timeTag, sideIn, Message, newOrder, cancelOrder, replaceOrder, once, _>>=_, messageOf, readable, readBody, readMessage, timeOf}
+use Rattle.rules.specs.Messages.{idTag, origTag, sideTag, volumeTag, priceTag, timeTag, sideIn, Message, newOrder, cancelOrder, replaceOrder, once, _>>=_, messageOf, readable, readBody, readMessage}
 use Rattle.dates.specs.Times.{Timed}
 use Rattle.dates.proofs.Reading.{timed}
 

@@ -1,30 +1,27 @@
 -- A message that passes every test of the frame: its body is what the fields behind 35 say. Assumes nothing.
-use Prim.Native.Nat.{ℕ, zero, suc, _+_, _-_, _/_, _%_, _≤_, _<_}
+use Prim.Native.Nat.{ℕ, _-_, _%_, _<_}
 use native.Mathlib.Omega.{arith}
-use mathlib.Core.Path.{_≡_, refl, sym, ap, subst, _∙_}
-use mathlib.Core.Bool.{Bool, true, false, _&&_, _||_, not, true≢false, and-false}
-use mathlib.Core.List.{List, [], _∷_, _++_, append-assoc}
+use mathlib.Core.Path.{_≡_, refl, sym, ap, _∙_}
+use mathlib.Core.Bool.{Bool, true, false, _&&_, _||_, not, true≢false}
+use mathlib.Core.List.{List, [], _∷_, _++_}
 use mathlib.Core.Option.{Option, none, some}
-use borrow.Author.Tests.{eqb-true, eqb-false, eq-eqb}
+use borrow.Author.Tests.{eqb-true, eqb-false}
 use lib.Dec.{eqb}
-use lib.ListN.{length, getD, take, drop, length-append, length-drop}
+use lib.ListN.{length, take, drop, length-append}
 use lib.Seq.{take-at, drop-at}
 use Rattle.rules.specs.Lists.{if_then_else_, sum, any}
 use Rattle.rules.specs.Digits.{allDigits, inDigits, threeDigits}
-use Rattle.rules.specs.Fields.{Field, fieldBytes, fieldsBytes, pieces, goodTag, fieldOf, addField, fieldsIn, fieldsOf, sameBytes, hasTag}
-use Rattle.rules.specs.Frame.{versionTag, lengthTag, typeTag, checksumTag, version, Kind, new, cancel, replace, kindText, kindIn, isNumber, lengthRight, checksumRight, isFrameTag, Body, Ending, endingOf, goodFrame, bodyBy, framedBy, framed, framedIn, bodyIn}
-use Rattle.fields.specs.Ends.{EndOf}
-use Rattle.fields.specs.Spans.{closes, closingBy, closingOf, closingIn, closed, EndsAt}
-use Rattle.frame.specs.Frames.{headRight, typeRight, tailRight, isKind, kindByte, bodyWith}
-use Rattle.digits.proofs.Numbers.{both}
-use Rattle.fields.proofs.Pieces.{clear, clear-cons, clear-append, one-field}
+use Rattle.rules.specs.Fields.{Field, fieldBytes, fieldsBytes, goodTag, addField, fieldsOf, sameBytes, hasTag}
+use Rattle.rules.specs.Frame.{versionTag, lengthTag, typeTag, checksumTag, version, new, cancel, replace, kindIn, isNumber, lengthRight, checksumRight, isFrameTag, Ending, endingOf, goodFrame, bodyBy, framedBy, framed, framedIn, bodyIn}
+use Rattle.fields.specs.Spans.{closes, closingBy, closingOf, closingIn, closed}
+use Rattle.frame.specs.Frames.{isKind, kindByte, bodyWith}
+use Rattle.fields.proofs.Pieces.{clear, clear-cons, one-field}
 use Rattle.fields.proofs.Tags.{digits-clear, a-field}
 use Rattle.fields.proofs.Bytes.{fields-bytes}
 use Rattle.fields.proofs.SlotTags.{same-is, same-refl}
-use Rattle.fields.proofs.Spanning.{value-clear, split-value}
-use Rattle.frame.proofs.Shapes.{eight, nineOf, typeOf, tenOf, ending-is, fields-append, one-bytes, head-bytes}
-use Rattle.frame.proofs.Frames.{at-drop, at-first, head-is, type-is, tailOf, tail-is}
-use Rattle.frame.proofs.Refusing.{Counted, counted-digits}
+use Rattle.frame.proofs.Shapes.{eight, nineOf, typeOf, ending-is, fields-append, one-bytes, head-bytes}
+use Rattle.frame.proofs.Frames.{tailOf}
+use Rattle.frame.proofs.Refusing.{Counted}
 
 -- ---- the three first fields
 pub short-tag : (t : List ℕ) → goodTag t ≡ true → (v : List ℕ) → clear (t ++ (61 ∷ v)) ≡ true → 0 < length v → (rest : List ℕ)

@@ -1,19 +1,19 @@
 -- What the tests of the frame find together, at the places where they look. Assumes nothing.
 use Prim.Native.Nat.{ℕ, zero, suc, _+_, _-_, _/_, _%_, _≤_, _<_}
 use native.Mathlib.Omega.{arith}
-use mathlib.Core.Path.{_≡_, refl, sym, ap, subst, _∙_}
-use mathlib.Core.Bool.{Bool, true, false}
+use mathlib.Core.Path.{_≡_, refl, sym, ap, _∙_}
+use mathlib.Core.Bool.{true}
 use mathlib.Core.List.{List, [], _∷_, _++_}
-use mathlib.Core.Option.{Option, none, some}
+use mathlib.Core.Option.{some}
 use lib.ListN.{length, getD, take, drop, length-drop}
 use Rattle.rules.specs.Lists.{sum, any}
 use Rattle.rules.specs.Digits.{allDigits, inDigits}
-use Rattle.rules.specs.Fields.{Field, pieces, goodTag, addField, fieldsIn, fieldsOf, sameBytes}
-use Rattle.rules.specs.Frame.{checksumTag, isNumber, endingOf, bodyIn}
-use Rattle.frame.specs.declared.Frame.the-variants.{Of, Wrong}
+use Rattle.rules.specs.Fields.{pieces, goodTag, fieldsIn, fieldsOf, sameBytes}
+use Rattle.rules.specs.Frame.{checksumTag, isNumber, endingOf}
+use Rattle.frame.specs.declared.Frame.the-variants.{Of}
 use Rattle.fields.specs.Ends.{EndOf}
 use Rattle.fields.specs.Spans.{closes, closingIn, closed, EndsAt}
-use Rattle.frame.specs.Frames.{headRight, typeRight, tailRight, isKind, kindByte, bodyWith, FrameFound}
+use Rattle.frame.specs.Frames.{headRight, typeRight, tailRight, isKind, FrameFound}
 use Rattle.fields.proofs.Pieces.{clear, clear-cons}
 use Rattle.fields.proofs.Spanning.{split-value}
 use Rattle.frame.proofs.Frames.{at-drop, head-is, type-is, tailOf, tail-is}

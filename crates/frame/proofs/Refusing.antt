@@ -1,23 +1,23 @@
 -- Each test of the frame passes on a message with a right frame: where one fails, there is no body. Assumes nothing.
-use Prim.Native.Nat.{ℕ, zero, suc, _+_, _-_, _/_, _%_, _≤_, _<_}
+use Prim.Native.Nat.{ℕ, _+_, _-_, _%_, _<_}
 use native.Mathlib.Omega.{arith}
-use mathlib.Core.Path.{_≡_, refl, sym, ap, subst, _∙_}
+use mathlib.Core.Path.{_≡_, refl, sym, ap, _∙_}
 use mathlib.Core.Bool.{Bool, true, false, true≢false}
 use mathlib.Core.List.{List, [], _∷_, _++_}
-use mathlib.Core.Option.{Option, none, some}
+use mathlib.Core.Option.{none, some}
 use lib.ListN.{length, getD, take, drop, length-append, length-drop}
 use lib.Seq.{getD-append-add, take-at, drop-at}
 use Rattle.rules.specs.Lists.{if_then_else_, sum}
 use Rattle.rules.specs.Digits.{allDigits, numberFrom, inDigits, threeDigits}
 use Rattle.rules.specs.Fields.{Field, fieldBytes, fieldsBytes}
-use Rattle.rules.specs.Frame.{isNumber, bodyIn}
+use Rattle.rules.specs.Frame.{isNumber}
 use Rattle.fields.specs.Ends.{EndOf}
 use Rattle.frame.specs.Frames.{headRight, typeRight, tailRight, isKind}
 use Rattle.fields.proofs.Pieces.{clear}
 use Rattle.fields.proofs.Tags.{digits-clear}
 use Rattle.fields.proofs.Spanning.{value-clear, split-value}
-use Rattle.frame.proofs.Shapes.{eight, nineOf, typeOf, tenOf, fields-append, one-bytes, head-bytes, Shape, unshaped}
-use Rattle.frame.proofs.Frames.{same-first, same-rest, at-drop, at-first, head-holds, type-holds, tailOf, tail-holds}
+use Rattle.frame.proofs.Shapes.{eight, nineOf, typeOf, tenOf, fields-append, one-bytes, head-bytes, Shape}
+use Rattle.frame.proofs.Frames.{same-first, same-rest, at-drop, head-holds, type-holds, tailOf, tail-holds}
 
 -- ---- a number in digits
 pub record Counted (v : List ℕ) : Type 0 where

@@ -1,20 +1,17 @@
 -- The bytes of a message whose frame is right. Assumes nothing.
-use Prim.Native.Nat.{ℕ, zero, suc, _+_, _-_, _/_, _%_, _≤_, _<_}
+use Prim.Native.Nat.{ℕ, _%_}
 use native.Mathlib.Omega.{arith}
-use mathlib.Core.Path.{_≡_, refl, sym, ap, subst, _∙_}
-use mathlib.Core.Bool.{Bool, true, false, _&&_, _||_, not, true≢false}
+use mathlib.Core.Path.{_≡_, refl, sym, ap, _∙_}
+use mathlib.Core.Bool.{Bool, true, false, not}
 use mathlib.Core.List.{List, [], _∷_, _++_, append-assoc, append-nil}
 use mathlib.Core.Option.{Option, none, some}
-use borrow.Author.Tests.{eqb-true, eq-eqb, not-true}
-use lib.Dec.{eqb}
-use lib.ListN.{length, getD, take, drop, length-append}
+use lib.ListN.{length}
 use Rattle.rules.specs.Lists.{if_then_else_, sum, any}
-use Rattle.rules.specs.Digits.{allDigits, inDigits, threeDigits}
+use Rattle.rules.specs.Digits.{inDigits, threeDigits}
 use Rattle.rules.specs.Fields.{Field, fieldBytes, fieldsBytes, fieldsOf, sameBytes, hasTag}
 use Rattle.rules.specs.Frame.{versionTag, lengthTag, typeTag, checksumTag, version, Kind, new, cancel, replace, kindText, kindIn, isNumber, lengthRight, checksumRight, isFrameTag, Body, Ending, behind, endingOf, goodFrame, bodyBy, framedBy, framed, framedIn, bodyIn}
 use Rattle.frame.specs.Frames.{isKind}
 use Rattle.digits.proofs.Numbers.{both}
-use Rattle.fields.proofs.Pieces.{clear, clear-head, clear-tail}
 use Rattle.fields.proofs.Bytes.{fields-bytes}
 use Rattle.fields.proofs.SlotTags.{same-is}
 use Rattle.fields.proofs.Closing.{ending-some}

@@ -1,7 +1,6 @@
 // The frame of a message: what stands before and behind its fields, with length and sum.
 ghost use mathlib.Core.Path.{_≡_};
-ghost use mathlib.Core.Bool.{false};
-ghost use Prim.Native.Nat.{_+_, _-_, _/_, _%_, _≤_, _<_};
+ghost use Prim.Native.Nat.{_+_, _≤_, _<_};
 ghost use lib.ListN.{length};
 ghost use Rattle.rules.specs.Lists.{sum};
 ghost use Rattle.rules.specs.Digits.{inDigits};

@@ -22,12 +22,6 @@ pub own-level : (ks vs : List ℕ) (k : ℕ) (l : Level) → l ≡ levelAt ks vs
 unfolding levelAt
 own-level ks vs k l e = e ∙ ap (levelAt ks vs) (sym (ap (λ (x : Level). x .key) e))
 
-pub level-most : (ks vs : List ℕ) (k : ℕ) (l : Level) → l ≡ levelAt ks vs k → k ≤ 2000000001 → l .key ≤ 2000000001
-unfolding levelAt
-level-most ks vs k l e h =
-    let key : l .key ≡ k = ap (λ (x : Level). x .key) e in
-    omega (arith, key, h)
-
 pub level-small : (ks vs : List ℕ) (l : Level) → Columns ks vs → l ≡ levelAt ks vs (l .key) → l .before + l .at ≤ 64000000
 unfolding levelAt
 level-small ks vs l h e =

@@ -13,7 +13,7 @@ use lib.Signed.{ltZ}
 use mir.Syntax.{w32}
 use mir.Val.{toZ}
 use lib.ListN.{length, getD, take}
-use lib.Seq.{take-suc, take-length}
+use lib.Seq.{take-suc}
 use Rattle.rules.specs.Lists.{if_then_else_, filter}
 use Rattle.rules.proofs.Lists.{filter-append, filter-one, kept-in, in-kept}
 use Rattle.quote.specs.declared.Level.{Level}

@@ -1,12 +1,12 @@
 -- The words after a requote, and the sums made for it. Assumes nothing.
-use Prim.Native.Nat.{ℕ, _+_, _-_, _≤_, _<_}
+use Prim.Native.Nat.{ℕ, _+_, _≤_}
 use native.Mathlib.Omega.{arith}
 use mathlib.Core.Path.{_≡_, refl, sym, ap, _∙_, subst}
-use mathlib.Core.Logic.{_⊎_, inl, inr}
+use mathlib.Core.Logic.{inl}
 use mathlib.Core.List.{List}
-use mathlib.Core.Bool.{Bool, true, false, _&&_, true≢false}
+use mathlib.Core.Bool.{Bool, true, false, true≢false}
 use borrow.Author.Tests.{lt-leb}
-use lib.Dec.{leb, eqb}
+use lib.Dec.{leb}
 use lib.ListN.{length, getD, take, drop}
 use Rattle.rules.specs.declared.Side.{Side}
 use Rattle.rules.specs.declared.Order.{Order}
@@ -15,7 +15,7 @@ use Rattle.prices.specs.Keys.{quoteAt}
 use Rattle.quote.specs.Searches.{ColumnsOf}
 use Rattle.rules.specs.Lists.{if_then_else_}
 use Rattle.quote.specs.declared.Level.{Level}
-use Rattle.quote.specs.Levels.{held, levelAt, levelOf, bestKey, isBest}
+use Rattle.quote.specs.Levels.{held, levelAt, isBest}
 use Rattle.quote.specs.Tries.{made, foundWith, Tried}
 use Rattle.quote.proofs.Levels.{level-best, best-level}
 use Rattle.small.specs.declared.Found.{Found as Small}
@@ -26,7 +26,6 @@ use Rattle.side.specs.Internal.{StaleLevel}
 use Rattle.side.proofs.Words.{kept-small, kept-large}
 use Rattle.side.proofs.Stores.{level-stored}
 use Rattle.level.specs.declared.Found.{Found}
-use Rattle.level.specs.declared.Requoted.{Requoted}
 use Rattle.level.specs.Requotes.{Qualifies, Work, Requotes}
 use Rattle.level.specs.Internal.{putLevel, Sought}
 use Rattle.level.proofs.Starts.{depth-held}

@@ -4,21 +4,20 @@ use native.Mathlib.Omega.{arith}
 use mathlib.Core.Path.{_≡_, refl, sym, ap, _∙_, subst}
 use mathlib.Core.Logic.{_⊎_, inl, inr}
 use mathlib.Core.List.{List, [], _∷_}
-use mathlib.Core.Bool.{Bool, true, false, _&&_, _||_, true≢false}
-use borrow.Author.Tests.{leb-true, leb-false, ltb-true, ltb-false, eqb-true, eqb-false, lt-ltb, le-leb, lt-leb, le-ltb, eq-eqb}
+use mathlib.Core.Bool.{Bool, true, false, _&&_, _||_}
+use borrow.Author.Tests.{leb-true, leb-false, ltb-false, lt-ltb, le-leb, lt-leb}
 use lib.Dec.{leb, ltb, eqb}
 use lib.ListN.{length, getD}
 use lib.Seq.{take-length}
 use Rattle.rules.specs.declared.Side.{Side}
 use Rattle.rules.specs.declared.Steps.{Steps as Price}
-use Rattle.rules.specs.declared.Quote.{Quote}
 use Rattle.rules.specs.declared.Quote.the-variants.{At}
 use Rattle.rules.specs.Lists.{if_then_else_, filter}
 use Rattle.rules.specs.Units.{goodPrice}
 use Rattle.quote.specs.declared.Level.{Level}
 use Rattle.quote.specs.declared.Searched.{Searched}
 use Rattle.prices.specs.Keys.{quoteKey, quoteAt}
-use Rattle.quote.specs.Levels.{held, enough, greatest, foundBy, depthFrom, bestKey, levelAt, levelOf, isBest, Searchable}
+use Rattle.quote.specs.Levels.{held, enough, greatest, foundBy, bestKey, levelAt, levelOf, isBest, Searchable}
 use Rattle.quote.specs.Searches.{Finds}
 use Rattle.quote.specs.Tries.{made, foundWith, Tried}
 use Rattle.prices.proofs.Keys.{key-quote, good-quote, say-good}

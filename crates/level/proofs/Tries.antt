@@ -1,12 +1,12 @@
 -- Sums that are made one after the other: one more in front of them or behind them, and the same columns with blanks. Assumes nothing.
-use Prim.Native.Nat.{ℕ, _+_, _≤_, _<_}
+use Prim.Native.Nat.{ℕ, _+_, _≤_}
 use native.Mathlib.Omega.{arith}
 use mathlib.Core.Path.{_≡_, refl, sym, ap, _∙_, subst, fun-ext}
 use mathlib.Core.List.{List, [], _∷_, _++_}
-use mathlib.Core.Bool.{Bool, true, false, _&&_, _||_}
+use mathlib.Core.Bool.{Bool, true, false, _||_}
 use lib.Dec.{leb, ltb, eqb}
-use lib.ListN.{length, length-append}
-use mathlib.Core.Logic.{_⊎_, inl, inr}
+use lib.ListN.{length-append}
+use mathlib.Core.Logic.{inr}
 use borrow.Author.Tests.{leb-true}
 use Rattle.rules.specs.Lists.{if_then_else_}
 use Rattle.rules.proofs.Lists.{both}

@@ -1,5 +1,5 @@
 -- The loop over a whole list: what is known after so many calls, and what follows at its end. Assumes nothing.
-use Prim.Native.Nat.{ℕ, suc, _+_, _-_, _*_, _/_, _≤_, _<_}
+use Prim.Native.Nat.{ℕ, _+_, _-_, _*_, _/_, _≤_, _<_}
 use native.Mathlib.Omega.{arith}
 use mathlib.Core.Path.{_≡_, refl, sym, ap, subst, _∙_}
 use mathlib.Core.List.{List, [], _∷_, _++_, append-assoc, append-nil}
@@ -23,7 +23,7 @@ use Rattle.blocks.specs.Kinds.{blockSize, callOf}
 use Rattle.blocks.specs.Reading.{callsOf}
 use Rattle.blocks.specs.Measures.{Measures}
 use Rattle.blocks.proofs.Loops.{Passed, at-start, next-call, one-more, none-left}
-use Rattle.script.specs.Blocks.{shownOf, Stepped}
+use Rattle.script.specs.Blocks.{Stepped}
 use Rattle.answers.specs.Words.{answerWords}
 use Rattle.live.specs.Calling.{wordsShown}
 use Rattle.live.proofs.Calling.{shown-words}

@@ -1,5 +1,4 @@
 // A whole list of calls run from a fresh month, each call's whole answer in twenty words of a lent buffer (answers/specs/Words).
-ghost use mathlib.Core.Path.{_≡_};
 ghost use Rattle.words.specs.Bytes.{wordsIn};
 ghost use Rattle.lists.specs.Listing.{ListAnswered};
 use month::Month;

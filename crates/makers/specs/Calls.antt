@@ -85,7 +85,7 @@ changed s (Leave n) = standing (without n (used s) ++ (left n ∷ drop (s .count
 unfoldable pub step : Standing → Call → Standing
 step s call = if eqb (refusalOf s call) 0 then changed s call else s
 
--- "the new count or a refusal"
+-- the new count or a refusal
 unfoldable pub answerOf : Standing → Call → Answer
 answerOf s call = record { count = step s call .count; refusal = refusalOf s call }
 

@@ -1,7 +1,7 @@
 // A maker's record in the standing, and the work of join, change and leave on records by value: the order of two records, one step of a
 // look through the used ones, what a call is answered and where its record moves. The calls themselves are in `standing`.
 ghost use mathlib.Core.Path.{_≡_};
-ghost use mathlib.Core.Bool.{true, false, not, _&&_, _||_};
+ghost use mathlib.Core.Bool.{true, not, _&&_, _||_};
 ghost use Prim.Native.Nat.{_+_, _≤_, _<_, _^_, min};
 ghost use lib.Dec.{leb, ltb};
 ghost use Rattle.rules.specs.Lists.{if_then_else_};

@@ -1,18 +1,17 @@
 -- A FIX message as words, read and to be written. Assumes nothing.
 use Prim.Native.Nat.{ℕ, _≤_, _<_}
-use native.Mathlib.Omega.{arith}
 use mathlib.Core.Path.{_≡_, refl, sym, ap, _∙_}
 use mathlib.Core.Bool.{Bool, true, false, not}
-use mathlib.Core.List.{List, [], _∷_}
+use mathlib.Core.List.{List, _∷_}
 use lib.ListN.{length, getD, take}
 use borrow.Author.Tests.{lt-ltb, le-ltb, eq-eqb, ne-eqb, not-true, not-false}
 use Rattle.rules.specs.declared.Side.{Side}
 use Rattle.rules.specs.declared.Steps.{Steps}
 use Rattle.rules.specs.Lists.{within}
 use Rattle.rules.specs.Units.{steps, contracts}
-use Rattle.rules.specs.Answers.{Outcome, accepted, refused}
+use Rattle.rules.specs.Answers.{accepted, refused}
 use Rattle.rules.specs.Records.{signedOf}
-use Rattle.rules.specs.Messages.{Message, newOrder, cancelOrder, replaceOrder, writeMessage}
+use Rattle.rules.specs.Messages.{newOrder, cancelOrder, replaceOrder, writeMessage}
 use Rattle.blocks.specs.Kinds.{sideOf}
 use Rattle.fix.specs.declared.MessageRead.{MessageRead}
 use Rattle.fix.specs.Answers.{shownMessage}

@@ -7,7 +7,7 @@ use rules::Steps;
 use rules::Timestamp;
 ghost use mathlib.Core.Path.{_≡_};
 ghost use mathlib.Core.List.{_∷_};
-ghost use Prim.Native.Nat.{_≤_, _<_};
+ghost use Prim.Native.Nat.{_≤_};
 ghost use lib.ListN.{length, take};
 ghost use Rattle.rules.specs.Answers.{accepted};
 ghost use Rattle.rules.specs.Records.{addKind, unsignedOf};

@@ -2,7 +2,7 @@
 // is worth if nothing more is kept or all that is left.
 ghost use mathlib.Core.Path.{_≡_};
 ghost use mathlib.Core.List.{List};
-ghost use Prim.Native.Nat.{_*_, _-_, _≤_};
+ghost use Prim.Native.Nat.{_-_, _≤_};
 ghost use Rattle.rules.specs.declared.Event.{Event};
 ghost use Rattle.rules.specs.declared.Opening.{Opening};
 ghost use Rattle.rules.specs.declared.Row.{Row};

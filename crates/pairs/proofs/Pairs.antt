@@ -16,12 +16,12 @@ use Rattle.rules.specs.declared.SessionAnswer.the-variants as S
 use Rattle.rules.specs.Lists.{if_then_else_, below}
 use Rattle.rules.specs.Terms.{paper}
 use Rattle.rules.specs.Answers.{Ran, finished, stopped, numberOf, shownSession}
-use Rattle.rules.specs.Stretches.{Stretch, pairWords}
+use Rattle.rules.specs.Stretches.{pairWords}
 use Rattle.rules.specs.Records.{wordAt}
 use Rattle.rules.specs.Session.{Session, whole, halted, mostRecords, session, sessionBytes, leadingWords, leadingPrice, ran, front, bufferAfter}
 use Rattle.rules.proofs.Stretches.{pairWords-length}
 use Rattle.buffers.specs.Answers.{refusedNumber}
-use Rattle.pairs.specs.Sessions.{pairsNumber, pairsBuffer, FillsPairs}
+use Rattle.pairs.specs.Sessions.{pairsNumber, FillsPairs}
 use Rattle.pairs.specs.Internal.{shortNumber, ranNumber, headed}
 use Rattle.buffers.proofs.Filling.{too-short, fills-not, fills-whole}
 

@@ -1,9 +1,9 @@
 -- A session's K, w and pairs in a lent buffer (document 01, "Event records and the session run").
-use Prim.Native.Nat.{ℕ, _+_, _*_}
+use Prim.Native.Nat.{ℕ, _+_}
 use mathlib.Core.Path.{_≡_}
 use mathlib.Core.List.{List, _∷_}
 use lib.ListN.{length}
-use Rattle.rules.specs.Answers.{Outcome, accepted, Ran, finished, stopped}
+use Rattle.rules.specs.Answers.{Outcome, accepted}
 use Rattle.rules.specs.Stretches.{Stretch, pairWords}
 use Rattle.rules.specs.Session.{Session, whole, halted}
 use Rattle.buffers.specs.Answers.{fitted, lengthNumber, bufferWith, refusedNumber}

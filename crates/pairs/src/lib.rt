@@ -2,7 +2,7 @@
 use rules::SessionAnswer;
 use rules::Steps;
 ghost use mathlib.Core.Path.{_≡_};
-ghost use Prim.Native.Nat.{ℕ, _+_, _≤_, _<_};
+ghost use Prim.Native.Nat.{ℕ, _≤_, _<_};
 ghost use lib.ListN.{length};
 ghost use Rattle.rules.specs.Terms.{paper};
 ghost use Rattle.rules.specs.Answers.{shownSession};

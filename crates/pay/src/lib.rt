@@ -2,7 +2,7 @@
 ghost use mathlib.Core.Path.{_≡_};
 ghost use mathlib.Core.Bool.{true};
 ghost use mathlib.Core.List.{List·Memᴰ, map};
-ghost use Prim.Native.Nat.{ℕ, _*_, _^_, _≤_, min};
+ghost use Prim.Native.Nat.{ℕ, _^_, _≤_, min};
 ghost use lib.Dec.{ltb};
 ghost use Rattle.rules.specs.declared.Cell.{Cell};
 ghost use Rattle.rules.specs.Lists.{if_then_else_, sum, any};

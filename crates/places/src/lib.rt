@@ -16,7 +16,7 @@ pub struct Left {
 }
 
 // Any call, as three words, on the first `size` records; those behind stay.
-pub fn apply(records: [Maker; 512], size: usize, count: usize, asked: Asked) -> Left
+fn apply(records: [Maker; 512], size: usize, count: usize, asked: Asked) -> Left
     requires { ⌜ size ≤ 512 ⌝ }
     ensures { λ r. ⌜ (r .answer ≡ answerOf (standing (take size records) count) (callOf asked)) × (r .records ≡ step (standing (take size records) count) (callOf asked) .records ++ drop size records) ⌝ }
 {

@@ -17,7 +17,7 @@ use Rattle.rules.specs.declared.SpreadRule.{SpreadRule}
 use Rattle.rules.specs.Units.{goodPrice}
 use Rattle.rules.specs.Lists.{if_then_else_}
 use Rattle.rules.specs.Kept.{gap, spreadWithin, spreadKeeps, quotesKeep}
-use Rattle.rules.specs.States.{State, kept, crossed, wide, stateWord, quotesState}
+use Rattle.rules.specs.States.{kept, crossed, wide, stateWord, quotesState}
 use Rattle.prices.specs.Keys.{keyOf, quoteKey}
 use Rattle.prices.specs.Widest.{widestOf, WidestFor, keysKeep, keysState}
 use Rattle.prices.proofs.Keys.{GoodQuote, positive-most, negative-most, key-least, leb-by, leb-always}

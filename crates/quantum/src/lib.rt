@@ -18,8 +18,6 @@ ghost use Rattle.rules.specs.Causes.{goodSpreadRule};
 ghost use Rattle.rules.specs.Bounds.{EventBounds};
 ghost use Rattle.arrivals.specs.Notes.{notesOf};
 ghost use Rattle.quantum.specs.Represents.{quantumOf, Reached, Answered};
-ghost use Rattle.clock.specs.declared.Duty.{Duty};
-ghost use Rattle.clock.specs.declared.Clock.{Clock};
 ghost use Rattle.quantum.specs.declared.Quantum.{Quantum};
 ghost use Rattle.quantum.specs.Words.{quantumWords, Sized};
 ghost use Rattle.quantum.specs.Internal.{Accepts, Noting};

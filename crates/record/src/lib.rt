@@ -1,4 +1,4 @@
-// Event records of 20 bytes: their fields, the event that these say, and the record of an event.
+// Event records of 20 bytes: their fields, the event that these say, the record of an event, and a record's place among others.
 use rules::Contracts;
 use rules::Event;
 use rules::Millis;
@@ -7,7 +7,7 @@ use rules::Refusal;
 use rules::Side;
 use rules::Steps;
 ghost use mathlib.Core.Path.{_≡_};
-ghost use Prim.Native.Nat.{_≤_, _%_};
+ghost use Prim.Native.Nat.{_+_, _/_, _≤_, _%_};
 ghost use lib.Dec.{eqb};
 ghost use lib.ListN.{length};
 ghost use Rattle.rules.specs.declared.Event.the-variants.{Add};
@@ -105,7 +105,7 @@ fn added(f: Fields, side: Side) -> Event
 }
 
 // The event that good fields say.
-pub fn event_of(f: Fields) -> Event
+fn event_of(f: Fields) -> Event
     ensures { λ r. ⌜ r ≡ eventBy f ⌝ }
 {
     let kind = f.kind;
@@ -242,4 +242,12 @@ pub fn write(event: Event) -> [u8; 20]
     ensures { λ r. ⌜ r ≡ recordOf event ⌝ }
 {
     field_bytes(event_fields(event))
+}
+
+// The place of the record that starts at a byte, counted from 1.
+pub fn place_of(at: usize) -> u32
+    requires { ⌜ at ≤ 80000000 ⌝ }
+    ensures { λ r. ⌜ r ≡ at / 20 + 1 ⌝ }
+{
+    (at / 20 + 1) as u32
 }

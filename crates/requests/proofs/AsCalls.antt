@@ -2,11 +2,7 @@
 -- on the book after those before it. Assumes nothing.
 use Prim.Native.Nat.{ℕ, zero, suc}
 use mathlib.Core.Path.{_≡_, refl, sym, ap, _∙_, subst}
-use mathlib.Core.List.{List, [], _∷_, _++_, map, append-assoc, append-nil}
-use lib.ListN.{length}
-use Rattle.rules.specs.declared.Opening.{Opening}
-use Rattle.rules.specs.declared.Row.{Row}
-use Rattle.rules.specs.declared.Event.{Event}
+use mathlib.Core.List.{List, [], _∷_, _++_, append-assoc, append-nil}
 use Rattle.rules.specs.Terms.{Terms}
 use Rattle.rules.specs.Answers.{Outcome, accepted, refused}
 use Rattle.rules.specs.Dates.{Moment}
@@ -14,12 +10,11 @@ use Rattle.rules.specs.Messages as M
 use Rattle.rules.specs.MessageCalls.{messageIn, eventsIn, eventsOf}
 use Rattle.rules.specs.Calls.{Call, Open, Send, Message, Ask, Commit, Close, Drop, Charge, Withdraw, Look, Report, Outlook, Running, Idle, Quoting, Book, freshBook}
 use Rattle.rules.specs.Causes.{refusalOf}
-use Rattle.rules.specs.Changes.{notedAll, following, countAfter, changed}
+use Rattle.rules.specs.Changes.{changed}
 use Rattle.rules.specs.Book.{answerOf, step, run, after}
-use Rattle.rules.specs.Histories.{NoneRefused}
 use Rattle.rules.proofs.Histories.{run-append, Sent, sent-none, sent}
-use Rattle.rules.proofs.Refusals.{SendPasses, InTurn, TurnPasses, CallsPass, MessagePasses, message-turns, call-passes, passes-call, step-accepted, step-refused}
-use Rattle.requests.specs.AsCalls.{inPlace, asCalls, SameAsCalls, MessagesAsCalls}
+use Rattle.rules.proofs.Refusals.{TurnPasses, CallsPass, MessagePasses, message-turns, call-passes, step-accepted, step-refused}
+use Rattle.requests.specs.AsCalls.{inPlace, asCalls, MessagesAsCalls}
 
 module _ (terms : Terms) where
   -- those of an accepted message

@@ -14,7 +14,7 @@ use Rattle.rules.specs.Units.{goodCharge}
 use Rattle.rules.specs.Rows.{goodRow, goodRowFor}
 use Rattle.rules.specs.Cells.{goodCell, placeOf, cellAt}
 use Rattle.rules.specs.Pay.{met, weightMet, viewOf, cellFailed, failures, allFailures, earned, fee}
-use Rattle.rules.specs.Outlook.{latest, maySo, latestRest, fullNeed, weightResting, weightKeeping, outlookOf}
+use Rattle.rules.specs.Outlook.{maySo, latestRest, fullNeed, weightResting, weightKeeping, outlookOf}
 use Rattle.rules.specs.Answers.{outcomeBy, outlook}
 use Rattle.rules.specs.Calls.{Call, Open, Send, Message, Ask, Commit, Close, Drop, Charge, Withdraw, Look, Report, Outlook, chargesIn, mapRows, Running, Idle, Quoting, Book, freshBook, isOpen}
 use Rattle.rules.specs.Causes.{cause, firstNumber, goodCharges, causes, refusalOf}

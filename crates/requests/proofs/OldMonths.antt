@@ -1,5 +1,5 @@
 -- The theorem about old months: with p multiplied by ten, the terms in tenths of a percent answer each call as the terms in percent did.
--- One relation between the two books, "equal but that p is ten times as large", holds from call to call. Assumes nothing.
+-- One relation between the two books, equal but that p is ten times as large, holds from call to call. Assumes nothing.
 use Prim.Native.Nat.{ℕ, zero, suc, _+_, _-_, _*_, _/_, _^_, _≤_, _<_, min}
 use native.Mathlib.Omega.{arith}
 use mathlib.Core.Path.{_≡_, refl, sym, ap, _∙_}
@@ -34,7 +34,7 @@ use Rattle.rules.specs.Dates.{Moment, before, at, late}
 use Rattle.rules.specs.Messages as M
 use Rattle.rules.specs.MessageCalls.{messageIn, eventsAt, eventsOf}
 use Rattle.rules.specs.Calls.{Call, Open, Send, Message, Ask, Commit, Close, Drop, Charge, Withdraw, Look, Report, Outlook, Running, Idle, Quoting, Book, freshBook, isOpen, amendOf}
-use Rattle.rules.specs.Causes.{Cause, cause, firstNumber, eventCauses, sendCauses, otherSideIn, causesInTurn, causesBy, callCauses, messageCauses, goodTicket, goodSettlement, goodSpreadRule, goodCharges, causes, refusalOf}
+use Rattle.rules.specs.Causes.{Cause, cause, firstNumber, eventCauses, sendCauses, otherSideIn, causesInTurn, causesBy, messageCauses, goodTicket, goodSettlement, goodSpreadRule, goodCharges, causes, refusalOf}
 use Rattle.rules.specs.Changes.{noted, notedAll, closedCell, closed, charged, following, countAfter, changed}
 use Rattle.rules.specs.Replies.{timeIn, ordersIn, bidIn, askIn, keptIn, lapsesIn, previewOf, reportOf, outlookIn, replyOf}
 use Rattle.rules.specs.Book.{answerOf, stepBy, step, run, after}

@@ -24,7 +24,8 @@ use Rattle.rules.specs.Histories.{NoneRefused}
 
 -- ---- whole quanta
 
--- a call that neither opens nor closes a quantum nor touches a cell: an event, message, ask, commit, look, report or outlook; "no drop, charge or withdraw"
+-- a call that neither opens nor closes a quantum nor touches a cell: an event, message, ask, commit, look, report or outlook; "no drop,
+-- charge or withdraw"
 pub data Inside : Type 0 where
   event : Event → Inside
   -- document 02, W11: the quantum's start, and the message

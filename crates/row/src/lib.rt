@@ -27,7 +27,7 @@ pub fn is_length(l: u32) -> bool
 }
 
 // Whether each word of a row is in its range.
-pub fn is_good(row: Row) -> bool
+fn is_good(row: Row) -> bool
     ensures { λ r. ⌜ r ≡ goodRow paper row ⌝ }
 {
     let length = row.length;

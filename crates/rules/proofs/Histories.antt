@@ -1,5 +1,5 @@
 -- Lists of calls one after the other, and events that pass in turn: each is accepted on the book after those before it. Assumes nothing.
-use Prim.Native.Nat.{ℕ, zero, suc}
+use Prim.Native.Nat.{ℕ, zero}
 use mathlib.Core.Path.{_≡_, refl, sym, ap, _∙_, subst}
 use mathlib.Core.List.{List, [], _∷_, _++_, map, append-assoc, append-nil}
 use lib.ListN.{length, set}
@@ -9,7 +9,6 @@ use Rattle.rules.specs.declared.Row.{Row}
 use Rattle.rules.specs.declared.Event.{Event}
 use Rattle.rules.specs.Terms.{Terms}
 use Rattle.rules.specs.Calls.{Call, Send, Close, Running, Idle, Quoting, Book}
-use Rattle.rules.specs.Causes.{refusalOf}
 use Rattle.rules.specs.Changes.{notedAll, closedCell, closed, following, countAfter, changed}
 use Rattle.rules.specs.Book.{step, run}
 use Rattle.rules.specs.Histories.{NoneRefused}

@@ -30,7 +30,7 @@ use Rattle.rules.specs.Dates.{Moment, before, at, late}
 use Rattle.rules.specs.Messages as M
 use Rattle.rules.specs.MessageCalls.{messageIn, eventsAt, eventsBy, eventsIn}
 use Rattle.rules.specs.Calls.{Call, Open, Send, Message, Ask, Commit, Close, Drop, Charge, Withdraw, Look, Report, Outlook, Running, Idle, Quoting, Book, isOpen, amendOf}
-use Rattle.rules.specs.Causes.{Cause, cause, firstNumber, traderCauses, eventCauses, eventRefusal, sendCauses, otherSideIn, causesInTurn, causesBy, callCauses, messageCauses, goodTicket, goodSettlement, goodSpreadRule, goodCharges, causes, refusalOf}
+use Rattle.rules.specs.Causes.{Cause, cause, firstNumber, traderCauses, eventCauses, eventRefusal, sendCauses, otherSideIn, causesInTurn, callCauses, messageCauses, goodTicket, goodSettlement, goodSpreadRule, goodCharges, causes, refusalOf}
 use Rattle.rules.specs.Changes.{changed}
 use Rattle.rules.specs.Replies.{replyOf}
 use Rattle.rules.specs.Book.{answerOf, stepBy, step}

@@ -16,7 +16,7 @@ use Rattle.rules.specs.Orders.{live, timeOf, present}
 use Rattle.rules.specs.Kept.{gap, spreadWithin, spreadKeeps, quotesKeep, ordersKeep, bestBid, bestAsk, upTo, keptAt}
 use Rattle.rules.specs.Bounds.{Ordered}
 use Rattle.rules.proofs.Kept.{upTo-now, upTo-snoc}
-use Rattle.rules.specs.States.{State, kept, crossed, wide, isKept, spreadState, quotesState, ordersState, stateAt}
+use Rattle.rules.specs.States.{kept, crossed, wide, isKept, spreadState, quotesState, ordersState, stateAt}
 
 spread-kept : (row : Row) (spread : SpreadRule) (d : ℤ) → isKept (spreadState row spread d) ≡ spreadKeeps row spread d
 spread-kept row spread d = go (leZ (pos 1) d) (spreadWithin row spread d)

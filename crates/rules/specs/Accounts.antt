@@ -62,7 +62,7 @@ unfoldable pub totals : (ℕ → State) → ℕ → List ℕ
 totals f n =
     timeIn f n kept ∷ timeIn f n noBid ∷ timeIn f n noAsk ∷ timeIn f n neither ∷ timeIn f n crossed ∷ timeIn f n wide ∷ []
 
--- the stretches as they are written, "three words each (offset, length, state)"
+-- the stretches as they are written, three words each (offset, length, state)
 unfoldable pub partWords : List Part → List ℕ
 partWords [] = []
 partWords (p ∷ ps) = p .offset ∷ p .length ∷ stateWord (p .state) ∷ partWords ps
@@ -90,7 +90,7 @@ pub record AccountOf (f : ℕ → State) (n : ℕ) (ps : List Part) : Type 0 whe
   pub stays : All (Stays f) ps
   pub differ : Differ ps
 
--- the stretches whose state passes, "joined where they touch", behind stretches that are there
+-- the stretches whose state passes, joined where they touch, behind stretches that are there
 unfoldable pub joinedUp : (State → Bool) → List Stretch → List Part → List Stretch
 joinedUp q ss [] = ss
 joinedUp q ss (p ∷ ps) = joinedUp q (if q (p .state) then extended (p .offset) (p .length) ss else ss) ps
@@ -143,7 +143,7 @@ module _ (terms : Terms) where
       let next = accountRecords most 1 (step terms freshBook (Open words 1 (noLimit spread))) (recordsOf bytes) in
       accountUnless (refusalOf terms freshBook (Open words 1 (noLimit spread))) 0 next
 
--- ---- with a lent buffer of n words: "16 for a short buffer", after all records
+-- ---- with a lent buffer of n words: 16 for a short buffer, after all records
 
 -- what the run answers
 pub data AccountRan : Type 0 where
@@ -163,6 +163,6 @@ unfoldable pub accountFront : ℕ → Account → List ℕ
 accountFront n (accounted times ps) = if tooShort n ps then [] else partWords ps
 accountFront n (halted number place) = []
 
--- "the rest of the buffer keeps its contents"
+-- "The rest of the buffer keeps its contents."
 unfoldable pub accountBuffer : List ℕ → Account → List ℕ
 accountBuffer buffer a = accountFront (length buffer) a ++ drop (length (accountFront (length buffer) a)) buffer

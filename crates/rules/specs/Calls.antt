@@ -82,8 +82,8 @@ mapRows f (Look day expiry quantum) = Look day expiry quantum
 mapRows f Report = Report
 mapRows f Outlook = Outlook
 
--- document 02, W5: "accepted calls other than asks, looks and reports" are counted, and outlooks are not, which alter nothing either; by W11 an accepted message "stands there as those
--- calls", one or two
+-- document 02, W5: "accepted calls other than asks, looks and reports" are counted, and outlooks are not, which alter nothing either; by W11
+-- an accepted message "stands there as those calls", one or two
 abbrev pub counts : Call → ℕ
 counts (Open words day opening) = 1
 counts (Send e) = 1

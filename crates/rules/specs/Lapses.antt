@@ -19,7 +19,7 @@ missing p m = not (p m)
 unfoldable pub lapses : (ℕ → Bool) → ℕ → List Stretch
 lapses p n = stretches (missing p) n
 
--- their count: "the open quantum (below its present time)", and a cell, below L
+-- their count: "The open quantum (below its present time)", and a cell, below L
 unfoldable pub lapsesBelow : Row → SpreadRule → List Event → ℕ → ℕ
 lapsesBelow row spread events n = length (lapses (keptAt row spread events) n)
 

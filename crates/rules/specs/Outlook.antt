@@ -1,8 +1,9 @@
 -- The outlook on an open quantum: how much must still be kept, whether the maker may rest, and until when. No term of the papers, but built
--- from theirs: a cell that is met or failed, its weight, lapses. Crate `outlook` shows what the answers mean of the calls that may follow.
+-- from theirs: a cell that is met or failed, its weight, lapses. What the answers mean of the calls that may follow is in
+-- the crate `continuations`.
 use Prim.Native.Nat.{ℕ, zero, suc, _+_, _-_, _*_, _/_}
 use mathlib.Core.List.{List}
-use mathlib.Core.Bool.{Bool, true, false, not, _&&_, _||_}
+use mathlib.Core.Bool.{Bool, true, false, _&&_, _||_}
 use lib.Dec.{leb, ltb, eqb}
 use lib.IntN.{pos}
 use lib.ListN.{length}
@@ -28,11 +29,11 @@ use Rattle.rules.specs.Pay.{cellMet, cellWeight}
 abbrev pub roundedUp : ℕ → ℕ → ℕ
 roundedUp n parts = (n + (parts - 1)) / parts
 
--- "how many of the remaining milliseconds must still be kept for 1000 × K ≥ p × L; 0 if none"
+-- how many of the remaining milliseconds must still be kept for 1000 × K ≥ p × L; 0 if none
 abbrev pub needOf : Terms → ℕ → ℕ → ℕ → ℕ
 needOf terms kept length share = roundedUp (share * length) (terms .whole) - kept
 
--- ".. for 1000 × K ≥ 800 × L", where the weight is full
+-- the same for 1000 × K ≥ 800 × L, where the weight is full
 abbrev pub fullNeedOf : ℕ → ℕ → ℕ
 fullNeedOf kept length = roundedUp (800 * length) 1000 - kept
 
@@ -62,7 +63,7 @@ cellOf row opening kept =
 unfoldable pub cellResting : Row → Opening → List Event → ℕ → Cell
 cellResting row opening events s = cellOf row opening (restingTill (keptAt row (opening .spread) events) (present events) s)
 
--- "limit less lapses; none for no limit; over where there are too many already"
+-- limit less lapses; none for no limit; over where there are too many already
 abbrev pub lapsesLeft : ℕ → ℕ → LapsesLeft
 lapsesLeft allowed count =
     if eqb allowed noLapseLimit then Unlimited else (if leb count allowed then Left (allowed - count) else Over)
@@ -98,13 +99,13 @@ module _ (terms : Terms) where
   maySo row opening events s =
       (eqb s (row .length .0) || canKeep row (opening .spread)) && cellMet terms (cellResting row opening events s)
 
-  -- "the latest time s, from t to L, such that nothing kept from t to s and all kept from s on leaves a met cell, lapses counted; never where
-  -- there is none"
+  -- the latest time s, from t to L, such that nothing kept from t to s and all kept from s on leaves a met cell, lapses counted; never where
+  -- there is none
   unfoldable pub latestRest : Row → Opening → List Event → Possible
   latestRest row opening events = latest (maySo row opening events) (present events) (row .length .0 - present events)
 
-  -- "how many must still be kept for 1000 × K ≥ 800 × L ..; never where that is more than left, lapses are over, or something is still to be
-  -- kept and nothing can be"
+  -- how many must still be kept for 1000 × K ≥ 800 × L ..; never where that is more than left, lapses are over, or something is still to be
+  -- kept and nothing can be
   unfoldable pub fullNeed : Row → Opening → List Event → Possible
   fullNeed row opening events =
       let t = present events in
@@ -112,7 +113,7 @@ module _ (terms : Terms) where
       if leb n (row .length .0 - t) && withinLapseLimit (opening .allowed) (lapsesBelow row (opening .spread) events t)
       && (eqb n 0 || canKeep row (opening .spread)) then At (millis n) else Never
 
-  -- "the weight if nothing more is kept, and the weight if all that is left is (where nothing can be kept, the first again)"
+  -- the weight if nothing more is kept, and the weight if all that is left is (where nothing can be kept, the first again)
   unfoldable pub weightResting : Row → Opening → List Event → ℕ
   weightResting row opening events = cellWeight terms (cellResting row opening events (row .length .0))
 
@@ -131,9 +132,9 @@ module _ (terms : Terms) where
         by = latestRest row opening events;
         full = fullNeed row opening events;
         lapses = lapsesLeft (opening .allowed) (lapsesBelow row spread events t);
-        -- "whether the cell is met if nothing more is kept"
+        -- whether the cell is met if nothing more is kept
         rest = cellMet terms (cellResting row opening events (row .length .0));
-        -- "whether it is failed whatever comes: by is never"
+        -- whether it is failed whatever comes: by is never
         lost = isNever (latestRest row opening events);
         resting = weightResting row opening events;
         keeping = weightKeeping row opening events;

@@ -71,6 +71,6 @@ module _ (terms : Terms) where
   earned c = if c .filled then (2 * c .active .0 + 3 * c .passive .0) * cellWeight c else 0
 
   -- "If a series has more than 15 failed cells .. the fee is 0. Else it is the sum over filled cells of (2A + 3P) × w, divided by
-  -- 80,000 and rounded down once, and at most 120,000,000 kopecks."
+  -- 80,000 and rounded down once, and at most 120,000,000 kopecks"
   unfoldable pub fee : List Cell → ℕ
   fee cells = if any (λ (n : ℕ). ltb 15 n) (allFailures cells) then 0 else min (sum (map earned cells) / 80000) 120000000

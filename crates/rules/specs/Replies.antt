@@ -77,7 +77,8 @@ module _ (terms : Terms) where
   outlookIn Idle = noOutlook
   outlookIn (Quoting place row opening events) = outlookOf terms row opening events
 
-  -- what an accepted call shows: ask its quotes and ticket, look "the cell with verdict and weight", report its values, outlook its own, the others nothing
+  -- what an accepted call shows: ask its quotes and ticket, look "the cell with verdict and weight", report its values, outlook its own, the
+  -- others nothing
   abbrev pub replyOf : Book → Call → Reply
   replyOf b (Open words day opening) = done
   replyOf b (Send e) = done

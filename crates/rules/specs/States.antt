@@ -24,7 +24,7 @@ pub data State : Type 0 where
   crossed : State
   wide : State
 
--- the state as a word: "0 kept, 1 no bid, 2 no ask, 3 neither, 4 crossed, 5 wide"
+-- the state as a word: 0 kept, 1 no bid, 2 no ask, 3 neither, 4 crossed, 5 wide
 abbrev pub stateWord : State → ℕ
 stateWord kept = 0
 stateWord noBid = 1

@@ -31,7 +31,7 @@ pub struct Order {
     pub volume: Contracts,
 }
 
-// A row of the programme's table: length is L, least M, share p; b counts price steps and is never negative.
+// A row of the programme's table: length is L, minimum M, share p; b counts price steps and is never negative.
 pub struct Row {
     pub expiry: u32,
     pub quantum: u32,
@@ -62,7 +62,7 @@ pub struct Opening {
     pub allowed: u32,
 }
 
-// A cell of the month: kept is K, length L, share p, limit the lapse limit, lapses their count, active A, passive P.
+// A cell of the month: kept is K, length L, share p, allowed the lapse limit, lapses their count, active A, passive P.
 pub struct Cell {
     pub filled: bool,
     pub kept: Millis,
@@ -116,7 +116,7 @@ pub struct Ticket {
     pub count: u64,
 }
 
-// Why a call is refused, in the order of the numbers 1 to 19.
+// Why a call is refused, in the order of the numbers 1 to 21.
 pub enum Refusal {
     RowNotSevenWords,
     RowWordOutOfRange,
@@ -256,7 +256,7 @@ pub struct Timestamp {
     pub millis: u32,
 }
 
-// The refusal's number in document 01.
+// The refusal's number in documents 01 and 02.
 pub fn number(refusal: Refusal) -> u32
     ensures { λ r. ⌜ r ≡ numberOf refusal ⌝ }
 {

@@ -38,8 +38,8 @@ blankReport =
 abbrev pub showing : Outcome → Shown
 showing o = record { outcome = o; report = blankReport }
 
--- the plain book's answer as the struct shows it: a look's cell, what an ask shows, a report, an outlook, a refusal's number, or nothing but that it was
--- accepted
+-- the plain book's answer as the struct shows it: a look's cell, what an ask shows, a report, an outlook, a refusal's number, or nothing but
+-- that it was accepted
 abbrev pub shownOf : A.Outcome Reply → Shown
 shownOf (accepted done) = showing O.Accepted
 shownOf (accepted (cell v)) = showing (O.Found v)

@@ -5,7 +5,6 @@ use mathlib.Core.Path.{_≡_, refl, sym, ap, _∙_, subst}
 use mathlib.Core.List.{List, [], _∷_, _++_, append-nil}
 use mathlib.Core.Bool.{Bool, true, false, false≢true}
 use lib.ListN.{length, set, length-append}
-use Rattle.rules.specs.Lists.{if_then_else_}
 use Rattle.rules.specs.Stretches.{Stretch, stretch, stretches, pairWords}
 use Rattle.rules.specs.Runs.{before, endsAt, Inside}
 use Rattle.rules.proofs.Stretches.{stretches-ext, stretches-false, stretches-new, stretches-longer, stretches-few, stretches-run, stretches-ends, pairWords-append, pairWords-length}

@@ -1,4 +1,4 @@
--- A record's event on an open quantum, by what `quantum::step_fields` promises: the number that refuses it; where none does, the event that
+-- A record's event on an open quantum, by what `events::step_fields` promises: the number that refuses it; where none does, the event that
 -- was taken. Assumes nothing.
 use Prim.Native.Nat.{ℕ, _≤_}
 use native.Mathlib.Omega.{arith}

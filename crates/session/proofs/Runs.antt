@@ -1,9 +1,9 @@
 -- The session's run by its accepted events, with the book taken away: how it starts, what each record does, how it ends.
 -- Assumes nothing.
-use Prim.Native.Nat.{ℕ, zero, suc, _≤_, _<_}
+use Prim.Native.Nat.{ℕ, zero, suc, _<_}
 use native.Mathlib.Omega.{arith}
 use mathlib.Core.Path.{_≡_, refl, sym, ap, _∙_}
-use mathlib.Core.List.{List, [], _∷_}
+use mathlib.Core.List.{List, []}
 use mathlib.Core.Bool.{Bool, true, false, _&&_, and-true}
 use lib.ListN.{length, length-replicate}
 use lib.Seq.{getD-set-same}

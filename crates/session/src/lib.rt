@@ -1,6 +1,6 @@
 // The session run: records from a lent byte slice through one open quantum, twice where pairs are written.
 ghost use mathlib.Core.Path.{_≡_};
-ghost use Prim.Native.Nat.{ℕ, _+_, _/_, _≤_, _<_};
+ghost use Prim.Native.Nat.{ℕ, _≤_, _<_};
 ghost use mathlib.Core.Bool.{true};
 ghost use mathlib.Core.List.{[]};
 ghost use lib.ListN.{length};
@@ -161,14 +161,6 @@ fn begin() -> Progress
     }
 }
 
-// The place of the record that starts at a byte, counted from 1.
-pub fn place_of(at: usize) -> u32
-    requires { ⌜ at ≤ 80000000 ⌝ }
-    ensures { λ r. ⌜ r ≡ at / 20 + 1 ⌝ }
-{
-    (at / 20 + 1) as u32
-}
-
 // One pass over the records: the first refusal, or K, w and the number of pairs, whose words are written as far as they fit. Bytes
 // behind the full records and the limit are one more record, which is refused.
 fn run_records(most: u32, row: Row, sp: Steps, records: &[u8], buffer: &mut [u32]) -> SessionAnswer
@@ -194,7 +186,7 @@ fn run_records(most: u32, row: Row, sp: Steps, records: &[u8], buffer: &mut [u32
         if 0 < n {
             return SessionAnswer::Refused {
                 refusal: rules::refusal_of(n),
-                place: place_of(at),
+                place: record::place_of(at),
             };
         }
         progress = stepped.progress;
@@ -203,7 +195,7 @@ fn run_records(most: u32, row: Row, sp: Steps, records: &[u8], buffer: &mut [u32
     if at < records.len() {
         return SessionAnswer::Refused {
             refusal: Refusal::BadRecord,
-            place: place_of(at),
+            place: record::place_of(at),
         };
     }
     finish(progress, row, buffer)

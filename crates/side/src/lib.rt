@@ -1,7 +1,7 @@
 // The live orders of one side in 256 lent words (specs/Slots has their layout): found by id, read, added, put in another's place,
 // removed. An order is an `Order` wherever it is taken or handed back; the words are how it is stored. The best level stands among the
 // words too, and is moved by the crate level. A key is a price turned so that the better one has the greater key; 0 is no price (crate
-// quote).
+// prices).
 ghost use mathlib.Core.Path.{_≡_};
 ghost use mathlib.Core.Bool.{true};
 ghost use mathlib.Core.List.{List};

@@ -1,9 +1,7 @@
 // What a list of calls on the standing of makers answers to C, as one number.
 use standing::Ran;
 ghost use mathlib.Core.Path.{_≡_};
-ghost use Prim.Native.Nat.{_<_};
 ghost use Rattle.standings.specs.Standings.{countNumber, standingNumber};
-ghost use Rattle.makers.specs.Calls.{standing};
 ghost use Rattle.standing.specs.Words.{readable};
 
 // The count, or the greatest number that is no refusal.

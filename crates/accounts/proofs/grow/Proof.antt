@@ -1,8 +1,6 @@
 -- Nothing to add, or a stretch that begins or goes on. Assumes nothing.
-use Prim.Native.Nat.{ℕ, _-_}
+use Prim.Native.Nat.{_-_}
 use native.Mathlib.Omega.{arith}
-use mathlib.Core.Path.{_≡_, refl, sym, ap, _∙_}
-use Rattle.accounts.specs.Internal.{putPart}
 use Rattle.accounts.proofs.Growing.{grows-still, grows-at, begun-bounds}
 use borrow.Author.Needs.{needs}
 use Rattle.accounts.proofs.grow.Statement.{statement}

@@ -1,6 +1,5 @@
 -- The row is refused, or SP or a strike's numbers are, or the pass over the records answers. Assumes nothing.
 use mathlib.Core.Path.{ap, sym, _∙_}
-use mathlib.Core.Bool.{true, false}
 use borrow.Author.Tests.{not-true, not-false}
 use Rattle.rules.specs.Answers.{shownRow}
 use Rattle.session.proofs.Openings.{read-good}

@@ -1,6 +1,5 @@
 -- By the numbers before and after, one of three things happened to the ids (`one-more`, `one-less`, `as-many`). Assumes nothing.
-use Prim.Native.Nat.{ℕ}
-use mathlib.Core.Path.{_≡_, _∙_}
+use mathlib.Core.Path.{_∙_}
 use native.Mathlib.Omega.{arith}
 use Rattle.arrivals.proofs.Effects.{old-count, few, sized, one-more, one-less, as-many}
 use borrow.Author.Needs.{needs}

@@ -1,6 +1,6 @@
 -- One case each. Assumes nothing.
 use Prim.Native.Nat.{ℕ}
-use mathlib.Core.Path.{_≡_, refl, sym, ap, _∙_}
+use mathlib.Core.Path.{sym, ap, _∙_}
 use mathlib.Core.List.{List, [], _∷_}
 use Rattle.arrivals.specs.Notes.{spreadWords}
 use borrow.Author.Needs.{needs}

@@ -1,5 +1,4 @@
 -- 16, or the words put. Assumes nothing.
-use native.Mathlib.Omega.{arith}
 use mathlib.Core.Path.{refl}
 use Rattle.buffers.proofs.Filling.{fills-not, fills-whole}
 use borrow.Author.Needs.{needs}

@@ -1,4 +1,5 @@
--- `dates::month_days` meets its contract. Assumes nothing.
+-- `dates::month_days` meets its contract: it branches as `monthDays` does, into February (`month-february`), the months of 30 days
+-- (`month-thirty`), the others (`month-other`). Assumes nothing.
 use mathlib.Core.Path.{sym, _∙_}
 use Rattle.dates.proofs.Months.{month-february, month-thirty, month-other}
 use borrow.Author.Needs.{needs}

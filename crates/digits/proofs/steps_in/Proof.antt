@@ -1,4 +1,4 @@
--- `digits::steps_in` meets its contract. Assumes nothing.
+-- `digits::steps_in` meets its contract: the first byte tells the sign (`no-steps`, `minus-steps`, `plain-steps`). Assumes nothing.
 use mathlib.Core.Path.{_∙_}
 use Rattle.digits.proofs.Numbers.{no-steps, minus-steps, plain-steps}
 use borrow.Author.Needs.{needs}

@@ -1,7 +1,6 @@
--- `fix::read_new` meets its contract. Assumes nothing.
+-- `fix::read_new` meets its contract: it takes each value in turn, as `messageOf` does (`new-says`). Assumes nothing.
 use mathlib.Core.Path.{refl, sym, ap, _∙_}
 use mathlib.Core.Option.{none, some}
-use Rattle.rules.specs.Digits.{wordIn}
 use Rattle.rules.specs.Dates.{timeIn}
 use Rattle.rules.specs.Fields.{valuesOf}
 use Rattle.rules.specs.Messages.{timeTag, once}

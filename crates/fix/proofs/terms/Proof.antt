@@ -1,4 +1,5 @@
--- `fix::terms` meets its contract. Assumes nothing.
+-- `fix::terms` meets its contract: without one of 54, 38 and 44 there are none (`no-side`, `no-volume`, `no-price`), else the three make
+-- them (`all-terms`). Assumes nothing.
 use mathlib.Core.Path.{sym, ap, _∙_}
 use Rattle.digits.specs.Answers.{shownUnsigned, shownSigned}
 use Rattle.fix.specs.Internal.{shownSide}

@@ -1,6 +1,5 @@
--- `fix::word` meets its contract. Assumes nothing.
+-- `fix::word` meets its contract: a begin below 2 means no value or several (`absent`), any other one value (`present`). Assumes nothing.
 use mathlib.Core.Path.{_∙_}
-use native.Mathlib.Omega.{arith}
 use Rattle.rules.specs.Digits.{wordIn}
 use Rattle.fix.proofs.Values.{absent, present, bounds}
 use borrow.Author.Needs.{needs}

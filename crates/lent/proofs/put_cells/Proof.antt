@@ -1,12 +1,11 @@
 -- The loop's invariant: the cells before i are done. Assumes nothing.
 use Prim.Native.Nat.{_+_, _*_, _-_, _≤_}
-use mathlib.Core.Path.{_≡_, refl, sym, _∙_}
-use mathlib.Core.List.{List, _++_}
+use mathlib.Core.Path.{_≡_, refl, _∙_}
+use mathlib.Core.List.{_++_}
 use native.Mathlib.Omega.{arith}
 use lib.ListN.{length, take, drop}
 use Rattle.rules.specs.Cells.{blankCell}
 use Rattle.lent.proofs.Back.{cells-on, cells-long, cells-all}
-use Rattle.rules.specs.declared.Cell.{Cell}
 use Rattle.lent.specs.Words.{cellsWords}
 use borrow.Author.Needs.{needs}
 use Rattle.lent.proofs.put_cells.Statement.{statement}

@@ -1,11 +1,10 @@
 -- By its test: one level more, or the guess itself. Assumes nothing.
-use mathlib.Core.Path.{_≡_, refl, sym, ap, _∙_}
+use mathlib.Core.Path.{sym, ap, _∙_}
 use mathlib.Core.Bool.{Bool}
 use borrow.Author.Needs.{needs}
 use Rattle.rules.specs.Lists.{if_then_else_}
 use Rattle.quote.specs.declared.Level.{Level}
 use Rattle.quote.specs.Levels.{levelAt}
-use Rattle.level.specs.declared.Guess.{Guess}
 use Rattle.level.specs.Internal.{withLevel}
 use Rattle.level.proofs.Depths.{own-level, level-small}
 use Rattle.level.proofs.at_change.Statement.{statement}

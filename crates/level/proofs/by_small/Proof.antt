@@ -1,7 +1,7 @@
 -- The search among the four first slots, whose key is written (small-requotes). Assumes nothing.
 use native.Mathlib.Omega.{arith}
 use mathlib.Core.Path.{_≡_, refl}
-use lib.ListN.{length, take, drop, length-take, length-drop}
+use lib.ListN.{length, drop, length-take, length-drop}
 use borrow.Author.Needs.{needs}
 use Rattle.level.proofs.Parts.{moving-length, part-columns}
 use Rattle.level.proofs.Requotes.{small-requotes}

@@ -1,17 +1,13 @@
 -- A small side by its search, a larger one by its old best key's level, which stays or gives way to another (Requotes). Assumes nothing.
 use Prim.Native.Nat.{ℕ, _+_, _-_, _≤_}
 use native.Mathlib.Omega.{arith}
-use mathlib.Core.Path.{_≡_, refl, sym, ap, _∙_}
-use mathlib.Core.Bool.{Bool, true, false, _&&_}
+use mathlib.Core.Path.{_≡_, refl, sym, _∙_}
+use mathlib.Core.Bool.{Bool, true, false}
 use mathlib.Core.Logic.{inl}
-use mathlib.Core.List.{List}
-use lib.Dec.{eqb}
 use lib.ListN.{length, getD}
 use borrow.Author.Needs.{needs}
 use Rattle.rules.specs.Lists.{if_then_else_}
-use Rattle.quote.specs.declared.Level.{Level}
-use Rattle.quote.specs.Levels.{levelAt, isBest}
-use Rattle.side.specs.Slots.{keysOf, volumesOf, levelIn, bestKeyIn}
+use Rattle.side.specs.Slots.{keysOf, volumesOf, bestKeyIn}
 use Rattle.side.proofs.Words.{room-over, room-most}
 use Rattle.level.proofs.Depths.{own-level, level-small, slots-columns}
 use Rattle.level.proofs.Parts.{moving-length, moving-count, moving-few, part-searchable, part-level, part-none}

@@ -1,13 +1,11 @@
 -- Each level tried is a guess that keeps W3's rule (`guess-stepped`, `guess-farther`, `guess-change`); the best one is taken, or searched
 -- for from what they found. Assumes nothing.
-use Prim.Native.Nat.{ℕ, _+_, _≤_}
+use Prim.Native.Nat.{_+_, _≤_}
 use native.Mathlib.Omega.{arith}
 use mathlib.Core.Path.{_≡_, sym, ap, _∙_, subst}
-use mathlib.Core.Bool.{true, false}
-use mathlib.Core.List.{List}
+use mathlib.Core.Bool.{false}
 use borrow.Author.Needs.{needs}
-use Rattle.quote.specs.declared.Level.{Level}
-use Rattle.quote.specs.Levels.{isBest, Searchable}
+use Rattle.quote.specs.Levels.{isBest}
 use Rattle.quote.specs.Tries.{made, foundWith}
 use Rattle.level.specs.declared.Guess.{Guess}
 use Rattle.level.proofs.Depths.{level-small}

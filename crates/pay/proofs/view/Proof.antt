@@ -1,4 +1,4 @@
--- `view` meets its contract. Assumes nothing.
+-- `pay::view` meets its contract: its verdict and weight are `viewOf`'s, as `met` and `weight` promise. Assumes nothing.
 use Rattle.rules.specs.Pay.{viewOf}
 use borrow.Author.Needs.{needs}
 use Rattle.pay.proofs.view.Statement.{statement}

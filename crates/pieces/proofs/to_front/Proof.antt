@@ -1,5 +1,5 @@
 -- `pieces::to_front` meets its contract. The invariant: so many bytes have moved, and the others stand as they did. Assumes nothing.
-use Prim.Native.Nat.{_-_, _+_, _≤_}
+use Prim.Native.Nat.{_-_, _≤_}
 use native.Mathlib.Omega.{arith}
 use mathlib.Core.Path.{_≡_, refl, ap, _∙_}
 use lib.ListN.{length, drop, length-set}

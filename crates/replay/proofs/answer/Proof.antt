@@ -1,8 +1,7 @@
 -- `replay::answer` meets its contract: the words that `play` read are left out. Assumes nothing.
 use Prim.Native.Nat.{_*_, _≤_}
 use native.Mathlib.Omega.{arith}
-use mathlib.Core.Path.{_≡_, sym, _∙_}
-use lib.ListN.{length, take}
+use mathlib.Core.Path.{sym, _∙_}
 use lib.Seq.{length-take-le}
 use Rattle.pieces.proofs.Moving.{part}
 use borrow.Author.Needs.{needs}
