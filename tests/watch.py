@@ -484,6 +484,36 @@ def check_many(page):
     return took
 
 
+async def visit(served, over):
+    """Pages that come and go, one after the other, until it is over."""
+    while not over.is_set():
+        try:
+            async with connect(served) as page:
+                await asyncio.wait_for(page.recv(), browser.PATIENCE)
+        except (OSError, EOFError, asyncio.TimeoutError, websockets.exceptions.WebSocketException):
+            await asyncio.sleep(0.001)
+
+
+def check_coming():
+    """Ctrl-C while pages come and go: it ends at once, with its sentence and nothing else."""
+
+    async def visits():
+        await asyncio.gather(*(visit(served, over) for _ in range(25)))
+
+    for _ in range(3):
+        over = threading.Event()
+        with Served("--calls", EXAMPLE, "--no-follow") as served:
+            coming = threading.Thread(target=lambda: asyncio.run(visits()))
+            coming.start()
+            try:
+                time.sleep(0.5)
+                took = served.stop()
+            finally:
+                over.set()
+                coming.join()
+        assert took < 2, f"Ctrl-C took {took:.2f} s"
+
+
 def asked(served, method="GET", path="/", **headers):
     """The status and headers of a request."""
     link = http.client.HTTPConnection("127.0.0.1", served.port, timeout=browser.PATIENCE)
@@ -778,6 +808,7 @@ def main():
     check_prompt()
     check_silent()
     check_slow()
+    check_coming()
     check_crowd()
     check_strangers()
     check_token()

@@ -41,6 +41,7 @@ MOST_BYTES = 1_024  # of a message from a page
 MOST_SIGNS = 64  # of a field of an ask
 ASKS, FLOOD = 10, 100  # asks in a second that are answered; messages in a second at which a page is shut out
 UNREAD, UNWANTED, TOO_MANY = 1003, 1008, 1013  # closing codes of a WebSocket
+MOST_PASSES, PASS = 10, 0.2  # at the end: how often tasks are cancelled, and for how many seconds they are waited for
 
 
 class Unwanted(Exception):
@@ -226,8 +227,22 @@ async def serve(watch: Watch, door: Door, listening: socket.socket) -> None:
     work: list[Awaitable[Any]] = [server.serve(sockets=[listening]), watch.read(), watch.show(), stopped.wait()]
     tasks = [asyncio.ensure_future(each) for each in work]
     done, _ = await asyncio.wait(tasks, return_when=asyncio.FIRST_COMPLETED)
+    for each in getattr(server, "servers", []):
+        each.close()  # no page comes any more
+    await end_others()
     for task in done:
-        task.result()  # raises what ended it, if it was an error; the others are cancelled with the loop, and connections go with them
+        task.result()  # raises what ended it, if it was an error
+
+
+async def end_others() -> None:
+    """Cancels all other tasks, and those that a connection which was just made starts meanwhile; connections go with them."""
+    for _ in range(MOST_PASSES):
+        others = asyncio.all_tasks() - {asyncio.current_task()}
+        for task in others:
+            task.cancel()
+        if not others:
+            return
+        await asyncio.wait([asyncio.gather(*others, return_exceptions=True)], timeout=PASS)
 
 
 def run(watch: Watch, door: Door, listening: socket.socket, say: Callable[[], None]) -> None:
