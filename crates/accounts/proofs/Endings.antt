@@ -21,8 +21,8 @@ use Rattle.accounts.specs.declared.Times.{Times}
 use Rattle.accounts.specs.declared.AccountAnswer.{AccountAnswer}
 use Rattle.accounts.specs.declared.AccountAnswer.the-variants as S
 use Rattle.accounts.specs.Shown.{timesShown, shownAccount, filledBy}
-use Rattle.session.specs.Internal.{bookOf}
-use Rattle.session.proofs.Openings.{cellOf}
+use Rattle.runs.specs.Internal.{bookOf}
+use Rattle.runs.proofs.Openings.{cellOf}
 use Rattle.accounts.specs.Internal.{counted, Passed}
 use Rattle.accounts.proofs.Growing.{words-length}
 use Rattle.accounts.proofs.Runs.{account-row, account-price, account-strike, account-opens}

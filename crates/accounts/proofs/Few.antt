@@ -23,8 +23,8 @@ use Rattle.rules.proofs.Orders.{present-snoc}
 use Rattle.rules.proofs.States.{stateAt-now, stateAt-snoc}
 use Rattle.rules.proofs.Refusals.{event-passes}
 use Rattle.rules.proofs.Bounds.{event-bounds-none, event-bounds-more}
-use Rattle.session.proofs.Walks.{takes}
-use Rattle.session.proofs.Openings.{openRefusal, cellOf}
+use Rattle.runs.proofs.Walks.{takes}
+use Rattle.runs.proofs.Openings.{openRefusal, cellOf}
 use Rattle.accounts.specs.Internal.{partsOf}
 use Rattle.accounts.proofs.Parts.{parts-ext, parts-run}
 use Rattle.accounts.proofs.Runs.{walks, runs-end, account-begins}

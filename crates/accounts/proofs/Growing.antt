@@ -11,8 +11,8 @@ use borrow.Author.Tests.{eqb-true, eq-eqb, ne-eqb}
 use Rattle.rules.specs.Lists.{if_then_else_}
 use Rattle.rules.specs.States.{State, kept, noBid, noAsk, neither, crossed, wide, stateWord}
 use Rattle.rules.specs.Accounts.{Part, part, sameState, grownBy, parts, partWords, Tiles}
-use Rattle.session.specs.Internal.{Front, putWords}
-use Rattle.session.proofs.Buffers.{put-fits as words-fit, put-not as words-not, put-front}
+use Rattle.runs.specs.Internal.{Front, putWords}
+use Rattle.runs.proofs.Buffers.{put-fits as words-fit, put-not as words-not, put-front}
 use Rattle.accounts.specs.declared.Times.{Times}
 use Rattle.accounts.specs.declared.Marks.{Marks}
 use Rattle.accounts.specs.Internal.{lastStart, lastWord, timesAt, marksAt, Holds, putPart, addedTo, Addable, begunAt}

@@ -22,9 +22,9 @@ use Rattle.rules.proofs.Bounds.{event-bounds-none}
 use Rattle.clock.specs.declared.Duty.{Duty}
 use Rattle.clock.specs.Clocks.{dutyOf}
 use Rattle.events.specs.Represents.{tableAfter}
-use Rattle.session.specs.Internal.{refusalBy, followed, bookOf}
-use Rattle.session.proofs.Walks.{fifteen-only, walk-end, walk-short, walk-stops, walk-on}
-use Rattle.session.proofs.Loop.{record-numbered, followed-bounds}
+use Rattle.runs.specs.Internal.{refusalBy, followed, bookOf}
+use Rattle.runs.proofs.Walks.{fifteen-only, walk-end, walk-short, walk-stops, walk-on}
+use Rattle.runs.proofs.Turns.{record-numbered, followed-bounds}
 use Rattle.accounts.specs.declared.AccountAnswer.{AccountAnswer}
 use Rattle.accounts.specs.declared.AccountAnswer.the-variants as S
 use Rattle.accounts.specs.declared.Progress.{Progress}

@@ -15,9 +15,9 @@ use Rattle.rules.specs.Causes.{goodSettlement, goodSpreadRule, readRow}
 use Rattle.rules.specs.Records.{readRecord}
 use Rattle.rules.specs.Session.{recordsOf, recordRefusal}
 use Rattle.rules.specs.Accounts.{halted, accountOf, accountRecords, account}
-use Rattle.session.specs.Internal.{bookOf}
-use Rattle.session.proofs.Walks.{Walk}
-use Rattle.session.proofs.Openings.{read-refusal, read-step, openRefusal, cellOf, opened, open-row, read-is, open-price, open-strike, open-passes}
+use Rattle.runs.specs.Internal.{bookOf}
+use Rattle.runs.proofs.Walks.{Walk}
+use Rattle.runs.proofs.Openings.{read-refusal, read-step, openRefusal, cellOf, opened, open-row, read-is, open-price, open-strike, open-passes}
 
 -- ---- a record
 

@@ -24,8 +24,8 @@ use Rattle.rules.proofs.States.{stateAt-now, stateAt-snoc}
 use Rattle.rules.proofs.Refusals.{event-passes}
 use Rattle.rules.proofs.Bounds.{read-bounds}
 use Rattle.prices.specs.Widest.{WidestFor}
-use Rattle.book.specs.Table.{tableOf, GoodOrders}
-use Rattle.book.proofs.Table.{table-length}
+use Rattle.table.specs.Table.{tableOf, GoodOrders}
+use Rattle.table.proofs.Table.{table-length}
 use Rattle.record.specs.declared.Fields.{Fields}
 use Rattle.record.specs.Fields.{readFields}
 use Rattle.clock.specs.declared.Duty.{Duty}
@@ -35,8 +35,8 @@ use Rattle.clock.specs.Clocks.{clockOf}
 use Rattle.events.specs.Represents.{tableAfter, ReachedParts, Represents, SteppingRead}
 use Rattle.clock.proofs.Clocks.{time-is}
 use Rattle.events.proofs.Represents.{good-orders, widest-is, length-is}
-use Rattle.session.specs.Internal.{refusalBy, followed}
-use Rattle.session.proofs.Records.{Took, record-number, record-taken}
+use Rattle.runs.specs.Internal.{refusalBy, followed}
+use Rattle.runs.proofs.Records.{Took, record-number, record-taken}
 use Rattle.accounts.specs.declared.Marks.{Marks}
 use Rattle.accounts.specs.declared.Progress.{Progress}
 use Rattle.accounts.specs.Shown.{timesShown}

@@ -22,7 +22,7 @@ use Rattle.rules.specs.Accounts.{Part, parts, timeIn, totals, partWords, Accoun
 use Rattle.clock.specs.declared.Duty.{Duty}
 use Rattle.clock.specs.Clocks.{dutyOf, clockOf}
 use Rattle.events.specs.Represents.{tableAfter}
-use Rattle.session.specs.Internal.{Front, putWords, refusalBy, followed, bookOf}
+use Rattle.runs.specs.Internal.{Front, putWords, refusalBy, followed, bookOf}
 use Rattle.accounts.specs.declared.AccountAnswer.{AccountAnswer}
 use Rattle.accounts.specs.declared.Times.{Times}
 use Rattle.accounts.specs.declared.Marks.{Marks}

@@ -14,7 +14,7 @@ ghost use Rattle.rules.specs.Causes.{goodSpreadRule};
 ghost use Rattle.rules.specs.Records.{readRecord};
 ghost use Rattle.rules.specs.Session.{mostRecords, recordsOf};
 ghost use Rattle.rules.specs.Accounts.{accountRecords, account, accountRan, accountBuffer};
-ghost use Rattle.session.specs.Internal.{bookOf};
+ghost use Rattle.runs.specs.Internal.{bookOf};
 ghost use Rattle.accounts.specs.Shown.{shownAccount, filledBy};
 ghost use Rattle.accounts.specs.Internal.{putPart, begunAt, addedTo, Addable, MarksBounds, MarksAfter, ReachedRun, Advanced, ReachedEnd, FinalAnswer, progressAt, Passed};
 use clock::Clock;
@@ -148,7 +148,7 @@ fn step(
 {
     let clock = progress.clock;
     let marks = progress.marks;
-    let state = book::state(table, duty.widest);
+    let state = table::state(table, duty.widest);
     let fields = record::fields_of(bytes);
     let stepped = events::step_fields(duty, clock, table, hints, fields);
     let next = stepped.clock;
@@ -175,7 +175,7 @@ fn finish(progress: Progress, duty: Duty, table: &[u32], buffer: &mut [u32]) -> 
 {
     let clock = progress.clock;
     let marks = progress.marks;
-    let state = book::state(table, duty.widest);
+    let state = table::state(table, duty.widest);
     let from = clock.time;
     let to = duty.length;
     let grown = grow(marks, from, to, state, buffer);
@@ -221,7 +221,7 @@ fn run_records(
     ensures { λ r. ⌜ ((cell : ℕ) → Passed (accountRecords paper most 1 (bookOf cell row spread []) (recordsOf (now (records .entry)))) (now (buffer .entry)) (now (buffer .exit)) r) ⌝ }
 {
     let duty = clock::duty_of(row, spread);
-    let mut table = book::empty();
+    let mut table = table::empty();
     let mut hints = [0u8; 2048];
     let mut progress = begin();
     let mut at: usize = 0;

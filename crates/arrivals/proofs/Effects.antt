@@ -26,8 +26,8 @@ use Rattle.side.specs.Slots.{slotOf, idsOf, seenFrom, column}
 use Rattle.side.specs.Internal.{shifted}
 use Rattle.side.proofs.Lists.{map-take, map-drop}
 use Rattle.side.proofs.Columns.{column-length, column-more, column-shifted, column-take}
-use Rattle.book.specs.Internal.{blankOrder}
-use Rattle.book.proofs.Slots.{Has, position, seen-at}
+use Rattle.table.specs.Internal.{blankOrder}
+use Rattle.table.proofs.Slots.{Has, position, seen-at}
 use Rattle.arrivals.specs.Arrivals.{idsIn, arrivalsOf, idOf, Follows}
 
 -- ---- the three things that happen to a list of ids

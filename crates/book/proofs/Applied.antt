@@ -17,24 +17,27 @@ use Rattle.rules.specs.Orders.{isLive, left, apply}
 use Rattle.rules.specs.Units.{goodPrice, contracts}
 use Rattle.rules.specs.Quotes.{same}
 use Rattle.rules.specs.Causes.{firstNumber, traderCauses}
-use Rattle.rules.proofs.Members.{length-filter, getD-in}
+use Rattle.rules.proofs.Members.{length-filter}
 use Rattle.rules.proofs.Orders.{cancel-at, deal-all}
 use Rattle.rules.proofs.Bounds.{volume-bounds}
 use Rattle.rules.proofs.Refusals.{trader-passes}
 use Rattle.prices.proofs.Keys.{key-least, key-most}
 use Rattle.side.specs.declared.Change.{Change}
-use Rattle.side.specs.Slots.{Slot, blankSlot, slotOf, orderOf, sideOf, keptIn, GoodSlots}
-use Rattle.side.specs.Internal.{Changed, Sized, HasOrder, slotAt, Added, Put, Removed, Grows}
+use Rattle.side.specs.Slots.{Slot, blankSlot, slotOf, sideOf, keptIn, GoodSlots}
+use Rattle.side.specs.Internal.{Changed, Sized, HasOrder, Added, Put, Removed, Grows}
 use Rattle.side.proofs.Words.{words-length, count-is}
-use Rattle.side.proofs.Stores.{read-is}
-use Rattle.side.proofs.Changes.{changed-added, changed-amended, changed-removed, GoodSlot, one-good, good-added, good-amended, good-removed, grows-none, grows-added, grows-amended, grows-removed}
+use Rattle.side.proofs.Changes.{changed-added, changed-amended, changed-removed, GoodSlot, good-added, good-amended, good-removed, grows-none, grows-added, grows-amended, grows-removed}
 use Rattle.book.specs.declared.Answer.{Answer}
-use Rattle.book.specs.Table.{ofSide, slotsIn, sideIn, tableOf, slotIn, OfSide, sentTo, GoodOrders}
-use Rattle.book.specs.Internal.{sideAt, other, Numbers, blankOrder, orderIn, orderWith, addOf, joined, appliedTo, Represents, Placed, answer, noChange, Applied}
+use Rattle.table.specs.Table.{ofSide, slotsIn, sideIn, tableOf, slotIn, GoodOrders}
+use Rattle.book.specs.Events.{OfSide, sentTo}
+use Rattle.table.specs.Internal.{sideAt, other, Numbers, blankOrder, orderIn, joined, Represents, Placed}
+use Rattle.book.specs.Internal.{orderWith, addOf, appliedTo, answer, noChange, Applied}
 use Rattle.book.proofs.Sides.{names}
-use Rattle.book.proofs.Slots.{Has, position, slot-represents}
-use Rattle.book.proofs.Table.{joined-length, joined-at, half-length, part-is, put-is, part-sized, part-count, part-key}
-use Rattle.book.proofs.Events.{good-slots, added, added-other, inside, its-side, its-price, its-volume, named, left-is, order-is, others-stay, amended, cancelled, dealt-some}
+use Rattle.table.proofs.Slots.{Has, position}
+use Rattle.table.proofs.Table.{joined-length, joined-at, half-length, part-is, put-is, part-sized, part-count}
+use Rattle.table.proofs.Orders as O
+use Rattle.table.proofs.Orders.{good-slots, its-side, its-price, its-volume, lent, putBack}
+use Rattle.book.proofs.Events.{added, added-other, named, others-stay, amended, cancelled, dealt-some}
 
 module _ (e : Event) (minimum : ℕ) (live : List Order) (table : List ℕ) (represents : Represents table minimum live) where
   pub refuses : (n : ℕ) (r : Answer) → r ≡ answer (suc n) 0 noChange → firstNumber (traderCauses live e) ≡ suc n → Applied e minimum live table r
@@ -103,13 +106,6 @@ deal-cancels live good t id volume h e =
 
 -- ---- the events, by what the functions on a side promise
 
--- the words of a side in the table, and the table with others in their place
-abbrev pub lent : ℕ → List ℕ → List ℕ
-lent n table = take (256 * n + 256 - 256 * n) (drop (256 * n) table)
-
-abbrev pub putBack : ℕ → List ℕ → List ℕ → List ℕ
-putBack n table half = take (256 * n) table ++ (half ++ drop (256 * n + 256 - 256 * n) (drop (256 * n) table))
-
 -- what is stored of an order in its ranges
 stored-good : (o : Order) → goodPrice (o .price .0) ≡ true → o .volume .0 ≤ 1000000 → GoodSlot (slotOf (o .side) o)
 stored-good o good most =
@@ -154,43 +150,16 @@ module _ (t : Millis) (minimum : ℕ) (live : List Order) (table : List ℕ) (re
     slots = slotsIn (sideAt (at / 64)) live
 
     has-slot : Has id (ofSide (sideAt (at / 64)) live) (at % 64)
-    has-slot =
-        subst (λ (m : ℕ). Has id (ofSide (sideAt (m / 64)) live) (m % 64)) (sym is-slot)
-        (slot-represents live (represents .good) id (subst (λ (m : ℕ). m < 128) is-slot there) .1)
+    has-slot = O.has-slot minimum live table represents id at is-slot there
 
     small : at / 64 < 2
-    small = omega arith
+    small = O.small minimum live table represents id at is-slot there
 
     within : at % 64 < length (slotsIn (sideAt (at / 64)) live)
-    within = inside live (represents .good) (sideAt (at / 64)) (at % 64) id has-slot
+    within = O.within minimum live table represents id at is-slot there
 
     old-good : GoodSlot (getD (slotsIn (sideAt (at / 64)) live) (at % 64) blankSlot)
-    old-good = one-good slots (getD slots k blankSlot) (good-before n) (getD-in slots k blankSlot within)
-
-    pub its-left : (o : Order) → o ≡ orderIn at live → o .volume .0 ≡ left id live
-    its-left o e =
-        ap (λ (x : Order). x .volume .0) e ∙ left-is live (represents .good) (sideAt (at / 64)) (at % 64) id has-slot
-
-    pub its-good : (o : Order) → o ≡ orderIn at live → goodPrice (o .price .0) ≡ true
-    its-good o e = ap (λ (x : Order). goodPrice (x .price .0)) e ∙ its-price live (represents .good) (sideAt (at / 64)) (at % 64) id has-slot
-
-    -- its words, lent
-    pub stands : HasOrder (at % 64) (lent (at / 64) table)
-    stands =
-        let key = part-key table minimum live represents n small k (omega arith) in
-        record {
-          all = part-sized table minimum live represents n small .all;
-          inside = omega arith;
-          key-least = omega (arith, key, old-good .key-least);
-          key-most = omega (arith, key, old-good .key-most);
-        }
-
-    pub its-order : (side : Side) → side ≡ sideAt (at / 64) → orderOf side (slotAt (at % 64) (lent (at / 64) table)) ≡ orderIn at live
-    its-order side e =
-        ap (λ (s : Side). orderOf s (slotAt k (lent n table))) e
-        ∙ ap (orderOf (sideAt n))
-        (read-is slots (keptIn minimum slots) k (good-before n .few) (omega arith) (lent n table) (part-is table minimum live represents n small))
-        ∙ order-is live (represents .good) (sideAt n) k id has-slot
+    old-good = O.old-good minimum live table represents id at is-slot there
 
     -- another order in its place
     set-turn : (e : Event) → firstNumber (traderCauses live e) ≡ 0 → names id e → OfSide (sideAt n) live e → (new : Order) (half : List ℕ) (c : Change) (r : Answer)
@@ -282,5 +251,5 @@ module _ (t : Millis) (minimum : ℕ) (live : List Order) (table : List ℕ) (re
     lent-removable = (
       part-sized table minimum live represents n small,
       omega (arith, part-count table minimum live represents n small, has-slot .inside),
-      stands,
+      O.stands minimum live table represents id at is-slot there,
     )

@@ -1,10 +1,10 @@
 -- What an accepted event does to the slots of a side, and that they stay within their bounds. Assumes nothing.
 use Prim.Native.Nat.{ℕ, suc, _-_, _≤_, _<_}
 use native.Mathlib.Omega.{arith}
-use mathlib.Core.Path.{_≡_, refl, sym, ap, _∙_, subst}
-use mathlib.Core.List.{List, [], _∷_, _++_, map, map-append, append-nil, List·Memᴰ, Memᴰ·of-map}
+use mathlib.Core.Path.{_≡_, refl, ap, _∙_}
+use mathlib.Core.List.{List, [], _∷_, _++_, map, map-append, append-nil, List·Memᴰ}
 use mathlib.Core.Bool.{Bool, true, false}
-use lib.ListN.{length, getD, take, drop, set, length-map}
+use lib.ListN.{getD, take, drop, set}
 use Rattle.rules.specs.declared.Side.{Side}
 use Rattle.rules.specs.declared.Side.the-variants.{Buy, Sell}
 use Rattle.rules.specs.declared.Order.{Order}
@@ -14,40 +14,23 @@ use Rattle.rules.specs.declared.Contracts.{Contracts}
 use Rattle.rules.specs.declared.Event.{Event}
 use Rattle.rules.specs.declared.Event.the-variants.{Add, Amend, Cancel, Deal}
 use Rattle.rules.specs.Lists.{if_then_else_}
-use Rattle.rules.specs.Units.{goodPrice, steps, contracts}
-use Rattle.rules.specs.Orders.{left, apply}
+use Rattle.rules.specs.Units.{contracts}
+use Rattle.rules.specs.Orders.{apply}
 use Rattle.rules.specs.Quotes.{same}
-use Rattle.rules.proofs.Lists.{kept-in}
 use Rattle.rules.proofs.Members.{getD-in}
 use Rattle.rules.proofs.Orders.{amend-at, cancel-at, deal-some, left-at}
 use Rattle.rules.proofs.Bounds.{volume-bounds}
 use Rattle.prices.specs.Keys.{keyOf}
-use Rattle.prices.proofs.Keys.{key-least, key-most, price-key}
-use Rattle.side.specs.Slots.{Slot, slot, blankSlot, slotOf, orderOf, GoodSlots}
+use Rattle.side.specs.Slots.{Slot, slot, slotOf}
 use Rattle.side.proofs.Lists.{map-set, map-take, map-drop}
-use Rattle.side.proofs.Changes.{GoodSlot, all-good}
-use Rattle.book.specs.Table.{ofSide, slotsIn, Named, GoodOrders}
-use Rattle.book.specs.Internal.{other, blankOrder, orderWith}
-use Rattle.book.proofs.Sides.{names, side-add, side-named, unnamed, same-is, other-unlive, left-in, few-side, distinct-side, in-side}
-use Rattle.book.proofs.Slots.{Has}
-use Rattle.book.proofs.Table.{slot-at}
-
--- ---- the bounds of slots
-
-pub good-slots : (s : Side) (live : List Order) → GoodOrders live → GoodSlots (slotsIn s live)
-good-slots s live g =
-    all-good (slotsIn s live) (omega (arith, few-side s live g, length-map (ofSide s live) (slotOf s))) one
-  where
-    one : (x : Slot) → List·Memᴰ x (slotsIn s live) → GoodSlot x
-    one x m =
-        let (o, n, e) = Memᴰ·of-map (slotOf s) (ofSide s live) m in
-        let inside = in-side s live g n in
-        subst GoodSlot e
-        (record {
-          key-least = key-least s (o .price .0) (g .prices o inside);
-          key-most = key-most s (o .price .0) (g .prices o inside);
-          volume-most = volume-bounds (o .volume .0) (g .volumes o inside) .1;
-        })
+use Rattle.table.specs.Table.{ofSide, slotsIn, GoodOrders}
+use Rattle.book.specs.Events.{Named}
+use Rattle.table.specs.Internal.{other, blankOrder}
+use Rattle.book.specs.Internal.{orderWith}
+use Rattle.table.proofs.Sides.{other-unlive, distinct-side, in-side}
+use Rattle.table.proofs.Orders.{its-side}
+use Rattle.book.proofs.Sides.{names, side-add, side-named, unnamed}
+use Rattle.table.proofs.Slots.{Has}
 
 -- ---- one order more
 
@@ -95,30 +78,8 @@ module _ (live : List Order) (good : GoodOrders live) (s : Side) (k id : ℕ) (h
   some : (x : Order) → List·Memᴰ x (ofSide s live) → 1 ≤ x .volume .0
   some x m = volume-bounds (x .volume .0) (good .volumes x (in-side s live good m)) .0
 
-  pub inside : k < length (slotsIn s live)
-  inside = omega (arith, h .inside, length-map (ofSide s live) (slotOf s))
-
-  -- what is known of it
-  pub its-side : o .side ≡ s
-  its-side = same-is s (o .side) (kept-in (λ (x : Order). same s (x .side)) live here .1)
-
-  pub its-price : goodPrice (o .price .0) ≡ true
-  its-price = good .prices o (in-side s live good here)
-
-  pub its-volume : o .volume .0 ≤ 1000000
-  its-volume = volume-bounds (o .volume .0) (good .volumes o (in-side s live good here)) .1
-
   pub named : Named s live id
-  named = (o, in-side s live good here, h .has, its-side)
-
-  pub left-is : o .volume .0 ≡ left id live
-  left-is = sym (left-in id live (good .distinct) (in-side s live good here) (h .has))
-
-  -- it is the one that is stored there
-  pub order-is : orderOf s (getD (slotsIn s live) k blankSlot) ≡ o
-  order-is =
-      ap (orderOf s) (slot-at s (ofSide s live) k (h .inside))
-      ∙ (λ i. record { id = o .id; side = sym its-side i; price = steps (price-key s (o .price .0) its-price i); volume = o .volume })
+  named = (o, in-side s live good here, h .has, its-side live good s k id h)
 
   -- the other side stays
   pub others-stay : (e : Event) → names id e → slotsIn (other s) (apply live e) ≡ slotsIn (other s) live

@@ -20,7 +20,7 @@ use Rattle.record.specs.Fields.{readFields}
 use Rattle.prices.specs.Keys.{quoteAt}
 use Rattle.quote.specs.Searches.{MayStart}
 use Rattle.book.specs.declared.Sent.{Sent}
-use Rattle.book.specs.Table.{ofSide, tableOf, GoodOrders}
+use Rattle.table.specs.Table.{ofSide, tableOf, GoodOrders}
 use Rattle.book.specs.Sending.{Works, Sending, SendsRead}
 use Rattle.book.specs.Searching.{AcceptedAfter, Accepted, NextSearch}
 

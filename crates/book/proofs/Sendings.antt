@@ -27,13 +27,15 @@ use Rattle.level.specs.Requotes.{Qualifies, Work, Requotes}
 use Rattle.side.specs.Internal.{StaleLevel}
 use Rattle.side.proofs.Words.{words-length}
 use Rattle.book.specs.declared.Answer.{Answer}
-use Rattle.book.specs.Table.{ofSide, slotsIn, sideIn, tableOf, OfSide, sentTo, GoodOrders}
+use Rattle.table.specs.Table.{ofSide, slotsIn, sideIn, tableOf, GoodOrders}
+use Rattle.book.specs.Events.{OfSide, sentTo}
 use Rattle.book.specs.Sending.{Works, SendsRead}
-use Rattle.book.specs.Internal.{sideAt, other, joined, appliedTo, answer, noChange, Applied, AppliedRead, keepsBy}
-use Rattle.book.proofs.Table.{joined-part, joined-put}
-use Rattle.book.proofs.Events.{good-slots}
-use Rattle.book.proofs.Quotes.{keeps-is, same-keeps, slots-orders}
-use Rattle.book.proofs.Applied.{lent, putBack}
+use Rattle.table.specs.Internal.{sideAt, other, joined}
+use Rattle.book.specs.Internal.{appliedTo, answer, noChange, Applied, AppliedRead, keepsBy}
+use Rattle.table.proofs.Table.{joined-part, joined-put}
+use Rattle.table.proofs.Orders.{good-slots}
+use Rattle.table.proofs.Quotes.{keeps-is, same-keeps, slots-orders}
+use Rattle.table.proofs.Orders.{lent, putBack}
 
 -- the two halves by the number of either
 both-halves : (n minimum : ℕ) (live : List Order) → n < 2 → joined n (sideIn minimum (sideAt n) live) (sideIn minimum (other (sideAt n)) live) ≡ tableOf minimum live

@@ -1,12 +1,10 @@
--- What the functions on the table promise to each other.
-use Prim.Native.Nat.{ℕ, zero, suc, _+_, _*_, _/_, _%_, _≤_, _<_}
+-- What the functions of the events promise to each other.
+use Prim.Native.Nat.{ℕ, _<_}
 use mathlib.Core.Path.{_≡_}
-use mathlib.Core.List.{List, _++_}
+use mathlib.Core.List.{List}
 use mathlib.Core.Bool.{false}
 use lib.Dec.{eqb}
-use lib.IntN.{pos}
-use lib.ListN.{length, getD}
-use Rattle.rules.specs.declared.Side.{Side}
+use lib.ListN.{getD}
 use Rattle.rules.specs.declared.Side.the-variants.{Buy, Sell}
 use Rattle.rules.specs.declared.Millis.{Millis}
 use Rattle.rules.specs.declared.Steps.{Steps}
@@ -17,36 +15,17 @@ use Rattle.rules.specs.declared.Event.the-variants.{Add}
 use Rattle.rules.specs.Causes.{firstNumber, traderCauses}
 use Rattle.rules.specs.Lists.{if_then_else_, within}
 use Rattle.rules.specs.Answers.{Outcome, accepted, refused}
-use Rattle.rules.specs.Units.{steps, contracts}
 use Rattle.record.specs.declared.Fields.{Fields}
 use Rattle.prices.specs.Widest.{keysKeep}
 use Rattle.side.specs.Slots.{sideOf, keptIn, GoodSlots}
 use Rattle.side.specs.declared.Change.{Change}
 use Rattle.side.specs.Internal.{change, Changed, Grows}
+use Rattle.table.specs.Table.{slotsIn, sideIn}
+use Rattle.table.specs.Internal.{sideAt, other, joined}
 use Rattle.book.specs.declared.Answer.{Answer}
-use Rattle.book.specs.Table.{ofSide, slotsIn, sideIn, tableOf, slotIn, OfSide, sentTo, GoodOrders}
-
--- a side by its number: buys 0, sells 1
-abbrev pub sideAt : ℕ → Side
-sideAt zero = Buy
-sideAt (suc n) = Sell
-
-abbrev pub other : Side → Side
-other Buy = Sell
-other Sell = Buy
-
-pub record Numbers (side : Side) (s : ℕ) : Type 0 where
-  pub is : sideAt s ≡ side
-  pub small : s < 2
+use Rattle.book.specs.Events.{OfSide, sentTo}
 
 -- ---- orders
-
-abbrev pub blankOrder : Order
-blankOrder = record { id = 0; side = Buy; price = steps (pos 0); volume = contracts 0 }
-
--- the live order in a slot
-abbrev pub orderIn : ℕ → List Order → Order
-orderIn slot live = getD (ofSide (sideAt (slot / 64)) live) (slot % 64) blankOrder
 
 -- an order with another price and volume
 abbrev pub orderWith : Order → Steps → Contracts → Order
@@ -68,36 +47,10 @@ addOf t o = Add t (o .id) (o .side) (o .price) (o .volume)
 
 -- ---- the table
 
--- the table of the words of a side, by its number, and of the other side
-abbrev pub joined : ℕ → List ℕ → List ℕ → List ℕ
-joined zero own others = own ++ others
-joined (suc n) own others = others ++ own
-
 -- the table after an event, but for the best level of its side, which is that of before
 unfoldable pub appliedTo : ℕ → ℕ → List Order → List Order → List ℕ
 appliedTo s minimum before after =
     joined s (sideOf (slotsIn (sideAt s) after) (keptIn minimum (slotsIn (sideAt s) before))) (sideIn minimum (other (sideAt s)) after)
-
--- a table that stands for live orders
-pub record Represents (table : List ℕ) (minimum : ℕ) (live : List Order) : Type 0 where
-  pub good : GoodOrders live
-  pub is : table ≡ tableOf minimum live
-
--- some such orders, and a slot of an id among them
-pub record Located (table : List ℕ) (slot : ℕ) : Type 0 where
-  pub id : ℕ
-  pub minimum : ℕ
-  pub live : List Order
-  pub represents : Represents table minimum live
-  pub long : length table ≡ 512
-  pub at : slot ≡ slotIn id live
-
--- the places of a side's orders, to write down in the hints
-pub record Placed (table hints : List ℕ) (s : ℕ) : Type 0 where
-  pub long : length table ≡ 512
-  pub hinted : length hints ≡ 2048
-  pub number : s < 2
-  pub few : getD table (256 * s + 192) 0 ≤ 64
 
 -- 1 where the best keys in the table's words keep the quote, else 0
 abbrev pub keepsBy : ℕ → List ℕ → ℕ

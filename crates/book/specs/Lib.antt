@@ -1,7 +1,7 @@
--- The one value of the table's words for the live orders, and what an event does to it.
-pub mod Table
+-- What an event does to the live orders and their table, and what it promises.
+pub mod Events
 pub mod Sending
 -- The count of the search, for every list of accepted events.
 pub mod Searching
--- What the functions on it promise to each other.
+-- What the functions of the events promise to each other.
 pub mod Internal

@@ -13,7 +13,8 @@ use Rattle.rules.specs.Orders.{live}
 use Rattle.rules.specs.Causes.{eventRefusal}
 use Rattle.rules.specs.Search.{sumsOf}
 use Rattle.quote.specs.Searches.{MayStart}
-use Rattle.book.specs.Table.{ofSide, OfSide}
+use Rattle.table.specs.Table.{ofSide}
+use Rattle.book.specs.Events.{OfSide}
 
 -- each of the events is accepted after those before it
 abbrev pub AcceptedAfter : Row → List Event → List Event → Type 0

@@ -20,7 +20,8 @@ use Rattle.prices.specs.Widest.{WidestFor}
 use Rattle.side.specs.Slots.{keysOf, volumesOf}
 use Rattle.level.specs.Requotes.{Work}
 use Rattle.book.specs.declared.Sent.{Sent}
-use Rattle.book.specs.Table.{ofSide, slotsIn, tableOf, OfSide, sentTo, GoodOrders, Sends}
+use Rattle.table.specs.Table.{ofSide, slotsIn, tableOf, GoodOrders}
+use Rattle.book.specs.Events.{OfSide, sentTo, Sends}
 
 -- W3 over the live orders of the accepted event's side, in the order in which they were added, which is the order searched: the sums keep
 -- its rule (`Work`), and those of the search, where it is searched, are exactly `sumsOf`, from the best quote found to qualify or from none

@@ -1,3 +1,4 @@
 -- Laws, by subject.
 pub mod Represents
 pub mod Steps
+pub mod Numbers

@@ -19,11 +19,12 @@ use Rattle.rules.specs.Calls.{Call, Send, Ask, Book, amendOf}
 use Rattle.rules.specs.Causes.{causes, refusalOf}
 use Rattle.rules.specs.Book.{after}
 use Rattle.lent.proofs.Back.{wide-back}
-use Rattle.book.specs.Table.{tableOf, GoodOrders}
+use Rattle.table.specs.Table.{tableOf, GoodOrders}
 use Rattle.quantum.specs.declared.Quantum.{Quantum}
 use Rattle.quantum.specs.Words.{quantumWords, Sized}
 use Rattle.events.proofs.Represents.{good-orders}
-use Rattle.quantum.proofs.Answers.{event-numbered, represents-all}
+use Rattle.events.proofs.Numbers.{event-numbered}
+use Rattle.quantum.proofs.Answers.{represents-all}
 use Rattle.quantum.proofs.Words.{table-part}
 use Rattle.month.specs.Represents.{monthOf}
 use Rattle.month.specs.Internal.{Previewed}

@@ -109,8 +109,8 @@ fn preview(words: &[u32], a: Amendment, count: u64) -> Preview
     requires { ⌜ HoldsQuantum (now words) × (length (now words) ≡ 598) ⌝ }
     ensures { λ r. ⌜ ((q : Quantum) → Sized q → now (words .entry) ≡ quantumWords q → Previewed q a count r) ⌝ }
 {
-    let bid = book::best(&words[10..522], Side::Buy);
-    let ask = book::best(&words[10..522], Side::Sell);
+    let bid = table::best(&words[10..522], Side::Buy);
+    let ask = table::best(&words[10..522], Side::Sell);
     Preview {
         bid,
         ask,

@@ -55,13 +55,14 @@ use Rattle.events.specs.Represents.{taken}
 use Rattle.quantum.proofs.Answers.{whole-is}
 use Rattle.outlook.specs.Represents.{Represents, Outlooked}
 use Rattle.month.specs.declared.Month.{Month}
-use Rattle.month.specs.Represents.{idleRow, quantumIn, monthOf, Reached, Answered}
+use Rattle.quantum.specs.Represents.{idleRow, quantumIn}
+use Rattle.month.specs.Represents.{monthOf, Reached, Answered}
 use Rattle.month.specs.Internal.{withCell, withoutQuantum, counted}
 use Rattle.month.proofs.Answers.{stopped, stopped-by, went}
 use Rattle.month.proofs.Fields.{running-is, quantum-is, cells-are, count-is, closed-is, open-is, Opened, opened}
 
 -- months with the same fields are the same
-same-month : (m n : Month) → m .running ≡ n .running → m .place ≡ n .place → m .share ≡ n .share → m .allowed ≡ n .allowed
+pub same-month : (m n : Month) → m .running ≡ n .running → m .place ≡ n .place → m .share ≡ n .share → m .allowed ≡ n .allowed
     → m .count ≡ n .count → m .quantum ≡ n .quantum → m .cells ≡ n .cells → m ≡ n
 same-month m n p q r l c s t =
     λ i. record { running = p i; place = q i; share = r i; allowed = l i; count = c i; quantum = s i; cells = t i }

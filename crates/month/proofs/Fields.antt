@@ -1,11 +1,10 @@
 -- The month's fields and the book that it stands for. Assumes nothing.
-use Prim.Native.Nat.{ℕ, _≤_, _<_}
+use Prim.Native.Nat.{ℕ, _<_}
 use mathlib.Core.Path.{_≡_, refl, ap, sym, _∙_, subst}
-use mathlib.Core.Bool.{true, false, false≢true, _&&_}
+use mathlib.Core.Bool.{true, false, false≢true}
 use mathlib.Core.List.{List, [], List·Memᴰ}
 use native.Mathlib.Omega.{arith}
-use borrow.Author.Tests.{leb-true, le-leb}
-use lib.Dec.{leb}
+use borrow.Author.Tests.{le-leb}
 use lib.IntN.{pos}
 use lib.ListN.{length}
 use Rattle.rules.specs.declared.Row.{Row}
@@ -22,15 +21,15 @@ use Rattle.rules.specs.Cells.{goodCell, cellAt, blankCell, blankCells}
 use Rattle.rules.specs.Calls.{Running, Idle, Quoting, Book, isOpen, freshBook}
 use Rattle.rules.specs.Book.{run, after}
 use Rattle.rules.specs.Bounds.{OpenBounds, RunningBounds, CellBounds, BookBounds}
-use Rattle.rules.proofs.Lists.{both, and}
+use Rattle.rules.proofs.Lists.{and}
 use Rattle.rules.proofs.Members.{getD-in}
-use Rattle.rules.proofs.Refusals.{within-parts}
 use Rattle.rules.proofs.Bounds.{bounds, event-bounds-none, read-bounds}
 use Rattle.quantum.specs.declared.Quantum.{Quantum}
 use Rattle.quantum.specs.Represents as S
 use Rattle.quantum.specs.Represents.{quantumOf}
 use Rattle.month.specs.declared.Month.{Month}
-use Rattle.month.specs.Represents.{idleRow, quantumIn, placeIn, shareIn, allowedIn, monthOf, Reached}
+use Rattle.quantum.specs.Represents.{idleRow, quantumIn}
+use Rattle.month.specs.Represents.{placeIn, shareIn, allowedIn, monthOf, Reached}
 
 module _ (m : Month) (b : Book) (is : m ≡ monthOf b) where
   pub running-is : m .running ≡ isOpen (b .running)
@@ -134,28 +133,6 @@ pub cells-good : (m : Month) → Reached m → (c : Cell) → List·Memᴰ c (m 
 cells-good m r c k h =
     let b = after paper (r .calls) in
     bounds paper (r .calls) .filled c (subst (List·Memᴰ c) (cells-are m b (r .is)) k) h
-
--- a named cell's numbers
-pub record InRange (day expiry quantum : ℕ) : Type 0 where
-  pub day-least : 1 ≤ day
-  pub day-most : day ≤ 31
-  pub expiry-least : 1 ≤ expiry
-  pub expiry-most : expiry ≤ 2
-  pub quantum-most : quantum ≤ 2
-
-pub in-range : (day expiry quantum : ℕ) → goodCell day expiry quantum ≡ true → InRange day expiry quantum
-in-range day expiry quantum h =
-    let a = both (within 1 31 day && within 1 2 expiry) (leb quantum 2) h in
-    let b = both (within 1 31 day) (within 1 2 expiry) (a .0) in
-    let d = within-parts 1 31 day (b .0) in
-    let e = within-parts 1 2 expiry (b .1) in
-    record {
-      day-least = d .0;
-      day-most = d .1;
-      expiry-least = e .0;
-      expiry-most = e .1;
-      quantum-most = leb-true quantum 2 (a .1);
-    }
 
 -- the cell at a place of a good month, where it is filled
 pub cell-good : (m : Month) → Reached m → (place : ℕ) → place < 186 → (c : Cell) → c ≡ cellAt (m .cells) place → c .filled ≡ true → CellBounds paper c

@@ -1,6 +1,5 @@
 pub mod Answers
 pub mod Fields
-pub mod CellNames
 pub mod Calls
 pub mod Asks
 pub mod Messages

@@ -2,34 +2,12 @@
 use Prim.Native.Nat.{ℕ}
 use mathlib.Core.Path.{_≡_}
 use mathlib.Core.List.{List, [], _∷_, _++_}
-use lib.IntN.{pos}
-use Rattle.rules.specs.declared.Row.{Row}
-use Rattle.rules.specs.declared.SpreadRule.the-variants.{Settled}
 use Rattle.rules.specs.Terms.{paper}
-use Rattle.rules.specs.Units.{millis, steps, contracts}
 use Rattle.rules.specs.Answers.{Outcome, Reply}
 use Rattle.rules.specs.Calls.{Call, Running, Idle, Quoting, Book, isOpen}
 use Rattle.rules.specs.Book.{after, answerOf}
-use Rattle.quantum.specs.declared.Quantum.{Quantum}
-use Rattle.quantum.specs.Represents.{quantumOf}
+use Rattle.quantum.specs.Represents.{quantumIn}
 use Rattle.month.specs.declared.Month.{Month}
-
--- what stands in the place of the quantum while none is open: one that has just opened with this row
-abbrev pub idleRow : Row
-idleRow =
-    record {
-      expiry = 1;
-      quantum = 0;
-      length = millis 1000;
-      minimum = contracts 1;
-      a = 0;
-      b = 0;
-      share = 1;
-    }
-
-abbrev pub quantumIn : Running → Quantum
-quantumIn Idle = quantumOf idleRow (Settled (steps (pos 0))) []
-quantumIn (Quoting place row opening events) = quantumOf row (opening .spread) events
 
 abbrev pub placeIn : Running → ℕ
 placeIn Idle = 0

@@ -8,25 +8,16 @@ ghost use Rattle.rules.specs.declared.Event.the-variants.{Add, Amend, Cancel, D
 ghost use Rattle.rules.specs.Terms.{paper};
 ghost use Rattle.rules.specs.declared.SpreadRule.the-variants.{OfStrike};
 ghost use Rattle.rules.specs.Rows.{goodRowFor, rowOf};
-ghost use Rattle.rules.specs.Cells.{goodCell, placeOf, cellAt};
 ghost use Rattle.rules.specs.Answers.{shownAnswer, shownLooked, shownAsked, shownReport, shownOutlook};
-ghost use Rattle.rules.specs.Calls.{Idle};
 ghost use Rattle.rules.specs.Book.{after};
-ghost use Rattle.rules.specs.Causes.{otherSideIn};
-ghost use Rattle.rules.specs.Bounds.{BookBounds};
-ghost use Rattle.rules.specs.Lists.{if_then_else_};
-ghost use Rattle.rules.specs.Dates.{Moment};
-ghost use Rattle.rules.specs.Messages.{newOrder, cancelOrder, replaceOrder};
 ghost use Rattle.rules.specs.declared.Refusal.the-variants.{NoQuantumOpen};
-ghost use Rattle.dates.specs.Answers.{shownElapsed};
 ghost use Rattle.rules.specs.Calls as B;
 ghost use Rattle.quantum.specs.Represents as Q;
-ghost use Rattle.month.specs.Represents.{monthOf, quantumIn, Reached, Answered};
+ghost use Rattle.month.specs.Represents.{monthOf, Reached, Answered};
 ghost use Rattle.month.specs.declared.Month.{Month};
 ghost use Rattle.month.specs.Words.{monthWords, Fits, HoldsMonth};
-ghost use Rattle.month.specs.Internal.{withCell, withoutQuantum, counted, Previewed, namedIn, MessageAnswered, BothOrNeither};
-use dates::Elapsed;
-use fix::MessageRead;
+ghost use Rattle.month.specs.Internal.{withCell, withoutQuantum, counted, Previewed};
+use cells::Named;
 use numbers::both;
 use quantum::Quantum;
 use rules::Amendment;
@@ -93,13 +84,6 @@ pub struct AfterOutlook {
     pub answer: OutlookAnswer,
 }
 
-// A named cell.
-enum Named {
-    OutOfRange,
-    Blank,
-    Filled(usize, Cell),
-}
-
 // Every refused call ends here, with the month as it was ..
 fn refused(month: Month, refusal: Refusal) -> AfterCall
     ensures { λ r. ⌜ (r .month ≡ month) × (r .answer ≡ Answer.Refused refusal) ⌝ }
@@ -128,30 +112,6 @@ fn asked(month: Month, answer: Asked) -> AskedAbout
     ensures { λ r. ⌜ (r .month ≡ month) × (r .answer ≡ answer) ⌝ }
 {
     AskedAbout { month, answer }
-}
-
-// What stands in the place of the quantum while none is open.
-fn idle() -> Quantum
-    ensures { λ r. ⌜ r ≡ quantumIn Idle ⌝ }
-{
-    let row = Row {
-        expiry: 1,
-        quantum: 0,
-        length: Millis(1000),
-        minimum: Contracts(1),
-        a: 0,
-        b: 0,
-        share: 1,
-    };
-    Quantum::opened(row, SpreadRule::Settled(Steps(0)))
-}
-
-// Where a cell stands among the 186.
-fn place_of(day: u32, expiry: u32, quantum: u32) -> usize
-    requires { ⌜ goodCell day expiry quantum ≡ true ⌝ }
-    ensures { λ r. ⌜ r ≡ placeOf day expiry quantum ⌝ }
-{
-    ((day - 1) * 6 + ((expiry - 1) * 3 + quantum)) as usize
 }
 
 // What an accepted ask shows: the quotes of the quantum with the amendment taken, and the ticket.
@@ -187,7 +147,7 @@ impl Month {
         ensures { λ r. ⌜ r ≡ monthOf (after paper []) ⌝ }
     {
         let blank = cells::blank_cell();
-        let quantum = idle();
+        let quantum = Quantum::idle();
         let cells = [blank; 186];
         Month {
             running: false,
@@ -198,15 +158,6 @@ impl Month {
             quantum,
             cells,
         }
-    }
-
-    // The cell at a place.
-    fn cell_at(self, place: usize) -> Cell
-        requires { ⌜ place < 186 ⌝ }
-        ensures { λ r. ⌜ r ≡ cellAt (self .cells) place ⌝ }
-    {
-        let cells = self.cells;
-        cells[place]
     }
 
     // The month with another cell at a place.
@@ -224,7 +175,7 @@ impl Month {
         ensures { λ r. ⌜ r ≡ withoutQuantum self ⌝ }
     {
         let cells = self.cells;
-        let quantum = idle();
+        let quantum = Quantum::idle();
         Month {
             running: false,
             place: 0,
@@ -245,8 +196,9 @@ impl Month {
         if !both(ranges::between(1, 31, day), ranges::settlement(spread)) {
             return refused(self, Refusal::ArgumentOutOfRange);
         }
-        let place = place_of(day, row.expiry, row.quantum);
-        let cell = self.cell_at(place);
+        let place = cells::place_of(day, row.expiry, row.quantum);
+        let cells = self.cells;
+        let cell = cells::at(cells, place);
         if cell.filled {
             return refused(self, Refusal::CellFilled);
         }
@@ -260,7 +212,6 @@ impl Month {
             return refused(self, Refusal::StrikesOutOfRange);
         }
         let quantum = Quantum::opened(row, spread);
-        let cells = self.cells;
         accepted(Month {
             running: true,
             place,
@@ -343,135 +294,24 @@ impl Month {
         })
     }
 
-    // Whether the live order that a G's 41 names is not of its side.
-    fn other_side(self, side: Side, id: u32) -> bool
-        requires { ⌜ Reached self ⌝ }
-        ensures { λ r. ⌜ ((new : ℕ) (volume : Contracts) (price : Steps) (t : Moment) (b : B.Book) → BookBounds paper b → self ≡ monthOf b → r ≡ otherSideIn (b .running) (replaceOrder new id side volume price t)) ⌝ }
-    {
-        let quantum = self.quantum;
-        quantum.on_other_side(side, id)
-    }
-
-    // A message whose time is none of the quantum's: with none open that comes first.
-    fn untimely(self, refusal: Refusal) -> AfterCall
-        ensures { λ r. ⌜ (r .month ≡ self) × (r .answer ≡ Answer.Refused (if self .running then refusal else NoQuantumOpen)) ⌝ }
-    {
-        if !self.running {
-            return refused(self, Refusal::NoQuantumOpen);
-        }
-        refused(self, refusal)
-    }
-
-    // D: an order more.
-    fn new_order(
-        self,
-        when: Elapsed,
-        id: u32,
-        side: Side,
-        volume: Contracts,
-        price: Steps,
-    ) -> AfterCall
-        requires { ⌜ Reached self ⌝ }
-        ensures { λ r. ⌜ MessageAnswered self (λ t. newOrder id side volume price t) (shownElapsed when) (r .month) (shownAnswer (r .answer)) ⌝ }
-    {
-        match when {
-            Elapsed::At(t) => self.add(t, id, side, price, volume),
-            Elapsed::Before => self.untimely(Refusal::TimeBackwards),
-            Elapsed::Late => self.untimely(Refusal::TimePastEnd),
-            Elapsed::Unreadable => refused(self, Refusal::FieldWrong),
-        }
-    }
-
-    // F: the order that 41 names goes.
-    fn cancel_order(self, when: Elapsed, id: u32, orig: u32) -> AfterCall
-        requires { ⌜ Reached self ⌝ }
-        ensures { λ r. ⌜ MessageAnswered self (λ t. cancelOrder id orig t) (shownElapsed when) (r .month) (shownAnswer (r .answer)) ⌝ }
-    {
-        match when {
-            Elapsed::At(t) => self.cancel(t, orig),
-            Elapsed::Before => self.untimely(Refusal::TimeBackwards),
-            Elapsed::Late => self.untimely(Refusal::TimePastEnd),
-            Elapsed::Unreadable => refused(self, Refusal::FieldWrong),
-        }
-    }
-
-    // That cancel, and an add on the month after it: both or neither.
-    fn both_or_neither(
-        self,
-        t: Millis,
-        id: u32,
-        orig: u32,
-        side: Side,
-        volume: Contracts,
-        price: Steps,
-    ) -> AfterCall
-        requires { ⌜ Reached self ⌝ }
-        ensures { λ r. ⌜ BothOrNeither self (Cancel t orig) (Add t id side price volume) (r .month) (shownAnswer (r .answer)) ⌝ }
-    {
-        let cancelled = self.cancel(t, orig);
-        let first = cancelled.answer;
-        let between = cancelled.month;
-        if let Answer::Refused(of_cancel) = first {
-            return refused(self, of_cancel);
-        }
-        let added = between.add(t, id, side, price, volume);
-        let second = added.answer;
-        match second {
-            Answer::Accepted => added,
-            Answer::Refused(of_add) => refused(self, of_add),
-        }
-    }
-
-    // G: its side is that of the order that 41 names, where there is one.
-    fn replace_order(
-        self,
-        when: Elapsed,
-        id: u32,
-        orig: u32,
-        side: Side,
-        volume: Contracts,
-        price: Steps,
-    ) -> AfterCall
-        requires { ⌜ Reached self ⌝ }
-        ensures { λ r. ⌜ MessageAnswered self (λ t. replaceOrder id orig side volume price t) (shownElapsed when) (r .month) (shownAnswer (r .answer)) ⌝ }
-    {
-        if self.other_side(side, orig) {
-            return refused(self, Refusal::FieldWrong);
-        }
-        match when {
-            Elapsed::At(t) => self.both_or_neither(t, id, orig, side, volume, price),
-            Elapsed::Before => self.untimely(Refusal::TimeBackwards),
-            Elapsed::Late => self.untimely(Refusal::TimePastEnd),
-            Elapsed::Unreadable => refused(self, Refusal::FieldWrong),
-        }
-    }
-
     // A FIX message, with the quantum's start: its one or two calls.
     pub fn message(self, start: &[u8], message: &[u8]) -> AfterCall
         requires { ⌜ Reached self ⌝ }
         ensures { λ r. ⌜ Answered self (B.Message (now (start .entry)) (now (message .entry))) (r .month) (shownAnswer (r .answer)) ⌝ }
     {
-        match fix::read(message) {
-            MessageRead::New {
-                id,
-                side,
-                volume,
-                price,
-                time,
-            } => self.new_order(dates::after(start, time), id, side, volume, price),
-            MessageRead::Cancel { id, orig, time } => {
-                self.cancel_order(dates::after(start, time), id, orig)
+        let before = self.quantum;
+        let sent = quantum_messages::message(before, self.running, start, message);
+        let answer = sent.answer;
+        let quantum = sent.quantum;
+        match answer {
+            Answer::Accepted => {
+                let count = ticket::further(self.count, sent.second);
+                let mut next = self;
+                next.quantum = quantum;
+                next.count = count;
+                accepted(next)
             }
-            MessageRead::Replace {
-                id,
-                orig,
-                side,
-                volume,
-                price,
-                time,
-            } => self.replace_order(dates::after(start, time), id, orig, side, volume, price),
-            MessageRead::FrameWrong => refused(self, Refusal::FrameWrong),
-            MessageRead::FieldWrong => refused(self, Refusal::FieldWrong),
+            Answer::Refused(r) => refused(self, r),
         }
     }
 
@@ -596,21 +436,6 @@ impl Month {
         accepted(self.without_quantum())
     }
 
-    // The cell that a day, an expiry and a quantum name.
-    fn named(self, day: u32, expiry: u32, quantum: u32) -> Named
-        ensures { λ r. ⌜ r ≡ namedIn (self .cells) day expiry quantum ⌝ }
-    {
-        if !ranges::cell(day, expiry, quantum) {
-            return Named::OutOfRange;
-        }
-        let place = place_of(day, expiry, quantum);
-        let cell = self.cell_at(place);
-        if cell.filled {
-            return Named::Filled(place, cell);
-        }
-        Named::Blank
-    }
-
     // New charges in place of a filled cell's old ones.
     pub fn charge(
         self,
@@ -626,7 +451,8 @@ impl Month {
         if !cells::both_charges(active, passive) {
             return refused(self, Refusal::ArgumentOutOfRange);
         }
-        let found = self.named(day, expiry, quantum);
+        let cells = self.cells;
+        let found = cells::find(cells, day, expiry, quantum);
         match found {
             Named::OutOfRange => refused(self, Refusal::ArgumentOutOfRange),
             Named::Blank => refused(self, Refusal::CellBlank),
@@ -641,7 +467,8 @@ impl Month {
         requires { ⌜ Reached self ⌝ }
         ensures { λ r. ⌜ Answered self (B.Withdraw day expiry quantum) (r .month) (shownAnswer (r .answer)) ⌝ }
     {
-        let found = self.named(day, expiry, quantum);
+        let cells = self.cells;
+        let found = cells::find(cells, day, expiry, quantum);
         match found {
             Named::OutOfRange => refused(self, Refusal::ArgumentOutOfRange),
             Named::Blank => refused(self, Refusal::CellBlank),
@@ -654,7 +481,8 @@ impl Month {
         requires { ⌜ Reached self ⌝ }
         ensures { λ r. ⌜ (r .month ≡ self) × Answered self (B.Look day expiry quantum) (r .month) (shownLooked (r .answer)) ⌝ }
     {
-        let found = self.named(day, expiry, quantum);
+        let cells = self.cells;
+        let found = cells::find(cells, day, expiry, quantum);
         match found {
             Named::OutOfRange => LookedAt {
                 month: self,

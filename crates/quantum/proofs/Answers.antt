@@ -1,22 +1,19 @@
 -- From the clock and the table to the quantum that holds them, and the numbers that refuse an event. Assumes nothing.
 use Prim.Native.Nat.{ℕ, zero, suc, _≤_, _<_}
 use mathlib.Core.Path.{_≡_, refl, ap, sym, _∙_}
-use mathlib.Core.Bool.{Bool, true, false}
 use mathlib.Core.List.{List, [], _∷_, _++_}
 use native.Mathlib.Omega.{arith}
 use lib.ListN.{length}
 use Rattle.rules.specs.declared.Row.{Row}
 use Rattle.rules.specs.declared.SpreadRule.{SpreadRule}
 use Rattle.rules.specs.declared.Event.{Event}
-use Rattle.rules.specs.declared.Event.the-variants.{Add, Amend, Cancel, Deal, Tick}
-use Rattle.rules.specs.declared.Order.{Order}
 use Rattle.rules.specs.declared.Refusal.{Refusal}
 use Rattle.rules.specs.declared.Answer.the-variants.{Accepted, Refused}
 use Rattle.rules.specs.Answers.{Outcome, Reply, refused, outcomeBy, done, numberOf}
 use Rattle.rules.specs.Orders.{live, applyAll}
-use Rattle.rules.specs.Causes.{Cause, cause, firstNumber, traderCauses, eventCauses, eventRefusal}
+use Rattle.rules.specs.Causes.{eventRefusal}
 use Rattle.rules.specs.Bounds.{EventBounds}
-use Rattle.book.specs.Table.{tableOf, Held}
+use Rattle.table.specs.Table.{tableOf, Held}
 use Rattle.arrivals.specs.Notes.{notesOf}
 use Rattle.clock.specs.declared.Duty.{Duty}
 use Rattle.clock.specs.declared.Clock.{Clock}
@@ -27,38 +24,6 @@ use Rattle.events.specs.Represents.{tableAfter, taken, ReachedParts, Represents
 use Rattle.quantum.specs.Represents.{quantumOf, Reached, Answered}
 use Rattle.quantum.specs.Internal.{Accepts, Noting}
 use Rattle.events.proofs.Represents.{good-orders}
-
--- ---- the numbers
-
-abbrev Numbered : ℕ → Type 0
-Numbered n = 0 < n → (8 ≤ n) × (n ≤ 15)
-
-numbered-next : (n : ℕ) (b : Bool) (cs : List Cause) → 8 ≤ n → n ≤ 15 → Numbered (firstNumber cs) → Numbered (firstNumber (cause n b ∷ cs))
-unfolding firstNumber
-numbered-next n true cs l u k = λ h. (l, u)
-numbered-next n false cs l u k = k
-
-numbered-none : Numbered (firstNumber [])
-unfolding firstNumber
-numbered-none = λ h. absurd (omega (arith, h))
-
-trader-numbered : (orders : List Order) (e : Event) → Numbered (firstNumber (traderCauses orders e))
-trader-numbered orders (Add t id side price volume) =
-    numbered-next 10 _ _ (omega arith) (omega arith)
-    (numbered-next 12 _ _ (omega arith) (omega arith) (numbered-next 13 _ _ (omega arith) (omega arith) numbered-none))
-trader-numbered orders (Amend t id price volume) =
-    numbered-next 11 _ _ (omega arith) (omega arith) (numbered-next 12 _ _ (omega arith) (omega arith) numbered-none)
-trader-numbered orders (Cancel t id) = numbered-next 11 _ _ (omega arith) (omega arith) numbered-none
-trader-numbered orders (Deal t id volume) =
-    numbered-next 11 _ _ (omega arith) (omega arith)
-    (numbered-next 12 _ _ (omega arith) (omega arith) (numbered-next 14 _ _ (omega arith) (omega arith) numbered-none))
-trader-numbered orders (Tick t) = numbered-none
-
--- what refuses an event has a number from 8 to 14
-pub event-numbered : (row : Row) (es : List Event) (e : Event) → 0 < eventRefusal row es e → (8 ≤ eventRefusal row es e) × (eventRefusal row es e ≤ 15)
-unfolding eventRefusal eventCauses
-event-numbered row es e =
-    numbered-next 8 _ _ (omega arith) (omega arith) (numbered-next 9 _ _ (omega arith) (omega arith) (trader-numbered (live es) e))
 
 -- ---- the quantum
 

@@ -13,7 +13,7 @@ use Rattle.rules.specs.Bounds.{EventBounds}
 use Rattle.rules.proofs.Bounds.{event-bounds-more}
 use Rattle.record.specs.declared.Fields.{Fields}
 use Rattle.record.specs.Fields.{fieldsFor}
-use Rattle.book.specs.Table.{Held}
+use Rattle.table.specs.Table.{Held}
 use Rattle.arrivals.specs.Arrivals.{arrivalsOf, idOf, Follows}
 use Rattle.arrivals.specs.Notes.{rowWords, spreadWords, notesOf}
 use Rattle.arrivals.proofs.Notes.{arrivals-length}

@@ -11,7 +11,7 @@ use Rattle.rules.specs.declared.Event.{Event}
 use Rattle.rules.specs.Causes.{eventRefusal}
 use Rattle.rules.specs.Bounds.{EventBounds}
 use Rattle.rules.proofs.Bounds.{event-bounds-more}
-use Rattle.book.proofs.Table.{held-length}
+use Rattle.table.proofs.Table.{held-length}
 use Rattle.rules.specs.Orders.{live}
 use Rattle.arrivals.proofs.Notes.{notes-length}
 use Rattle.lent.proofs.Parts.{next-part}

@@ -1,12 +1,16 @@
 -- The one value of the struct that stands for an open quantum's accepted events, and what its calls promise.
 use Prim.Native.Nat.{_≤_}
 use mathlib.Core.Path.{_≡_}
-use mathlib.Core.List.{List}
+use mathlib.Core.List.{List, []}
+use lib.IntN.{pos}
 use Rattle.rules.specs.declared.Row.{Row}
 use Rattle.rules.specs.declared.SpreadRule.{SpreadRule}
+use Rattle.rules.specs.declared.SpreadRule.the-variants.{Settled}
 use Rattle.rules.specs.declared.Event.{Event}
+use Rattle.rules.specs.Units.{millis, steps, contracts}
 use Rattle.rules.specs.Orders.{live}
 use Rattle.rules.specs.Answers.{outcomeBy, done, shownAnswer}
+use Rattle.rules.specs.Calls.{Running, Idle, Quoting}
 use Rattle.rules.specs.Causes.{eventRefusal}
 use Rattle.rules.specs.Bounds.{EventBounds}
 use Rattle.clock.specs.Clocks.{dutyOf, clockOf}
@@ -23,6 +27,23 @@ quantumOf row sp events =
       table = tableAfter row events;
       notes = notesOf row sp (live events);
     }
+
+-- what stands in the place of the quantum while none is open: one that has just opened with this row
+abbrev pub idleRow : Row
+idleRow =
+    record {
+      expiry = 1;
+      quantum = 0;
+      length = millis 1000;
+      minimum = contracts 1;
+      a = 0;
+      b = 0;
+      share = 1;
+    }
+
+abbrev pub quantumIn : Running → Quantum
+quantumIn Idle = quantumOf idleRow (Settled (steps (pos 0))) []
+quantumIn (Quoting place row opening events) = quantumOf row (opening .spread) events
 
 -- a quantum that a call handed back
 pub record Reached (q : Quantum) : Type 0 where

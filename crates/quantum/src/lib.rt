@@ -14,10 +14,11 @@ ghost use Rattle.rules.specs.Orders.{hasId, live as liveOrders};
 ghost use Rattle.rules.specs.Quotes.{same, best as bestQuote};
 ghost use Rattle.rules.specs.Kept.{bestBid, bestAsk, keptBelow};
 ghost use Rattle.rules.specs.Lapses.{lapsesBelow};
+ghost use Rattle.rules.specs.Calls.{Idle};
 ghost use Rattle.rules.specs.Causes.{goodSpreadRule};
 ghost use Rattle.rules.specs.Bounds.{EventBounds};
 ghost use Rattle.arrivals.specs.Notes.{notesOf};
-ghost use Rattle.quantum.specs.Represents.{quantumOf, Reached, Answered};
+ghost use Rattle.quantum.specs.Represents.{quantumOf, quantumIn, Reached, Answered};
 ghost use Rattle.quantum.specs.declared.Quantum.{Quantum};
 ghost use Rattle.quantum.specs.Words.{quantumWords, Sized};
 ghost use Rattle.quantum.specs.Internal.{Accepts, Noting};
@@ -25,12 +26,14 @@ use clock::Clock;
 use clock::Duty;
 use clock::Totals;
 use rules::Answer;
+use rules::Contracts;
 use rules::Event;
 use rules::Millis;
 use rules::Quote;
 use rules::Row;
 use rules::Side;
 use rules::SpreadRule;
+use rules::Steps;
 
 // The notes are what a view of the quantum shows and the others do not hold (crate `arrivals`).
 pub struct Quantum {
@@ -52,8 +55,8 @@ fn noted(old: [u32; 512], new: [u32; 512], notes: [u32; 76], e: Event) -> [u32; 
     ensures { λ r. ⌜ ((row : Row) (sp : SpreadRule) (events : List Event) → Accepts row sp events e old new notes → r ≡ notesOf row sp (liveOrders (events ++ (e ∷ [])))) ⌝ }
 {
     let f = record::event_fields(e);
-    let had = book::count(&old);
-    let has = book::count(&new);
+    let had = table::count(&old);
+    let has = table::count(&new);
     let mut next = notes;
     arrivals::note(&mut next[0..64], had, has, f.id);
     next
@@ -100,7 +103,7 @@ impl Quantum {
     {
         let duty = clock::duty_of(row, spread);
         let clock = clock::started();
-        let table = book::empty();
+        let table = table::empty();
         let notes = arrivals::opened(row, spread);
         Quantum {
             duty,
@@ -108,6 +111,22 @@ impl Quantum {
             table,
             notes,
         }
+    }
+
+    // What stands in the place of the quantum while none is open.
+    pub fn idle() -> Quantum
+        ensures { λ r. ⌜ r ≡ quantumIn Idle ⌝ }
+    {
+        let row = Row {
+            expiry: 1,
+            quantum: 0,
+            length: Millis(1000),
+            minimum: Contracts(1),
+            a: 0,
+            b: 0,
+            share: 1,
+        };
+        Quantum::opened(row, SpreadRule::Settled(Steps(0)))
     }
 
     // An event: taken, or refused with the quantum as it was.
@@ -180,7 +199,7 @@ impl Quantum {
         ensures { λ r. ⌜ ((row : Row) (sp : SpreadRule) (events : List Event) → EventBounds row events → self ≡ quantumOf row sp events → r ≡ bestQuote side (row .minimum .0) (liveOrders events)) ⌝ }
     {
         let table = self.table;
-        book::best(&table, side)
+        table::best(&table, side)
     }
 
     pub fn best_bid(self) -> Quote
@@ -203,7 +222,7 @@ impl Quantum {
         ensures { λ r. ⌜ ((row : Row) (sp : SpreadRule) (events : List Event) → EventBounds row events → self ≡ quantumOf row sp events → r ≡ any (λ (o : Order). hasId id o && not (same side (o .side))) (liveOrders events)) ⌝ }
     {
         let table = self.table;
-        book::on_other_side(&table, side, id)
+        table::on_other_side(&table, side, id)
     }
 
     pub fn live(self) -> u32
@@ -211,7 +230,7 @@ impl Quantum {
         ensures { λ r. ⌜ ((row : Row) (sp : SpreadRule) (events : List Event) → EventBounds row events → self ≡ quantumOf row sp events → r ≡ length (liveOrders events)) ⌝ }
     {
         let table = self.table;
-        book::count(&table)
+        table::count(&table)
     }
 
     // Its 598 words: the duty's, the clock's, two zeros, the table's, the notes'.

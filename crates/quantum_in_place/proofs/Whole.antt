@@ -14,7 +14,7 @@ use Rattle.rules.specs.Causes.{eventRefusal}
 use Rattle.rules.specs.Bounds.{EventBounds}
 use Rattle.record.specs.declared.Fields.{Fields}
 use Rattle.record.specs.Fields.{fieldsFor}
-use Rattle.book.specs.Table.{tableOf, Held, GoodOrders}
+use Rattle.table.specs.Table.{tableOf, Held, GoodOrders}
 use Rattle.arrivals.specs.Arrivals.{arrivalsOf, Follows}
 use Rattle.arrivals.specs.Notes.{notesOf}
 use Rattle.quantum.specs.declared.Quantum.{Quantum}

@@ -62,7 +62,7 @@ module _ (terms : Terms) (b : Book) (start bytes : List ℕ) where
         go (Quoting place row opening events) k = stop 9 [] refl
 
     module _ (s : otherSideIn (b .running) m ≡ false) (t : ℕ) (time : M.timeOf m ≡ at t) where
-      events-are : eventsOf start bytes ≡ eventsAt m t
+      pub events-are : eventsOf start bytes ≡ eventsAt m t
       unfolding eventsOf
       events-are = ap eventsIn h ∙ ap (eventsBy m) time
 

@@ -10,26 +10,20 @@ use lib.Seq.{take-append-seam}
 use borrow.Author.Tests.{lt-ltb, le-ltb, eq-eqb, ne-eqb, ltb-false}
 use Rattle.rules.specs.declared.Millis.{Millis}
 use Rattle.rules.specs.declared.Steps.{Steps}
-use Rattle.rules.specs.declared.Row.{Row}
-use Rattle.rules.specs.declared.SpreadRule.the-variants.{Settled}
 use Rattle.rules.specs.declared.Refusal.{Refusal}
-use Rattle.rules.specs.declared.Refusal.the-variants.{ArgumentOutOfRange, BufferShort}
+use Rattle.rules.specs.declared.Refusal.the-variants.{BufferShort}
 use Rattle.rules.specs.declared.SessionAnswer.{SessionAnswer}
 use Rattle.rules.specs.declared.SessionAnswer.the-variants as S
 use Rattle.rules.specs.Lists.{if_then_else_, below}
 use Rattle.rules.specs.Terms.{paper}
-use Rattle.rules.specs.Units.{steps, goodPrice}
-use Rattle.rules.specs.Rows.{rowOf, goodRow}
-use Rattle.rules.specs.Cells.{placeOf}
-use Rattle.rules.specs.Causes.{readRow}
+use Rattle.rules.specs.Units.{steps}
 use Rattle.rules.specs.Stretches.{Stretch, pairWords}
-use Rattle.rules.specs.Answers.{accepted, refused, finished, stopped, numberOf, shownSession}
+use Rattle.rules.specs.Answers.{finished, stopped, numberOf, shownSession}
 use Rattle.rules.specs.Records.{wordAt, signedOf}
-use Rattle.rules.specs.Session.{Session, whole, halted, recordsOf, runRecords, session, sessionBytes, ran, front, bufferAfter, oneNumber}
+use Rattle.rules.specs.Session.{Session, whole, halted, session, sessionBytes, ran, front, bufferAfter, oneNumber}
 use Rattle.rules.proofs.Stretches.{pairWords-length}
-use Rattle.session.specs.Internal.{bookWith, counted, Passed, filledBy, numberBy}
-use Rattle.session.proofs.Runs.{session-row, session-price, session-opens, cell-inside}
-use Rattle.session.proofs.Loop.{passed-halted}
+use Rattle.pass.specs.Internal.{counted, Passed}
+use Rattle.session.specs.Internal.{filledBy, numberBy}
 
 -- the pass says how the session ends
 counted-stopped : (s : Session) (n place : ℕ) → stopped n place ≡ counted s → s ≡ halted n place
@@ -130,32 +124,6 @@ bytes-whole : (most : ℕ) (head bytes : List ℕ) → length head ≡ 32
     ≡ session paper most (wordAt head 0 ∷ wordAt head 4 ∷ wordAt head 8 ∷ wordAt head 12 ∷ wordAt head 16 ∷ wordAt head 20 ∷ wordAt head 24 ∷ []) (steps (signedOf (wordAt head 28))) bytes
 unfolding sessionBytes below
 bytes-whole most head bytes h = rw (eq-eqb (length head) 32 h) refl
-
--- ---- the row and the quantum's opening
-
-module _ (most : ℕ) (words : List ℕ) (sp : Steps) (bytes : List ℕ) (row : Row) (is : accepted row ≡ readRow paper (Settled sp) words) where
-  pub opens-good : goodPrice (sp .0) ≡ true → goodRow paper row ≡ true
-  opens-good f =
-      let (same, good, runs) = session-opens most words sp bytes row is f in
-      ap (goodRow paper) same ∙ good
-
-  pub passed-opened : goodPrice (sp .0) ≡ true → (entry exit : List ℕ) (r : SessionAnswer)
-      → ((cell : ℕ) → cell < 186 → Passed (runRecords paper most cell 1 (bookWith cell row sp []) (recordsOf bytes)) entry exit r)
-      → Passed (session paper most words sp bytes) entry exit r
-  passed-opened f entry exit r h =
-      let (same, good, runs) = session-opens most words sp bytes row is f in
-      let cell = placeOf 1 (rowOf words .expiry) (rowOf words .quantum) in
-      let at = ap (λ (x : Row). runRecords paper most cell 1 (bookWith cell x sp []) (recordsOf bytes)) same in
-      subst (λ (s : Session). Passed s entry exit r) (at ∙ sym runs) (h cell (cell-inside most words sp bytes good))
-
-  pub passed-price : goodPrice (sp .0) ≡ false → (entry exit : List ℕ) → Passed (session paper most words sp bytes) entry exit (S.Refused ArgumentOutOfRange 0)
-  passed-price f entry exit =
-      passed-halted (session paper most words sp bytes) ArgumentOutOfRange 0 entry exit (session-price most words sp bytes row is f)
-
-pub passed-row : (most : ℕ) (words : List ℕ) (sp : Steps) (bytes : List ℕ) (f : Refusal) → refused (numberOf f) ≡ readRow paper (Settled sp) words → (entry exit : List ℕ)
-    → Passed (session paper most words sp bytes) entry exit (S.Refused f 0)
-passed-row most words sp bytes f e entry exit =
-    passed-halted (session paper most words sp bytes) f 0 entry exit (session-row most words sp bytes (numberOf f) e)
 
 -- ---- the answers' numbers, case by case
 

@@ -1,11 +1,3 @@
-pub mod Buffers
-pub mod Walks
-pub mod Records
-pub mod Openings
-pub mod Runs
-pub mod Pairs
-pub mod Steps
-pub mod Loop
 pub mod Endings
 pub mod Month
 pub mod Few

@@ -1,6 +1,7 @@
 // Tickets: the month's count of accepted calls, and whether a ticket is the present one.
 ghost use mathlib.Core.Path.{_≡_};
 ghost use lib.Dec.{eqb};
+ghost use Rattle.rules.specs.Lists.{if_then_else_};
 ghost use Rattle.rules.specs.Causes.{samePrice, sameAmendment, goodTicket};
 ghost use Rattle.rules.specs.Changes.{following};
 use numbers::both;
@@ -16,6 +17,16 @@ pub fn next(count: u64) -> u64
         return count + 1;
     }
     0
+}
+
+// The count with one more where there is one.
+pub fn further(count: u64, more: bool) -> u64
+    ensures { λ r. ⌜ r ≡ (if more then following count else count) ⌝ }
+{
+    if more {
+        return next(count);
+    }
+    count
 }
 
 fn same(a: u32, b: u32) -> bool

@@ -1,51 +1,25 @@
 -- The live order with an id, where it stands in the table. Assumes nothing.
 use Prim.Native.Nat.{ℕ, zero, suc, _+_, _*_, _-_, _/_, _%_, _≤_, _<_}
 use native.Mathlib.Omega.{arith}
-use mathlib.Core.Path.{_≡_, refl, sym, ap, subst, _∙_}
-use mathlib.Core.Bool.{true, false, false≢true}
-use mathlib.Core.List.{List, [], _∷_, map, List·Memᴰ, List·Memᴰ·head, List·Memᴰ·tail}
+use mathlib.Core.Path.{_≡_, refl, sym, subst, _∙_}
+use mathlib.Core.Bool.{true}
+use mathlib.Core.List.{List}
 use lib.ListN.{length, getD}
-use borrow.Author.Tests.{eq-eqb, eqb-true}
+use borrow.Author.Tests.{eq-eqb}
 use Rattle.rules.specs.declared.Side.the-variants.{Buy, Sell}
-use Rattle.rules.specs.declared.Order.{Order}
-use Rattle.rules.specs.Lists.{any}
-use Rattle.rules.specs.Units.{millis}
 use Rattle.rules.specs.Orders.{hasId, isLive}
-use Rattle.rules.specs.Bounds.{Distinct}
-use Rattle.rules.proofs.Members.{or-false, none-any, getD-in}
+use Rattle.rules.proofs.Members.{getD-in}
 use Rattle.rules.proofs.Orders.{live-at}
 use Rattle.quote.specs.declared.Level.{Level}
-use Rattle.side.specs.Slots.{Slot, slotOf, orderOf, idsOf, sideOf, keptIn, seenFrom, seen}
+use Rattle.side.specs.Slots.{Slot, orderOf, sideOf, keptIn, seen}
 use Rattle.side.specs.Internal.{Sized, HasOrder, slotAt}
-use Rattle.book.specs.Table.{ofSide, slotsIn, slotIn}
-use Rattle.book.specs.Internal.{sideAt, blankOrder, Represents}
-use Rattle.book.proofs.Sides.{few-side, distinct-side, other-unlive, in-side}
-use Rattle.book.proofs.Slots.{Has, represents, seen-at, slot-there}
-use Rattle.book.proofs.Table.{few-slots, part-is, part-sized, table-length}
-use Rattle.book.proofs.Applied.{lent, stands, its-order}
+use Rattle.table.specs.Table.{ofSide, slotsIn, slotIn}
+use Rattle.table.specs.Internal.{sideAt, blankOrder, Represents}
+use Rattle.table.proofs.Sides.{one-only, few-side, distinct-side, other-unlive, in-side}
+use Rattle.table.proofs.Slots.{Has, represents, seen-none, seen-at, slot-there}
+use Rattle.table.proofs.Table.{few-slots, part-is, part-sized, table-length}
+use Rattle.table.proofs.Orders.{lent, stands, its-order}
 use Rattle.views.specs.Internal.{Placed}
-
--- ---- one order with an id, where ids are distinct
-
-module _ (id : ℕ) where
-  twice : (x : Order) (xs : List Order) → isLive (x .id) xs ≡ false → {o : Order} → List·Memᴰ o xs → hasId id x ≡ true → hasId id o ≡ true → ⊥
-  unfolding isLive
-  twice x xs n {o} m h k =
-      false≢true (sym (none-any (hasId (x .id)) m n) ∙ ap (λ (n : ℕ). hasId n o) (eqb-true (x .id) id h) ∙ k)
-
-  one-only : (os : List Order) → Distinct os → {a b : Order} → List·Memᴰ a os → List·Memᴰ b os → hasId id a ≡ true → hasId id b ≡ true → a ≡ b
-  one-only (x ∷ xs) d (List·Memᴰ·head p) (List·Memᴰ·head q) h k = p ∙ sym q
-  one-only (x ∷ xs) d (List·Memᴰ·head p) (List·Memᴰ·tail n) h k = absurd (twice x xs (d .0) n (ap (hasId id) (sym p) ∙ h) k)
-  one-only (x ∷ xs) d (List·Memᴰ·tail m) (List·Memᴰ·head q) h k = absurd (twice x xs (d .0) m (ap (hasId id) (sym q) ∙ k) h)
-  one-only (x ∷ xs) d (List·Memᴰ·tail m) (List·Memᴰ·tail n) h k = one-only xs (d .1) m n h k
-
-  -- an id that no order has is not seen
-  seen-none : (n : ℕ) (os : List Order) → isLive id os ≡ false → seenFrom n id (idsOf (map (slotOf Buy) os)) ≡ 0
-  unfolding seenFrom isLive any
-  seen-none n [] h = refl
-  seen-none n (o ∷ os) h =
-      let (a, b) = or-false (hasId id o) (any (hasId id) os) h in
-      rw (a, seen-none (n + 1) os b) (omega arith)
 
 module _ (table : List ℕ) (id : ℕ) (p : Placed table id) where
   for-all : Represents table (p .minimum) (p .live)
@@ -91,12 +65,12 @@ module _ (table : List ℕ) (id : ℕ) (p : Placed table id) where
     pub stands-there : HasOrder k (lent n table)
     stands-there =
         subst (λ (m : ℕ). HasOrder k (lent m table)) half
-        (subst (λ (j : ℕ). HasOrder j (lent ((64 * n + k) / 64) table)) place (stands (millis 0) (p .minimum) (p .live) table for-all id (64 * n + k) slot inside))
+        (subst (λ (j : ℕ). HasOrder j (lent ((64 * n + k) / 64) table)) place (stands (p .minimum) (p .live) table for-all id (64 * n + k) slot inside))
 
     pub order-there : orderOf (sideAt n) (slotAt k (lent n table)) ≡ getD (p .live) (p .place) blankOrder
     order-there =
         (λ i. orderOf (sideAt (sym half i)) (slotAt (sym place i) (lent (sym half i) table)))
-        ∙ its-order (millis 0) (p .minimum) (p .live) table for-all id (64 * n + k) slot inside (sideAt ((64 * n + k) / 64)) refl
+        ∙ its-order (p .minimum) (p .live) table for-all id (64 * n + k) slot inside (sideAt ((64 * n + k) / 64)) refl
         ∙ (λ i. getD (ofSide (sideAt (half i)) (p .live)) (place i) blankOrder)
         ∙ one-only id (p .live) (p .good .distinct)
         (in-side (sideAt n) (p .live) (p .good) (getD-in (ofSide (sideAt n) (p .live)) k blankOrder (h .inside)))
@@ -108,7 +82,7 @@ module _ (table : List ℕ) (id : ℕ) (p : Placed table id) where
   -- a sell's id is not among the buys
   not-buys : (k : ℕ) → Has id (ofSide Sell (p .live)) k → seen id (slotsIn Buy (p .live)) ≡ 0
   not-buys k h =
-      seen-none id 1 (ofSide Buy (p .live))
+      seen-none Buy id 1 (ofSide Buy (p .live))
       (other-unlive Sell id (p .live) (p .good .distinct) (getD-in (ofSide Sell (p .live)) k blankOrder (h .inside)) (h .has))
 
   pub buys-have : (b : ℕ) → b ≡ seen id (slotsIn Buy (p .live)) → 0 < b → Has id (ofSide Buy (p .live)) (b - 1)

@@ -8,7 +8,7 @@ use lib.ListN.{length, getD, take, drop, length-append, length-drop, length-map,
 use lib.Seq.{take-suc, take-all, length-take-le, drop-drop}
 use Rattle.rules.specs.declared.Order.{Order}
 use Rattle.lent.proofs.Parts.{next-part}
-use Rattle.book.specs.Internal.{blankOrder}
+use Rattle.table.specs.Internal.{blankOrder}
 use Rattle.views.specs.Views.{orderWords, ordersWords}
 use Rattle.views.specs.Internal.{Placed, Listed}
 

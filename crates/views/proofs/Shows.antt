@@ -29,7 +29,7 @@ use Rattle.rules.proofs.Bounds.{bounds}
 use Rattle.lent.proofs.Parts.{next-part}
 use Rattle.prices.specs.Widest.{WidestFor}
 use Rattle.side.specs.Slots.{column}
-use Rattle.book.specs.Table.{tableOf, GoodOrders}
+use Rattle.table.specs.Table.{tableOf, GoodOrders}
 use Rattle.arrivals.specs.Arrivals.{idsIn, arrivalsOf}
 use Rattle.arrivals.specs.Notes.{rowWords, spreadWords, notesOf}
 use Rattle.arrivals.proofs.Notes.{arrivals-length}
@@ -40,7 +40,8 @@ use Rattle.quantum.specs.Words.{quantumWords, Sized}
 use Rattle.events.proofs.Represents.{good-orders, widest-is}
 use Rattle.quantum.proofs.Words.{of-sized, table-part, notes-behind}
 use Rattle.month.specs.Represents.{monthOf}
-use Rattle.month.proofs.Fields.{in-range, place-inside, closed-is, opened}
+use Rattle.cells.proofs.Ranges.{in-range}
+use Rattle.month.proofs.Fields.{place-inside, closed-is, opened}
 use Rattle.month.proofs.Words.{month-fits, month-length, word-in, quantum-in}
 use Rattle.in_place.proofs.Months.{flag-off, flag-on, flag-is}
 use Rattle.month.specs.Words.{wordsAfter, HoldsMonth}

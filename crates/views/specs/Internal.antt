@@ -4,8 +4,8 @@ use mathlib.Core.Path.{_≡_}
 use mathlib.Core.List.{List, [], _∷_, _++_}
 use lib.ListN.{length, getD, take, drop}
 use Rattle.rules.specs.declared.Order.{Order}
-use Rattle.book.specs.Table.{tableOf, GoodOrders}
-use Rattle.book.specs.Internal.{blankOrder}
+use Rattle.table.specs.Table.{tableOf, GoodOrders}
+use Rattle.table.specs.Internal.{blankOrder}
 use Rattle.arrivals.specs.Arrivals.{idsIn}
 
 -- the 17 words in front of the orders', from those of the quantum

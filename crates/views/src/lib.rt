@@ -9,7 +9,7 @@ ghost use Rattle.rules.specs.declared.SpreadRule.{SpreadRule};
 ghost use Rattle.rules.specs.declared.Event.{Event};
 ghost use Rattle.rules.specs.Records.{addKind};
 ghost use Rattle.rules.specs.Bounds.{EventBounds};
-ghost use Rattle.book.specs.Internal.{blankOrder};
+ghost use Rattle.table.specs.Internal.{blankOrder};
 ghost use Rattle.quantum.specs.Represents.{quantumOf};
 ghost use Rattle.quantum.specs.Words.{quantumWords};
 ghost use Rattle.month.specs.Words.{HoldsMonth};
@@ -102,13 +102,13 @@ fn show(day: u32, allowed: u32, quantum: &[u32], buffer: &mut [u32]) -> Viewed
     requires { ⌜ HoldsQuantum (now quantum) × (length (now quantum) ≡ 598) ⌝ }
     ensures { λ r. ⌜ ((row : Row) (spread : SpreadRule) (events : List Event) → EventBounds row events → now (quantum .entry) ≡ quantumWords (quantumOf row spread events) → Shown (quotingWords day allowed row spread events) (now (buffer .entry)) (now (buffer .exit)) r) ⌝ }
 {
-    let count = book::count(&quantum[10..522]);
+    let count = table::count(&quantum[10..522]);
     let live = count as usize;
     let size = 17 + 4 * live;
     if buffer.len() < size {
         return Viewed::BufferShort;
     }
-    let state = book::state(&quantum[10..522], quantum[2]);
+    let state = table::state(&quantum[10..522], quantum[2]);
     put_head(day, allowed, state, count, quantum, &mut buffer[0..17]);
     put_orders(
         &quantum[10..522],

@@ -2,7 +2,7 @@
 use mathlib.Core.Path.{ap, sym, _∙_}
 use borrow.Author.Tests.{not-true, not-false}
 use Rattle.rules.specs.Answers.{shownRow}
-use Rattle.session.proofs.Openings.{read-good}
+use Rattle.runs.proofs.Openings.{read-good}
 use Rattle.accounts.proofs.Endings.{passed-row, passed-price, passed-strike, passed-opened}
 use borrow.Author.Needs.{needs}
 use Rattle.accounts.proofs.pass.Statement.{statement}

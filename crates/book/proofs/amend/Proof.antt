@@ -3,11 +3,12 @@ use mathlib.Core.Path.{sym, ap, _∙_}
 use borrow.Author.Needs.{needs}
 use Rattle.rules.specs.declared.Order.{Order}
 use Rattle.rules.specs.declared.Event.the-variants.{Amend}
-use Rattle.rules.specs.Units.{goodPrice, goodVolume, millis}
+use Rattle.rules.specs.Units.{goodPrice, goodVolume}
 use Rattle.rules.proofs.Lists.{both}
 use Rattle.book.specs.Internal.{orderWith}
 use Rattle.book.proofs.Causes.{amend-unknown, amend-outside, amend-passes}
-use Rattle.book.proofs.Applied.{refuses, applied-amend, stands}
+use Rattle.table.proofs.Orders.{stands}
+use Rattle.book.proofs.Applied.{refuses, applied-amend}
 use Rattle.book.proofs.amend.Statement.{statement}
 use Rattle.book.proofs.amend.Tie as tie
 
@@ -22,7 +23,7 @@ put-requires c κs =
     let start = c .before .before .before .before .before .before .before .before in
     let a = start .args in
     let l = start .pre in (
-      stands (millis 0) (l .minimum) (l .live) (a .table .now) (l .represents) (l .id) (a .slot) (l .at) (c .before .before .before .before .before .before .if1 .left),
+      stands (l .minimum) (l .live) (a .table .now) (l .represents) (l .id) (a .slot) (l .at) (c .before .before .before .before .before .before .if1 .left),
       ap (λ (o : Order). goodPrice (o .price .0)) (c .renewed .ensures)
           ∙ both (goodPrice (a .price .0)) (goodVolume (a .volume .0)) (sym (c .before .before .before .before .before .in-range .ensures) ∙ c .before .before .before .before .if2 .taken) .0,
     )

@@ -11,10 +11,11 @@ use Rattle.rules.specs.declared.Side.{Side}
 use Rattle.rules.specs.declared.Order.{Order}
 use Rattle.rules.specs.declared.Event.the-variants.{Cancel, Deal}
 use Rattle.rules.specs.Orders.{left}
-use Rattle.rules.specs.Units.{goodPrice, contracts, millis}
+use Rattle.rules.specs.Units.{goodPrice, contracts}
 use Rattle.book.specs.Internal.{orderWith}
 use Rattle.book.proofs.Causes.{known, cancel-passes, deal-unknown, deal-outside, deal-above, deal-passes}
-use Rattle.book.proofs.Applied.{refuses, same-turn, deal-cancels, its-left, its-good, stands, applied-deal}
+use Rattle.table.proofs.Orders.{its-left, its-good, stands}
+use Rattle.book.proofs.Applied.{refuses, same-turn, deal-cancels, applied-deal}
 use Rattle.book.proofs.deal.Statement.{statement}
 use Rattle.book.proofs.deal.Tie as tie
 
@@ -40,7 +41,7 @@ returns-2 c = λ t id minimum live represents at.
     refuses (Deal t id (a .volume)) minimum live (a .table .now) represents 13 (c .refused2 .result) (c .refused2 .ensures)
     (deal-above live (represents .good) id (a .slot) at t (a .volume) there (sym (c .before .before .before .before .before .before .volume .ensures) ∙ c .before .before .before .before .before .if2 .taken)
     (subst (λ (m : ℕ). m < a .volume .0)
-    (its-left t minimum live (a .table .now) represents id (a .slot) at there (read .result) (read .ensures id minimum live represents at)) (c .before .if3 .taken)))
+    (its-left minimum live (a .table .now) represents id (a .slot) at there (read .result) (read .ensures id minimum live represents at)) (c .before .if3 .taken)))
 
 returns-3 : tie.Need-returns-3
 returns-3 c = λ t id minimum live represents at.
@@ -50,7 +51,7 @@ returns-3 c = λ t id minimum live represents at.
     let cancelled = c .before .before .before .before .cancel in
     let all : a .volume .0 ≡ left id live =
     sym (c .before .before .before .before .before .before .before .if4 .taken)
-    ∙ its-left t minimum live (a .table .now) represents id (a .slot) at there (read .result) (read .ensures id minimum live represents at) in
+    ∙ its-left minimum live (a .table .now) represents id (a .slot) at there (read .result) (read .ensures id minimum live represents at) in
     same-turn (Cancel t id) (Deal t id (a .volume)) minimum live (cancelled .last .0) (cancelled .result)
     (cancel-passes live (represents .good) id (a .slot) at t there)
     (deal-passes live (represents .good) id (a .slot) at t (a .volume) there (sym (c .before .before .before .before .before .before .before .before .before .before .before .before .before .volume .ensures) ∙ c .before .before .before .before .before .before .before .before .before .before .before .before .if2 .taken)
@@ -66,9 +67,9 @@ put-requires c κs =
     let l = start .pre .0 in
     let there = c .before .before .before .before .before .before .before .before .before .if1 .left in
     let read = c .before .before .before .before .before .order-in in (
-      stands (millis 0) (l .minimum) (l .live) (a .table .now) (l .represents) (l .id) (a .slot) (l .at) there,
+      stands (l .minimum) (l .live) (a .table .now) (l .represents) (l .id) (a .slot) (l .at) there,
       ap (λ (o : Order). goodPrice (o .price .0)) (c .renewed .ensures)
-          ∙ its-good (millis 0) (l .minimum) (l .live) (a .table .now) (l .represents) (l .id) (a .slot) (l .at) there (read .result)
+          ∙ its-good (l .minimum) (l .live) (a .table .now) (l .represents) (l .id) (a .slot) (l .at) there (read .result)
           (read .ensures (l .id) (l .minimum) (l .live) (l .represents) (l .at)),
     )
 
@@ -83,7 +84,7 @@ returns-4 c = λ t id minimum live represents at.
     let part = less _ _ (c .before .before .before .before .before .before .before .if3 .left) (c .before .before .before .before .before .before .if4 .left) in
     applied-deal t minimum live (a .table .now) represents id (a .slot) at there (a .volume) (new .result) (put .last .0) (put .result) (c .done .result)
     (deal-passes live (represents .good) id (a .slot) at t (a .volume) there (sym (c .before .before .before .before .before .before .before .before .before .before .before .before .volume .ensures) ∙ c .before .before .before .before .before .before .before .before .before .before .before .if2 .taken)
-    (subst (λ (m : ℕ). a .volume .0 ≤ m) (its-left t minimum live (a .table .now) represents id (a .slot) at there (read .result) is) (c .before .before .before .before .before .before .before .if3 .left)))
+    (subst (λ (m : ℕ). a .volume .0 ≤ m) (its-left minimum live (a .table .now) represents id (a .slot) at there (read .result) is) (c .before .before .before .before .before .before .before .if3 .left)))
     (subst (λ (o : Order). a .volume .0 < o .volume .0) is part)
     (new .ensures ∙ ap (λ (o : Order). orderWith o (o .price) (contracts (o .volume .0 - a .volume .0))) is) (put .ensures) (c .done .ensures)
 

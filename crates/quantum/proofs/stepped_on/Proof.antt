@@ -2,7 +2,8 @@
 use mathlib.Core.Path.{refl}
 use native.Mathlib.Omega.{arith}
 use Rattle.quantum.specs.declared.Quantum.{Quantum}
-use Rattle.quantum.proofs.Answers.{event-numbered, represents-all, reached-parts, may-note, sent-accepted, sent-refused}
+use Rattle.events.proofs.Numbers.{event-numbered}
+use Rattle.quantum.proofs.Answers.{represents-all, reached-parts, may-note, sent-accepted, sent-refused}
 use borrow.Author.Needs.{needs}
 use Rattle.quantum.proofs.stepped_on.Statement.{statement}
 use Rattle.quantum.proofs.stepped_on.Tie as tie

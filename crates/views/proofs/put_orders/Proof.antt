@@ -5,7 +5,7 @@ use mathlib.Core.Path.{_≡_, refl, ap, _∙_}
 use mathlib.Core.List.{_++_}
 use lib.ListN.{length, take, drop, length-drop}
 use lib.Seq.{length-take-le}
-use Rattle.book.specs.Internal.{blankOrder}
+use Rattle.table.specs.Internal.{blankOrder}
 use Rattle.views.specs.Views.{orderWords, ordersWords}
 use Rattle.views.specs.Internal.{Listed}
 use Rattle.views.proofs.Orders.{as-many, placed, orders-on, orders-long, orders-all}

@@ -17,7 +17,7 @@ use Rattle.month.specs.declared.Month.{Month}
 use Rattle.month.specs.Represents.{Answered}
 use Rattle.month.specs.Internal.{withCell, counted}
 use Rattle.month.proofs.Answers.{handed}
-use Rattle.month.proofs.CellNames.{IsFilled, named-out, named-blank, named-filled}
+use Rattle.cells.proofs.Finding.{IsFilled, named-out, named-blank, named-filled}
 use Rattle.month.proofs.Calls.{charge-range, charge-blank, charge-done}
 use borrow.Author.Needs.{needs}
 use Rattle.month.proofs.Month.charge.Statement.{statement}
@@ -29,10 +29,10 @@ call s = let a = s .args in Charge (a .day) (a .expiry) (a .quantum) (a .active)
 good : (k : tie.Else1) → goodCharges paper (k .before .before .args .active) (k .before .before .args .passive) ≡ true
 good k = sym (k .before .both-charges .ensures) ∙ not-false _ (k .if1 .left)
 
-found : (k : tie.After-found) → let a = k .before .before .before .before .before .args in IsFilled (a .self .cells) (a .day) (a .expiry) (a .quantum) (k .found .given .0 .0) (k .found .given .0 .1 .0)
+found : (k : tie.After-found) → let a = k .before .before .before .before .before .before .args in IsFilled (a .self .cells) (a .day) (a .expiry) (a .quantum) (k .found .given .0 .0) (k .found .given .0 .1 .0)
 found k =
-    let a = k .before .before .before .before .before .args in
-    named-filled (a .self .cells) (a .day) (a .expiry) (a .quantum) _ _ (sym (k .before .before .named .ensures) ∙ k .found .given .1)
+    let a = k .before .before .before .before .before .before .args in
+    named-filled (a .self .cells) (a .day) (a .expiry) (a .quantum) _ _ (sym (k .before .before .find .ensures) ∙ k .found .given .1)
 
 returns : tie.Need-returns
 returns c =
@@ -44,37 +44,37 @@ returns c =
     ∙ and-false (goodCell (a .day) (a .expiry) (a .quantum))))
 
 with-cell-requires : tie.Need-with-cell-requires
-with-cell-requires c κs = let s = c .before .before .before .before .before .before .before in
+with-cell-requires c κs = let s = c .before .before .before .before .before .before .before .before in
     let a = s .args in
     let f = found (c .before .before) in
     omega (arith, f .at, cell-small (a .day) (a .expiry) (a .quantum) (f .good))
 
 returns-2 : tie.Need-returns-2
 returns-2 c =
-    let s = c .before .before .before .before .before .before in
+    let s = c .before .before .before .before .before .before .before in
     let a = s .args in
     handed (a .self) (call s) (c .refused2 .result) (a .self) (Refused ArgumentOutOfRange) (c .refused2 .ensures)
     (charge-range (a .self) (a .day) (a .expiry) (a .quantum) (a .active) (a .passive)
-    (ap (λ (t : Bool). t && goodCharges paper (a .active) (a .passive)) (named-out (a .self .cells) (a .day) (a .expiry) (a .quantum) (sym (c .before .before .before .named .ensures) ∙ c .before .enum-told .given .1))))
+    (ap (λ (t : Bool). t && goodCharges paper (a .active) (a .passive)) (named-out (a .self .cells) (a .day) (a .expiry) (a .quantum) (sym (c .before .before .before .find .ensures) ∙ c .before .enum-told .given .1))))
 
 returns-3 : tie.Need-returns-3
 returns-3 c =
-    let s = c .before .before .before .before .before .before in
+    let s = c .before .before .before .before .before .before .before in
     let a = s .args in
-    let b = named-blank (a .self .cells) (a .day) (a .expiry) (a .quantum) (sym (c .before .before .before .named .ensures) ∙ c .before .enum-told2 .given .1) in
+    let b = named-blank (a .self .cells) (a .day) (a .expiry) (a .quantum) (sym (c .before .before .before .find .ensures) ∙ c .before .enum-told2 .given .1) in
     handed (a .self) (call s) (c .refused3 .result) (a .self) (Refused CellBlank) (c .refused3 .ensures)
-    (charge-blank (a .self) (a .day) (a .expiry) (a .quantum) (a .active) (a .passive) (and (b .0) (good (c .before .before .before .before))) (b .1))
+    (charge-blank (a .self) (a .day) (a .expiry) (a .quantum) (a .active) (a .passive) (and (b .0) (good (c .before .before .before .before .before))) (b .1))
 
 returns-4 : tie.Need-returns-4
 returns-4 c =
-    let s = c .before .before .before .before .before .before .before .before .before in
+    let s = c .before .before .before .before .before .before .before .before .before .before in
     let a = s .args in
     let m = a .self in
     let f = found (c .before .before .before .before) in
     handed m (call s) (c .accepted .result) _ Accepted (c .accepted .ensures)
     (subst (λ (n : Month). Answered m (call s) (counted n) (accepted done))
     (sym (c .before .with-cell .ensures ∙ λ i. withCell m (f .at i) ((c .before .before .recharged .ensures ∙ ap (charged (a .active) (a .passive)) (f .is)) i)))
-    (charge-done m (a .day) (a .expiry) (a .quantum) (a .active) (a .passive) (and (f .good) (good (c .before .before .before .before .before .before .before))) (f .filled)))
+    (charge-done m (a .day) (a .expiry) (a .quantum) (a .active) (a .passive) (and (f .good) (good (c .before .before .before .before .before .before .before .before))) (f .filled)))
 
 pub charge-spec : {M : Type 1} → statement M
 charge-spec =

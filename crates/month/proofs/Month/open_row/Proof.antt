@@ -31,11 +31,11 @@ cell-named k =
     let s = k .before .before .before .before in
     row-names (s .args .row) (s .args .day) (s .args .opening .spread) (s .pre .1) (both (within 1 31 (s .args .day)) (goodSettlement (s .args .opening .spread)) (good k) .0)
 
-filled : (k : tie.After-cell-at) (b : Bool) → k .cell-at .result .filled ≡ b
-    → let a = k .before .before .before .before .before .before .args in cellAt (a .self .cells) (placeOf (a .day) (a .row .expiry) (a .row .quantum)) .filled ≡ b
+filled : (k : tie.After-at) (b : Bool) → k .at .result .filled ≡ b
+    → let a = k .before .before .before .before .before .before .before .args in cellAt (a .self .cells) (placeOf (a .day) (a .row .expiry) (a .row .quantum)) .filled ≡ b
 filled k b h =
-    let a = k .before .before .before .before .before .before .args in
-    ap (λ (p : ℕ). cellAt (a .self .cells) p .filled) (sym (k .before .place-of .ensures)) ∙ ap (λ (x : Cell). x .filled) (sym (k .cell-at .ensures)) ∙ h
+    let a = k .before .before .before .before .before .before .before .args in
+    ap (λ (p : ℕ). cellAt (a .self .cells) p .filled) (sym (k .before .before .place-of .ensures)) ∙ ap (λ (x : Cell). x .filled) (sym (k .at .ensures)) ∙ h
 
 returns : tie.Need-returns
 returns c = λ words seven is.
@@ -48,33 +48,33 @@ returns c = λ words seven is.
 place-of-requires : tie.Need-place-of-requires
 place-of-requires c κs = cell-named c
 
-cell-at-requires : tie.Need-cell-at-requires
-cell-at-requires c κs = let a = c .before .before .before .before .before .args in
-    omega (arith, c .place-of .ensures, cell-small (a .day) (a .row .expiry) (a .row .quantum) (cell-named (c .before)))
+at-requires : tie.Need-at-requires
+at-requires c κs = let a = c .before .before .before .before .before .before .args in
+    omega (arith, c .before .place-of .ensures, cell-small (a .day) (a .row .expiry) (a .row .quantum) (cell-named (c .before .before)))
 
 returns-2 : tie.Need-returns-2
 returns-2 c = λ words seven is.
-    let s = c .before .before .before .before .before .before .before .before in
+    let s = c .before .before .before .before .before .before .before .before .before in
     let a = s .args in
     handed (a .self) (Open words (a .day) (a .opening)) (c .refused2 .result) (a .self) (Refused CellFilled) (c .refused2 .ensures)
-    (open-filled (a .self) words (a .row) (a .day) (a .opening) (record { seven = seven; is = is; good = s .pre .1 }) (good (c .before .before .before .before))
+    (open-filled (a .self) words (a .row) (a .day) (a .opening) (record { seven = seven; is = is; good = s .pre .1 }) (good (c .before .before .before .before .before))
     (filled (c .before .before) _ (c .before .if2 .taken)))
 
 returns-3 : tie.Need-returns-3
 returns-3 c = λ words seven is.
-    let s = c .before .before .before .before .before .before .before .before .before in
+    let s = c .before .before .before .before .before .before .before .before .before .before in
     let a = s .args in
     handed (a .self) (Open words (a .day) (a .opening)) (c .refused3 .result) (a .self) (Refused QuantumOpen) (c .refused3 .ensures)
-    (open-running (a .self) words (a .row) (a .day) (a .opening) (record { seven = seven; is = is; good = s .pre .1 }) (good (c .before .before .before .before .before))
+    (open-running (a .self) words (a .row) (a .day) (a .opening) (record { seven = seven; is = is; good = s .pre .1 }) (good (c .before .before .before .before .before .before))
     (filled (c .before .before .before) _ (c .before .before .if2 .left)) (c .before .if3 .taken))
 
 returns-4 : tie.Need-returns-4
 returns-4 c = λ words seven is.
     let f = c .before .before .before in
-    let s = f .before .before .before .before .before .before .before .before in
+    let s = f .before .before .before .before .before .before .before .before .before in
     let a = s .args in
     handed (a .self) (Open words (a .day) (a .opening)) (c .refused4 .result) (a .self) (Refused LapseLimitOutOfRange) (c .refused4 .ensures)
-    (open-allowed (a .self) words (a .row) (a .day) (a .opening) (record { seven = seven; is = is; good = s .pre .1 }) (good (f .before .before .before .before))
+    (open-allowed (a .self) words (a .row) (a .day) (a .opening) (record { seven = seven; is = is; good = s .pre .1 }) (good (f .before .before .before .before .before))
     (filled (f .before .before) _ (f .before .if2 .left)) (f .if3 .left)
     (sym (c .before .before .lapse-limit .ensures) ∙ not-true _ (c .before .if4 .taken)))
 
@@ -82,33 +82,33 @@ returns-5 : tie.Need-returns-5
 returns-5 c = λ words seven is.
     let e = c .before .before .before in
     let f = e .before .before in
-    let s = f .before .before .before .before .before .before .before .before in
+    let s = f .before .before .before .before .before .before .before .before .before in
     let a = s .args in
     handed (a .self) (Open words (a .day) (a .opening)) (c .refused5 .result) (a .self) (Refused StrikesOutOfRange) (c .refused5 .ensures)
-    (open-strike (a .self) words (a .row) (a .day) (a .opening) (record { seven = seven; is = is; good = s .pre .1 }) (good (f .before .before .before .before))
+    (open-strike (a .self) words (a .row) (a .day) (a .opening) (record { seven = seven; is = is; good = s .pre .1 }) (good (f .before .before .before .before .before))
     (filled (f .before .before) _ (f .before .if2 .left)) (f .if3 .left)
     (sym (e .before .lapse-limit .ensures) ∙ not-false _ (e .if4 .left)) (sym (c .before .before .in-range .ensures) ∙ not-true _ (c .before .if5 .taken)))
 
 -- the strike's numbers passed
-in-range : (k : tie.Else5) → let a = k .before .before .before .before .before .before .before .before .before .before .before .before .args in goodSpreadRule (a .opening .spread) ≡ true
+in-range : (k : tie.Else5) → let a = k .before .before .before .before .before .before .before .before .before .before .before .before .before .args in goodSpreadRule (a .opening .spread) ≡ true
 in-range k = sym (k .before .in-range .ensures) ∙ not-false _ (k .if5 .left)
 
 opened-requires : tie.Need-opened-requires
 opened-requires c κs =
-    (c .before .before .before .before .before .before .before .before .before .before .before .before .pre .1, in-range c)
+    (c .before .before .before .before .before .before .before .before .before .before .before .before .before .pre .1, in-range c)
 
 returns-6 : tie.Need-returns-6
 returns-6 c = λ words seven is.
-    let g = c .before .before .before in
+    let g = c .before .before in
     let e = g .before .before in
     let f = e .before .before in
-    let s = f .before .before .before .before .before .before .before .before in
+    let s = f .before .before .before .before .before .before .before .before .before in
     let a = s .args in
     handed (a .self) (Open words (a .day) (a .opening)) (c .accepted .result) _ Accepted (c .accepted .ensures)
-    (open-done (a .self) words (a .row) (a .day) (a .opening) (record { seven = seven; is = is; good = s .pre .1 }) (good (f .before .before .before .before))
+    (open-done (a .self) words (a .row) (a .day) (a .opening) (record { seven = seven; is = is; good = s .pre .1 }) (good (f .before .before .before .before .before))
     (filled (f .before .before) _ (f .before .if2 .left)) (f .if3 .left)
-    (sym (e .before .lapse-limit .ensures) ∙ not-false _ (e .if4 .left)) (in-range g) (c .before .before .opened .result)
-    (f .before .before .before .place-of .result) (c .before .before .opened .ensures) (f .before .before .before .place-of .ensures))
+    (sym (e .before .lapse-limit .ensures) ∙ not-false _ (e .if4 .left)) (in-range g) (c .before .opened .result)
+    (f .before .before .before .before .place-of .result) (c .before .opened .ensures) (f .before .before .before .before .place-of .ensures))
 
 pub open-row-spec : {M : Type 1} → statement M
 open-row-spec =
@@ -120,7 +120,7 @@ open-row-spec =
     (λ c κs. search needs)
     returns
     place-of-requires
-    cell-at-requires
+    at-requires
     (λ c κs. search needs)
     returns-2
     (λ c κs. search needs)

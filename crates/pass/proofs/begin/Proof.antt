@@ -1,0 +1,11 @@
+-- No events, no pair. Assumes nothing.
+use Rattle.pass.proofs.Steps.{begins}
+use borrow.Author.Needs.{needs}
+use Rattle.pass.proofs.begin.Statement.{statement}
+use Rattle.pass.proofs.begin.Tie as tie
+
+returns : tie.Need-returns
+returns c = λ row sp. begins row sp (c .started .result) (c .started .ensures row sp)
+
+pub begin-spec : {M : Type 1} → statement M
+begin-spec = tie.close (tie.spec (λ c κs. search needs) returns)

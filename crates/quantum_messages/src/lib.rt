@@ -1,0 +1,236 @@
+// A FIX message (W11) on a quantum, open or idle: the one or two events that it stands for, both or neither.
+ghost use mathlib.Core.Path.{_≡_};
+ghost use mathlib.Core.Bool.{false};
+ghost use Prim.Native.Nat.{ℕ};
+ghost use Rattle.rules.specs.declared.Event.the-variants.{Add, Cancel};
+ghost use Rattle.rules.specs.declared.Refusal.the-variants.{NoQuantumOpen};
+ghost use Rattle.rules.specs.Lists.{if_then_else_};
+ghost use Rattle.rules.specs.Dates.{Moment};
+ghost use Rattle.rules.specs.Messages.{newOrder, cancelOrder, replaceOrder};
+ghost use Rattle.rules.specs.Calls as B;
+ghost use Rattle.rules.specs.Causes.{otherSideIn};
+ghost use Rattle.dates.specs.Answers.{shownElapsed};
+ghost use Rattle.quantum_messages.specs.Answers.{Holds, Reached, Answered};
+ghost use Rattle.quantum_messages.specs.Internal.{unchanged, MessageAnswered, BothOrNeither};
+use dates::Elapsed;
+use fix::MessageRead;
+use quantum::Quantum;
+use rules::Answer;
+use rules::Contracts;
+use rules::Event;
+use rules::Millis;
+use rules::Refusal;
+use rules::Side;
+use rules::Steps;
+
+// What a message hands back: the quantum after it, the answer, and whether the accepted events are two.
+pub struct AfterMessage {
+    pub quantum: Quantum,
+    pub answer: Answer,
+    pub second: bool,
+}
+
+// A refused message ends here, with the quantum as it was.
+fn refused(quantum: Quantum, refusal: Refusal) -> AfterMessage
+    ensures { λ r. ⌜ r ≡ unchanged quantum refusal ⌝ }
+{
+    AfterMessage {
+        quantum,
+        answer: Answer::Refused(refusal),
+        second: false,
+    }
+}
+
+// A message whose time is none of the quantum's: with none open that comes first.
+fn untimely(quantum: Quantum, running: bool, refusal: Refusal) -> AfterMessage
+    ensures { λ r. ⌜ r ≡ unchanged quantum (if running then refusal else NoQuantumOpen) ⌝ }
+{
+    if !running {
+        return refused(quantum, Refusal::NoQuantumOpen);
+    }
+    refused(quantum, refusal)
+}
+
+// An event. With no quantum open it is refused; else the quantum judges it.
+fn send(quantum: Quantum, running: bool, e: Event) -> AfterMessage
+    requires { ⌜ Reached quantum running ⌝ }
+    ensures { λ r. ⌜ Answered quantum running (B.Send e) r ⌝ }
+{
+    if !running {
+        return refused(quantum, Refusal::NoQuantumOpen);
+    }
+    let sent = quantum.send(e);
+    let next = sent.quantum;
+    let answer = sent.answer;
+    AfterMessage {
+        quantum: next,
+        answer,
+        second: false,
+    }
+}
+
+// D: an order more.
+fn new_order(
+    quantum: Quantum,
+    running: bool,
+    when: Elapsed,
+    id: u32,
+    side: Side,
+    volume: Contracts,
+    price: Steps,
+) -> AfterMessage
+    requires { ⌜ Reached quantum running ⌝ }
+    ensures { λ r. ⌜ MessageAnswered quantum running (λ t. newOrder id side volume price t) (shownElapsed when) r ⌝ }
+{
+    match when {
+        Elapsed::At(t) => send(
+            quantum,
+            running,
+            Event::Add {
+                t,
+                id,
+                side,
+                price,
+                volume,
+            },
+        ),
+        Elapsed::Before => untimely(quantum, running, Refusal::TimeBackwards),
+        Elapsed::Late => untimely(quantum, running, Refusal::TimePastEnd),
+        Elapsed::Unreadable => refused(quantum, Refusal::FieldWrong),
+    }
+}
+
+// F: the order that 41 names goes.
+fn cancel_order(quantum: Quantum, running: bool, when: Elapsed, id: u32, orig: u32) -> AfterMessage
+    requires { ⌜ Reached quantum running ⌝ }
+    ensures { λ r. ⌜ MessageAnswered quantum running (λ t. cancelOrder id orig t) (shownElapsed when) r ⌝ }
+{
+    match when {
+        Elapsed::At(t) => send(quantum, running, Event::Cancel { t, id: orig }),
+        Elapsed::Before => untimely(quantum, running, Refusal::TimeBackwards),
+        Elapsed::Late => untimely(quantum, running, Refusal::TimePastEnd),
+        Elapsed::Unreadable => refused(quantum, Refusal::FieldWrong),
+    }
+}
+
+// That cancel, and an add on the quantum after it: both or neither.
+fn both_or_neither(
+    quantum: Quantum,
+    running: bool,
+    t: Millis,
+    id: u32,
+    orig: u32,
+    side: Side,
+    volume: Contracts,
+    price: Steps,
+) -> AfterMessage
+    requires { ⌜ Reached quantum running ⌝ }
+    ensures { λ r. ⌜ BothOrNeither quantum running (Cancel t orig) (Add t id side price volume) r ⌝ }
+{
+    let cancelled = send(quantum, running, Event::Cancel { t, id: orig });
+    let first = cancelled.answer;
+    let between = cancelled.quantum;
+    if let Answer::Refused(of_cancel) = first {
+        return refused(quantum, of_cancel);
+    }
+    let added = send(
+        between,
+        running,
+        Event::Add {
+            t,
+            id,
+            side,
+            price,
+            volume,
+        },
+    );
+    let second = added.answer;
+    let after = added.quantum;
+    match second {
+        Answer::Accepted => AfterMessage {
+            quantum: after,
+            answer: second,
+            second: true,
+        },
+        Answer::Refused(of_add) => refused(quantum, of_add),
+    }
+}
+
+// Whether the live order that a G's 41 names is not of its side.
+fn other_side(quantum: Quantum, running: bool, side: Side, id: u32) -> bool
+    requires { ⌜ Reached quantum running ⌝ }
+    ensures { λ r. ⌜ ((new : ℕ) (volume : Contracts) (price : Steps) (t : Moment) (b : B.Book) → Holds quantum running b → r ≡ otherSideIn (b .running) (replaceOrder new id side volume price t)) ⌝ }
+{
+    quantum.on_other_side(side, id)
+}
+
+// G: its side is that of the order that 41 names, where there is one.
+fn replace_order(
+    quantum: Quantum,
+    running: bool,
+    when: Elapsed,
+    id: u32,
+    orig: u32,
+    side: Side,
+    volume: Contracts,
+    price: Steps,
+) -> AfterMessage
+    requires { ⌜ Reached quantum running ⌝ }
+    ensures { λ r. ⌜ MessageAnswered quantum running (λ t. replaceOrder id orig side volume price t) (shownElapsed when) r ⌝ }
+{
+    if other_side(quantum, running, side, orig) {
+        return refused(quantum, Refusal::FieldWrong);
+    }
+    match when {
+        Elapsed::At(t) => both_or_neither(quantum, running, t, id, orig, side, volume, price),
+        Elapsed::Before => untimely(quantum, running, Refusal::TimeBackwards),
+        Elapsed::Late => untimely(quantum, running, Refusal::TimePastEnd),
+        Elapsed::Unreadable => refused(quantum, Refusal::FieldWrong),
+    }
+}
+
+// A FIX message, with the quantum's start: its one or two calls.
+pub fn message(quantum: Quantum, running: bool, start: &[u8], message: &[u8]) -> AfterMessage
+    requires { ⌜ Reached quantum running ⌝ }
+    ensures { λ r. ⌜ Answered quantum running (B.Message (now (start .entry)) (now (message .entry))) r ⌝ }
+{
+    match fix::read(message) {
+        MessageRead::New {
+            id,
+            side,
+            volume,
+            price,
+            time,
+        } => new_order(
+            quantum,
+            running,
+            dates::after(start, time),
+            id,
+            side,
+            volume,
+            price,
+        ),
+        MessageRead::Cancel { id, orig, time } => {
+            cancel_order(quantum, running, dates::after(start, time), id, orig)
+        }
+        MessageRead::Replace {
+            id,
+            orig,
+            side,
+            volume,
+            price,
+            time,
+        } => replace_order(
+            quantum,
+            running,
+            dates::after(start, time),
+            id,
+            orig,
+            side,
+            volume,
+            price,
+        ),
+        MessageRead::FrameWrong => refused(quantum, Refusal::FrameWrong),
+        MessageRead::FieldWrong => refused(quantum, Refusal::FieldWrong),
+    }
+}

@@ -1,0 +1,5 @@
+pub mod Buffers
+pub mod Walks
+pub mod Records
+pub mod Openings
+pub mod Turns
