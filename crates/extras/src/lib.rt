@@ -33,7 +33,7 @@ pub fn weight_number(kept: u32, length: u32, share: u32) -> u64
     if length < kept {
         return buffers::refused(3);
     }
-    numbers::wide(pay::weight_of(Millis(kept), Millis(length), share))
+    numbers::wide(verdict::weight_of(Millis(kept), Millis(length), share))
 }
 
 // The row for an expiry and a quantum from two tables of rows, seven words or none.

@@ -83,7 +83,7 @@ pub fn look(words: &[u32], day: u32, expiry: u32, quantum: u32) -> Looked
     }
     let cell = cell_named(&words[604..2464], day, expiry, quantum);
     if cell.filled {
-        return Looked::Found(pay::view(cell));
+        return Looked::Found(verdict::view(cell));
     }
     Looked::Refused(Refusal::CellBlank)
 }

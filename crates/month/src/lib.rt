@@ -494,7 +494,7 @@ impl Month {
             },
             Named::Filled(_, cell) => LookedAt {
                 month: self,
-                answer: Looked::Found(pay::view(cell)),
+                answer: Looked::Found(verdict::view(cell)),
             },
         }
     }

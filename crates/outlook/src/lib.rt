@@ -39,7 +39,7 @@ fn ending(duty: Duty, clock: Clock, keeps: u32, share: u32, allowed: u32) -> Cel
     };
     let end = clock::onward(now, length, 0);
     let total = end.kept;
-    pay::view(Cell {
+    verdict::view(Cell {
         filled: true,
         kept: total,
         length,
@@ -154,8 +154,8 @@ pub fn of(duty: Duty, clock: Clock, share: u32, allowed: u32) -> Outlook
     let keeping = ending(duty, clock, 1, share, allowed);
     let rested = resting.cell;
     let need = needed(kept, end, share);
-    let within = pay::within_lapse_limit(allowed, clock.lapses);
-    let waits = pay::within_lapse_limit(allowed, rested.lapses);
+    let within = verdict::within_lapse_limit(allowed, clock.lapses);
+    let waits = verdict::within_lapse_limit(allowed, rested.lapses);
     let possible = numbers::both(can, keeping.met);
     let by = by(resting.met, possible, waits, now, end, need);
     Outlook {

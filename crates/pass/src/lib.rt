@@ -88,7 +88,7 @@ fn finish(progress: Progress, row: Row, buffer: &mut [u32]) -> SessionAnswer
     );
     SessionAnswer::Finished {
         kept,
-        weight: pay::weight_of(kept, length, share),
+        weight: verdict::weight_of(kept, length, share),
         pairs: grown.pairs,
     }
 }

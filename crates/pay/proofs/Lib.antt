@@ -1,3 +1,2 @@
 -- Laws about numbers and lists that the crate's proofs cite.
-pub mod Weights
 pub mod Series

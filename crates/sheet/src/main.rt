@@ -46,7 +46,7 @@ fn verdict(kept: Millis, length: Millis, share: u32) {
         active: Kopecks(0),
         passive: Kopecks(0),
     };
-    if pay::met(cell) {
+    if verdict::met(cell) {
         text(b"verdict met\n");
     } else {
         text(b"verdict failed\n");

@@ -5,7 +5,7 @@ use Rattle.rules.specs.declared.Cell.{Cell}
 use Rattle.rules.specs.Terms.{paper}
 use Rattle.rules.specs.Bounds.{CellBounds}
 use Rattle.rules.specs.Pay.{cellMet, earned}
-use Rattle.pay.proofs.Weights.{weightBy-most, earned-most}
+use Rattle.verdict.proofs.Weights.{weightBy-most, earned-most}
 use borrow.Author.Needs.{needs}
 use Rattle.pay.proofs.earned.Statement.{statement}
 use Rattle.pay.proofs.earned.Tie as tie

@@ -1,7 +1,7 @@
 -- `met` meets its contract: the share, then the lapses. Assumes nothing.
 use borrow.Author.Needs.{needs}
-use Rattle.pay.proofs.met.Statement.{statement}
-use Rattle.pay.proofs.met.Tie as tie
+use Rattle.verdict.proofs.met.Statement.{statement}
+use Rattle.verdict.proofs.met.Tie as tie
 
 returns : tie.Need-returns
 returns c = simp (c .within-lapse-limit .ensures, ← c .before .before .reaches .ensures, c .before .if1 .taken)

@@ -1,8 +1,8 @@
 -- `pay::view` meets its contract: its verdict and weight are `viewOf`'s, as `met` and `weight` promise. Assumes nothing.
 use Rattle.rules.specs.Pay.{viewOf}
 use borrow.Author.Needs.{needs}
-use Rattle.pay.proofs.view.Statement.{statement}
-use Rattle.pay.proofs.view.Tie as tie
+use Rattle.verdict.proofs.view.Statement.{statement}
+use Rattle.verdict.proofs.view.Tie as tie
 
 returns : tie.Need-returns
 unfolding viewOf

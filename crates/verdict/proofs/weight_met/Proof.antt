@@ -1,9 +1,9 @@
 -- `weight_met` meets its contract: the quotient of the fifth powers is at most 10,000. Assumes nothing.
 use native.Mathlib.Omega.{arith}
 use borrow.Author.Needs.{needs}
-use Rattle.pay.proofs.Weights.{Powers, weightMet-high, product-most, divisor-least, quotient-most, weightMet-low}
-use Rattle.pay.proofs.weight_met.Statement.{statement}
-use Rattle.pay.proofs.weight_met.Tie as tie
+use Rattle.verdict.proofs.Weights.{Powers, weightMet-high, product-most, divisor-least, quotient-most, weightMet-low}
+use Rattle.verdict.proofs.weight_met.Statement.{statement}
+use Rattle.verdict.proofs.weight_met.Tie as tie
 
 returns : tie.Need-returns
 returns c = weightMet-high (c .before .args .f) (c .before .args .share) (c .if1 .taken)

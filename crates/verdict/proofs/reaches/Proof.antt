@@ -3,9 +3,9 @@ use mathlib.Core.Path.{refl}
 use native.Mathlib.Omega.{arith}
 use borrow.Author.Needs.{needs}
 use Rattle.rules.specs.Pay.{met}
-use Rattle.pay.proofs.Weights.{product-fits}
-use Rattle.pay.proofs.reaches.Statement.{statement}
-use Rattle.pay.proofs.reaches.Tie as tie
+use Rattle.verdict.proofs.Weights.{product-fits}
+use Rattle.verdict.proofs.reaches.Statement.{statement}
+use Rattle.verdict.proofs.reaches.Tie as tie
 
 mul-needed : tie.Need-mul-needed
 mul-needed c =

@@ -6,10 +6,10 @@ use mathlib.Core.Bool.{true}
 use Rattle.rules.specs.Terms.{paper}
 use Rattle.rules.specs.Pay.{met, weightMet, weightAt}
 use Rattle.rules.proofs.Weights.{weight-by-f}
-use Rattle.pay.proofs.Weights.{met-least, weight-met, weight-failed}
+use Rattle.verdict.proofs.Weights.{met-least, weight-met, weight-failed}
 use borrow.Author.Needs.{needs}
-use Rattle.pay.proofs.weight_of.Statement.{statement}
-use Rattle.pay.proofs.weight_of.Tie as tie
+use Rattle.verdict.proofs.weight_of.Statement.{statement}
+use Rattle.verdict.proofs.weight_of.Tie as tie
 
 look-up-requires : tie.Need-look-up-requires
 look-up-requires c κs = sym (c .before .has .ensures) ∙ c .if1 .taken

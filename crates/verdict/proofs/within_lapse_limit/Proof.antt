@@ -1,8 +1,8 @@
 -- No limit, or the count is at most the limit. Assumes nothing.
 use borrow.Author.Tests.{eq-eqb, ne-eqb}
 use Rattle.rules.specs.Lapses.{withinLapseLimit}
-use Rattle.pay.proofs.within_lapse_limit.Statement.{statement}
-use Rattle.pay.proofs.within_lapse_limit.Tie as tie
+use Rattle.verdict.proofs.within_lapse_limit.Statement.{statement}
+use Rattle.verdict.proofs.within_lapse_limit.Tie as tie
 
 returns : tie.Need-returns
 unfolding withinLapseLimit

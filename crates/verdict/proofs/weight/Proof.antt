@@ -4,9 +4,9 @@ use borrow.Author.Needs.{needs}
 use Rattle.rules.specs.Terms.{paper}
 use Rattle.rules.specs.Lapses.{withinLapseLimit}
 use Rattle.rules.specs.Pay.{met, weight}
-use Rattle.pay.proofs.Weights.{weight-within, weight-past}
-use Rattle.pay.proofs.weight.Statement.{statement}
-use Rattle.pay.proofs.weight.Tie as tie
+use Rattle.verdict.proofs.Weights.{weight-within, weight-past}
+use Rattle.verdict.proofs.weight.Statement.{statement}
+use Rattle.verdict.proofs.weight.Tie as tie
 
 returns : tie.Need-returns
 unfolding weight

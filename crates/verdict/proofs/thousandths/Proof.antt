@@ -1,8 +1,8 @@
 -- `thousandths` meets its contract: it computes what the definition says. Assumes nothing.
 use mathlib.Core.Path.{refl}
 use borrow.Author.Needs.{needs}
-use Rattle.pay.proofs.thousandths.Statement.{statement}
-use Rattle.pay.proofs.thousandths.Tie as tie
+use Rattle.verdict.proofs.thousandths.Statement.{statement}
+use Rattle.verdict.proofs.thousandths.Tie as tie
 
 returns : tie.Need-returns
 returns c = refl

@@ -1,8 +1,8 @@
 -- `fifth` meets its contract: each power of a number up to 800 fits. Assumes nothing.
 use native.Mathlib.Omega.{arith}
-use Rattle.pay.proofs.Weights.{square-most, fourth-most, fifth-most, fifth-power}
-use Rattle.pay.proofs.fifth.Statement.{statement}
-use Rattle.pay.proofs.fifth.Tie as tie
+use Rattle.verdict.proofs.Weights.{square-most, fourth-most, fifth-most, fifth-power}
+use Rattle.verdict.proofs.fifth.Statement.{statement}
+use Rattle.verdict.proofs.fifth.Tie as tie
 
 mul-square : tie.Need-mul-square
 mul-square c = omega (arith, square-most (c .args .x) (c .pre))

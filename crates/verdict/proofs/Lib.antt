@@ -1,0 +1,2 @@
+-- Laws about numbers that the crate's proofs cite.
+pub mod Weights
