@@ -302,12 +302,12 @@ impl Month {
         let before = self.quantum;
         let sent = quantum_messages::message(before, self.running, start, message);
         let answer = sent.answer;
-        let quantum = sent.quantum;
+        let taken = sent.quantum;
         match answer {
             Answer::Accepted => {
                 let count = ticket::further(self.count, sent.second);
                 let mut next = self;
-                next.quantum = quantum;
+                next.quantum = taken;
                 next.count = count;
                 accepted(next)
             }

@@ -4,11 +4,6 @@ ghost use Prim.Native.Nat.{_+_, _*_, _≤_};
 ghost use lib.ListN.{length};
 
 mod accounted;
-mod boards;
-mod days;
-mod eased;
-mod maker_calls;
-mod safe;
 
 use console::field;
 use console::field_line;
@@ -134,24 +129,15 @@ fn row_case(input: &[u8]) -> bool {
     true
 }
 
-// Kinds 5 to 14: days, rows eased on them, messages, the standing of makers, safe minutes.
+// What stands beside the month, and messages.
 fn other_case(kind: u32, input: &[u8]) -> bool
     requires { ⌜ 4 ≤ length (now input) ⌝ }
 {
-    if days::is_kind(kind) {
-        return days::case(kind, input);
-    }
-    if eased::is_kind(kind) {
-        return eased::case(kind, input);
+    if extra_cases::is_kind(kind) {
+        return extra_cases::case(kind, input);
     }
     if byte_cases::is_message_kind(kind) {
         return byte_cases::message_case(kind, input);
-    }
-    if kind == 7 {
-        return maker_calls::standing_case(input);
-    }
-    if kind == 8 {
-        return safe::safe_case(input);
     }
     false
 }
@@ -171,9 +157,6 @@ fn run_case(input: &[u8]) -> bool {
     if kind == 3 {
         byte_cases::record_case(&input[4..]);
         return true;
-    }
-    if kind == 4 {
-        return boards::board_case(input);
     }
     if kind == 15 {
         return accounted::account_case(input);

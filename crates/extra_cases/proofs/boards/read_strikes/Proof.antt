@@ -4,8 +4,8 @@ use native.Mathlib.Omega.{arith}
 use mathlib.Core.Path.{_≡_}
 use lib.ListN.{length, length-set}
 use borrow.Author.Needs.{needs}
-use Rattle.probe.proofs.boards.read_strikes.Statement.{statement}
-use Rattle.probe.proofs.boards.read_strikes.Tie as tie
+use Rattle.extra_cases.proofs.boards.read_strikes.Statement.{statement}
+use Rattle.extra_cases.proofs.boards.read_strikes.Tie as tie
 
 abbrev Inv-loop : tie.InvT-loop
 Inv-loop bytes count strikes₀ i₀ strikes i = (i ≤ count) × (64 ≡ length strikes)

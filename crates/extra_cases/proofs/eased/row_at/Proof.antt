@@ -2,8 +2,8 @@
 use native.Mathlib.Omega.{arith}
 use lib.ListN.{length-take}
 use borrow.Author.Needs.{needs}
-use Rattle.probe.proofs.eased.row_at.Statement.{statement}
-use Rattle.probe.proofs.eased.row_at.Tie as tie
+use Rattle.extra_cases.proofs.eased.row_at.Statement.{statement}
+use Rattle.extra_cases.proofs.eased.row_at.Tie as tie
 
 slice-aggregate-eased-line : tie.Need-slice-aggregate-eased-line
 slice-aggregate-eased-line c = simp length-take (omega arith)

@@ -2,8 +2,8 @@
 use native.Mathlib.Omega.{arith}
 use lib.ListN.{length-take}
 use borrow.Author.Needs.{needs}
-use Rattle.probe.proofs.eased.inside_case.Statement.{statement}
-use Rattle.probe.proofs.eased.inside_case.Tie as tie
+use Rattle.extra_cases.proofs.eased.inside_case.Statement.{statement}
+use Rattle.extra_cases.proofs.eased.inside_case.Tie as tie
 
 slice-aggregate-inside-lines : tie.Need-slice-aggregate-inside-lines
 slice-aggregate-inside-lines c = simp length-take (omega arith)

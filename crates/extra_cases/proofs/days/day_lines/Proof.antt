@@ -4,8 +4,8 @@ use native.Mathlib.Omega.{arith}
 use mathlib.Core.Path.{_≡_}
 use lib.ListN.{length, length-take}
 use borrow.Author.Needs.{needs}
-use Rattle.probe.proofs.days.day_lines.Statement.{statement}
-use Rattle.probe.proofs.days.day_lines.Tie as tie
+use Rattle.extra_cases.proofs.days.day_lines.Statement.{statement}
+use Rattle.extra_cases.proofs.days.day_lines.Tie as tie
 
 abbrev Inv-loop : tie.InvT-loop
 Inv-loop prices threshold n day₀ t6 day = (day ≤ n) × (n ≡ length prices)

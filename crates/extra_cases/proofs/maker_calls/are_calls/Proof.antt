@@ -1,8 +1,8 @@
 -- `probe::maker_calls::are_calls` meets its contract. Each call lies within the bytes. The measure is the number of calls left. Assumes nothing.
 use Prim.Native.Nat.{_-_, _≤_}
 use borrow.Author.Needs.{needs}
-use Rattle.probe.proofs.maker_calls.are_calls.Statement.{statement}
-use Rattle.probe.proofs.maker_calls.are_calls.Tie as tie
+use Rattle.extra_cases.proofs.maker_calls.are_calls.Statement.{statement}
+use Rattle.extra_cases.proofs.maker_calls.are_calls.Tie as tie
 
 abbrev Inv-loop : tie.InvT-loop
 Inv-loop input from n k₀ k = k ≤ n

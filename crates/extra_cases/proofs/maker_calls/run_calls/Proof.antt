@@ -1,8 +1,8 @@
 -- `probe::maker_calls::run_calls` meets its contract. Each call lies within the bytes, and the records lent within the array. The measure is the number of calls left. Assumes nothing.
 use Prim.Native.Nat.{_-_, _≤_}
 use borrow.Author.Needs.{needs}
-use Rattle.probe.proofs.maker_calls.run_calls.Statement.{statement}
-use Rattle.probe.proofs.maker_calls.run_calls.Tie as tie
+use Rattle.extra_cases.proofs.maker_calls.run_calls.Statement.{statement}
+use Rattle.extra_cases.proofs.maker_calls.run_calls.Tie as tie
 
 abbrev Inv-loop : tie.InvT-loop
 Inv-loop input size given n from list₀ count₀ k₀ list count k = k ≤ n

@@ -1,8 +1,8 @@
 -- `probe::maker_calls::records` meets its contract. Each record lies within the bytes and the array. The measure is the number of records left. Assumes nothing.
 use Prim.Native.Nat.{_-_, _≤_}
 use borrow.Author.Needs.{needs}
-use Rattle.probe.proofs.maker_calls.records.Statement.{statement}
-use Rattle.probe.proofs.maker_calls.records.Tie as tie
+use Rattle.extra_cases.proofs.maker_calls.records.Statement.{statement}
+use Rattle.extra_cases.proofs.maker_calls.records.Tie as tie
 
 abbrev Inv-loop : tie.InvT-loop
 Inv-loop input size list₀ i₀ list i = i ≤ size

@@ -2,8 +2,8 @@
 use native.Mathlib.Omega.{arith}
 use lib.ListN.{length-take}
 use borrow.Author.Needs.{needs}
-use Rattle.probe.proofs.boards.read_board.Statement.{statement}
-use Rattle.probe.proofs.boards.read_board.Tie as tie
+use Rattle.extra_cases.proofs.boards.read_board.Statement.{statement}
+use Rattle.extra_cases.proofs.boards.read_board.Tie as tie
 
 slice-aggregate-board-line : tie.Need-slice-aggregate-board-line
 slice-aggregate-board-line c = simp length-take (omega arith)

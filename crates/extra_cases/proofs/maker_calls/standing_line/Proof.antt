@@ -1,8 +1,8 @@
 -- `probe::maker_calls::standing_line` meets its contract. Each used record lies within the array. The measure is the number of records left. Assumes nothing.
 use Prim.Native.Nat.{_-_, _≤_}
 use borrow.Author.Needs.{needs}
-use Rattle.probe.proofs.maker_calls.standing_line.Statement.{statement}
-use Rattle.probe.proofs.maker_calls.standing_line.Tie as tie
+use Rattle.extra_cases.proofs.maker_calls.standing_line.Statement.{statement}
+use Rattle.extra_cases.proofs.maker_calls.standing_line.Tie as tie
 
 abbrev Inv-loop : tie.InvT-loop
 Inv-loop list size count i₀ t7 t8 t9 i = i ≤ count

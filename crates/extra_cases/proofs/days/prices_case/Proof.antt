@@ -2,8 +2,8 @@
 use native.Mathlib.Omega.{arith}
 use lib.ListN.{length-take}
 use borrow.Author.Needs.{needs}
-use Rattle.probe.proofs.days.prices_case.Statement.{statement}
-use Rattle.probe.proofs.days.prices_case.Tie as tie
+use Rattle.extra_cases.proofs.days.prices_case.Statement.{statement}
+use Rattle.extra_cases.proofs.days.prices_case.Tie as tie
 
 slice-aggregate-lines : tie.Need-slice-aggregate-lines
 slice-aggregate-lines c = simp length-take (omega arith)
