@@ -1,7 +1,7 @@
-// The pairs of a session as time runs on: all of it kept or none. A pair that touches the last one lengthens it; each is written where it fits.
+// The pairs of a session as time runs on, all of it kept or none: what touches the last pair lengthens it, and each is written where it
+// fits.
 ghost use mathlib.Core.Path.{_≡_};
-ghost use Prim.Native.Nat.{_≤_, _<_};
-ghost use lib.ListN.{length};
+ghost use Prim.Native.Nat.{_≤_};
 ghost use Rattle.marks.specs.Internal.{putPair, begunAt, MarksBounds, MarksAfter};
 use rules::Millis;
 

@@ -10,7 +10,6 @@ ghost use Rattle.rules.specs.declared.SpreadRule.the-variants.{OfStrike};
 ghost use Rattle.rules.specs.Rows.{goodRowFor, rowOf};
 ghost use Rattle.rules.specs.Answers.{shownAnswer, shownLooked, shownAsked, shownReport, shownOutlook};
 ghost use Rattle.rules.specs.Book.{after};
-ghost use Rattle.rules.specs.declared.Refusal.the-variants.{NoQuantumOpen};
 ghost use Rattle.rules.specs.Calls as B;
 ghost use Rattle.quantum.specs.Represents as Q;
 ghost use Rattle.month.specs.Represents.{monthOf, Reached, Answered};

@@ -41,7 +41,7 @@ use Rattle.dates.specs.Answers.{shownElapsed}
 use Rattle.quantum.specs.declared.Quantum.{Quantum}
 use Rattle.quantum.specs.Represents.{idleRow, quantumOf, quantumIn}
 use Rattle.quantum_messages.specs.declared.AfterMessage.{AfterMessage}
-use Rattle.quantum_messages.specs.Answers.{EventsBounded, Holds, Reached, Answered}
+use Rattle.quantum_messages.specs.Answers.{EventsBounded, Holds, Answered}
 use Rattle.quantum_messages.specs.Internal.{unchanged, atTime, MessageAnswered, BothOrNeither}
 use Rattle.quantum_messages.proofs.Answers.{halted, stopped, between}
 

@@ -1,6 +1,5 @@
 // A FIX message (W11) on a quantum, open or idle: the one or two events that it stands for, both or neither.
 ghost use mathlib.Core.Path.{_≡_};
-ghost use mathlib.Core.Bool.{false};
 ghost use Prim.Native.Nat.{ℕ};
 ghost use Rattle.rules.specs.declared.Event.the-variants.{Add, Cancel};
 ghost use Rattle.rules.specs.declared.Refusal.the-variants.{NoQuantumOpen};

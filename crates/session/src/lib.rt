@@ -1,6 +1,6 @@
 // The session run: one pass over the records, or two where pairs are written.
 ghost use mathlib.Core.Path.{_≡_};
-ghost use Prim.Native.Nat.{_≤_, _<_};
+ghost use Prim.Native.Nat.{_≤_};
 ghost use lib.ListN.{length};
 ghost use Rattle.rules.specs.Terms.{paper};
 ghost use Rattle.rules.specs.Answers.{shownSession};

@@ -1,8 +1,6 @@
 // The verdict and the weight of a cell.
 ghost use mathlib.Core.Path.{_≡_};
-ghost use mathlib.Core.Bool.{true};
 ghost use Prim.Native.Nat.{_^_, _≤_};
-ghost use Rattle.rules.specs.declared.Cell.{Cell};
 ghost use Rattle.rules.specs.Terms.{paper};
 ghost use Rattle.rules.specs.Bounds.{CellBounds};
 ghost use Rattle.rules.specs.Pay.{cellMet, cellWeight, viewOf};
