@@ -21,7 +21,7 @@ use Rattle.rules.proofs.Bounds.{bounds, read-bounds}
 use Rattle.quantum.specs.Represents.{quantumIn}
 use Rattle.quantum_messages.specs.declared.AfterMessage.{AfterMessage}
 use Rattle.quantum_messages.specs.Answers as Q
-use Rattle.quantum_messages.specs.Answers.{EventsBounded, Holds}
+use Rattle.quantum_messages.specs.Answers.{EventsBounded, InBook}
 use Rattle.month.specs.declared.Month.{Month}
 use Rattle.month.specs.Represents.{placeIn, shareIn, allowedIn, monthOf, Reached, Answered}
 use Rattle.month.specs.Internal.{counted}
@@ -30,15 +30,15 @@ use Rattle.month.proofs.Fields.{running-is, quantum-is, place-is, share
 use Rattle.month.proofs.Calls.{same-month}
 
 -- the month's quantum, open or not, is the book's
-holds : (m : Month) (b : Book) → BookBounds paper b → m ≡ monthOf b → Holds (m .quantum) (m .running) b
-holds m b g is = record { bounded = go (b .running) (g .running); is = quantum-is m b is; open-is = running-is m b is }
+in-book : (m : Month) (b : Book) → BookBounds paper b → m ≡ monthOf b → InBook (m .quantum) (m .running) b
+in-book m b g is = record { bounded = go (b .running) (g .running); is = quantum-is m b is; open-is = running-is m b is }
   where
     go : (r : Running) → RunningBounds paper r → EventsBounded r
     go Idle s = tt
     go (Quoting place row opening events) s = (read-bounds paper (opening .spread) row (s .row-good) .minimum-least, s .events-good)
 
 pub held : (m : Month) → Reached m → Q.Reached (m .quantum) (m .running)
-held m r = record { book = after paper (r .calls); holds = holds m (after paper (r .calls)) (bounds paper (r .calls)) (r .is) }
+held m r = record { book = after paper (r .calls); in-book = in-book m (after paper (r .calls)) (bounds paper (r .calls)) (r .is) }
 
 -- events leave whether a quantum is open, its cell, p and its lapse limit
 module _ (es : List Event) where
@@ -62,7 +62,7 @@ module _ (m : Month) (start bytes : List ℕ) (r : AfterMessage) (a : Q.Answered
   pub message-refused : (f : Refusal) → r .answer ≡ Refused f → Answered m (Message start bytes) m (refused (numberOf f))
   unfolding answerOf
   message-refused f k =
-      stopped-by m (Message start bytes) (numberOf f) (λ b g is. ap shownAnswer (sym k) ∙ a .answer b (holds m b g is))
+      stopped-by m (Message start bytes) (numberOf f) (λ b g is. ap shownAnswer (sym k) ∙ a .answer b (in-book m b g is))
 
   -- one call more, or two
   count-by : (second : Bool) (n k : ℕ) → n ≡ k → (calls : ℕ) → calls ≡ (if second then 2 else 1)
@@ -77,7 +77,7 @@ module _ (m : Month) (start bytes : List ℕ) (r : AfterMessage) (a : Q.Answered
   message-done count c k =
       went m _ (Message start bytes) done
       (λ b g is.
-      let h = holds m b g is in
+      let h = in-book m b g is in
       let es = eventsOf start bytes in
       let zero : refusalOf paper b (Message start bytes) ≡ 0 =
       accepted-by (refusalOf paper b (Message start bytes)) done done (ap shownAnswer (sym k) ∙ a .answer b h) .0 in (

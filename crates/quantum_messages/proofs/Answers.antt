@@ -29,7 +29,7 @@ use Rattle.quantum.specs.declared.Sent.{Sent}
 use Rattle.quantum.specs.Represents as S
 use Rattle.quantum.specs.Represents.{idleRow, quantumOf, quantumIn}
 use Rattle.quantum_messages.specs.declared.AfterMessage.{AfterMessage}
-use Rattle.quantum_messages.specs.Answers.{EventsBounded, Holds, Reached, Answered}
+use Rattle.quantum_messages.specs.Answers.{EventsBounded, InBook, Reached, Answered}
 use Rattle.quantum_messages.specs.Internal.{unchanged}
 
 -- ---- the quantum of a book
@@ -40,13 +40,13 @@ in-running q (Quoting place row opening events) e g =
     record { row = row; sp = opening .spread; events = events; some = g .0; bounds = g .1; is = e }
 
 pub quantum-reached : (q : Quantum) (running : Bool) → Reached q running → S.Reached q
-quantum-reached q running r = in-running q (r .book .running) (r .holds .is) (r .holds .bounded)
+quantum-reached q running r = in-running q (r .book .running) (r .in-book .is) (r .in-book .bounded)
 
 -- ---- a refused call
 
 module _ (q : Quantum) (running : Bool) (c : Call) (f : Refusal) where
   -- its number is known of each book, or what the book answers is
-  pub halted : ((b : Book) → Holds q running b → (j : ℕ) × (refusalOf paper b c ≡ suc j) × (numberOf f ≡ suc j)) → Answered q running c (unchanged q f)
+  pub halted : ((b : Book) → InBook q running b → (j : ℕ) × (refusalOf paper b c ≡ suc j) × (numberOf f ≡ suc j)) → Answered q running c (unchanged q f)
   halted h =
       record {
         answer = λ b k. let (j, n, e) = h b k in ap refused e ∙ sym (answer-refused paper b c j n);
@@ -54,7 +54,7 @@ module _ (q : Quantum) (running : Bool) (c : Call) (f : Refusal) where
         second = λ b k z. let (j, n, e) = h b k in absurd (omega (arith, n, z));
       }
 
-  pub stopped : (j : ℕ) → numberOf f ≡ suc j → ((b : Book) → Holds q running b → refusalOf paper b c ≡ suc j) → Answered q running c (unchanged q f)
+  pub stopped : (j : ℕ) → numberOf f ≡ suc j → ((b : Book) → InBook q running b → refusalOf paper b c ≡ suc j) → Answered q running c (unchanged q f)
   stopped j e h = halted (λ b k. (j, h b k, e))
 
 -- ---- an event
@@ -78,7 +78,7 @@ record Opened (q : Quantum) (b : Book) : Type 0 where
   bounds : EventBounds row events
   quantum : q ≡ quantumOf row (opening .spread) events
 
-opened : (q : Quantum) (running : Bool) (b : Book) → Holds q running b → running ≡ true → Opened q b
+opened : (q : Quantum) (running : Bool) (b : Book) → InBook q running b → running ≡ true → Opened q b
 opened q running b k h = go (b .running) refl (k .bounded)
   where
     go : (r : Running) → b .running ≡ r → EventsBounded r → Opened q b
@@ -128,8 +128,8 @@ sent q running e r h a =
     }
 
 -- the quantum between two events is one that the book has after the first
-pub between : (q : Quantum) (running : Bool) (e : Event) (r : AfterMessage) → Answered q running (Send e) r → (b : Book) → Holds q running b
-    → refusalOf paper b (Send e) ≡ 0 → Holds (r .quantum) running (step paper b (Send e))
+pub between : (q : Quantum) (running : Bool) (e : Event) (r : AfterMessage) → Answered q running (Send e) r → (b : Book) → InBook q running b
+    → refusalOf paper b (Send e) ≡ 0 → InBook (r .quantum) running (step paper b (Send e))
 unfolding refusalOf causes changed eventRefusal
 between q running e r a b k z =
     let is = step-accepted paper b (Send e) z in
@@ -154,7 +154,7 @@ reached-between q running e r a h k =
     let b = k .book in
     record {
       book = step paper b (Send e);
-      holds =
-          between q running e r a b (k .holds)
-          (accepted-by (refusalOf paper b (Send e)) done done (ap shownAnswer (sym h) ∙ a .answer b (k .holds)) .0);
+      in-book =
+          between q running e r a b (k .in-book)
+          (accepted-by (refusalOf paper b (Send e)) done done (ap shownAnswer (sym h) ∙ a .answer b (k .in-book)) .0);
     }

@@ -41,7 +41,7 @@ use Rattle.dates.specs.Answers.{shownElapsed}
 use Rattle.quantum.specs.declared.Quantum.{Quantum}
 use Rattle.quantum.specs.Represents.{idleRow, quantumOf, quantumIn}
 use Rattle.quantum_messages.specs.declared.AfterMessage.{AfterMessage}
-use Rattle.quantum_messages.specs.Answers.{EventsBounded, Holds, Answered}
+use Rattle.quantum_messages.specs.Answers.{EventsBounded, InBook, Answered}
 use Rattle.quantum_messages.specs.Internal.{unchanged, atTime, MessageAnswered, BothOrNeither}
 use Rattle.quantum_messages.proofs.Answers.{halted, stopped, between}
 
@@ -63,7 +63,7 @@ unread-is start bytes n r = ap (timed start) (sym r)
 pub side-is : (q : Quantum) (running : Bool) (side : Side) (id : ℕ) (r : Bool)
     → ((row : Row) (sp : SpreadRule) (events : List Event) → EventBounds row events → q ≡ quantumOf row sp events
     → r ≡ any (λ (o : Order). hasId id o && not (same side (o .side))) (live events))
-    → (new : ℕ) (volume : Contracts) (price : Steps) (t : Moment) (b : Book) → Holds q running b
+    → (new : ℕ) (volume : Contracts) (price : Steps) (t : Moment) (b : Book) → InBook q running b
     → r ≡ otherSideIn (b .running) (M.replaceOrder new id side volume price t)
 unfolding live applyAll any
 side-is q running side id r found new volume price t b k = go (b .running) (k .bounded) (k .is)
@@ -78,10 +78,10 @@ module _ (q : Quantum) (running : Bool) (start bytes : List ℕ) where
   message-unread f n e h = stopped q running (Message start bytes) f n e (λ b k. unread paper b start bytes (suc n) h)
 
   module _ (x : M.Message Moment) (h : messageIn start bytes ≡ accepted x) where
-    pub message-side : ((b : Book) → Holds q running b → otherSideIn (b .running) x ≡ true) → Answered q running (Message start bytes) (unchanged q FieldWrong)
+    pub message-side : ((b : Book) → InBook q running b → otherSideIn (b .running) x ≡ true) → Answered q running (Message start bytes) (unchanged q FieldWrong)
     message-side s = stopped q running (Message start bytes) FieldWrong 20 refl (λ b k. wrong-side paper b start bytes x h (s b k))
 
-    module _ (s : (b : Book) → Holds q running b → otherSideIn (b .running) x ≡ false) where
+    module _ (s : (b : Book) → InBook q running b → otherSideIn (b .running) x ≡ false) where
       -- none open, before anything that is wrong with the time
       idle : (t : Moment) → M.timeOf x ≡ t → running ≡ false → Answered q running (Message start bytes) (unchanged q NoQuantumOpen)
       idle t time o =
@@ -125,13 +125,13 @@ module _ (q : Quantum) (running : Bool) (start bytes : List ℕ) where
               (j, first-refused paper b start bytes x h (s b k) t time first second two j n, m))
 
           module _ (taken : one .answer ≡ Accepted) where
-            passed-first : (b : Book) → Holds q running b → refusalOf paper b (Send first) ≡ 0
+            passed-first : (b : Book) → InBook q running b → refusalOf paper b (Send first) ≡ 0
             unfolding answerOf
             passed-first b k = accepted-by (refusalOf paper b (Send first)) done done (ap shownAnswer (sym taken) ∙ sent .answer b k) .0
 
             module _ (other : AfterMessage) (added : Answered (one .quantum) running (Send second) other) where
               -- the second call, on the book after the first
-              on-between : (b : Book) → Holds q running b → Holds (one .quantum) running (step paper b (Send first))
+              on-between : (b : Book) → InBook q running b → InBook (one .quantum) running (step paper b (Send first))
               on-between b k = between q running first one sent b k (passed-first b k)
 
               pub message-second : (f : Refusal) → other .answer ≡ Refused f → Answered q running (Message start bytes) (unchanged q f)
@@ -157,10 +157,10 @@ module _ (q : Quantum) (running : Bool) (start bytes : List ℕ) where
                     second = λ b k z. ap length (events-are paper b start bytes x h (s b k) t time ∙ two);
                   }
                 where
-                  refusal-is : (b : Book) → Holds q running b → refusalOf paper b (Message start bytes) ≡ refusalOf paper (step paper b (Send first)) (Send second)
+                  refusal-is : (b : Book) → InBook q running b → refusalOf paper b (Message start bytes) ≡ refusalOf paper (step paper b (Send first)) (Send second)
                   refusal-is b k = second-refusal paper b start bytes x h (s b k) t time first second two (passed-first b k)
 
-                  zero-is : (b : Book) → Holds q running b → refusalOf paper (step paper b (Send first)) (Send second) ≡ 0
+                  zero-is : (b : Book) → InBook q running b → refusalOf paper (step paper b (Send first)) (Send second) ≡ 0
                   zero-is b k =
                       accepted-by (refusalOf paper (step paper b (Send first)) (Send second)) done done
                       (ap shownAnswer (sym e) ∙ added .answer (step paper b (Send first)) (on-between b k))
@@ -173,7 +173,7 @@ module _ (q : Quantum) (running : Bool) (say : Moment → M.Message Moment) wher
   said-unread r when w e start bytes h =
       subst (Answered q running (Message start bytes)) (sym e) (message-unread q running start bytes FieldWrong 20 refl (h ∙ ap (atTime say) w))
 
-  pub said-side : (r : AfterMessage) (when : Elapsed) → ((t : Moment) (b : Book) → Holds q running b → otherSideIn (b .running) (say t) ≡ true)
+  pub said-side : (r : AfterMessage) (when : Elapsed) → ((t : Moment) (b : Book) → InBook q running b → otherSideIn (b .running) (say t) ≡ true)
       → r ≡ unchanged q FieldWrong → MessageAnswered q running say (shownElapsed when) r
   said-side r when s e start bytes h = subst (Answered q running (Message start bytes)) (sym e) (go when h)
     where
@@ -183,7 +183,7 @@ module _ (q : Quantum) (running : Bool) (say : Moment → M.Message Moment) wher
       go E.Late h = message-side q running start bytes (say late) h (s late)
       go E.Unreadable h = message-unread q running start bytes FieldWrong 20 refl h
 
-  module _ (times : (t : Moment) → M.timeOf (say t) ≡ t) (right : (t : Moment) (b : Book) → Holds q running b → otherSideIn (b .running) (say t) ≡ false) where
+  module _ (times : (t : Moment) → M.timeOf (say t) ≡ t) (right : (t : Moment) (b : Book) → InBook q running b → otherSideIn (b .running) (say t) ≡ false) where
     pub said-early : (r : AfterMessage) (when : Outcome Moment) → when ≡ accepted before → r ≡ unchanged q (if running then TimeBackwards else NoQuantumOpen)
         → MessageAnswered q running say when r
     said-early r when w e start bytes h =

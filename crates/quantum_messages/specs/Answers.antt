@@ -19,17 +19,17 @@ EventsBounded Idle = Unit {0}
 EventsBounded (Quoting place row opening events) = (1 ≤ row .minimum .0) × EventBounds row events
 
 -- a book whose quantum this is, open or not
-pub record Holds (q : Quantum) (running : Bool) (b : Book) : Type 0 where
+pub record InBook (q : Quantum) (running : Bool) (b : Book) : Type 0 where
   pub bounded : EventsBounded (b .running)
   pub is : q ≡ quantumIn (b .running)
   pub open-is : running ≡ isOpen (b .running)
 
 pub record Reached (q : Quantum) (running : Bool) : Type 0 where
   pub book : Book
-  pub holds : Holds q running book
+  pub in-book : InBook q running book
 
 -- for every such book: what it answers, the quantum that it has after the call, and where the call is accepted for how many it counts
 pub record Answered (q : Quantum) (running : Bool) (c : Call) (r : AfterMessage) : Type 0 where
-  pub answer : (b : Book) → Holds q running b → shownAnswer (r .answer) ≡ answerOf paper b c
-  pub quantum : (b : Book) → Holds q running b → r .quantum ≡ quantumIn (step paper b c .running)
-  pub second : (b : Book) → Holds q running b → refusalOf paper b c ≡ 0 → counts c ≡ (if r .second then 2 else 1)
+  pub answer : (b : Book) → InBook q running b → shownAnswer (r .answer) ≡ answerOf paper b c
+  pub quantum : (b : Book) → InBook q running b → r .quantum ≡ quantumIn (step paper b c .running)
+  pub second : (b : Book) → InBook q running b → refusalOf paper b c ≡ 0 → counts c ≡ (if r .second then 2 else 1)

@@ -14,7 +14,7 @@ use Rattle.rules.specs.Causes.{otherSideIn}
 use Rattle.rules.specs.Calls as B
 use Rattle.quantum.specs.declared.Quantum.{Quantum}
 use Rattle.quantum_messages.specs.declared.AfterMessage.{AfterMessage}
-use Rattle.quantum_messages.specs.Answers.{Holds, Answered}
+use Rattle.quantum_messages.specs.Answers.{InBook, Answered}
 
 -- a refusal, and the quantum as it was
 abbrev pub unchanged : Quantum → Refusal → AfterMessage
@@ -34,5 +34,5 @@ MessageAnswered q running say when r =
 abbrev pub BothOrNeither : Quantum → Bool → Event → Event → AfterMessage → Type 0
 BothOrNeither q running first second r =
     (start bytes : List ℕ) (message : Message Moment) (t : ℕ) → messageIn start bytes ≡ accepted message → timeOf message ≡ at t
-    → eventsAt message t ≡ first ∷ second ∷ [] → ((b : B.Book) → Holds q running b → otherSideIn (b .running) message ≡ false)
+    → eventsAt message t ≡ first ∷ second ∷ [] → ((b : B.Book) → InBook q running b → otherSideIn (b .running) message ≡ false)
     → Answered q running (B.Message start bytes) r

@@ -9,7 +9,7 @@ ghost use Rattle.rules.specs.Messages.{newOrder, cancelOrder, replaceOrder};
 ghost use Rattle.rules.specs.Calls as B;
 ghost use Rattle.rules.specs.Causes.{otherSideIn};
 ghost use Rattle.dates.specs.Answers.{shownElapsed};
-ghost use Rattle.quantum_messages.specs.Answers.{Holds, Reached, Answered};
+ghost use Rattle.quantum_messages.specs.Answers.{InBook, Reached, Answered};
 ghost use Rattle.quantum_messages.specs.Internal.{unchanged, MessageAnswered, BothOrNeither};
 use dates::Elapsed;
 use fix::MessageRead;
@@ -158,7 +158,7 @@ fn both_or_neither(
 // Whether the live order that a G's 41 names is not of its side.
 fn other_side(quantum: Quantum, running: bool, side: Side, id: u32) -> bool
     requires { ⌜ Reached quantum running ⌝ }
-    ensures { λ r. ⌜ ((new : ℕ) (volume : Contracts) (price : Steps) (t : Moment) (b : B.Book) → Holds quantum running b → r ≡ otherSideIn (b .running) (replaceOrder new id side volume price t)) ⌝ }
+    ensures { λ r. ⌜ ((new : ℕ) (volume : Contracts) (price : Steps) (t : Moment) (b : B.Book) → InBook quantum running b → r ≡ otherSideIn (b .running) (replaceOrder new id side volume price t)) ⌝ }
 {
     quantum.on_other_side(side, id)
 }

@@ -6,7 +6,7 @@ use Rattle.rules.specs.Messages.{replaceOrder, Message}
 use Rattle.rules.specs.Calls.{Book}
 use Rattle.rules.specs.Causes.{otherSideIn}
 use Rattle.dates.specs.Answers.{shownElapsed}
-use Rattle.quantum_messages.specs.Answers.{Holds}
+use Rattle.quantum_messages.specs.Answers.{InBook}
 use Rattle.quantum_messages.proofs.Messages.{said-unread, said-side, said-early, said-late, said-both}
 use borrow.Author.Needs.{needs}
 use Rattle.quantum_messages.proofs.replace_order.Statement.{statement}
@@ -17,7 +17,7 @@ abbrev said : tie.Start → Moment → Message Moment
 said s t = replaceOrder (s .args .id) (s .args .orig) (s .args .side) (s .args .volume) (s .args .price) t
 
 -- what the test of the side found, of every book
-sided : (c : tie.After-other-side) (k : Bool) → c .other-side .result ≡ k → (t : Moment) (b : Book) → Holds (c .before .args .quantum) (c .before .args .running) b
+sided : (c : tie.After-other-side) (k : Bool) → c .other-side .result ≡ k → (t : Moment) (b : Book) → InBook (c .before .args .quantum) (c .before .args .running) b
     → otherSideIn (b .running) (said (c .before) t) ≡ k
 sided c k e t b h =
     let s = c .before in
