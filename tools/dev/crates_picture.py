@@ -17,6 +17,7 @@ WIDTH, TITLE, EDGE = 1180, 140, 16
 BOX, GAP, LINE = 116, 8, 13
 A_LINE = 19  # letters of small print in a box
 A_TITLE = 13  # letters of a title's line
+A_NAME = 13  # letters of a name that fits its box; a longer one is printed smaller
 
 
 @dataclass
@@ -66,9 +67,10 @@ def box(x: int, y: int, height: int, name: str, small: list[str]) -> str:
         f'<text class="small" x="{x + BOX // 2}" y="{y + 30 + LINE * i}">{escape(row)}</text>'
         for i, row in enumerate(small)
     )
+    kind = "name" if len(name) <= A_NAME else "long name"
     return (
         f'<rect class="box" x="{x}" y="{y}" width="{BOX}" height="{height}" rx="4"/>'
-        f'<text class="name" x="{x + BOX // 2}" y="{y + 16}">{escape(name)}</text>{rows}\n'
+        f'<text class="{kind}" x="{x + BOX // 2}" y="{y + 16}">{escape(name)}</text>{rows}\n'
     )
 
 
@@ -103,6 +105,7 @@ def picture(text: str) -> str:
         f'<svg xmlns="http://www.w3.org/2000/svg" viewBox="0 0 {WIDTH} {y + GAP}" font-family="sans-serif">\n'
         "<title>The crates, each above what it rests on</title>\n"
         "<style>.box{fill:#fff;stroke:#777}.name{font-size:13px;font-weight:bold;text-anchor:middle}"
+        ".long{font-size:10px}"
         ".small{font-size:10.5px;fill:#444;text-anchor:middle}.title{font-size:15px;font-weight:bold;fill:#333}</style>\n"
         f'<rect width="{WIDTH}" height="{y + GAP}" fill="#fff"/>\n'
     )
