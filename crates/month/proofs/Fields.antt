@@ -5,17 +5,14 @@ use mathlib.Core.Bool.{true, false, false≢true}
 use mathlib.Core.List.{List, [], List·Memᴰ}
 use native.Mathlib.Omega.{arith}
 use borrow.Author.Tests.{le-leb}
-use lib.IntN.{pos}
 use lib.ListN.{length}
 use Rattle.rules.specs.declared.Row.{Row}
 use Rattle.rules.specs.declared.SpreadRule.{SpreadRule}
-use Rattle.rules.specs.declared.SpreadRule.the-variants.{Settled}
 use Rattle.rules.specs.declared.Opening.{Opening}
 use Rattle.rules.specs.declared.Cell.{Cell}
 use Rattle.rules.specs.declared.Event.{Event}
 use Rattle.rules.specs.Lists.{within}
 use Rattle.rules.specs.Terms.{paper}
-use Rattle.rules.specs.Units.{steps}
 use Rattle.rules.specs.Rows.{goodRowFor}
 use Rattle.rules.specs.Cells.{goodCell, cellAt, blankCell, blankCells}
 use Rattle.rules.specs.Calls.{Running, Idle, Quoting, Book, isOpen, freshBook}
@@ -23,12 +20,15 @@ use Rattle.rules.specs.Book.{run, after}
 use Rattle.rules.specs.Bounds.{OpenBounds, RunningBounds, CellBounds, BookBounds}
 use Rattle.rules.proofs.Lists.{and}
 use Rattle.rules.proofs.Members.{getD-in}
-use Rattle.rules.proofs.Bounds.{bounds, event-bounds-none, read-bounds}
+use Rattle.rules.proofs.Bounds.{bounds, read-bounds}
 use Rattle.quantum.specs.declared.Quantum.{Quantum}
 use Rattle.quantum.specs.Represents as S
+use Rattle.quantum_messages.specs.Answers as Q
+use Rattle.quantum_messages.specs.Answers.{EventsBounded, InBook}
+use Rattle.quantum_messages.proofs.Answers.{quantum-reached as reached}
 use Rattle.quantum.specs.Represents.{quantumOf}
 use Rattle.month.specs.declared.Month.{Month}
-use Rattle.quantum.specs.Represents.{idleRow, quantumIn}
+use Rattle.quantum.specs.Represents.{quantumIn}
 use Rattle.month.specs.Represents.{placeIn, shareIn, allowedIn, monthOf, Reached}
 
 module _ (m : Month) (b : Book) (is : m ≡ monthOf b) where
@@ -98,23 +98,19 @@ opened m b g is h = go (b .running) refl (g .running)
           allowed = allowed-is m b is ∙ ap allowedIn e;
         }
 
--- the quantum in the month is one that its calls handed back, also where none is open
-in-running : (q : Quantum) (r : Running) → q ≡ quantumIn r → RunningBounds paper r → S.Reached q
-in-running q Idle e s = record { row = idleRow; sp = Settled (steps (pos 0)); events = []; some = omega arith; bounds = event-bounds-none idleRow; is = e }
-in-running q (Quoting place row opening events) e s =
-    record {
-      row = row;
-      sp = opening .spread;
-      events = events;
-      some = read-bounds paper (opening .spread) row (s .row-good) .minimum-least;
-      bounds = s .events-good;
-      is = e;
-    }
+-- the month's quantum, open or not, is the book's
+pub in-book : (m : Month) (b : Book) → BookBounds paper b → m ≡ monthOf b → InBook (m .quantum) (m .running) b
+in-book m b g is = record { bounded = go (b .running) (g .running); is = quantum-is m b is; open-is = running-is m b is }
+  where
+    go : (r : Running) → RunningBounds paper r → EventsBounded r
+    go Idle s = tt
+    go (Quoting place row opening events) s = (read-bounds paper (opening .spread) row (s .row-good) .minimum-least, s .events-good)
+
+pub held : (m : Month) → Reached m → Q.Reached (m .quantum) (m .running)
+held m r = record { book = after paper (r .calls); in-book = in-book m (after paper (r .calls)) (bounds paper (r .calls)) (r .is) }
 
 pub quantum-reached : (m : Month) → Reached m → S.Reached (m .quantum)
-quantum-reached m r =
-    let b = after paper (r .calls) in
-    in-running (m .quantum) (b .running) (quantum-is m b (r .is)) (bounds paper (r .calls) .running)
+quantum-reached m r = reached (m .quantum) (m .running) (held m r)
 
 pub all-cells : (m : Month) → Reached m → length (m .cells) ≡ 186
 all-cells m r = ap length (cells-are m (after paper (r .calls)) (r .is)) ∙ bounds paper (r .calls) .all-cells

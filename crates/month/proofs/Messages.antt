@@ -13,32 +13,18 @@ use Rattle.rules.specs.MessageCalls.{eventsOf}
 use Rattle.rules.specs.Calls.{Message, Running, Idle, Quoting, Book, isOpen, counts}
 use Rattle.rules.specs.Causes.{refusalOf}
 use Rattle.rules.specs.Changes.{notedAll, following, countAfter, changed}
-use Rattle.rules.specs.Book.{answerOf, after}
-use Rattle.rules.specs.Bounds.{RunningBounds, BookBounds}
+use Rattle.rules.specs.Book.{answerOf}
 use Rattle.rules.proofs.Answers.{accepted-by}
 use Rattle.rules.proofs.Refusals.{step-accepted}
-use Rattle.rules.proofs.Bounds.{bounds, read-bounds}
 use Rattle.quantum.specs.Represents.{quantumIn}
 use Rattle.quantum_messages.specs.declared.AfterMessage.{AfterMessage}
 use Rattle.quantum_messages.specs.Answers as Q
-use Rattle.quantum_messages.specs.Answers.{EventsBounded, InBook}
 use Rattle.month.specs.declared.Month.{Month}
-use Rattle.month.specs.Represents.{placeIn, shareIn, allowedIn, monthOf, Reached, Answered}
+use Rattle.month.specs.Represents.{placeIn, shareIn, allowedIn, monthOf, Answered}
 use Rattle.month.specs.Internal.{counted}
 use Rattle.month.proofs.Answers.{stopped-by, went}
-use Rattle.month.proofs.Fields.{running-is, quantum-is, place-is, share-is, allowed-is, count-is, cells-are}
+use Rattle.month.proofs.Fields.{in-book, running-is, place-is, share-is, allowed-is, count-is, cells-are}
 use Rattle.month.proofs.Calls.{same-month}
-
--- the month's quantum, open or not, is the book's
-in-book : (m : Month) (b : Book) → BookBounds paper b → m ≡ monthOf b → InBook (m .quantum) (m .running) b
-in-book m b g is = record { bounded = go (b .running) (g .running); is = quantum-is m b is; open-is = running-is m b is }
-  where
-    go : (r : Running) → RunningBounds paper r → EventsBounded r
-    go Idle s = tt
-    go (Quoting place row opening events) s = (read-bounds paper (opening .spread) row (s .row-good) .minimum-least, s .events-good)
-
-pub held : (m : Month) → Reached m → Q.Reached (m .quantum) (m .running)
-held m r = record { book = after paper (r .calls); in-book = in-book m (after paper (r .calls)) (bounds paper (r .calls)) (r .is) }
 
 -- events leave whether a quantum is open, its cell, p and its lapse limit
 module _ (es : List Event) where

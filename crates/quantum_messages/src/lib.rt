@@ -1,7 +1,6 @@
 // A FIX message (W11) on a quantum, open or idle: the one or two events that it stands for, both or neither.
 ghost use mathlib.Core.Path.{_≡_};
 ghost use Prim.Native.Nat.{ℕ};
-ghost use Rattle.rules.specs.declared.Event.the-variants.{Add, Cancel};
 ghost use Rattle.rules.specs.declared.Refusal.the-variants.{NoQuantumOpen};
 ghost use Rattle.rules.specs.Lists.{if_then_else_};
 ghost use Rattle.rules.specs.Dates.{Moment};
@@ -12,12 +11,12 @@ ghost use Rattle.dates.specs.Answers.{shownElapsed};
 ghost use Rattle.quantum_messages.specs.Answers.{InBook, Reached, Answered};
 ghost use Rattle.quantum_messages.specs.Internal.{unchanged, MessageAnswered, BothOrNeither};
 use dates::Elapsed;
+use dates::after;
 use fix::MessageRead;
 use quantum::Quantum;
 use rules::Answer;
 use rules::Contracts;
 use rules::Event;
-use rules::Millis;
 use rules::Refusal;
 use rules::Side;
 use rules::Steps;
@@ -112,46 +111,27 @@ fn cancel_order(quantum: Quantum, running: bool, when: Elapsed, id: u32, orig: u
     }
 }
 
-// That cancel, and an add on the quantum after it: both or neither.
-fn both_or_neither(
-    quantum: Quantum,
-    running: bool,
-    t: Millis,
-    id: u32,
-    orig: u32,
-    side: Side,
-    volume: Contracts,
-    price: Steps,
-) -> AfterMessage
+// Two events, the second on the quantum after the first: both or neither.
+fn both_or_neither(quantum: Quantum, running: bool, first: Event, second: Event) -> AfterMessage
     requires { ⌜ Reached quantum running ⌝ }
-    ensures { λ r. ⌜ BothOrNeither quantum running (Cancel t orig) (Add t id side price volume) r ⌝ }
+    ensures { λ r. ⌜ BothOrNeither quantum running first second r ⌝ }
 {
-    let cancelled = send(quantum, running, Event::Cancel { t, id: orig });
-    let first = cancelled.answer;
-    let between = cancelled.quantum;
-    if let Answer::Refused(of_cancel) = first {
-        return refused(quantum, of_cancel);
+    let sent = send(quantum, running, first);
+    let answer = sent.answer;
+    let between = sent.quantum;
+    if let Answer::Refused(of_first) = answer {
+        return refused(quantum, of_first);
     }
-    let added = send(
-        between,
-        running,
-        Event::Add {
-            t,
-            id,
-            side,
-            price,
-            volume,
-        },
-    );
-    let second = added.answer;
-    let after = added.quantum;
-    match second {
+    let further = send(between, running, second);
+    let last = further.answer;
+    let after = further.quantum;
+    match last {
         Answer::Accepted => AfterMessage {
             quantum: after,
-            answer: second,
+            answer: last,
             second: true,
         },
-        Answer::Refused(of_add) => refused(quantum, of_add),
+        Answer::Refused(of_second) => refused(quantum, of_second),
     }
 }
 
@@ -163,7 +143,7 @@ fn other_side(quantum: Quantum, running: bool, side: Side, id: u32) -> bool
     quantum.on_other_side(side, id)
 }
 
-// G: its side is that of the order that 41 names, where there is one.
+// G: that cancel and an add. Its side is that of the order that 41 names, where there is one.
 fn replace_order(
     quantum: Quantum,
     running: bool,
@@ -181,7 +161,18 @@ fn replace_order(
         return refused(quantum, Refusal::FieldWrong);
     }
     match when {
-        Elapsed::At(t) => both_or_neither(quantum, running, t, id, orig, side, volume, price),
+        Elapsed::At(t) => both_or_neither(
+            quantum,
+            running,
+            Event::Cancel { t, id: orig },
+            Event::Add {
+                t,
+                id,
+                side,
+                price,
+                volume,
+            },
+        ),
         Elapsed::Before => untimely(quantum, running, Refusal::TimeBackwards),
         Elapsed::Late => untimely(quantum, running, Refusal::TimePastEnd),
         Elapsed::Unreadable => refused(quantum, Refusal::FieldWrong),
@@ -189,9 +180,9 @@ fn replace_order(
 }
 
 // A FIX message, with the quantum's start: its one or two calls.
-pub fn message(quantum: Quantum, running: bool, start: &[u8], message: &[u8]) -> AfterMessage
-    requires { ⌜ Reached quantum running ⌝ }
-    ensures { λ r. ⌜ Answered quantum running (B.Message (now (start .entry)) (now (message .entry))) r ⌝ }
+pub fn message(q: Quantum, running: bool, start: &[u8], message: &[u8]) -> AfterMessage
+    requires { ⌜ Reached q running ⌝ }
+    ensures { λ r. ⌜ Answered q running (B.Message (now (start .entry)) (now (message .entry))) r ⌝ }
 {
     match fix::read(message) {
         MessageRead::New {
@@ -200,17 +191,9 @@ pub fn message(quantum: Quantum, running: bool, start: &[u8], message: &[u8]) ->
             volume,
             price,
             time,
-        } => new_order(
-            quantum,
-            running,
-            dates::after(start, time),
-            id,
-            side,
-            volume,
-            price,
-        ),
+        } => new_order(q, running, after(start, time), id, side, volume, price),
         MessageRead::Cancel { id, orig, time } => {
-            cancel_order(quantum, running, dates::after(start, time), id, orig)
+            cancel_order(q, running, after(start, time), id, orig)
         }
         MessageRead::Replace {
             id,
@@ -220,16 +203,16 @@ pub fn message(quantum: Quantum, running: bool, start: &[u8], message: &[u8]) ->
             price,
             time,
         } => replace_order(
-            quantum,
+            q,
             running,
-            dates::after(start, time),
+            after(start, time),
             id,
             orig,
             side,
             volume,
             price,
         ),
-        MessageRead::FrameWrong => refused(quantum, Refusal::FrameWrong),
-        MessageRead::FieldWrong => refused(quantum, Refusal::FieldWrong),
+        MessageRead::FrameWrong => refused(q, Refusal::FrameWrong),
+        MessageRead::FieldWrong => refused(q, Refusal::FieldWrong),
     }
 }

@@ -1,7 +1,5 @@
--- The cancel's refusal, or the add's on the quantum after it; or both calls. Assumes nothing.
+-- The first one's refusal, or the second one's on the quantum after it; or both calls. Assumes nothing.
 use mathlib.Core.Path.{sym, subst}
-use Rattle.rules.specs.declared.Event.{Event}
-use Rattle.rules.specs.declared.Event.the-variants.{Add, Cancel}
 use Rattle.rules.specs.Calls.{Message}
 use Rattle.quantum_messages.specs.Answers.{Answered}
 use Rattle.quantum_messages.proofs.Answers.{reached-between}
@@ -10,31 +8,25 @@ use borrow.Author.Needs.{needs}
 use Rattle.quantum_messages.proofs.both_or_neither.Statement.{statement}
 use Rattle.quantum_messages.proofs.both_or_neither.Tie as tie
 
-abbrev first : tie.Start → Event
-first s = Cancel (s .args .t) (s .args .orig)
-
-abbrev second : tie.Start → Event
-second s = Add (s .args .t) (s .args .id) (s .args .side) (s .args .price) (s .args .volume)
-
 returns : tie.Need-returns
 returns c start bytes x t h time two right =
     let s = c .before .before .before .before .before .before in
     let k = c .before .before .before .before .before .send in
     subst (Answered (s .args .quantum) (s .args .running) (Message start bytes)) (sym (c .refused .ensures))
-    (message-first (s .args .quantum) (s .args .running) start bytes x h right t time (first s) (second s) two (k .result) (k .ensures) _ (c .before .before .first .given .1))
+    (message-first (s .args .quantum) (s .args .running) start bytes x h right t time (s .args .first) (s .args .second) two (k .result) (k .ensures) _ (c .before .before .answer .given .1))
 
 send-requires-2 : tie.Need-send-requires-2
 send-requires-2 c κs =
     let s = c .before .before .before .before in
     let k = c .before .before .before .send in
-    reached-between (s .args .quantum) (s .args .running) (first s) (k .result) (k .ensures) (c .enum-told .given .1) (s .pre)
+    reached-between (s .args .quantum) (s .args .running) (s .args .first) (k .result) (k .ensures) (c .enum-told .given .1) (s .pre)
 
 returns-2 : tie.Need-returns-2
 returns-2 c start bytes x t h time two right =
     let s = c .before .before .before .before .before .before .before .before in
     let k = c .before .before .before .before .before .before .before .send in
     let a = c .before .before .before .send2 in
-    message-both (s .args .quantum) (s .args .running) start bytes x h right t time (first s) (second s) two (k .result) (k .ensures)
+    message-both (s .args .quantum) (s .args .running) start bytes x h right t time (s .args .first) (s .args .second) two (k .result) (k .ensures)
     (c .before .before .before .before .enum-told .given .1) (a .result) (a .ensures) (c .enum-told2 .given .1)
 
 returns-3 : tie.Need-returns-3
@@ -43,8 +35,8 @@ returns-3 c start bytes x t h time two right =
     let k = c .before .before .before .before .before .before .before .before .before .send in
     let a = c .before .before .before .before .before .send2 in
     subst (Answered (s .args .quantum) (s .args .running) (Message start bytes)) (sym (c .refused2 .ensures))
-    (message-second (s .args .quantum) (s .args .running) start bytes x h right t time (first s) (second s) two (k .result) (k .ensures)
-    (c .before .before .before .before .before .before .enum-told .given .1) (a .result) (a .ensures) _ (c .before .before .second .given .1))
+    (message-second (s .args .quantum) (s .args .running) start bytes x h right t time (s .args .first) (s .args .second) two (k .result) (k .ensures)
+    (c .before .before .before .before .before .before .enum-told .given .1) (a .result) (a .ensures) _ (c .before .before .last .given .1))
 
 pub both-or-neither-spec : {M : Type 1} → statement M
 both-or-neither-spec =

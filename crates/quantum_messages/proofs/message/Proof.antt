@@ -58,15 +58,15 @@ returns-4 : tie.Need-returns-4
 returns-4 c =
     let s = c .before .before .before .before .before .before in
     let read = sym (ap shownMessage (c .before .enum-told .given .1)) ∙ c .before .before .before .read .ensures in
-    subst (Answered (s .args .quantum) (s .args .running) (Message (s .args .start .now) (s .args .message .now))) (sym (c .refused .ensures))
-    (message-unread (s .args .quantum) (s .args .running) (s .args .start .now) (s .args .message .now) FrameWrong 19 refl (unread-is (s .args .start .now) (s .args .message .now) _ read))
+    subst (Answered (s .args .q) (s .args .running) (Message (s .args .start .now) (s .args .message .now))) (sym (c .refused .ensures))
+    (message-unread (s .args .q) (s .args .running) (s .args .start .now) (s .args .message .now) FrameWrong 19 refl (unread-is (s .args .start .now) (s .args .message .now) _ read))
 
 returns-5 : tie.Need-returns-5
 returns-5 c =
     let s = c .before .before .before .before .before .before in
     let read = sym (ap shownMessage (c .before .enum-told2 .given .1)) ∙ c .before .before .before .read .ensures in
-    subst (Answered (s .args .quantum) (s .args .running) (Message (s .args .start .now) (s .args .message .now))) (sym (c .refused2 .ensures))
-    (message-unread (s .args .quantum) (s .args .running) (s .args .start .now) (s .args .message .now) FieldWrong 20 refl (unread-is (s .args .start .now) (s .args .message .now) _ read))
+    subst (Answered (s .args .q) (s .args .running) (Message (s .args .start .now) (s .args .message .now))) (sym (c .refused2 .ensures))
+    (message-unread (s .args .q) (s .args .running) (s .args .start .now) (s .args .message .now) FieldWrong 20 refl (unread-is (s .args .start .now) (s .args .message .now) _ read))
 
 pub message-spec : {M : Type 1} → statement M
 message-spec =

@@ -2,7 +2,8 @@
 use Rattle.rules.specs.declared.Answer.the-variants.{Accepted}
 use Rattle.rules.specs.Calls.{Message}
 use Rattle.month.proofs.Answers.{handed}
-use Rattle.month.proofs.Messages.{held, message-refused, message-done}
+use Rattle.month.proofs.Fields.{held}
+use Rattle.month.proofs.Messages.{message-refused, message-done}
 use borrow.Author.Needs.{needs}
 use Rattle.month.proofs.Month.message.Statement.{statement}
 use Rattle.month.proofs.Month.message.Tie as tie
