@@ -1,4 +1,6 @@
 // The cases of `probe` that read and write bytes: event records (case 3), and FIX messages (cases 9 to 11).
+ghost use mathlib.Core.Path.{_≡_};
+ghost use Rattle.rules.specs.Lists.{within};
 ghost use Prim.Native.Nat.{_≤_};
 ghost use lib.ListN.{length};
 
@@ -76,7 +78,9 @@ pub fn record_case(bytes: &[u8]) {
     }
 }
 
-pub fn is_message_kind(kind: u32) -> bool {
+pub fn is_message_kind(kind: u32) -> bool
+    ensures { λ r. ⌜ r ≡ within 9 11 kind ⌝ }
+{
     messages::is_kind(kind)
 }
 

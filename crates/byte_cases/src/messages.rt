@@ -11,6 +11,7 @@ use rules::Contracts;
 use rules::Side;
 use rules::Steps;
 use rules::Timestamp;
+ghost use Rattle.rules.specs.Lists.{within};
 ghost use mathlib.Core.Path.{_≡_};
 ghost use Prim.Native.Nat.{_≤_};
 ghost use lib.ListN.{length};
@@ -191,7 +192,9 @@ fn time_case(input: &[u8]) -> bool {
     true
 }
 
-pub fn is_kind(kind: u32) -> bool {
+pub fn is_kind(kind: u32) -> bool
+    ensures { λ r. ⌜ r ≡ within 9 11 kind ⌝ }
+{
     (9 <= kind) & (kind <= 11)
 }
 

@@ -4,6 +4,9 @@ use console::number;
 use console::text;
 use sigma::SigmaAnswer;
 use volatile::DayAnswer;
+ghost use mathlib.Core.Path.{_≡_};
+ghost use mathlib.Core.Bool.{_||_};
+ghost use lib.Dec.{eqb};
 ghost use Prim.Native.Nat.{_+_, _*_, _≤_};
 ghost use lib.ListN.{length};
 
@@ -81,7 +84,9 @@ fn prices_case(input: &[u8], listed: bool) -> bool {
     true
 }
 
-pub fn is_kind(kind: u32) -> bool {
+pub fn is_kind(kind: u32) -> bool
+    ensures { λ r. ⌜ r ≡ (eqb kind 5 || eqb kind 12) ⌝ }
+{
     (kind == 5) | (kind == 12)
 }
 

@@ -4,6 +4,9 @@ use console::words_line;
 use rules::SpreadRule;
 use rules::Steps;
 use rules::Strike;
+ghost use mathlib.Core.Path.{_≡_};
+ghost use mathlib.Core.Bool.{_||_};
+ghost use lib.Dec.{eqb};
 ghost use Prim.Native.Nat.{_+_, _*_, _≤_};
 ghost use lib.ListN.{length};
 
@@ -97,7 +100,9 @@ fn inside_case(input: &[u8]) -> bool {
     true
 }
 
-pub fn is_kind(kind: u32) -> bool {
+pub fn is_kind(kind: u32) -> bool
+    ensures { λ r. ⌜ r ≡ (eqb kind 6 || eqb kind 13 || eqb kind 14) ⌝ }
+{
     (kind == 6) | (kind == 13) | (kind == 14)
 }
 

@@ -6,18 +6,7 @@ mod eased;
 mod maker_calls;
 mod safe;
 
-// Whether a kind is one of them.
-pub fn is_kind(kind: u32) -> bool {
-    if days::is_kind(kind) {
-        return true;
-    }
-    if eased::is_kind(kind) {
-        return true;
-    }
-    (kind == 4) | (kind == 7) | (kind == 8)
-}
-
-// Whether the input is a case of the kind; where it is, its lines are written.
+// Whether the input is a case of one of these kinds; where it is, its lines are written.
 pub fn case(kind: u32, input: &[u8]) -> bool {
     if days::is_kind(kind) {
         return days::case(kind, input);
@@ -31,5 +20,8 @@ pub fn case(kind: u32, input: &[u8]) -> bool {
     if kind == 7 {
         return maker_calls::standing_case(input);
     }
-    safe::safe_case(input)
+    if kind == 8 {
+        return safe::safe_case(input);
+    }
+    false
 }

@@ -129,17 +129,14 @@ fn row_case(input: &[u8]) -> bool {
     true
 }
 
-// What stands beside the month, and messages.
+// Messages, and what stands beside the month.
 fn other_case(kind: u32, input: &[u8]) -> bool
     requires { ⌜ 4 ≤ length (now input) ⌝ }
 {
-    if extra_cases::is_kind(kind) {
-        return extra_cases::case(kind, input);
-    }
     if byte_cases::is_message_kind(kind) {
         return byte_cases::message_case(kind, input);
     }
-    false
+    extra_cases::case(kind, input)
 }
 
 // Whether the input is a case; where it is, its lines are written.
