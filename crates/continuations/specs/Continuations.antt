@@ -1,4 +1,4 @@
--- The outlook on an open quantum, held against what may really follow: every list of events and a close that the plain book accepts. None
+-- The outlook on an open quantum, compared with what may really follow: every list of events and a close that the plain book accepts. None
 -- of this goes by the outlook's formulas; the cells are those that the book's close puts down.
 use Prim.Native.Nat.{ℕ, _+_, _-_, _≤_, _<_}
 use mathlib.Core.Path.{_≡_}
@@ -6,6 +6,8 @@ use mathlib.Core.List.{List, [], _∷_, _++_, map}
 use mathlib.Core.Bool.{Bool, true, false}
 use lib.IntN.{pos}
 use Rattle.rules.specs.declared.Kopecks.{Kopecks}
+use Rattle.rules.specs.declared.Millis.{Millis}
+use Rattle.rules.specs.declared.Possible.the-variants.{Never, At}
 use Rattle.rules.specs.declared.Opening.{Opening}
 use Rattle.rules.specs.declared.SpreadRule.{SpreadRule}
 use Rattle.rules.specs.declared.Order.{Order}
@@ -21,7 +23,7 @@ use Rattle.rules.specs.Units.{millis, steps, kopecks}
 use Rattle.rules.specs.Cells.{cellAt}
 use Rattle.rules.specs.Orders.{live, present}
 use Rattle.rules.specs.Kept.{keptAt}
-use Rattle.rules.specs.Lapses.{noLapseLimit}
+use Rattle.rules.specs.Lapses.{withinLapseLimit}
 use Rattle.rules.specs.Pay.{cellMet, cellWeight}
 use Rattle.rules.specs.Calls.{Call, Send, Close, Quoting, Book}
 use Rattle.rules.specs.Book.{run, after}
@@ -49,13 +51,17 @@ keptOfRest row spread events more =
 abbrev pub cancelAll : List Event → List Event
 cancelAll events = map (λ (o : Order). Cancel (millis (present events)) (o .id)) (live events)
 
--- .. and one buy and one sell put a step apart, of M contracts each
-abbrev pub quoteAgain : Row → List Event → List Event
-quoteAgain row events =
+-- .. and at a time, now or later, one buy and one sell put a step apart, of M contracts each
+abbrev pub backAt : Row → List Event → ℕ → List Event
+backAt row events s =
     cancelAll events
-    ++ (Add (millis (present events)) 1 Buy (steps (pos 0)) (row .minimum)
-    ∷ Add (millis (present events)) 2 Sell (steps (pos 1)) (row .minimum)
+    ++ (Add (millis s) 1 Buy (steps (pos 0)) (row .minimum)
+    ∷ Add (millis s) 2 Sell (steps (pos 1)) (row .minimum)
     ∷ [])
+
+-- document 01, "If f is 800 or more, w = 20,000."
+abbrev pub fullWeight : ℕ
+fullWeight = 20000
 
 -- What an outlook says of a book with a quantum open.
 pub record Foresees (b : Book) (place : ℕ) (row : Row) (opening : Opening) (events : List Event) (o : Outlook) : Type 0 where
@@ -69,9 +75,40 @@ pub record Foresees (b : Book) (place : ℕ) (row : Row) (opening : Opening) (ev
   -- need: a cell that is met had so many of the remaining milliseconds kept at least ..
   pub needed : (more : List Event) (active passive : Kopecks) → NoneRefused paper b (ending more active passive)
       → cellMet paper (cellLeft b place more active passive) ≡ true → o .need .0 ≤ keptOfRest row (opening .spread) events more
-  -- .. and with no lapse limit so many are enough
-  pub enough : opening .allowed ≡ noLapseLimit → (more : List Event) (active passive : Kopecks) → NoneRefused paper b (ending more active passive)
+  -- .. and so many are enough, where the cell's lapses are not too many
+  pub enough : (more : List Event) (active passive : Kopecks) → NoneRefused paper b (ending more active passive)
+      → withinLapseLimit (opening .allowed) (cellLeft b place more active passive .lapses) ≡ true
       → o .need .0 ≤ keptOfRest row (opening .spread) events more → cellMet paper (cellLeft b place more active passive) ≡ true
+  -- by, a time: cancelling every live order now, quoting again at that time and closing is accepted, and leaves a met cell ..
+  pub by-met : (s : Millis) → o .by ≡ At s
+      → NoneRefused paper b (ending (backAt row events (s .0)) (kopecks 0) (kopecks 0))
+      × (cellMet paper (cellLeft b place (backAt row events (s .0)) (kopecks 0) (kopecks 0)) ≡ true)
+  -- .. and where nothing is kept from now up to a later time, the cell is failed (where `by` is L there is none, and `rest` says the same)
+  pub by-latest : (s : Millis) → o .by ≡ At s → (until : ℕ) → s .0 < until → until ≤ row .length .0
+      → (more : List Event) (active passive : Kopecks) → NoneRefused paper b (ending more active passive)
+      → ((m : ℕ) → present events ≤ m → m < until → keptThen row (opening .spread) events more m ≡ false)
+      → cellMet paper (cellLeft b place more active passive) ≡ false
+  -- by, never: whatever events and close follow, the cell is failed
+  pub by-never : o .by ≡ Never → (more : List Event) (active passive : Kopecks) → NoneRefused paper b (ending more active passive)
+      → cellMet paper (cellLeft b place more active passive) ≡ false
+  -- full, a number of milliseconds: quoting again at once and closing is accepted, keeps so many of the remaining ones or more, and leaves
+  -- the full weight ..
+  pub full-reached : (n : Millis) → o .full ≡ At n
+      → NoneRefused paper b (ending (backAt row events (present events)) (kopecks 0) (kopecks 0))
+      × (n .0 ≤ keptOfRest row (opening .spread) events (backAt row events (present events)))
+      × (cellWeight paper (cellLeft b place (backAt row events (present events)) (kopecks 0) (kopecks 0)) ≡ fullWeight)
+  -- .. nothing that keeps fewer leaves it ..
+  pub full-needed : (n : Millis) → o .full ≡ At n
+      → (more : List Event) (active passive : Kopecks) → NoneRefused paper b (ending more active passive)
+      → cellWeight paper (cellLeft b place more active passive) ≡ fullWeight → n .0 ≤ keptOfRest row (opening .spread) events more
+  -- .. and so many are enough, where the cell's lapses are not too many
+  pub full-enough : (n : Millis) → o .full ≡ At n
+      → (more : List Event) (active passive : Kopecks) → NoneRefused paper b (ending more active passive)
+      → withinLapseLimit (opening .allowed) (cellLeft b place more active passive .lapses) ≡ true
+      → n .0 ≤ keptOfRest row (opening .spread) events more → cellWeight paper (cellLeft b place more active passive) ≡ fullWeight
+  -- full, never: whatever events and close follow, the weight is another
+  pub full-never : o .full ≡ Never → (more : List Event) (active passive : Kopecks) → NoneRefused paper b (ending more active passive)
+      → cellWeight paper (cellLeft b place more active passive) ≡ fullWeight → ⊥
   -- rest: cancelling every live order now and closing is accepted, and leaves a met cell exactly where it says so ..
   pub accepted : NoneRefused paper b (ending (cancelAll events) (kopecks 0) (kopecks 0))
   pub rest : cellMet paper (cellLeft b place (cancelAll events) (kopecks 0) (kopecks 0)) ≡ o .rest
