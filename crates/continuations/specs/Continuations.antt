@@ -83,7 +83,7 @@ pub record Foresees (b : Book) (place : ℕ) (row : Row) (opening : Opening) (ev
   pub by-met : (s : Millis) → o .by ≡ At s
       → NoneRefused paper b (ending (backAt row events (s .0)) (kopecks 0) (kopecks 0))
       × (cellMet paper (cellLeft b place (backAt row events (s .0)) (kopecks 0) (kopecks 0)) ≡ true)
-  -- .. and where nothing is kept from now up to a later time, the cell is failed (where `by` is L there is none, and `rest` says the same)
+  -- .. and where nothing is kept from now up to a later time, L at most, the cell is failed
   pub by-latest : (s : Millis) → o .by ≡ At s → (until : ℕ) → s .0 < until → until ≤ row .length .0
       → (more : List Event) (active passive : Kopecks) → NoneRefused paper b (ending more active passive)
       → ((m : ℕ) → present events ≤ m → m < until → keptThen row (opening .spread) events more m ≡ false)
@@ -97,11 +97,11 @@ pub record Foresees (b : Book) (place : ℕ) (row : Row) (opening : Opening) (ev
       → NoneRefused paper b (ending (backAt row events (present events)) (kopecks 0) (kopecks 0))
       × (n .0 ≤ keptOfRest row (opening .spread) events (backAt row events (present events)))
       × (cellWeight paper (cellLeft b place (backAt row events (present events)) (kopecks 0) (kopecks 0)) ≡ fullWeight)
-  -- .. nothing that keeps fewer leaves it ..
+  -- .. no list that keeps fewer leaves it ..
   pub full-needed : (n : Millis) → o .full ≡ At n
       → (more : List Event) (active passive : Kopecks) → NoneRefused paper b (ending more active passive)
       → cellWeight paper (cellLeft b place more active passive) ≡ fullWeight → n .0 ≤ keptOfRest row (opening .spread) events more
-  -- .. and so many are enough, where the cell's lapses are not too many
+  -- .. and so many are enough for it, where the cell's lapses are not too many
   pub full-enough : (n : Millis) → o .full ≡ At n
       → (more : List Event) (active passive : Kopecks) → NoneRefused paper b (ending more active passive)
       → withinLapseLimit (opening .allowed) (cellLeft b place more active passive .lapses) ≡ true
