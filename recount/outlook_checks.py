@@ -126,16 +126,24 @@ def compare_full(book: Book, full: int | None, ways: list[Way]) -> str:
     return "full: none more" if full == 0 else "full: all" if full == len(now.kept) else "full: some"
 
 
+def begun(was_kept: bool, kept: tuple[bool, ...]) -> int:
+    """The lapses that begin at these milliseconds, where the one before them was kept or not."""
+    return sum(before and not now for before, now in zip((was_kept, *kept), kept))
+
+
 def compare(book: Book, said: OutlookView, left: int) -> list[str]:
     """Every way to go on, run through the book, compared with what was said: the kinds of its answers."""
     ways = [chosen_way(book, chosen) for chosen in product((False, True), repeat=left)]
     resting, keeping = ways[0].cell, ways[-1].cell
-    before = accepted(book, Report()).kept
+    before, now = accepted(book, Report()).kept, book.quoting.time
+    was_kept = now == 0 or any(start + count == now for start, count in book.quoting.pairs(now))
     assert said.left == left and said.lost == (not any(way.cell.met for way in ways))
     assert (said.rest, said.weight_rest, said.weight_keep) == (resting.met, resting.weight, keeping.weight)
     for cell, kept in ways:
-        assert cell.kept == before + sum(kept)
-        assert cell.met == (sum(kept) >= said.need and none_too_many(cell.limit, cell.lapses)), (said, kept)
+        few = said.lapses != "over" and (said.lapses == "none" or begun(was_kept, kept) <= said.lapses)
+        assert none_too_many(cell.limit, cell.lapses) == few, (said, kept)
+        assert cell.kept == before + sum(kept) and cell.weight <= said.weight_keep, (said, kept)
+        assert cell.met == (sum(kept) >= said.need and few), (said, kept)
     return [compare_by(book, said.by, ways), compare_full(book, said.full, ways)]
 
 

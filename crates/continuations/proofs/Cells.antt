@@ -1,6 +1,7 @@
 -- Cells of milliseconds that are kept or not, whatever the reason: the best that may follow is that all is kept, and how many are needed.
 -- Assumes nothing.
-use Prim.Native.Nat.{ℕ, zero, suc, _+_, _*_, _≤_, _<_}
+use Prim.Native.Nat.{ℕ, zero, suc, _+_, _-_, _*_, _≤_, _<_}
+use native.Mathlib.Nat.{lt-irrefl, lt-of-lt-of-le, lt-of-not-le}
 use native.Mathlib.Omega.{arith}
 use mathlib.Core.Path.{_≡_, refl, sym, ap, _∙_}
 use mathlib.Core.Bool.{Bool, true, false, not, false≢true, _&&_, _||_}
@@ -9,13 +10,15 @@ use lib.ListN.{length}
 use borrow.Author.Tests.{leb-true, leb-false, le-leb, lt-leb, lt-ltb, le-ltb}
 use Rattle.rules.specs.declared.Row.{Row}
 use Rattle.rules.specs.declared.Opening.{Opening}
+use Rattle.rules.specs.declared.LapsesLeft.the-variants.{Unlimited, Over, Left}
 use Rattle.rules.specs.Lists.{if_then_else_, count}
 use Rattle.rules.specs.Terms.{paper}
 use Rattle.rules.specs.Units.{millis, kopecks}
 use Rattle.rules.specs.Runs.{before}
 use Rattle.rules.specs.Lapses.{missing, lapses, begins, lapseStarts, noLapseLimit, withinLapseLimit}
 use Rattle.rules.specs.Pay.{met, cellMet}
-use Rattle.rules.specs.Outlook.{needOf, restingTill, cellOf}
+use Rattle.rules.specs.Outlook.{needOf, restingTill, cellOf, lapsesLeft}
+use Rattle.continuations.specs.Continuations.{mayLapse}
 use Rattle.rules.proofs.Counting.{count-ext, count-more, count-stretch}
 use Rattle.rules.proofs.Stretches.{stretches-ext}
 use Rattle.rules.proofs.Lapses.{lapses-counted}
@@ -89,6 +92,9 @@ module _ (row : Row) (opening : Opening) (p q : ℕ → Bool) (t s : ℕ) (onwar
       go true e = kept-from m (leb-true s m e)
       go false e = sym (agree m (leb-false s m e)) ∙ h
 
+  pub kept-more : (n : ℕ) → count q n ≤ count (restingTill p t s) n
+  kept-more n = count-more q (restingTill p t s) n (λ m l. kept-then m)
+
   -- a lapse that begins there, begins then too
   begins-then : (m : ℕ) → lapseStarts (restingTill p t s) m ≡ true → lapseStarts q m ≡ true
   begins-then m h = go (leb s m) refl
@@ -107,11 +113,10 @@ module _ (row : Row) (opening : Opening) (p q : ℕ → Bool) (t s : ℕ) (onwar
   best-is-keeping h =
       let n = row .length .0 in
       let (share, few) = both (met paper (count q n) n (row .share)) (withinLapseLimit (opening .allowed) (length (lapses q n))) h in
-      let more = count-more q (restingTill p t s) n (λ m l. kept-then m) in
       let starts = count-more (lapseStarts (restingTill p t s)) (lapseStarts q) n (λ m l. begins-then m) in
       let a = lapses-counted (restingTill p t s) n in
       let b = lapses-counted q n in
-      and (met-more (count q n) (count (restingTill p t s) n) n (row .share) more share)
+      and (met-more (count q n) (count (restingTill p t s) n) n (row .share) (kept-more n) share)
       (within-fewer (opening .allowed) (length (lapses (restingTill p t s) n)) (length (lapses q n)) (omega arith) few)
 
 -- the milliseconds from t on, counted apart
@@ -129,6 +134,14 @@ unfolding count
 count-all q zero h = refl
 count-all q (suc n) h = rw (h n (omega arith)) (let ih = count-all q n (λ m l. h m (omega arith)) in omega arith)
 
+-- tests of numbers that follow from each other
+same-test : (a b c d : ℕ) → (a ≤ b → c ≤ d) → (c ≤ d → a ≤ b) → leb a b ≡ leb c d
+same-test a b c d f g = go (leb c d) refl
+  where
+    go : (x : Bool) → leb c d ≡ x → leb a b ≡ x
+    go true e = le-leb a b (g (leb-true c d e))
+    go false e = lt-leb a b (lt-of-not-le (λ l. absurd (lt-irrefl d (lt-of-lt-of-le (leb-false c d e) (f l)))))
+
 -- ---- lapses begun by t
 
 module _ (p q : ℕ → Bool) (t : ℕ) (same : (m : ℕ) → m < t → q m ≡ p m) where
@@ -137,13 +150,12 @@ module _ (p q : ℕ → Bool) (t : ℕ) (same : (m : ℕ) → m < t → q m ≡ 
       count-ext (lapseStarts q) (lapseStarts p) t
       (λ m l i. not (same m l i) && (eqb m 0 || before-same p q t m same (omega arith) i))
 
-  -- they stay, whatever follows
-  pub lapses-stay : (d : ℕ) → length (lapses p t) ≤ length (lapses q (t + d))
-  lapses-stay d =
-      let a = lapses-counted p t in
-      let b = lapses-counted q (t + d) in
-      let c = count-from (lapseStarts q) t d in
-      omega (arith, a, b, c, starts-same)
+  -- they stay, and those that begin later are added
+  pub lapses-added : (d : ℕ) → length (lapses q (t + d)) ≡ length (lapses p t) + count (λ (i : ℕ). lapseStarts q (t + i)) d
+  lapses-added d =
+      lapses-counted q (t + d)
+      ∙ count-from (lapseStarts q) t d
+      ∙ ap (λ (n : ℕ). n + count (λ (i : ℕ). lapseStarts q (t + i)) d) (starts-same ∙ sym (lapses-counted p t))
 
   -- and are all, where everything from t on is kept
   pub lapses-kept : (d : ℕ) → ((m : ℕ) → t ≤ m → m < t + d → q m ≡ true) → length (lapses q (t + d)) ≡ length (lapses p t)
@@ -153,6 +165,17 @@ module _ (p q : ℕ → Bool) (t : ℕ) (same : (m : ℕ) → m < t → q m ≡ 
       ∙ (let e : count (lapseStarts q) t + 0 ≡ count (lapseStarts q) t = omega arith in e)
       ∙ starts-same
       ∙ sym (lapses-counted p t)
+
+-- how many more may begin
+pub may-lapse : (allowed so-far more : ℕ) → withinLapseLimit allowed (so-far + more) ≡ mayLapse (lapsesLeft allowed so-far) more
+unfolding withinLapseLimit
+may-lapse allowed so-far more = go (eqb allowed noLapseLimit) (leb so-far allowed) refl
+  where
+    go : (none few : Bool) → leb so-far allowed ≡ few
+        → (none || leb (so-far + more) allowed) ≡ mayLapse (if none then Unlimited else (if few then Left (allowed - so-far) else Over)) more
+    go true few e = refl
+    go false false e = let over = leb-false so-far allowed e in lt-leb (so-far + more) allowed (omega arith)
+    go false true e = let fits = leb-true so-far allowed e in same-test (so-far + more) allowed more (allowed - so-far) (λ l. omega arith) (λ l. omega arith)
 
 -- ---- how many are needed
 

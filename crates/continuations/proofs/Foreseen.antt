@@ -39,10 +39,10 @@ use Rattle.rules.proofs.Kept.{keptAt-now}
 use Rattle.rules.proofs.Refusals.{InTurn, passes-call}
 use Rattle.rules.proofs.Histories.{none-parts, parts-none, sent, closes, sends-pass}
 use Rattle.rules.proofs.Bounds.{ReadBounds, bounds, read-bounds}
-use Rattle.continuations.specs.Continuations.{ending, cellLeft, keptOfRest, cancelAll, backAt, fullWeight, Foresees, Outlooks}
+use Rattle.continuations.specs.Continuations.{ending, cellLeft, keptOfRest, lapsesOfRest, cancelAll, backAt, fullWeight, Foresees, Outlooks}
 use Rattle.continuations.proofs.Latest.{Found, latest-found, latest-passes, never-passes}
-use Rattle.continuations.proofs.Cells.{same-cell, resting-below, resting-from, best-is-keeping, count-from, count-all, lapses-stay, lapses-kept, within-fewer, enough-met, met-enough}
-use Rattle.continuations.proofs.Weights.{full-needs, full-weighs, full-meets, full-verdict}
+use Rattle.continuations.proofs.Cells.{same-cell, resting-below, resting-from, best-is-keeping, kept-more, count-from, count-all, lapses-added, lapses-kept, may-lapse, within-fewer, enough-met, met-enough}
+use Rattle.continuations.proofs.Weights.{weighs-more, full-needs, full-weighs, full-meets, full-verdict}
 use Rattle.continuations.proofs.Events.{turn-bounds, turn-below, all-cancelled, none-keep, Back, back-at, nothing-keeps}
 
 or-first : (a c : Bool) → c ≡ false → (a || c) ≡ true → a ≡ true
@@ -88,6 +88,9 @@ module _ (b : Book) (place : ℕ) (row : Row) (opening : Opening) (events : List
 
   good : ReadBounds paper row
   good = read-bounds paper (opening .spread) row (quantum .row-good)
+
+  some : 1 ≤ whole
+  some = omega (arith, good .length-least)
 
   -- ---- the cell that is left
 
@@ -283,16 +286,60 @@ module _ (b : Book) (place : ℕ) (row : Row) (opening : Opening) (events : List
 
   -- ---- the weight if all is kept
 
+  -- a quote put at once
+  at-once : InTurn row events (backAt row events t)
+  at-once = back t (omega arith) ends .passes
+
+  abbrev weightIf : Bool → ℕ
+  weightIf c = if c then cellWeight paper (cellResting row opening events t) else cellWeight paper (cellResting row opening events whole)
+
+  keeping-is : (c : Bool) → can ≡ c → weightKeeping paper row opening events ≡ weightIf c
+  unfolding weightKeeping weightResting
+  keeping-is c e = ap weightIf e
+
   all-kept : (more : List Event) → InTurn row events more → ((m : ℕ) → t ≤ m → m < whole → then′ more m ≡ true)
       → cellWeight paper (cellOf row opening (then′ more)) ≡ weightKeeping paper row opening events
-  unfolding weightKeeping weightResting
   all-kept more p h = go can refl
     where
-      go : (c : Bool) → can ≡ c
-          → cellWeight paper (cellOf row opening (then′ more))
-          ≡ (if c then cellWeight paper (cellResting row opening events t) else cellWeight paper (cellResting row opening events whole))
-      go true e = ap (cellWeight paper) (as-resting t more p (λ m l u. h m l u ∙ sym (le-leb t m l)))
-      go false e = ap (cellWeight paper) (hopeless e more p)
+      go : (c : Bool) → can ≡ c → cellWeight paper (cellOf row opening (then′ more)) ≡ weightKeeping paper row opening events
+      go true e = ap (cellWeight paper) (as-resting t more p (λ m l u. h m l u ∙ sym (le-leb t m l))) ∙ sym (keeping-is true e)
+      go false e = ap (cellWeight paper) (hopeless e more p) ∙ sym (keeping-is false e)
+
+  kept-now : cellWeight paper (cellOf row opening (then′ (backAt row events t))) ≡ weightKeeping paper row opening events
+  kept-now = go can refl
+    where
+      go : (c : Bool) → can ≡ c → cellWeight paper (cellOf row opening (then′ (backAt row events t))) ≡ weightKeeping paper row opening events
+      go true e = ap (cellWeight paper) (returned t (omega arith) ends (or-second (eqb t whole) e)) ∙ sym (keeping-is true e)
+      go false e = ap (cellWeight paper) (hopeless e (backAt row events t) at-once) ∙ sym (keeping-is false e)
+
+  -- nothing that follows has more weight
+  no-heavier : (more : List Event) → InTurn row events more
+      → cellWeight paper (cellOf row opening (then′ more)) ≤ cellWeight paper (cellResting row opening events t)
+  unfolding cellResting
+  no-heavier more p =
+      let same : ((m : ℕ) → m < t → then′ more m ≡ kept m) = λ m l. turn-below row (opening .spread) events more p m l in
+      let nothing : ((m : ℕ) → t ≤ m → m < t → then′ more m ≡ false) = λ m l u. absurd (omega (arith, l, u)) in
+      weighs-more (cellMet paper (cellOf row opening (then′ more))) (cellMet paper (cellOf row opening (restingTill kept t t))) (count (then′ more) whole)
+      (count (restingTill kept t t) whole) whole (row .share) some (good .share-most)
+      (kept-more row opening kept (then′ more) t t (omega arith) same nothing whole)
+      (best-is-keeping row opening kept (then′ more) t t (omega arith) same nothing)
+
+  at-most : (more : List Event) → InTurn row events more → cellWeight paper (cellOf row opening (then′ more)) ≤ weightKeeping paper row opening events
+  at-most more p = go can refl
+    where
+      go : (c : Bool) → can ≡ c → cellWeight paper (cellOf row opening (then′ more)) ≤ weightKeeping paper row opening events
+      go true e = omega (arith, no-heavier more p, keeping-is true e)
+      go false e = omega (arith, ap (cellWeight paper) (hopeless e more p), keeping-is false e)
+
+  -- ---- lapses
+
+  begun : (more : List Event) → InTurn row events more
+      → length (lapses (then′ more) whole) ≡ lapsesBelow row (opening .spread) events t + lapsesOfRest row (opening .spread) events more
+  unfolding lapsesBelow
+  begun more p =
+      let all : whole ≡ t + (whole - t) = omega (arith, ends) in
+      ap (λ (n : ℕ). length (lapses (then′ more) n)) all
+      ∙ lapses-added kept (then′ more) t (λ m l. turn-below row (opening .spread) events more p m l) (whole - t)
 
   -- ---- the full weight
 
@@ -305,9 +352,6 @@ module _ (b : Book) (place : ℕ) (row : Row) (opening : Opening) (events : List
   -- how many more it needs
   abbrev lacks : ℕ
   lacks = fullNeedOf soFar whole
-
-  some : 1 ≤ whole
-  some = omega (arith, good .length-least)
 
   weight-parts : (more : List Event) → InTurn row events more
       → cellWeight paper (cellOf row opening (then′ more))
@@ -350,9 +394,6 @@ module _ (b : Book) (place : ℕ) (row : Row) (opening : Opening) (events : List
       count-all (λ (d : ℕ). then′ (backAt row events t) (t + d)) (whole - t)
       (λ d l. from-last (backAt row events t) true t (q .passes) (q .time) (q .keeps ∙ e) (t + d) (omega arith))
 
-  at-once : InTurn row events (backAt row events t)
-  at-once = back t (omega arith) ends .passes
-
   few-at-once : can ≡ true → length (lapses (then′ (backAt row events t)) whole) ≡ lapsesBelow row (opening .spread) events t
   unfolding lapsesBelow
   few-at-once e =
@@ -380,13 +421,6 @@ module _ (b : Book) (place : ℕ) (row : Row) (opening : Opening) (events : List
       let enough : lacks ≤ ofRest (backAt row events t) = omega (arith, most, all-of-rest e) in
       (enough, lacks-full (backAt row events t) at-once (ap (withinLapseLimit (opening .allowed)) (few-at-once e) ∙ few) enough)
 
-  lapses-over : (more : List Event) → InTurn row events more → lapsesBelow row (opening .spread) events t ≤ length (lapses (then′ more) whole)
-  unfolding lapsesBelow
-  lapses-over more p =
-      let all : t + (whole - t) ≡ whole = omega (arith, ends) in
-      subst (λ (n : ℕ). length (lapses kept t) ≤ length (lapses (then′ more) n)) all
-      (lapses-stay kept (then′ more) t (λ m l. turn-below row (opening .spread) events more p m l) (whole - t))
-
   -- what leaves it shows that it can be
   shown : (more : List Event) → InTurn row events more → cellWeight paper (cellOf row opening (then′ more)) ≡ fullWeight → may-full ≡ true
   shown more p h =
@@ -396,7 +430,7 @@ module _ (b : Book) (place : ℕ) (row : Row) (opening : Opening) (events : List
       let most = count-le (λ (d : ℕ). then′ more (t + d)) (whole - t) in
       and
       (and (le-leb lacks (whole - t) (omega (arith, enough, most)))
-      (within-fewer (opening .allowed) (lapsesBelow row (opening .spread) events t) (length (lapses (then′ more) whole)) (lapses-over more p) few))
+      (within-fewer (opening .allowed) (lapsesBelow row (opening .spread) events t) (length (lapses (then′ more) whole)) (omega (arith, begun more p)) few))
       (go can refl enough)
     where
       go : (c : Bool) → can ≡ c → lacks ≤ ofRest more → (eqb lacks 0 || c) ≡ true
@@ -439,9 +473,10 @@ module _ (b : Book) (place : ℕ) (row : Row) (opening : Opening) (events : List
         by-never = λ e more active passive n. met-is more active passive n ∙ failed (ap isNever e) more (passing more active passive n);
         full-reached = λ n e.
             let (may, is) = full-at n e in
-            let (enough, weighs) = reached may in
-            let a = accepted-ending (backAt row events t) at-once in
-            (a, subst (λ (k : ℕ). k ≤ ofRest (backAt row events t)) is enough, weight-is (backAt row events t) (kopecks 0) (kopecks 0) a ∙ weighs);
+            let (enough, weighs) = reached may in (
+              subst (λ (k : ℕ). k ≤ ofRest (backAt row events t)) is enough,
+              weight-is (backAt row events t) (kopecks 0) (kopecks 0) (accepted-ending (backAt row events t) at-once) ∙ weighs,
+            );
         full-needed = λ n e more active passive a h.
             subst (λ (k : ℕ). k ≤ ofRest more) (full-at n e .1)
             (full-lacks more (passing more active passive a) (sym (weight-is more active passive a) ∙ h));
@@ -450,9 +485,19 @@ module _ (b : Book) (place : ℕ) (row : Row) (opening : Opening) (events : List
             ∙ lacks-full more (passing more active passive a) (few-is more active passive a ∙ few) (subst (λ (k : ℕ). k ≤ ofRest more) (sym (full-at n e .1)) h);
         full-never = λ e more active passive a h.
             true≢false (sym (shown more (passing more active passive a) (sym (weight-is more active passive a) ∙ h)) ∙ full-none e);
+        few-lapses = λ more active passive n.
+            let p = passing more active passive n in
+            sym (few-is more active passive n)
+            ∙ ap (withinLapseLimit (opening .allowed)) (begun more p)
+            ∙ may-lapse (opening .allowed) (lapsesBelow row (opening .spread) events t) (lapsesOfRest row (opening .spread) events more);
         accepted = accepted-ending (cancelAll events) rests;
         rest = met-is (cancelAll events) (kopecks 0) (kopecks 0) (accepted-ending (cancelAll events) rests) ∙ ap (cellMet paper) rested;
         resting = weight-is (cancelAll events) (kopecks 0) (kopecks 0) (accepted-ending (cancelAll events) rests) ∙ ap (cellWeight paper) rested;
+        back-accepted = accepted-ending (backAt row events t) at-once;
+        keeping-now = weight-is (backAt row events t) (kopecks 0) (kopecks 0) (accepted-ending (backAt row events t) at-once) ∙ kept-now;
+        keeping-most = λ more active passive n.
+            let p = passing more active passive n in
+            omega (arith, at-most more p, weight-is more active passive n);
         keeping = λ more active passive n h. weight-is more active passive n ∙ all-kept more (passing more active passive n) h;
       }
 
