@@ -78,7 +78,7 @@ pub record Shows (b : Book) (r : Report) : Type 0 where
   pub failures : r .failures ≡ allFailures paper (b .cells)
   pub fee : r .fee ≡ kopecks (fee paper (b .cells))
 
--- The claim about a list of calls.
+-- The claim about a list of calls. `lists::run` has no limit of its own; that of `quoting_calls` is in crates/quoting/proofs/Demand.
 pub record Demand3 (calls : List Call) : Type 0 where
   -- it can be given: these are bytes, four for each word, and their calls are the list
   pub bytes : Bytes (bytesFor calls)
@@ -92,7 +92,7 @@ pub record Demand3 (calls : List Call) : Type 0 where
   pub next : (c : Call) → CallFits c → (before written : List ℕ) (r : Listed)
       → ListAnswered (wordsIn (bytesFor (calls ++ (c ∷ [])))) before written r → 20 * (length calls + 1) ≤ length before
       → SaysAnswer calls c (answerAt written (length calls))
-  -- so of a report, whose numbers are
+  -- a report then shows these numbers
   pub report : (before written : List ℕ) (r : Listed)
       → ListAnswered (wordsIn (bytesFor (calls ++ (B.Report ∷ [])))) before written r → 20 * (length calls + 1) ≤ length before
       → (answerAt written (length calls) ≡ answerWords (shownReport (reportOf paper (after paper calls))))
@@ -105,8 +105,8 @@ pub record Handed : Type 0 where
   pub month : Month
   pub shown : Outcome Reply
 
--- Calls made one after the other, each on the month that the one before handed back: what they handed back is any that their contract
--- allows.
+-- Calls made one after the other, each on the month that the one before handed back. They may hand back whatever their contract,
+-- `Answered`, allows.
 abbrev pub Made : Month → List Call → List Handed → Type 0
 Made m [] [] = Unit {0}
 Made m [] (h ∷ hs) = ⊥
@@ -121,7 +121,6 @@ lastMonth m (h ∷ hs) = lastMonth (h .month) hs
 -- The claim about a month by value, from the fresh one on.
 pub record Demand3ByValue (calls : List Call) (last : Month) (handed : List Handed) : Type 0 where
   pub month : last ≡ monthOf (after paper calls)
-  -- so what `Answered` says of it is about this list
   pub reached : Reached last
   pub answers : map (λ (h : Handed). h .shown) handed ≡ answersFrom paper freshBook calls
   -- any further call
