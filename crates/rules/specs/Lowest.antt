@@ -2,8 +2,9 @@
 -- (Causes); it is the lowest number because the numbers of each list ascend. proofs/Lowest shows both.
 --
 -- Messages have document 02's own order, W11: "20 and 21 first, then the causes of its one or two calls in turn". The list is the reader's 20 or
--- 21 alone, or 21 and then each call's list, which ascends as every event's does. A record of a session run has no list: 15 alone where it is no
--- event, else the causes of that event.
+-- 21 alone; or 21 and then each call's list, which ascends as every event's does, so that the refusal is the lowest number of the first call
+-- that is refused (proofs/MessageCalls). A record of a session or an account run has no list: it is refused by 15 alone where it is no event,
+-- else by the causes of that event.
 use Prim.Native.Nat.{ℕ, _<_, _≤_}
 use mathlib.Core.Path.{_≡_}
 use mathlib.Core.List.{List, [], _∷_}
