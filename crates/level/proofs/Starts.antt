@@ -30,6 +30,7 @@ use Rattle.level.specs.declared.Found.{Found}
 use Rattle.level.specs.Candidates.{nextKey, fallsShort, canBeBest}
 use Rattle.level.specs.CandidateKeys.{keyOnly, keysFromChange, keysFromSecond, keysFromFirst, keysFromOld, keysFrom}
 use Rattle.level.specs.Internal.{Open, Searches, Sought, foundAt, nextLevel, withLevel, stepFarther, atChange}
+use Rattle.level.proofs.Counts.{at-most-one}
 use Rattle.level.proofs.Nexts.{not-best, where-enough, where-short, Steps, steps-next}
 
 -- what is kept of numbers that are at most b
@@ -41,6 +42,10 @@ greatest-most b t (k ∷ ks) h = go (t k) (h 0) (greatest-most b t ks (λ i. h (
     go : (a : Bool) → k ≤ b → greatest (filter t ks) ≤ b → greatest (if a then k ∷ filter t ks else filter t ks) ≤ b
     go true p q = omega arith
     go false p q = q
+
+best-top : (ks vs : List ℕ) (minimum : ℕ) → ((i : ℕ) → getD ks i 0 ≤ 2000000001) → bestKey minimum ks vs ≤ 2000000001
+unfolding bestKey
+best-top ks vs minimum h = greatest-most 2000000001 (enough minimum ks vs) ks h
 
 -- ---- a level
 
@@ -235,18 +240,110 @@ module _ (minimum : ℕ) (ks vs : List ℕ) where
       go true e = tried-better g (levelAt ks vs key) (lastKeys (levelAt ks vs key)) refl (change-better g key p not-yet e)
       go false e = ap (λ (b : Bool). counted g (if b then [] else ks)) (sym not-yet)
 
-  -- none is left where the level is the best
-  first-ends : (g : Guess) (key : ℕ) → isBest (g .level) minimum ≡ true → counted g (firstKeys key (g .level)) ≡ g .sums
+  -- where the level is the best, none is left
+  pub first-ends : (g : Guess) (key : ℕ) → isBest (g .level) minimum ≡ true → counted g (firstKeys key (g .level)) ≡ g .sums
   unfolding keysFromFirst keySums
-  first-ends g key best = go (firstKeys key (g .level)) (ap (λ (b : Bool). if b then [] else rest) best)
-    where
-      rest : List ℕ
-      rest =
-          if fallsShort (g .level) minimum then changeKeys key (g .level)
-          else keyOnly (nextKey minimum ks (g .level)) ++ secondKeys key (nextLevel minimum ks vs (g .level))
+  first-ends g key best =
+      ap
+      (λ (b : Bool).
+      counted g
+      (if b then []
+      else if fallsShort (g .level) minimum then changeKeys key (g .level)
+      else keyOnly (nextKey minimum ks (g .level)) ++ secondKeys key (nextLevel minimum ks vs (g .level))))
+      best
+      ∙ omega arith
 
-      go : (l : List ℕ) → l ≡ [] → counted g l ≡ g .sums
-      go l e = ap (counted g) e ∙ omega arith
+  pub second-ends : (g : Guess) (key : ℕ) → isBest (g .level) minimum ≡ true → counted g (secondKeys key (g .level)) ≡ g .sums
+  unfolding keysFromSecond keySums
+  second-ends g key best = ap (λ (b : Bool). counted g (if b then [] else changeKeys key (g .level))) best ∙ omega arith
+
+  pub last-ends : (g : Guess) → isBest (g .level) minimum ≡ true → counted g (lastKeys (g .level)) ≡ g .sums
+  unfolding keySums
+  last-ends g best = ap (λ (b : Bool). counted g (if b then [] else ks)) best ∙ omega arith
+
+  -- .. else all orders
+  pub last-searches : (g : Guess) → isBest (g .level) minimum ≡ false → counted g (lastKeys (g .level)) ≡ counted g ks
+  last-searches g not-yet = ap (λ (b : Bool). counted g (if b then [] else ks)) not-yet
+
+  -- ---- how many sums there are at most
+
+  with-sums : (g : Guess) (l : Level) → withLevel g l minimum .sums ≤ g .sums + 1
+  with-sums g l = omega (arith, at-most-one (ltb 0 (l .key)))
+
+  pub farther-sums : (g : Guess) → stepFarther minimum ks vs g .sums ≤ g .sums + 1
+  farther-sums g = go (fallsShort (g .level) minimum)
+    where
+      go : (b : Bool) → (if b then g else withLevel g (nextLevel minimum ks vs (g .level)) minimum) .sums ≤ g .sums + 1
+      go true = omega arith
+      go false = with-sums g (nextLevel minimum ks vs (g .level))
+
+  pub change-sums : (g : Guess) (key : ℕ) → atChange minimum ks vs g key .sums ≤ g .sums + 1
+  change-sums g key = go (canBeBest (g .level) key minimum)
+    where
+      go : (b : Bool) → (if b then withLevel g (levelAt ks vs key) minimum else g) .sums ≤ g .sums + 1
+      go true = with-sums g (levelAt ks vs key)
+      go false = omega arith
+
+  -- ---- the level of the changed order's key, and where a search may start
+
+  pub change-is : (g : Guess) (key : ℕ) → Near g → atChange minimum ks vs g key .level ≡ levelAt ks vs (atChange minimum ks vs g key .level .key)
+  unfolding levelAt
+  change-is g key p = go (canBeBest (g .level) key minimum)
+    where
+      go : (b : Bool) → (if b then withLevel g (levelAt ks vs key) minimum else g) .level
+          ≡ levelAt ks vs ((if b then withLevel g (levelAt ks vs key) minimum else g) .level .key)
+      go true = refl
+      go false = p .is
+
+  near-start : (g : Guess) → Near g → isBest (g .level) minimum ≡ false → (g .start ≡ 0) ⊎ (minimum ≤ held (ltb (g .start)) ks vs)
+  near-start g p not-yet = go (leb minimum (g .level .before)) refl
+    where
+      go : (b : Bool) → leb minimum (g .level .before) ≡ b → (g .start ≡ 0) ⊎ (minimum ≤ held (ltb (g .start)) ks vs)
+      go true e =
+          let h = leb-true minimum (g .level .before) e in
+          let more : held (ltb (g .level .key)) ks vs ≤ held (ltb (g .start)) ks vs =
+          held-le (ltb (g .level .key)) (ltb (g .start)) ks vs (λ k t. lt-ltb (g .start) k (omega (arith, p .at h, ltb-true (g .level .key) k t))) in
+          inr (omega (arith, h, before-held ks vs (g .level) (p .is), more))
+      go false e = inl (p .none not-yet (leb-false minimum (g .level .before) e))
+
+  change-start : (g : Guess) (key : ℕ) → Near g → isBest (g .level) minimum ≡ false → isBest (atChange minimum ks vs g key .level) minimum ≡ false
+      → (atChange minimum ks vs g key .start ≡ 0) ⊎ (minimum ≤ held (ltb (atChange minimum ks vs g key .start)) ks vs)
+  unfolding levelAt
+  change-start g key p not-yet = go (canBeBest (g .level) key minimum)
+    where
+      there : isBest (levelAt ks vs key) minimum ≡ false → (b : Bool) → leb minimum (held (ltb key) ks vs) ≡ b
+          → (foundAt minimum (g .start) (levelAt ks vs key) ≡ 0) ⊎ (minimum ≤ held (ltb (foundAt minimum (g .start) (levelAt ks vs key))) ks vs)
+      there n true e =
+          let h = leb-true minimum (held (ltb key) ks vs) e in
+          let is = where-enough minimum (held (ltb key) ks vs + held (eqb key) ks vs) key (g .start) (omega (arith, h)) in
+          inr (subst (λ (k : ℕ). minimum ≤ held (ltb k) ks vs) (sym is) h)
+      there n false e =
+          let few = not-best (levelAt ks vs key) minimum n (leb-false minimum (held (ltb key) ks vs) e) .1 in
+          let is = where-short minimum (held (ltb key) ks vs + held (eqb key) ks vs) key (g .start) few in
+          subst (λ (k : ℕ). (k ≡ 0) ⊎ (minimum ≤ held (ltb k) ks vs)) (sym is) (near-start g p not-yet)
+
+      go : (b : Bool) → isBest ((if b then withLevel g (levelAt ks vs key) minimum else g) .level) minimum ≡ false
+          → ((if b then withLevel g (levelAt ks vs key) minimum else g) .start ≡ 0)
+          ⊎ (minimum ≤ held (ltb ((if b then withLevel g (levelAt ks vs key) minimum else g) .start)) ks vs)
+      go true n = there n (leb minimum (held (ltb key) ks vs)) refl
+      go false n = near-start g p not-yet
+
+  -- the search after it
+  pub change-opens : (g : Guess) (key : ℕ) → Near g → isBest (g .level) minimum ≡ false → isBest (atChange minimum ks vs g key .level) minimum ≡ false
+      → 1 ≤ minimum → held (eqb 0) ks vs ≡ 0 → ((i : ℕ) → getD ks i 0 ≤ 2000000001)
+      → Open minimum ks vs (atChange minimum ks vs g key .start) × (atChange minimum ks vs g key .start ≤ 2000000001)
+  change-opens g key p not-yet n some none keys =
+      let start = change-start g key p not-yet n in
+      (record { none = none; below = start }, most start)
+    where
+      most : {k : ℕ} → (k ≡ 0) ⊎ (minimum ≤ held (ltb k) ks vs) → k ≤ 2000000001
+      most {k} (inl e) = omega (arith, e)
+      most {k} (inr h) = omega (arith, best-top ks vs minimum keys, start-below minimum ks vs k some h)
+
+-- the level of the old best key
+pub near-known : (minimum : ℕ) (ks vs : List ℕ) (l : Level) → l ≡ levelAt ks vs (l .key) → l .key ≤ 2000000001 → Near minimum ks vs (known minimum ks vs l)
+near-known minimum ks vs l is most =
+    record { is = is; most = most; none = λ n few. refl; at = λ h. omega arith }
 
 -- ---- what the search finds
 
@@ -304,10 +401,6 @@ module _ (side : Side) (ks vs : List ℕ) (start minimum : ℕ) (s : Searchable 
         let is-before : r .before ≡ held (ltb (bestKey minimum ks vs)) ks vs = f .before ∙ ap (λ (x : ℕ). held (ltb x) ks vs) found-best in
         let is-at : at ≡ held (eqb (bestKey minimum ks vs)) ks vs = a ∙ at-found in
         λ i. record { key = is-key i; before = is-before i; at = is-at i }
-
-best-top : (ks vs : List ℕ) (minimum : ℕ) → ((i : ℕ) → getD ks i 0 ≤ 2000000001) → bestKey minimum ks vs ≤ 2000000001
-unfolding bestKey
-best-top ks vs minimum h = greatest-most 2000000001 (enough minimum ks vs) ks h
 
 -- the old best key is one of the orders before a change
 pub best-key-most : (minimum : ℕ) (before : List Slot) → GoodSlots before → (after : List Slot) (l : Level) → l ≡ levelIn after (bestKeyIn minimum before)

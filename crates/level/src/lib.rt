@@ -2,7 +2,7 @@
 // order went), else searched; that of a small side by its own search. Document 02, W3: volumes are added up only for a live order whose
 // price is better than every one already found to qualify, and their number is answered (specs/Candidates).
 ghost use mathlib.Core.Path.{_≡_};
-ghost use mathlib.Core.Bool.{_&&_, false};
+ghost use mathlib.Core.Bool.{_&&_, true, false};
 ghost use mathlib.Core.List.{List};
 ghost use Prim.Native.Nat.{ℕ, _+_, _-_, _≤_, min, max};
 ghost use lib.Dec.{ltb, eqb};
