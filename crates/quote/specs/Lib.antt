@@ -3,4 +3,3 @@ pub mod Levels
 pub mod Searches
 -- W3's number in keys.
 pub mod Sums
-pub mod Tries
