@@ -21,6 +21,17 @@ abbrev pub Falling : ℕ → List ℕ → Type 0
 Falling bound [] = Unit {0}
 Falling bound (k ∷ ks) = (k ≤ bound) × Falling k ks
 
+-- for keys of which b is the best: those better, and one at it
+abbrev pub countAt : ℕ → List ℕ → ℕ
+countAt b ks = howMany (ltb b) ks + (if ltb 0 b then 1 else 0)
+
+count-at : (b c : ℕ) (ks : List ℕ) → b ≡ c → countAt b ks ≡ countAt c ks
+count-at b c ks e = ap (λ (n : ℕ). countAt n ks) e
+
+count-more : (b k : ℕ) (ks : List ℕ) → b < k → countAt b (k ∷ ks) ≡ 1 + countAt b ks
+unfolding howMany
+count-more b k ks h = rw (lt-ltb b k h) (omega arith)
+
 module _ (q : ℕ → Bool) where
   -- ---- what was found
 
@@ -139,17 +150,6 @@ module _ (q : ℕ → Bool) where
   falling-none bound b (k ∷ ks) h f =
       rw (le-ltb b k (omega (arith, h, f .0))) (omega (arith, falling-none k b ks (omega (arith, h, f .0)) (f .1)))
 
-  -- the number for keys of which b is the best
-  abbrev pub countAt : ℕ → List ℕ → ℕ
-  countAt b ks = howMany (ltb b) ks + (if ltb 0 b then 1 else 0)
-
-  count-at : (b c : ℕ) (ks : List ℕ) → b ≡ c → countAt b ks ≡ countAt c ks
-  count-at b c ks e = ap (λ (n : ℕ). countAt n ks) e
-
-  count-more : (b k : ℕ) (ks : List ℕ) → b < k → countAt b (k ∷ ks) ≡ 1 + countAt b ks
-  unfolding howMany
-  count-more b k ks h = rw (lt-ltb b k h) (omega arith)
-
   sums-more : (found k : ℕ) (ks : List ℕ) (a b : Bool) → ltb found k ≡ a → q k ≡ b
       → keySums q found (k ∷ ks) ≡ (if a then 1 else 0) + keySums q (if a && b then k else found) ks
   unfolding keySums
@@ -252,9 +252,9 @@ downward-best q (k ∷ ks) =
     placed-best q k (downward ks) ∙ ap (λ (n : ℕ). max (if q k then k else 0) n) (downward-best q ks) ∙ sym (greatest-kept q k ks)
 
 -- the number for all of them, the best one first
-pub downward-sums : (q : ℕ → Bool) (ks : List ℕ) → keySums q 0 (downward ks) ≡ countAt q (greatest (filter q ks)) ks
+pub downward-sums : (q : ℕ → Bool) (ks : List ℕ) → keySums q 0 (downward ks) ≡ countAt (greatest (filter q ks)) ks
 downward-sums q ks =
-    sums-falling q (greatest ks) (downward ks) (downward-falls (greatest ks) ks (omega arith)) ∙ count-at q _ _ (downward ks) (downward-best q ks)
+    sums-falling q (greatest ks) (downward ks) (downward-falls (greatest ks) ks (omega arith)) ∙ count-at _ _ (downward ks) (downward-best q ks)
     ∙ ap (λ (n : ℕ). n + (if ltb 0 (greatest (filter q ks)) then 1 else 0)) (downward-many (ltb (greatest (filter q ks))) ks)
 
 -- blanks change nothing in it
@@ -274,6 +274,6 @@ downward-blanks q ks n =
     let best : greatest (filter q (ks ++ zeros)) ≡ greatest (filter q ks) =
     ap greatest (filter-append q ks zeros) ∙ greatest-append (filter q ks) (filter q zeros)
     ∙ omega (arith, greatest-zeros q n) in
-    downward-sums q (ks ++ zeros) ∙ count-at q _ _ (ks ++ zeros) best
+    downward-sums q (ks ++ zeros) ∙ count-at _ _ (ks ++ zeros) best
     ∙ omega (arith, many-append (ltb (greatest (filter q ks))) ks zeros, many-zeros (greatest (filter q ks)) n)
     ∙ sym (downward-sums q ks)

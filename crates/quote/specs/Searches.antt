@@ -38,6 +38,7 @@ pub record Finds (side : Side) (ks vs : List ℕ) (start minimum : ℕ) (r : Sea
   pub sums : r .sums ≡ keySums (enough minimum ks vs) start ks
   -- in orders
   pub quote : (orders : List Order) → ColumnsOf side orders ks vs → r .quote ≡ better side (quoteAt side start) (best side minimum orders)
-  -- .. where the start is what some candidates before them were found to reach: with none, and start 0, this is `sumsOf`
+  -- .. and W3's number of them, where the start is the best key found among candidates looked at before: with none of these the start
+  -- is 0, and the number `sumsOf`
   pub sums-of : (orders before : List Order) → ColumnsOf side orders ks vs → OrdersOf side before
       → start ≡ foundIn (enough minimum ks vs) 0 (map (keyIn side) before) → r .sums ≡ sumsAfter side minimum orders before orders
