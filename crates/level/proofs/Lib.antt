@@ -3,5 +3,7 @@
 pub mod Depths
 pub mod Nexts
 pub mod Counts
+pub mod Blanks
 pub mod Parts
 pub mod Starts
+pub mod Requotes

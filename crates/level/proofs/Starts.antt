@@ -267,7 +267,7 @@ module _ (minimum : ℕ) (ks vs : List ℕ) where
 
   -- ---- how many sums there are at most
 
-  with-sums : (g : Guess) (l : Level) → withLevel g l minimum .sums ≤ g .sums + 1
+  pub with-sums : (g : Guess) (l : Level) → withLevel g l minimum .sums ≤ g .sums + 1
   with-sums g l = omega (arith, at-most-one (ltb 0 (l .key)))
 
   pub farther-sums : (g : Guess) → stepFarther minimum ks vs g .sums ≤ g .sums + 1
@@ -409,3 +409,25 @@ unfolding levelAt
 best-key-most minimum before g after l e =
     let key : l .key ≡ bestKeyIn minimum before = ap (λ (x : Level). x .key) e in
     omega (arith, key, best-top (keysOf before) (volumesOf before) minimum (keys-most before (g .key-most)))
+
+-- ---- the best level from one that is not
+
+module _ (minimum : ℕ) (ks vs : List ℕ) (old : Level) (key : ℕ) where
+  -- W3's number for the candidates
+  abbrev pub allSums : ℕ
+  allSums = keySums (enough minimum ks vs) 0 (keysFrom minimum ks vs key old)
+
+  -- a guess that is the best level
+  pub sought-guess : (g : Guess) (r : Found) → g .level ≡ levelAt ks vs (g .level .key) → isBest (g .level) minimum ≡ true → allSums ≡ g .sums
+      → r ≡ record { level = g .level; sums = g .sums } → Sought minimum ks vs old key r
+  sought-guess g r is best n e =
+      subst (Sought minimum ks vs old key) (sym e)
+      (record {
+        level = is ∙ level-best minimum ks vs (g .level .key) (ap (λ (l : Level). isBest l minimum) (sym is) ∙ best);
+        sums = sym n;
+      })
+
+  -- or what the search finds after it
+  pub sought-search : (g : Guess) (r : Found) → allSums ≡ counted minimum ks vs g ks → Searches minimum ks vs (g .start) (g .sums) r
+      → Sought minimum ks vs old key r
+  sought-search g r n s = record { level = s .level; sums = s .sums ∙ sym n }

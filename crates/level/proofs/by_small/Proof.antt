@@ -1,72 +1,59 @@
+-- The search among the four first slots, whose key is written (small-requotes).
+use native.Mathlib.Omega.{arith}
+use mathlib.Core.Path.{_≡_, refl}
+use lib.ListN.{length, drop, length-take, length-drop}
 use borrow.Author.Needs.{needs}
+use Rattle.level.proofs.Parts.{moving-length, part-columns}
+use Rattle.level.proofs.Requotes.{small-requotes}
 use Rattle.level.proofs.by_small.Statement.{statement}
 use Rattle.level.proofs.by_small.Tie as tie
-use Rattle.level.proofs.by_small.Reads as reads
-use Rattle.level.proofs.by_small.Lts as lts
-use Rattle.level.proofs.put.Reads as put-reads
-use Rattle.small.proofs.best.Reads as best-reads
 
--- src/lib.rt:371:22
-add-best : tie.Need-add-best
-add-best c = search needs
-
--- src/lib.rt:371:9
-sub-best : tie.Need-sub-best
-sub-best c = search needs
-
--- src/lib.rt:371:9
-part-best-start : tie.Need-part-best-start
-part-best-start c = search needs
-
--- src/lib.rt:371:9
 part-best-end : tie.Need-part-best-end
-part-best-end c = ?
+part-best-end c =
+    let s = c .before .before in
+    let long : length (s .args .words .now) ≡ 256 = moving-length (s .args .words .now) (s .pre .change) (s .args .minimum .0) (s .pre .stale) in
+    search needs
 
--- src/lib.rt:372:25
-add-best-2 : tie.Need-add-best-2
-add-best-2 c = search needs
-
--- src/lib.rt:372:9
-sub-best-2 : tie.Need-sub-best-2
-sub-best-2 c = search needs
-
--- src/lib.rt:372:9
-part-best-start-2 : tie.Need-part-best-start-2
-part-best-start-2 c = search needs
-
--- src/lib.rt:372:9
 part-best-end-2 : tie.Need-part-best-end-2
-part-best-end-2 c = ?
+part-best-end-2 c =
+    let s = c .before .before .before in
+    let long : length (s .args .words .now) ≡ 256 = moving-length (s .args .words .now) (s .pre .change) (s .args .minimum .0) (s .pre .stale) in
+    search needs
 
--- src/lib.rt:370:9
 best-requires : tie.Need-best-requires
-best-requires c κs = ?
+best-requires c κs =
+    let s = c .before .before .before .before in
+    let words = s .args .words .now in
+    let long : length words ≡ 256 = moving-length (s .args .words .now) (s .pre .change) (s .args .minimum .0) (s .pre .stale) in (
+      omega (arith, length-take 4 (drop 64 words), length-drop 64 words),
+      part-columns (s .args .words .now) (s .pre .change) (s .args .minimum .0) (s .pre .stale) 4 4 4 refl refl (s .pre .few) (omega arith),
+      s .pre .some,
+    )
 
--- src/lib.rt:375:5
 put-requires : tie.Need-put-requires
-put-requires c κs = ?
+put-requires c κs =
+    let s = c .before .before .before .before .before .before in
+    moving-length (s .args .words .now) (s .pre .change) (s .args .minimum .0) (s .pre .stale)
 
--- src/lib.rt:366:1
-same-length : tie.Need-same-length
-same-length c = search needs
-
--- src/lib.rt:366:1
 returns : tie.Need-returns
-returns c = ?
+returns c = λ change m.
+    let s = c .before .before .before .before .before .before .before .before .before in
+    let best = c .before .before .before .before .best in
+    small-requotes (s .args .words .now) change (s .args .minimum .0) m (s .pre .few) (best .result) (best .ensures) (c .before .before .put .last .0) (c .before .before .put .ensures)
 
 pub by-small-spec : {M : Type 1} → statement M
 by-small-spec =
     tie.close
     (tie.spec
-    add-best
-    sub-best
-    part-best-start
+    (λ c. search needs)
+    (λ c. search needs)
+    (λ c. search needs)
     part-best-end
-    add-best-2
-    sub-best-2
-    part-best-start-2
+    (λ c. search needs)
+    (λ c. search needs)
+    (λ c. search needs)
     part-best-end-2
     best-requires
     put-requires
-    same-length
+    (λ c. search needs)
     returns)
