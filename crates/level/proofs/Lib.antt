@@ -7,3 +7,4 @@ pub mod Blanks
 pub mod Parts
 pub mod Starts
 pub mod Requotes
+pub mod Candidates

@@ -82,12 +82,12 @@ module _ (key : ℕ) (ks : List ℕ) (i n : ℕ) (more : i < length ks) where
 
 -- ---- nothing between
 
-least-under : {k : ℕ} {ks : List ℕ} → List·Memᴰ k ks → least ks ≤ k
+pub least-under : {k : ℕ} {ks : List ℕ} → List·Memᴰ k ks → least ks ≤ k
 unfolding least
 least-under {k} (List·Memᴰ·head {x = x} {xs = xs} e) = omega (arith, e)
 least-under {k} (List·Memᴰ·tail {x = x} {xs = xs} m) = omega (arith, least-under m)
 
-least-over : (b : ℕ) (ks : List ℕ) → b ≤ 2000000001 → ((k : ℕ) → List·Memᴰ k ks → b ≤ k) → b ≤ least ks
+pub least-over : (b : ℕ) (ks : List ℕ) → b ≤ 2000000001 → ((k : ℕ) → List·Memᴰ k ks → b ≤ k) → b ≤ least ks
 unfolding least
 least-over b [] most h = most
 least-over b (k ∷ ks) most h = omega (arith, h k (List·Memᴰ·head refl), least-over b ks most (λ x m. h x (List·Memᴰ·tail m)))

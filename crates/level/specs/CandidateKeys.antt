@@ -3,17 +3,25 @@ use Prim.Native.Nat.{ℕ}
 use mathlib.Core.List.{List, [], _∷_, _++_}
 use lib.Dec.{leb, ltb}
 use lib.ListN.{length}
+use Rattle.rules.specs.declared.Side.{Side}
+use Rattle.rules.specs.declared.Order.{Order}
 use Rattle.rules.specs.Lists.{if_then_else_}
+use Rattle.prices.specs.Keys.{keyIn}
 use Rattle.quote.specs.declared.Level.{Level}
 use Rattle.quote.specs.Levels.{levelAt, bestKey, isBest}
 use Rattle.quote.specs.Sums.{downward}
 use Rattle.level.specs.Candidates.{nextKey, fallsShort, canBeBest}
 
+-- the changed order's key, 0 for none
+abbrev pub changedKey : Side → List Order → ℕ
+changedKey side [] = 0
+changedKey side (o ∷ os) = keyIn side o
+
 -- no candidate for the key of none
 unfoldable pub keyOnly : ℕ → List ℕ
 keyOnly key = if ltb 0 key then key ∷ [] else []
 
--- by the level of a key, the key next to a level, the keys of all orders, and the changed order's key, 0 for none
+-- by the level of a key, the key next to a level, the keys of all orders, and the changed order's key
 module _ (minimum : ℕ) (level : ℕ → Level) (next : Level → ℕ) (all : List ℕ) (key : ℕ) where
   unfoldable pub keysFromChange : Level → List ℕ
   keysFromChange l = if canBeBest l key minimum then key ∷ (if isBest (level key) minimum then [] else all) else all
