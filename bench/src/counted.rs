@@ -3,8 +3,8 @@
 
 use crate::session::*;
 
-/// For how many prices volumes were added up before a search (`Sent.guesses`), how many records made a search, and for how many
-/// orders the searches added up volumes (`Sent.sums`).
+/// For how many orders volumes were added up before a search or without one, how many records made a search, and for how many orders
+/// the searches added up volumes. Both numbers of orders together are `Sent.sums`.
 #[derive(Clone, Copy, Default)]
 pub struct Counts {
     pub guesses: u64,
@@ -51,27 +51,28 @@ struct Work {
 }
 
 impl Work {
-    /// What stands at a key or better is known.
-    fn known(&mut self, key: u32, depth: u32) {
+    /// A sum for a key: W3 asks that a live order has it, and that it is better than every one already found to qualify.
+    fn summed(&mut self, side: &Side, key: u32, depth: u32) {
+        assert!(
+            side.orders.iter().any(|o| o.key == key),
+            "a sum for {key}, which no order has"
+        );
+        assert!(
+            self.found < key,
+            "a sum for {key}, where {} qualifies",
+            self.found
+        );
         if self.least <= depth {
             self.found = key;
         }
     }
 
-    /// A sum for a key: W3 asks that it is better than every one already found to qualify.
-    fn summed(&mut self, key: u32, depth: u32) {
-        assert!(
-            self.found == 0 || self.found < key,
-            "a sum for {key}, where {} qualifies",
-            self.found
-        );
-        self.known(key, depth);
-    }
-
-    /// A level is tried, by one sum.
-    fn tried(&mut self, level: Level) -> Level {
-        self.counts.guesses += 1;
-        self.summed(level.key, level.before + level.at);
+    /// A level is tried, by one sum; that of no price by none.
+    fn tried(&mut self, side: &Side, level: Level) -> Level {
+        if level.key > 0 {
+            self.counts.guesses += 1;
+            self.summed(side, level.key, level.before + level.at);
+        }
         level
     }
 }
@@ -124,7 +125,7 @@ impl Side {
         for o in &self.orders {
             if work.found < o.key {
                 work.counts.sums += 1;
-                work.summed(o.key, self.sum(|k| k >= o.key));
+                work.summed(self, o.key, self.sum(|k| k >= o.key));
             }
         }
         self.measured(work.found)
@@ -140,7 +141,7 @@ impl Side {
         }
     }
 
-    /// The level next to one, on the side where the best one is: what stands at it is added up.
+    /// The level next to one, in the direction of the best one: the orders at it are added up.
     fn stepped(&self, level: Level, work: &mut Work) -> Level {
         let keys = self.orders.iter().map(|o| o.key);
         let key = if work.least <= level.before {
@@ -150,36 +151,23 @@ impl Side {
         } else {
             keys.filter(|k| *k < level.key).max().unwrap_or(0)
         };
-        work.tried(self.measured(key))
+        work.tried(self, self.measured(key))
     }
 
-    /// The best level of a small side, of which only the key is kept: from the best order down until they are enough.
+    /// The best level of a small side, of which only the key is kept: the orders by price, the best one first.
     fn few(&self, work: &mut Work) -> Level {
-        let mut sorted: Vec<_> = self.orders.iter().map(|o| (o.key, o.volume)).collect();
-        sorted.sort_by(|a, b| b.cmp(a));
-        let mut depth = 0;
-        for (key, volume) in sorted {
-            if work.least <= depth {
-                break;
+        let mut keys: Vec<_> = self.orders.iter().map(|o| o.key).collect();
+        keys.sort_by(|a, b| b.cmp(a));
+        for key in keys {
+            if work.found < key {
+                work.counts.guesses += 1;
+                work.summed(self, key, self.sum(|k| k >= key));
             }
-            depth += volume;
-            work.counts.guesses += 1;
-            work.summed(key, depth);
         }
         Level {
             key: work.found,
             ..Level::default()
         }
-    }
-
-    /// The old best key's level after a change: where the fifth order came, only its key was kept, and it is measured.
-    fn carried(&self, change: &Change, work: &mut Work) -> Level {
-        if self.orders.len() == 5 && change.old == 0 {
-            return work.tried(self.measured(self.level.key));
-        }
-        let old = self.moved(change);
-        work.known(old.key, old.before + old.at);
-        old
     }
 
     /// The best level from one that is not: one step from it, or two, or at the changed order's key, or by the search.
@@ -189,7 +177,7 @@ impl Side {
             level = self.stepped(level, work);
         }
         if !level.is_best(work.least) && level.can_be_best(key, work.least) {
-            level = work.tried(self.measured(key));
+            level = work.tried(self, self.measured(key));
         }
         if level.is_best(work.least) {
             return level;
@@ -205,8 +193,11 @@ impl Side {
         };
         self.level = if self.orders.len() <= 4 {
             self.few(&mut work)
+        } else if self.orders.len() == 5 && change.old == 0 {
+            // A small side kept no depths that could be carried.
+            self.search(&mut work)
         } else {
-            let old = self.carried(change, &mut work);
+            let old = self.moved(change);
             if old.is_best(least) {
                 old
             } else {

@@ -367,7 +367,7 @@ fn by_small(words: &mut [u32], minimum: Contracts) -> Requoted
     requires { ⌜ SmallSide (now words) (minimum .0) ⌝ }
     ensures { λ r. ⌜ SmallMoved (now (words .entry)) (minimum .0) (now (words .exit)) r ⌝ }
 {
-    let found = small::best(
+    let few = small::best(
         &words[KEYS..KEYS + 4],
         &words[VOLUMES..VOLUMES + 4],
         minimum,
@@ -375,14 +375,14 @@ fn by_small(words: &mut [u32], minimum: Contracts) -> Requoted
     put(
         words,
         Level {
-            key: found.key,
+            key: few.key,
             before: 0,
             at: 0,
         },
     );
     Requoted {
         moves: true,
-        sums: found.sums,
+        sums: few.sums,
     }
 }
 
