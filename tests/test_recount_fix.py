@@ -1,44 +1,13 @@
-"""FIX messages (document 02, W11) held against examples worked out by hand, and the calendar against
-counting days."""
+"""The recount's FIX messages (document 02, W11) against examples worked out by hand, and its calendar against counting days."""
 
-from datetime import timedelta
 from typing import Callable
+
+import pytest
 
 from recount import fix, programs
 from recount.fix import END, WORD, Order, Unread
-
-LATE = 2**32  # past 32 bits of milliseconds
-TIME = "20261115-10:00:00.000"
-START = TIME.encode()
-
-# Length and checksum of these were worked out with other tools; the last is an example that is
-# widely printed, of another version and type.
-NEW = "8=FIX.4.4|9=54|35=D|11=7|54=1|38=500|44=-99|60=20261115-10:00:00.000|10=211|"
-CANCEL = "8=FIX.4.4|9=40|35=F|11=8|41=7|60=20261115-10:00:00.001|10=081|"
-LONGEST = (
-    "8=FIX.4.4|9=92|35=G|11=4294967295|41=4294967295|54=2|38=4294967295|44=-2147483648"
-    "|60=99991231-23:59:59.999|10=236|"
-)
-PRINTED = (
-    "8=FIX.4.2|9=178|35=8|49=PHLX|56=PERS|52=20071123-05:30:00.000|11=ATOMNOCCC9990900|20=3|150=E|39=E"
-    "|55=MSFT|167=CS|54=1|38=15|40=2|44=15|58=PHLX EQUITY TESTING|59=0|47=C|32=0|31=0|151=15|14=0|6=0|10=128|"
-)
-
-BODIES = {
-    "D": f"35=D|11=7|54=1|38=500|44=-99|60={TIME}|",
-    "F": f"35=F|11=8|41=7|60={TIME}|",
-    "G": f"35=G|11=8|41=7|54=1|38=500|44=-99|60={TIME}|",
-}
-
-
-def raw(text: str) -> bytes:
-    """Bytes of a text with | for byte 1."""
-    return text.encode("latin-1").replace(b"|", END)
-
-
-def framed(body: str) -> bytes:
-    return fix.framed(raw(body))
-
+from tests.fix_examples import BODIES, CANCEL, LATE, LONGEST, NEW, PRINTED, START, TIME, at, framed, raw
+from tests.running import words
 
 READ = (0, "")
 
@@ -59,18 +28,23 @@ def refused(data: bytes) -> tuple[int, str]:
 # ---------------------------------------------------------------- whole messages
 
 
-def check_examples() -> None:
-    due = {
-        NEW: Order("D", {11: 7, 54: 1, 38: 500, 44: -99}, START),
-        CANCEL: Order("F", {11: 8, 41: 7}, b"20261115-10:00:00.001"),
-        LONGEST: Order("G", {11: WORD, 41: WORD, 54: 2, 38: WORD, 44: -(2**31)}, b"99991231-23:59:59.999"),
-    }
-    for text, order in due.items():
-        assert fix.read(raw(text)) == order and fix.write(order) == raw(text), text
+@pytest.mark.parametrize(("text", "order"), [
+    (NEW, Order("D", {11: 7, 54: 1, 38: 500, 44: -99}, START)),
+    (CANCEL, Order("F", {11: 8, 41: 7}, b"20261115-10:00:00.001")),
+    (LONGEST, Order("G", {11: WORD, 41: WORD, 54: 2, 38: WORD, 44: -(2**31)}, b"99991231-23:59:59.999")),
+], ids=["new", "cancel", "longest"])
+def test_examples(text: str, order: Order) -> None:
+    assert fix.read(raw(text)) == order and fix.write(order) == raw(text)
+
+
+def test_lengths() -> None:
     assert len(raw(LONGEST)) == 114 and framed(BODIES["D"]) == raw(NEW)
     least = Order("F", {11: 0, 41: 0}, b"00010101-00:00:00.000")
     assert len(fix.write(least)) == 62 and fix.read(fix.write(least)) == least
-    # The printed example: all but its version and its type is in order.
+
+
+def test_printed_example() -> None:
+    """All but its version and its type is in order."""
     before = fix.before_last(raw(PRINTED))
     assert len(before.split(END, 2)[2]) == 178 and fix.checksum(before) == b"128"
     assert refused(raw(PRINTED)) == (20, "8 is not FIX.4.4")
@@ -122,51 +96,66 @@ WRONG_FRAMES = {
 }
 
 
-def check_frame() -> None:
-    for text, reason in WRONG_FRAMES.items():
-        assert refused(raw(text)) == (20, reason), (text, refused(raw(text)))
-    body = BODIES["D"]
-    for tag in (8, 9, 35, 10):
-        for value in ("FIX.4.4", "54", "D", "211"):
-            for at in (5, 10, len(body)):
-                assert refused(framed(f"{body[:at]}{tag}={value}|{body[at:]}"))[1] == f"{tag} a second time"
-    for kind in ("d", "8", "0", "A", "DD", "D ", "E", "H", "AE", "="):
-        assert refused(framed(body.replace("35=D", f"35={kind}"))) == (20, "35 is not D, F or G")
-    # Leading zeros of 9, however many, and a checksum that starts with 0.
-    for zeros in (1, 5_000):
-        before = raw("8=FIX.4.4|9=" + "0" * zeros + "54|" + body)
-        assert refused(before + b"10=" + fix.checksum(before) + END) == READ
+BODY = BODIES["D"]
+
+
+@pytest.mark.parametrize(("text", "reason"), WRONG_FRAMES.items(), ids=[text[-40:] for text in WRONG_FRAMES])
+def test_wrong_frame(text: str, reason: str) -> None:
+    assert refused(raw(text)) == (20, reason)
+
+
+@pytest.mark.parametrize("tag", [8, 9, 35, 10])
+def test_tag_a_second_time(tag: int) -> None:
+    for value in ("FIX.4.4", "54", "D", "211"):
+        for place in (5, 10, len(BODY)):
+            assert refused(framed(f"{BODY[:place]}{tag}={value}|{BODY[place:]}"))[1] == f"{tag} a second time"
+
+
+@pytest.mark.parametrize("kind", ["d", "8", "0", "A", "DD", "D ", "E", "H", "AE", "="])
+def test_other_kinds(kind: str) -> None:
+    assert refused(framed(BODY.replace("35=D", f"35={kind}"))) == (20, "35 is not D, F or G")
+
+
+@pytest.mark.parametrize("zeros", [1, 5_000])
+def test_zeros_before_the_length(zeros: int) -> None:
+    before = raw("8=FIX.4.4|9=" + "0" * zeros + "54|" + BODY)
+    assert refused(before + b"10=" + fix.checksum(before) + END) == READ
+
+
+def test_checksum_that_starts_with_0() -> None:
     assert refused(raw(CANCEL)) == READ
-    # 20 comes before 21.
+
+
+def test_20_before_21() -> None:
     assert refused(framed("35=D|")) == (21, "11 is absent") and refused(framed("35=D|")[:-1])[0] == 20
     assert refused(framed("35=D|11=x|0=1|"))[0] == refused(framed("35=D|11=x|8=1|"))[0] == 20
 
 
-def check_used() -> None:
+@pytest.mark.parametrize(("kind", "body"), BODIES.items(), ids=list(BODIES))
+def test_used_tags(kind: str, body: str) -> None:
     """Each used tag absent, twice with equal or with other values, unreadable; in any order."""
-    for kind, body in BODIES.items():
-        due, parts = fix.read(framed(body)), [f"{part}|" for part in body.split("|") if part]
-        for part in parts[1:]:
-            tag, gone = int(part.split("=")[0]), body.replace(part, "")
-            assert refused(framed(gone)) == (21, f"{tag} is absent"), (kind, tag)
-            assert refused(framed(f"{gone}{tag}=x|"))[0] == 21, (kind, tag)
-            for again in (part, f"{tag}=x|", f"{tag}=9|"):
-                assert refused(framed(body + again)) == (21, f"{tag} stands there twice"), (kind, tag)
-        for turn in range(1, len(parts)):
-            for order in (parts[turn:] + parts[1:turn], (parts[turn:] + parts[1:turn])[::-1]):
-                assert fix.read(framed(parts[0] + "".join(order))) == due, (kind, order)
+    due, parts = fix.read(framed(body)), [f"{part}|" for part in body.split("|") if part]
+    for part in parts[1:]:
+        tag, gone = int(part.split("=")[0]), body.replace(part, "")
+        assert refused(framed(gone)) == (21, f"{tag} is absent"), tag
+        assert refused(framed(f"{gone}{tag}=x|"))[0] == 21, tag
+        for again in (part, f"{tag}=x|", f"{tag}=9|"):
+            assert refused(framed(body + again)) == (21, f"{tag} stands there twice"), tag
+    for turn in range(1, len(parts)):
+        for order in (parts[turn:] + parts[1:turn], (parts[turn:] + parts[1:turn])[::-1]):
+            assert fix.read(framed(parts[0] + "".join(order))) == due, order
 
 
-def check_skipped() -> None:
+@pytest.mark.parametrize(("kind", "body"), BODIES.items(), ids=list(BODIES))
+def test_skipped_tags(kind: str, body: str) -> None:
     """Every other tag, whatever its value and however often; a value may hold any byte but 1."""
     any_byte = b"=\0" + bytes(range(2, 256))
-    for kind, body in BODIES.items():
-        others = [1, 49, 56, 34, 52, 55, 80, 100, 110, 354, 111, 600, 2**32 + 8, 2**32 + 11, 2**64 + 9]
-        others += [tag for tag in fix.NUMBERS if tag not in fix.USED[kind]]
-        skipped = b"".join(b"%d=%s\1" % (tag, value) for tag in others for value in (b"x", b"9", any_byte))
-        for at in (5, len(body)):
-            data = fix.framed(raw(body[:at]) + skipped + b"1" * 5_000 + b"=1\1" + raw(body[at:]))
-            assert fix.read(data) == fix.read(framed(body)), (kind, at)
+    others = [1, 49, 56, 34, 52, 55, 80, 100, 110, 354, 111, 600, 2**32 + 8, 2**32 + 11, 2**64 + 9]
+    others += [tag for tag in fix.NUMBERS if tag not in fix.USED[kind]]
+    skipped = b"".join(b"%d=%s\1" % (tag, value) for tag in others for value in (b"x", b"9", any_byte))
+    for place in (5, len(body)):
+        data = fix.framed(raw(body[:place]) + skipped + b"1" * 5_000 + b"=1\1" + raw(body[place:]))
+        assert fix.read(data) == fix.read(framed(body)), place
 
 
 # ---------------------------------------------------------------- numbers and times
@@ -184,23 +173,31 @@ def values(tag: int, *texts: str) -> list[int | None]:
     return found
 
 
-def check_numbers() -> None:
-    long = "0" * 5_000
-    for tag in (11, 41, 38):
-        assert values(tag, "0", "00", "7", "007", long + "7", long) == [0, 0, 7, 7, 7, 0]
-        assert values(tag, "4294967295", "04294967295", "5000000") == [WORD, WORD, 5_000_000]
-        assert set(values(
-            tag, "4294967296", "04294967296", "10000000000", "18446744073709551617", "9" * 5_000, "-1", "-0",
-            "+1", " 1", "1 ", "1.0", "1e3", "0x1", "1_0", "a", "-", "\xb2", "1\0", "1\n",
-        )) == {None}
-    assert values(44, "0", "00", "-1", "-01", "1", "001", long + "1", "-" + long + "1") == [0, 0, -1, -1, 1, 1, 1, -1]
+ZEROS = "0" * 5_000
+
+
+@pytest.mark.parametrize("tag", [11, 41, 38])
+def test_numbers(tag: int) -> None:
+    assert values(tag, "0", "00", "7", "007", ZEROS + "7", ZEROS) == [0, 0, 7, 7, 7, 0]
+    assert values(tag, "4294967295", "04294967295", "5000000") == [WORD, WORD, 5_000_000]
+    assert set(values(
+        tag, "4294967296", "04294967296", "10000000000", "18446744073709551617", "9" * 5_000, "-1", "-0",
+        "+1", " 1", "1 ", "1.0", "1e3", "0x1", "1_0", "a", "-", "\xb2", "1\0", "1\n",
+    )) == {None}
+
+
+def test_prices() -> None:
+    assert values(44, "0", "00", "-1", "-01", "1", "001", ZEROS + "1", "-" + ZEROS + "1") == [0, 0, -1, -1, 1, 1, 1, -1]
     low, high = fix.STEPS
     assert values(44, str(high), str(low), f"-0{-low}", f"0{high}") == [high, low, low, high]
     assert values(44, "1000000001", "-1000000001") == [1_000_000_001, -1_000_000_001]  # 12 is the call's
     assert set(values(
-        44, str(high + 1), str(low - 1), "4294967295", "-4294967297", "-0", "-00", "-" + long, "-", "--1", "+1",
+        44, str(high + 1), str(low - 1), "4294967295", "-4294967297", "-0", "-00", "-" + ZEROS, "-", "--1", "+1",
         "1-", "- 1", " 1", "1.0", "a", "-" + "9" * 5_000,
     )) == {None}
+
+
+def test_sides() -> None:
     assert values(54, "1", "2") == [1, 2]
     assert set(values(54, "0", "3", "01", "02", "11", "1 ", "-1", "+1", "B", "5", "1\n")) == {None}
 
@@ -229,8 +226,8 @@ def is_time(text: bytes) -> bool:
     return numbers == {0}
 
 
-def check_calendar() -> None:
-    """Each month of the years 1 to 9999: its first and its last day by counting, none before and behind."""
+def test_calendar() -> None:
+    """Each month of the years 1 to 9999: its first and its last day by counting, none before and after."""
     first, past = time(1, 1, 1), 0  # days before the month
     for year in range(1, 10_000):
         for month, days in enumerate(month_days(year), start=1):
@@ -244,90 +241,100 @@ def check_calendar() -> None:
     assert past == 3_652_059  # 9,999 years of 365 days, 2,499 - 99 + 24 of them with a day more
 
 
-def check_times() -> None:
-    good = [
-        (1, 1, 1), (9999, 12, 31), (2000, 2, 29), (2024, 2, 29), (4, 2, 29), (400, 2, 29), (9996, 2, 29),
-        (1900, 2, 28), (1999, 12, 31),
-    ]
-    wrong = [
-        (0, 1, 1), (0, 12, 31), (1900, 2, 29), (2100, 2, 29), (2023, 2, 29), (100, 2, 29), (9900, 2, 29),
-        (1, 2, 29), (2000, 2, 30), (2026, 4, 31), (2026, 0, 1), (2026, 13, 1), (2026, 1, 0), (2026, 1, 32),
-        (2026, 99, 99),
-    ]
-    assert all(is_time(time(*date)) for date in good) and not any(is_time(time(*date)) for date in wrong)
-    for clock in ("00:00:00.000", "23:59:59.999", "09:05:00.010"):
-        assert is_time(time(2026, 11, 15, clock)), clock
-    for clock in (
-        "24:00:00.000", "23:60:00.000", "23:59:60.000", "99:00:00.000", "10:00:00", "10:00:00.00", "10:00:00.0000",
-        "10:00:00,000", "10-00:00.000", "10:00-00.000", "1a:00:00.000", " 9:00:00.000", "+9:00:00.000",
-        "10:00:00.00a", "", "10:00:00.000\n",
-    ):
-        assert not is_time(time(2026, 11, 15, clock)), clock
-    for text in (b"", b"20261115 10:00:00.000", b"2026-11-15-10:00:00.0", b"\xb2" + START[1:], START[1:], b" " * 21):
-        assert not is_time(text), text
-    for start, end, due in [
-        (TIME, "20261115-10:00:00.000", 0),
-        (TIME, "20261115-10:00:00.001", 1),
-        (TIME, "20261115-09:59:59.999", -1),
-        (TIME, "20261116-10:00:00.000", 86_400_000),
-        ("19991231-23:59:59.999", "20000101-00:00:00.000", 1),
-        ("20000228-12:00:00.000", "20000301-12:00:00.000", 2 * 86_400_000),
-        ("19000228-12:00:00.000", "19000301-12:00:00.000", 86_400_000),
-        ("20240101-00:00:00.000", "20250101-00:00:00.000", 366 * 86_400_000),
-        # 2^32 - 1 ms are 49 days, 17 hours, 2 minutes, 47 seconds and 295 ms.
-        ("20260101-00:00:00.000", "20260219-17:02:47.295", WORD),
-        ("20260101-00:00:00.000", "20260219-17:02:47.296", WORD + 1),
-        ("00010101-00:00:00.000", "99991231-23:59:59.999", 3_652_059 * 86_400_000 - 1),
-    ]:
-        assert fix.since(start.encode(), end.encode()) == due, (start, end)
+@pytest.mark.parametrize("date", [
+    (1, 1, 1), (9999, 12, 31), (2000, 2, 29), (2024, 2, 29), (4, 2, 29), (400, 2, 29), (9996, 2, 29), (1900, 2, 28), (1999, 12, 31),
+])
+def test_dates(date: tuple[int, int, int]) -> None:
+    assert is_time(time(*date))
+
+
+@pytest.mark.parametrize("date", [
+    (0, 1, 1), (0, 12, 31), (1900, 2, 29), (2100, 2, 29), (2023, 2, 29), (100, 2, 29), (9900, 2, 29),
+    (1, 2, 29), (2000, 2, 30), (2026, 4, 31), (2026, 0, 1), (2026, 13, 1), (2026, 1, 0), (2026, 1, 32),
+    (2026, 99, 99),
+])
+def test_no_dates(date: tuple[int, int, int]) -> None:
+    assert not is_time(time(*date))
+
+
+@pytest.mark.parametrize("clock", ["00:00:00.000", "23:59:59.999", "09:05:00.010"])
+def test_times_of_day(clock: str) -> None:
+    assert is_time(time(2026, 11, 15, clock))
+
+
+@pytest.mark.parametrize("clock", [
+    "24:00:00.000", "23:60:00.000", "23:59:60.000", "99:00:00.000", "10:00:00", "10:00:00.00", "10:00:00.0000",
+    "10:00:00,000", "10-00:00.000", "10:00-00.000", "1a:00:00.000", " 9:00:00.000", "+9:00:00.000",
+    "10:00:00.00a", "", "10:00:00.000\n",
+])
+def test_no_times_of_day(clock: str) -> None:
+    assert not is_time(time(2026, 11, 15, clock))
+
+
+@pytest.mark.parametrize("text", [
+    b"", b"20261115 10:00:00.000", b"2026-11-15-10:00:00.0", b"\xb2" + START[1:], START[1:], b" " * 21,
+])
+def test_no_times(text: bytes) -> None:
+    assert not is_time(text)
+
+
+@pytest.mark.parametrize(("start", "end", "due"), [
+    (TIME, "20261115-10:00:00.000", 0),
+    (TIME, "20261115-10:00:00.001", 1),
+    (TIME, "20261115-09:59:59.999", -1),
+    (TIME, "20261116-10:00:00.000", 86_400_000),
+    ("19991231-23:59:59.999", "20000101-00:00:00.000", 1),
+    ("20000228-12:00:00.000", "20000301-12:00:00.000", 2 * 86_400_000),
+    ("19000228-12:00:00.000", "19000301-12:00:00.000", 86_400_000),
+    ("20240101-00:00:00.000", "20250101-00:00:00.000", 366 * 86_400_000),
+    # 2^32 - 1 ms are 49 days, 17 hours, 2 minutes, 47 seconds and 295 ms.
+    ("20260101-00:00:00.000", "20260219-17:02:47.295", WORD),
+    ("20260101-00:00:00.000", "20260219-17:02:47.296", WORD + 1),
+    ("00010101-00:00:00.000", "99991231-23:59:59.999", 3_652_059 * 86_400_000 - 1),
+])
+def test_time_between(start: str, end: str, due: int) -> None:
+    assert fix.since(start.encode(), end.encode()) == due
 
 
 # ---------------------------------------------------------------- the cases of `probe`
 
 
-def at(t: int) -> str:
-    """The time t milliseconds after the start."""
-    return f"{fix.instant(START) + timedelta(milliseconds=t):%Y%m%d-%H:%M:%S.%f}"[:21]
+def probe(*numbers: int, rest: bytes = b"") -> str:
+    return programs.probe(words(*numbers) + rest).removesuffix("\n")
 
 
-def words(*numbers: int) -> bytes:
-    return b"".join(number.to_bytes(4, "little") for number in numbers)
-
-
-def check_cases() -> None:
-    def probe(*numbers: int, rest: bytes = b"") -> str:
-        return programs.probe(words(*numbers) + rest).removesuffix("\n")
-
+def test_case_9() -> None:
+    """A message that is read."""
     assert probe(9, rest=raw(NEW)) == "message D 11 7 54 1 38 500 44 -99 60 20261115-10:00:00.000"
     assert probe(9, rest=raw(CANCEL)) == "message F 11 8 41 7 60 20261115-10:00:00.001"
     assert probe(9, rest=framed(BODIES["G"])) == f"message G 11 8 41 7 54 1 38 500 44 -99 60 {TIME}"
     assert probe(9, rest=framed("35=D|")) == "refused 21" and probe(9) == "refused 20"
+
+
+def test_case_10() -> None:
+    """A message that is written."""
     assert probe(10, 1, 7, 0, 1, 500, 2**32 - 99, rest=START) == "bytes " + raw(NEW).hex(" ")
     assert probe(10, 2, 8, 7, 0, 0, 0, rest=at(1).encode()) == "bytes " + raw(CANCEL).hex(" ")
     last = b"99991231-23:59:59.999"
     assert probe(10, 3, WORD, WORD, 2, WORD, 2**31, rest=last) == "bytes " + raw(LONGEST).hex(" ")
     assert probe(10, 3, 0, 0, 1, 0, 0, rest=b"") == probe(10, 2, 1, 1, 0, 0, 0, rest=START + b"0") == "refused 21"
-    for wrong in (
-        (0, 7, 0, 1, 5, 5), (4, 7, 7, 1, 5, 5), (1, 7, 1, 1, 5, 5), (2, 8, 7, 1, 0, 0), (2, 8, 7, 0, 1, 0),
-        (2, 8, 7, 0, 0, 1), (1, 7, 0, 0, 5, 5), (1, 7, 0, 3, 5, 5), (3, 7, 7, 0, 5, 5), (1, 7, 0, 1, 5), (),
-    ):
-        assert probe(10, *wrong) == "bad case", wrong
-    assert probe(11, 21, rest=START + START) == "time 0"
-    assert probe(11, 21, rest=START + at(5).encode()) == "time 5"
-    assert probe(11, 21, rest=START + at(LATE - 1).encode()) == "time 4294967295"
-    assert probe(11, 21, rest=START + at(LATE).encode()) == "refused 9"
-    assert probe(11, 21, rest=START + at(-1).encode()) == "refused 8"
+
+
+@pytest.mark.parametrize("wrong", [
+    (0, 7, 0, 1, 5, 5), (4, 7, 7, 1, 5, 5), (1, 7, 1, 1, 5, 5), (2, 8, 7, 1, 0, 0), (2, 8, 7, 0, 1, 0),
+    (2, 8, 7, 0, 0, 1), (1, 7, 0, 0, 5, 5), (1, 7, 0, 3, 5, 5), (3, 7, 7, 0, 5, 5), (1, 7, 0, 1, 5), (),
+])
+def test_bad_case_10(wrong: tuple[int, ...]) -> None:
+    assert probe(10, *wrong) == "bad case"
+
+
+@pytest.mark.parametrize(("t", "due"), [(0, "time 0"), (5, "time 5"), (LATE - 1, "time 4294967295"), (LATE, "refused 9"), (-1, "refused 8")])
+def test_case_11(t: int, due: str) -> None:
+    """The time between two."""
+    assert probe(11, 21, rest=START + at(t).encode()) == due
+
+
+def test_wrong_case_11() -> None:
     for size in (0, 20, 22, 42):
         assert probe(11, size, rest=START * 2) == "refused 21"
     assert probe(11, 43, rest=START * 2) == probe(11) == probe(11, 2**32 - 1) == "bad case"
-
-
-def check() -> None:
-    check_examples()
-    check_frame()
-    check_used()
-    check_skipped()
-    check_numbers()
-    check_calendar()
-    check_times()
-    check_cases()

@@ -1,11 +1,13 @@
-"""The outlook held against what really follows: events and a close, run through the plain book."""
+"""The recount's outlook against what really follows: events and a close, run through its book."""
 
 import random
 from itertools import product
 
+import pytest
+
 from recount import programs
 from recount.book import (
-    BUY, NO_LIMIT, SELL, Add, Book, Cancel, CellView, Close, Drop, Look, Open, Outlook, Refused, Row, Tick,
+    BUY, NO_LIMIT, SELL, Add, Book, Cancel, CellView, Close, Look, Open, Outlook, Refused, Row, Tick,
 )
 from recount.outlook import OutlookView
 
@@ -68,30 +70,31 @@ def hold(book: Book, said: OutlookView, left: int) -> None:
     assert (said.full is None) == (not full) and all(kept >= said.full for kept in full), said
 
 
-def check_ways(rng: random.Random, cases: int) -> None:
+CASES = 120
+
+
+def test_ways() -> None:
     """Some with a spread limit below 1, where no quote keeps."""
-    for _ in range(cases):
+    rng = random.Random(1)
+    for _ in range(CASES):
         row = ROW._replace(b=rng.choice([1, 1, 1, 0]), share=rng.choice([1, 600, 601, 597, 799, 3]))
         limit, left = rng.choice([0, 1, 2, 3, NO_LIMIT]), rng.randrange(6)
         book = quanta(rng, row, limit, left)
         hold(book, book.call(Outlook()), left)
 
 
-def check_words() -> None:
-    """None open, then a quantum that nobody quotes, with no lapse left and with one."""
+def test_none_open() -> None:
+    assert Book().call(Outlook()) == Refused(7)
+
+
+@pytest.mark.parametrize(("limit", "due"), [
+    (0, "outlook need 600 left 1000 by 0 full 800 lapses 0 rest no lost no weight 0 20000"),
+    (1, "outlook need 600 left 1000 by 400 full 800 lapses 1 rest no lost no weight 0 20000"),
+    (NO_LIMIT, "outlook need 600 left 1000 by 400 full 800 lapses none rest no lost no weight 0 20000"),
+])
+def test_line(limit: int, due: str) -> None:
+    """A quantum that nobody quotes, with no lapse left, with one, and with no limit; outlooks are not counted."""
     book = Book()
-    assert book.call(Outlook()) == Refused(7)
-    for limit, due in [
-        (0, "outlook need 600 left 1000 by 0 full 800 lapses 0 rest no lost no weight 0 20000"),
-        (1, "outlook need 600 left 1000 by 400 full 800 lapses 1 rest no lost no weight 0 20000"),
-        (NO_LIMIT, "outlook need 600 left 1000 by 400 full 800 lapses none rest no lost no weight 0 20000"),
-    ]:
-        book.call(Open(list(ROW), 1, 0, limit))
-        assert programs.answer_line(book.call(Outlook())) == due
-        assert book.count % 2 == 1  # outlooks are not counted
-        book.call(Drop())
-
-
-def check() -> None:
-    check_words()
-    check_ways(random.Random(1), 120)
+    book.call(Open(list(ROW), 1, 0, limit))
+    assert programs.answer_line(book.call(Outlook())) == due
+    assert book.count == 1

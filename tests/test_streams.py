@@ -1,37 +1,28 @@
-"""`replay` on pipes: what it answers as its input comes, piece by piece, held against the recount.
-
-    python3 tests/streams.py               (after the gate, or `rt check replay`)
-    python3 tests/streams.py --calls N     only a list of N calls, and its time
+"""`replay` on pipes: what it answers as its input comes, piece by piece, against the recount.
 
 A call at a time, each answer read before the next call is written; input in pieces of one byte and of
 any length; a short list cut at every byte; blocks that are no call and blocks that are longer than the
 buffer, answered while the input is still open; lists and blocks as long as the limits and longer.
 """
 
-import argparse
 import os
 import random
 import select
-import struct
 import subprocess
 import sys
-import time
-from pathlib import Path
 
-ROOT = Path(__file__).resolve().parent.parent
-sys.path.insert(0, str(ROOT))
+import pytest
 
 from recount import programs
-from tests import known, months
-from tests import calls_text
+from tests import calls_text, known, months
+from tests.paths import BIN
+from tests.running import first_difference, words
 
-REPLAY = ROOT / "target" / "bin" / "replay"
+pytestmark = pytest.mark.usefixtures("programs")
+
+REPLAY = BIN / "replay"
 LONGEST_WAIT = 60  # seconds for an answer
-GATE_CALLS = 100_000
-
-
-def words(*numbers: int) -> bytes:
-    return struct.pack(f"<{len(numbers)}I", *numbers)
+MANY_CALLS = 100_000
 
 
 class Stream:
@@ -49,7 +40,7 @@ class Stream:
         while len(self.came) < length:
             ready, _, _ = select.select([self.child.stdout], [], [], LONGEST_WAIT)
             if not ready:
-                raise SystemExit(f"no answer within {LONGEST_WAIT} s, after {self.came[-200:]!r}")
+                raise AssertionError(f"no answer within {LONGEST_WAIT} s, after {self.came[-200:]!r}")
             piece = os.read(self.child.stdout.fileno(), 65_536)
             if not piece:
                 break
@@ -65,26 +56,13 @@ class Stream:
         self.child.stdin.close()
         self.read_to(sys.maxsize)
         self.child.stdout.close()
-        if self.child.wait(LONGEST_WAIT):
-            raise SystemExit(f"replay ended with status {self.child.returncode}")
+        assert self.child.wait(LONGEST_WAIT) == 0, "replay ended with another status than 0"
         return self.came
 
 
 def same(actual: bytes, expected: str, what: str) -> None:
     if actual != expected.encode():
-        raise SystemExit(f"{what}: answered\n{actual[-400:].decode()}\nin place of\n{expected[-400:]}")
-
-
-def call_by_call(calls: list) -> None:
-    """Each call's answer is read before the next call is written."""
-    stream, so_far = Stream(), b""
-    for call in calls:
-        block = calls_text.calls_bytes([call])
-        so_far += block
-        stream.write(block)
-        expected = programs.replay(so_far)
-        same(stream.read_to(len(expected)), expected, f"after {call}")
-    same(stream.end(), programs.replay(so_far), "at the end of the input")
+        pytest.fail(f"{what}: replay and recount: {first_difference(actual.decode(), expected)}")
 
 
 def in_pieces(data: bytes, sizes: list[int], what: str) -> None:
@@ -97,52 +75,93 @@ def in_pieces(data: bytes, sizes: list[int], what: str) -> None:
     same(stream.end(), programs.replay(data), what)
 
 
-def cut_everywhere(data: bytes) -> None:
-    """A list cut at every byte, by one write and with its last word in pieces of one byte."""
-    for length in range(len(data) + 1):
-        cut, front = data[:length], max(length - 4, 0)
-        in_pieces(cut, [], f"cut at byte {length}")
-        in_pieces(cut, [front, 1, 1, 1, 1], f"cut at byte {length}, in pieces")
-
-
 def at_once(data: bytes, last: str, what: str) -> None:
     """The last line comes when the first of these words are there, with the input still open, and not before."""
     stream = Stream()
     stream.write(words(12) + data[:-1])
     first = programs.replay(words(12))
     same(stream.read_to(len(first)), first, what)
-    if not stream.is_silent():
-        raise SystemExit(f"{what}: answered before its last byte")
+    assert stream.is_silent(), f"{what}: answered before its last byte"
     stream.write(data[-1:])
     expected = f"{first}{last}\n"
     same(stream.read_to(len(expected)), expected, what)
     same(stream.end(), expected, what)
 
 
-def last_lines() -> None:
-    most, top = programs.REPLAY_BLOCK, 2**32 - 1
-    for kind in (0, 99, top):
-        at_once(words(kind), "stopped at word 2", f"kind {kind}")
-    for side in (0, 3, top):
-        at_once(words(2, 0, 1, side), "stopped at word 2", f"side {side}")
-    for count in (most - 4, top):
-        at_once(words(1, count), "too long", f"an open of {count} row words")
-    for count in (most - 7, top):
-        at_once(words(13, count), "too long", f"a strike's open of {count} row words")
-    for start, length in ((0, 4 * (most - 3) + 1), (4 * (most - 3), 1), (top, top), (top, 0), (0, top)):
-        at_once(words(16, start, length), "too long", f"a message of {start} and {length} bytes")
+# ---------------------------------------------------------------- pieces
 
 
-def longest_blocks() -> None:
-    """As long as the buffer, behind another call and before one; cut short; and one longer."""
-    most, report = programs.REPLAY_BLOCK, words(12)
-    for block in (
-        words(1, most - 5, *range(most - 2)),
-        words(13, most - 8, *range(most - 2)),
-        words(16, 8, 4 * (most - 3) - 8) + bytes(4 * (most - 3)),
-    ):
-        in_pieces(report + block + report, [], "the longest block")
-        in_pieces(report + block[:-1], [4, 5, 4_000], "the longest block, cut short")
+def test_call_by_call() -> None:
+    """Each call's answer is read before the next call is written."""
+    stream, so_far = Stream(), b""
+    for call in known.paper_calls():
+        block = calls_text.calls_bytes([call])
+        so_far += block
+        stream.write(block)
+        expected = programs.replay(so_far)
+        same(stream.read_to(len(expected)), expected, f"after {call}")
+    same(stream.end(), programs.replay(so_far), "at the end of the input")
+
+
+def test_pieces_of_one_byte() -> None:
+    data = calls_text.calls_bytes(known.paper_calls())
+    in_pieces(data, [1] * len(data), "pieces of one byte")
+
+
+def test_pieces_of_any_length() -> None:
+    rng = random.Random("streams")
+    for _ in range(40):
+        name, calls = months.any_calls(rng)
+        data = calls_text.calls_bytes(calls)
+        sizes = [rng.choice([1, 2, 3, 5, 7, 64, 1_000]) for _ in range(rng.randrange(200))]
+        in_pieces(data, sizes, name)
+
+
+def test_cut_everywhere() -> None:
+    """A list cut at every byte, by one write and with its last word in pieces of one byte."""
+    data = calls_text.calls_bytes(known.ask_calls()[:8])
+    for length in range(len(data) + 1):
+        cut, front = data[:length], max(length - 4, 0)
+        in_pieces(cut, [], f"cut at byte {length}")
+        in_pieces(cut, [front, 1, 1, 1, 1], f"cut at byte {length}, in pieces")
+
+
+# ---------------------------------------------------------------- limits
+
+MOST, TOP = programs.REPLAY_BLOCK, 2**32 - 1
+
+
+@pytest.mark.parametrize("kind", [0, 99, TOP])
+def test_no_kind(kind: int) -> None:
+    at_once(words(kind), "stopped at word 2", f"kind {kind}")
+
+
+@pytest.mark.parametrize("side", [0, 3, TOP])
+def test_no_side(side: int) -> None:
+    at_once(words(2, 0, 1, side), "stopped at word 2", f"side {side}")
+
+
+@pytest.mark.parametrize(("kind", "count"), [(1, MOST - 4), (1, TOP), (13, MOST - 7), (13, TOP)])
+def test_too_many_row_words(kind: int, count: int) -> None:
+    """Of an open, and of a strike's open."""
+    at_once(words(kind, count), "too long", f"{count} row words in a call of kind {kind}")
+
+
+@pytest.mark.parametrize(("start", "length"), [(0, 4 * (MOST - 3) + 1), (4 * (MOST - 3), 1), (TOP, TOP), (TOP, 0), (0, TOP)])
+def test_too_long_message(start: int, length: int) -> None:
+    at_once(words(16, start, length), "too long", f"a message of {start} and {length} bytes")
+
+
+@pytest.mark.parametrize("block", [
+    words(1, MOST - 5, *range(MOST - 2)),
+    words(13, MOST - 8, *range(MOST - 2)),
+    words(16, 8, 4 * (MOST - 3) - 8) + bytes(4 * (MOST - 3)),
+], ids=["open", "strike", "message"])
+def test_longest_block(block: bytes) -> None:
+    """As long as the buffer, after another call and before one; and cut short."""
+    report = words(12)
+    in_pieces(report + block + report, [], "the longest block")
+    in_pieces(report + block[:-1], [4, 5, 4_000], "the longest block, cut short")
 
 
 def quantum(k: int) -> bytes:
@@ -153,46 +172,7 @@ def quantum(k: int) -> bytes:
     return words(1, 7, *row, 1, 2_000, 65_535) + orders + amendments + words(12, 8)
 
 
-def long_list(count: int) -> bytes:
-    return b"".join(quantum(k) for k in range(count // 20))
-
-
-def many_calls(count: int) -> None:
-    data = long_list(count)
-    same(subprocess.run([REPLAY], input=data, capture_output=True, check=True).stdout, programs.replay(data), f"{count} calls")
-
-
-def measured(count: int) -> None:
-    """By hand: the seconds of a long list, from a pipe and to one."""
-    data = long_list(count)
-    began = time.monotonic()
-    out = subprocess.run([REPLAY], input=data, capture_output=True, check=True).stdout
-    took = time.monotonic() - began
-    print(f"{len(data)} bytes, {out.count(bytes([10]))} lines in {took:.2f} s")
-
-
-def main() -> None:
-    parser = argparse.ArgumentParser()
-    parser.add_argument("--calls", type=int)
-    asked = parser.parse_args()
-    if asked.calls:
-        return measured(asked.calls)
-    rng = random.Random("streams")
-    paper = known.paper_calls()
-    call_by_call(paper)
-    data = calls_text.calls_bytes(paper)
-    in_pieces(data, [1] * len(data), "pieces of one byte")
-    for _ in range(40):
-        name, calls = months.any_calls(rng)
-        data = calls_text.calls_bytes(calls)
-        sizes = [rng.choice([1, 2, 3, 5, 7, 64, 1_000]) for _ in range(rng.randrange(200))]
-        in_pieces(data, sizes, name)
-    cut_everywhere(calls_text.calls_bytes(known.ask_calls()[:8]))
-    last_lines()
-    longest_blocks()
-    many_calls(GATE_CALLS)
-    print("streams: as the recount, in every piece")
-
-
-if __name__ == "__main__":
-    main()
+def test_many_calls() -> None:
+    data = b"".join(quantum(k) for k in range(MANY_CALLS // 20))
+    done = subprocess.run([REPLAY], input=data, capture_output=True, check=True)
+    same(done.stdout, programs.replay(data), f"{MANY_CALLS} calls")

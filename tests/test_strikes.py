@@ -1,240 +1,122 @@
-"""Strikes (document 02, W4): spread limits through `replay`, boards through `probe`, and the person's
-command, against the recount.
+"""Strikes (document 02, W4): the recount's limits, spread limits through `replay`, boards through `probe`, and the command `board`.
 
-    python3 tests/strikes.py             all cases
-    python3 tests/strikes.py --quick     a tenth of the random ones
-
-It fails where an answer differs, or where something that the cases are to show never showed.
+A test fails where an answer differs, or where something that the cases are meant to show never came up.
 """
 
-import argparse
 import random
-import sys
 from collections import Counter
-from pathlib import Path
 
-ROOT = Path(__file__).resolve().parent.parent
-sys.path.insert(0, str(ROOT))
+import pytest
 
 from recount import programs
 from recount.book import Strike
-from recount.strikes import LENGTHS, SHARES, board, met_by_products
-from tests import calls_text, command, generate, known, strike_sights
-from tests.differential import run_program, words
+from recount.strikes import board, met_by_products, strike_fits, strike_limit, within_by_squares
+from tests import calls_text, command, known, strike_coverage
+from tests.paths import EXAMPLES, TARGET
+from tests.running import first_difference, run_program
+from tests.strike_cases import MUST_SHOW, board_situations, case, known_boards, limit_strikes, odd_and_bad, planned, spoiled
 
-REPLAY = ROOT / "target" / "bin" / "replay"
-PROBE = ROOT / "target" / "bin" / "probe"
-GREATEST = 2**32 - 1
+# ---------------------------------------------------------------- the recount against the paper
 
 
-def agree(program, data, kept_as):
-    """The answer that the program and the recount give alike; where they differ the case is kept."""
-    said, due = run_program(program, data), getattr(programs, program.name)(data)
+@pytest.mark.parametrize(("a", "difference", "days", "b", "due"), [
+    (75, 40, 365, 0, 300), (75, 40, 365, 301, 301), (5, 1, 365, 0, 1), (15, 1, 365, 0, 2),
+    (4, 1, 365, 0, 0), (6, 1, 365, 0, 1), (14, 1, 365, 0, 1), (200, 100_000, 365, 0, 2_000_000),
+    (200, 100_000, 364, 0, 1_997_258), (200, 100_000, 1, 0, 104_685), (0, 100_000, 365, 7, 7),
+    (200, 0, 365, 0, 0), (200, 100_000, 0, 1_000_000, 1_000_000), (10, 1, 91, 0, 0),
+    (10, 1, 92, 0, 1), (5, 1, 365, 1, 1), (15, 1, 365, 1, 2), (0, 0, 0, 0, 0),
+])
+def test_recount_limit(a, difference, days, b, due):
+    assert strike_limit(Strike(a, difference, days, b)) == due
+
+
+def test_recount_limits():
+    """The limit is the greatest D by squares of whole numbers."""
+    rng = random.Random(4)
+    for _ in range(2_000):
+        most = rng.choice([10, 1_000, 100_000])
+        strike = Strike(rng.randrange(201), rng.randrange(most + 1), rng.choice([365, rng.randrange(366)]),
+                        rng.choice([0, 0, rng.randrange(1_000), rng.randrange(1_000_001)]))
+        limit = strike_limit(strike)
+        assert strike_fits(strike) and limit >= strike.b
+        assert limit == 0 or within_by_squares(strike, limit), strike
+        assert not within_by_squares(strike, limit + 1), strike
+
+
+LENGTH = 31_500_000
+
+
+@pytest.mark.parametrize(("first", "second", "strikes", "due"), [
+    (55, 60, [(18_900_000, LENGTH)], "met"),
+    (55, 60, [(18_899_999, LENGTH)], "failed"),
+    (55, 60, [(17_325_000, LENGTH), (20_475_000, LENGTH)], "met"),
+    (55, 60, [(17_324_999, LENGTH), (20_475_001, LENGTH)], "failed"),
+    (55, 60, [(17_325_000, LENGTH), (20_474_999, LENGTH)], "failed"),
+    (1, 1, [(10, 1_000)] * 32, "met"), (1, 1, [(10, 1_000)] * 33, 18),
+    (1, 1, [], 18), (0, 1, [(1, 1_000)], 18), (1, 101, [(1, 1_000)], 18), (1, 1, [(1, 1_000), (1, 2_000)], 18),
+    (1, 1, [(1_001, 1_000)], 18), (1, 1, [(1, 1_001)], 18), (1, 1, [(0, 0)], 18), (1, 1, [(1, 86_401_000)], 18),
+])
+def test_recount_board(first, second, strikes, due):
+    assert board(first, second, strikes) == due
+
+
+def test_recount_boards():
+    """By the request's two inequalities on whole numbers."""
+    rng = random.Random(5)
+    for _ in range(1_000):
+        length = 1_000 * rng.choice([1, 2, 86_400])
+        strikes = [(rng.randrange(length + 1), length) for _ in range(rng.randrange(1, 4))]
+        first, second = rng.randrange(1, 101), rng.randrange(1, 101)
+        is_met = board(first, second, strikes) == "met"
+        assert is_met == met_by_products(first, second, strikes), (first, second, strikes)
+
+
+# ---------------------------------------------------------------- the programs against the recount
+
+
+def agreed(program, data):
+    """The answer that the program and the recount both give; a case that differs is kept."""
+    said, due = run_program(program, data), getattr(programs, program)(data)
     if said != due:
-        kept = ROOT / "target" / kept_as
+        kept = TARGET / f"strikes.{program}"
         kept.write_bytes(data)
-        pairs = zip([*said.splitlines(), "(nothing)"], [*due.splitlines(), "(nothing)"])
-        line, (one, other) = next((at, pair) for at, pair in enumerate(pairs, 1) if pair[0] != pair[1])
-        sys.exit(f"strikes: answers differ, see {kept}: line {line}\n{program.name:<8}{one}\nrecount {other}")
+        pytest.fail(f"answers differ, see {kept}: {program} and recount: {first_difference(said, due)}")
     return due
 
 
-# ---------------------------------------------------------------- spread limits
-
-
-def limit_strikes(rng, count):
-    """Every number of days; whole and half steps; then any strikes."""
-    for days in range(366):
-        yield Strike(rng.randrange(201), rng.randrange(100_001), days, rng.choice([0, 0, 10, 1_000]))
-        yield Strike(200, 100_000, days, 0)
-    for a in range(5, 201, 5):
-        for difference in (1, 2, 3, 99_999, 100_000, rng.randrange(100_001)):
-            yield Strike(a, difference, 365, rng.choice([0, 0, 1]))
-    for a in range(0, 30):
-        yield Strike(a, 1, rng.choice([365, 364, 91, 92]), 0)
-    for _ in range(count):
-        yield generate.any_strike(rng)
-
-
-def check_limits(count):
+@pytest.mark.usefixtures("programs")
+def test_spread_limits(is_quick, note):
     """Each strike's quantum at its limit, a step past it and a step less."""
     rng, seen = random.Random(4), Counter()
-    strikes = list(limit_strikes(rng, count))
+    strikes = list(limit_strikes(rng, 200 if is_quick else 2_000))
     for at in range(0, len(strikes), 200):
         calls = [call for strike in strikes[at : at + 200] for call in known.spread_calls(strike)]
-        with strike_sights.noted() as spreads:
-            agree(REPLAY, calls_text.calls_bytes(calls), "strikes.replay")
+        with strike_coverage.noted() as spreads:
+            agreed("replay", calls_text.calls_bytes(calls))
         seen.update(spreads)
-    missing = [spread for spread in strike_sights.SPREADS if not seen[spread]]
-    if missing:
-        sys.exit("never shown: " + "; ".join(missing))
-    print(f"strikes: {len(strikes)} spread limits agree")
+    assert not [spread for spread in strike_coverage.SPREADS if not seen[spread]], "these never came up"
+    note(f"strikes: {len(strikes)} spread limits agree", seen)
 
 
-# ---------------------------------------------------------------- boards
-
-MUST_SHOW = [
-    "met", "failed by a strike alone", "failed by the sum alone", "failed by both", "met with one strike",
-    "met with 32 strikes", "32 strikes failed by the last alone", "a strike just at the first share",
-    "a strike a millisecond short", "a sum just at the second share", "a sum a millisecond short",
-    "the longest sum", "K = L", "K = 0", "a share of 1", "a share of 100",
-    "18: an empty board", "18: 33 strikes", "18: 64 strikes", "18: unequal lengths", "18: K above L",
-    "18: a share of 0", "18: a share above 100", "18: a length of 0", "18: a length below a second",
-    "18: a length above a row's", "18: a length with part of a second", "18: an odd number of words",
-    "bad case: 129 words or more", "bad case: cut short", "bad case: more behind it",
-]
-
-
-def case(first, second, strikes):
-    return words(4, first, second, 2 * len(strikes), *(word for strike in strikes for word in strike))
-
-
-def due_time(share, length):
-    return -(-share * length // 100)
-
-
-def planned(rng):
-    """A board whose strikes or sum are just at their shares, or a millisecond beside."""
-    count = rng.choice([1, 1, 2, 3, 5, 14, 31, 32, 32])
-    length = rng.choice([1_000, 2_000, 31_500_000, 86_400_000, rng.choice(LENGTHS)])
-    first = rng.choice([1, 55, 100, rng.choice(SHARES)])
-    second = rng.choice([1, 60, 100, rng.choice(SHARES)])
-    least = due_time(first, length)
-    kept = [least] * count
-    spare = due_time(second, length * count) - least * count  # what the sum lacks above the least
-    for at in range(count):
-        more = min(max(0, spare), length - least)
-        kept[at] += more if at == count - 1 else rng.choice([more, rng.randrange(more + 1)])
-        spare -= kept[at] - least
-    how = rng.randrange(5)
-    at = rng.choice([rng.randrange(count), count - 1])
-    if how == 0:
-        kept[at] -= 1
-    elif how == 1:
-        kept[at] = rng.choice([0, length])
-    elif how == 2 and count > 1:  # a millisecond short, the sum as it was
-        other = (at + 1) % count
-        kept[at], kept[other] = kept[at] - 1, kept[other] + 1
-    return first, second, [(min(max(0, k), length), length) for k in kept]
-
-
-def spoiled(rng):
-    """A board with one thing wrong, at times with two."""
-    first, second, strikes = planned(rng)
-    for _ in range(rng.choice([1, 1, 2])):
-        how = rng.randrange(7)
-        at = rng.randrange(len(strikes)) if strikes else 0
-        if how == 0:
-            first = rng.choice([0, 101, GREATEST])
-        elif how == 1:
-            second = rng.choice([0, 101, GREATEST])
-        elif how == 2 and strikes:
-            length = rng.choice([0, 999, 1_001, (strikes[at][1] + 1_000) & GREATEST, 86_400_001, 86_401_000, GREATEST])
-            strikes[at] = (strikes[at][0], length)
-        elif how == 3 and strikes:
-            length = rng.choice([0, 1, 500, 1_500, 86_401_000, GREATEST - 295, GREATEST])
-            strikes = [(rng.choice([0, length]), length) for _ in strikes]
-        elif how == 4 and strikes:
-            strikes[at] = (rng.choice([min(GREATEST, strikes[at][1] + 1), GREATEST]), strikes[at][1])
-        elif how == 5:
-            strikes = []
-        else:
-            strikes = (strikes * 64)[: rng.choice([33, 34, 64])]
-    return first, second, strikes
-
-
-def known_boards():
-    for count in (1, 32, 33, 64):
-        for kept in (0, 999, 1_000):
-            yield 100, 100, [(kept, 1_000)] * count
-        yield 1, 1, [(10, 1_000)] * (count - 1) + [(9, 1_000)]
-        yield 100, 100, [(86_400_000, 86_400_000)] * count
-        yield 100, 100, [(86_400_000, 86_400_000)] * (count - 1) + [(86_399_999, 86_400_000)]
-    for first in (0, 1, 100, 101, GREATEST):
-        for second in (0, 1, 100, 101, GREATEST):
-            yield first, second, [(1_000, 1_000)]
-            yield first, second, []
-    for length in (0, 1, 999, 1_000, 1_001, 86_399_999, 86_400_000, 86_400_001, 86_401_000, GREATEST):
-        yield 1, 1, [(length, length)] * 2
-        yield 1, 1, [(1_000, 1_000), (1_000, length)]
-        yield 1, 1, [(length + 1 & GREATEST, length)]
-
-
-def board_sights(first, second, strikes):
-    """What a board shows, by its numbers and the recount."""
-    answer = board(first, second, strikes)
-    if answer == 18:
-        lengths = {length for _, length in strikes}
-        found = {
-            "an empty board": not strikes, f"{len(strikes)} strikes": len(strikes) > 32,
-            "unequal lengths": len(lengths) > 1, "K above L": any(k > length for k, length in strikes),
-            "a share of 0": 0 in (first, second), "a share above 100": max(first, second) > 100,
-            "a length of 0": 0 in lengths, "a length above a row's": any(n > 86_400_000 for n in lengths),
-            "a length below a second": any(0 < n < 1_000 for n in lengths),
-            "a length with part of a second": any(n % 1_000 and 1_000 < n < 86_400_000 for n in lengths),
-        }
-        causes = [f"18: {name}" for name, shown in found.items() if shown]
-        assert causes, (first, second, strikes)
-        return causes if len(causes) == 1 else []  # alone, so that nothing else gives the answer
-    length, count, total = strikes[0][1], len(strikes), sum(kept for kept, _ in strikes)
-    each = [100 * kept - first * length for kept, _ in strikes]
-    found = {
-        "a strike just at the first share": due_time(first, length) in [kept for kept, _ in strikes],
-        "a strike a millisecond short": due_time(first, length) - 1 in [kept for kept, _ in strikes],
-        "a sum just at the second share": total == due_time(second, length * count),
-        "a sum a millisecond short": total == due_time(second, length * count) - 1,
-        "the longest sum": total == 32 * 86_400_000,
-        "K = L": (length, length) in strikes, "K = 0": (0, length) in strikes,
-        "a share of 1": 1 in (first, second), "a share of 100": 100 in (first, second),
-        "32 strikes failed by the last alone": count == 32 and min(each[:-1]) >= 0 > each[-1],
-    }
-    short = min(each) < 0, 100 * total < second * length * count
-    verdict = {
-        (False, False): "met", (True, False): "failed by a strike alone",
-        (False, True): "failed by the sum alone", (True, True): "failed by both",
-    }[short]
-    assert answer == verdict.split()[0] and (answer == "met") == met_by_products(first, second, strikes)
-    found |= {verdict: True, f"met with {count} strikes": answer == "met",
-              "met with one strike": answer == "met" and count == 1}
-    return [name for name, shown in found.items() if shown]
-
-
-def odd_and_bad():
-    """Cases that are no board, with what they show."""
-    good = case(1, 1, [(5, 1_000), (6, 1_000)])
-    for count in (1, 3, 63, 127):
-        yield words(4, 1, 1, count, *[1_000] * count), "18: an odd number of words"
-    for data in (words(4, 1, 1, 129, *[1_000] * 129), words(4, 1, 1, 130, *[1_000] * 130), words(4, 1, 1, GREATEST)):
-        yield data, "bad case: 129 words or more"
-    for size in range(len(good)):
-        yield good[:size], "bad case: cut short"
-    for more in (b"\0", words(0), words(5, 1_000)):
-        yield good + more, "bad case: more behind it"
-        yield words(4, 1, 1, 1, 1_000) + more, "bad case: more behind it"
-    yield words(4, 1, 1, 3, 1_000, 1_000), "bad case: cut short"
-
-
-def check_boards(count):
+@pytest.mark.usefixtures("programs")
+def test_boards(is_quick, note):
     rng, seen, cases = random.Random(5), Counter(), 0
-    boards = [*known_boards(), *(rng.choice([planned, planned, spoiled])(rng) for _ in range(count))]
+    boards = [*known_boards(), *(rng.choice([planned, planned, spoiled])(rng) for _ in range(200 if is_quick else 2_000))]
     for given in boards:
-        answer = agree(PROBE, case(*given), "strikes.probe")
-        due = board(*given)
+        answer, due = agreed("probe", case(*given)), board(*given)
         assert answer == ("refused 18\n" if due == 18 else f"board {due}\n"), given
-        seen.update(board_sights(*given))
+        seen.update(board_situations(*given))
         cases += 1
     for data, shown in odd_and_bad():
-        answer = agree(PROBE, data, "strikes.probe")
+        answer = agreed("probe", data)
         assert answer == ("refused 18\n" if shown.startswith("18") else "bad case\n"), data.hex()
         seen[shown] += 1
         cases += 1
-    missing = [sight for sight in MUST_SHOW if not seen[sight]]
-    if missing:
-        sys.exit("never shown: " + "; ".join(missing))
-    print(f"strikes: {cases} boards agree, {seen['met']} met")
+    assert not [situation for situation in MUST_SHOW if not seen[situation]], "these never came up"
+    note(f"strikes: {cases} boards agree, {seen['met']} met", seen)
 
 
-# ---------------------------------------------------------------- the person's command
+# ---------------------------------------------------------------- the command
 
 KNOWN = """\
 strike             kept         of  share  due  lacks
@@ -273,26 +155,15 @@ SAID = [
 ]
 
 
-def check_command():
-    examples = ROOT / "examples"
-    month = programs.replay(calls_text.to_bytes((examples / "strike.calls").read_text()))
-    done = command.run("board", "55", "60", examples / "strikes.board", "-", given=month)
+@pytest.mark.usefixtures("library")
+def test_command():
+    month = programs.replay(calls_text.to_bytes((EXAMPLES / "strike.calls").read_text()))
+    done = command.run("board", "55", "60", EXAMPLES / "strikes.board", "-", given=month)
     assert (done.status, done.printed) == (0, KNOWN), done
-    for first, second, source, status, said in SAID:
-        done = command.run("board", first, second, "-", given=source)
-        assert (done.status, (done.printed + done.complaint).splitlines()[-1]) == (status, said), (source, done)
 
 
-def main():
-    parser = argparse.ArgumentParser()
-    parser.add_argument("--quick", action="store_true")
-    quick = parser.parse_args().quick
-    if not (PROBE.exists() and REPLAY.exists()):
-        sys.exit("target/bin/probe or target/bin/replay is not built")
-    check_command()
-    check_boards(200 if quick else 2_000)
-    check_limits(200 if quick else 2_000)
-
-
-if __name__ == "__main__":
-    main()
+@pytest.mark.usefixtures("library")
+@pytest.mark.parametrize(("first", "second", "source", "status", "said"), SAID)
+def test_command_says(first, second, source, status, said):
+    done = command.run("board", first, second, "-", given=source)
+    assert (done.status, (done.printed + done.complaint).splitlines()[-1]) == (status, said), done

@@ -1,438 +1,107 @@
-"""Volatile days: `probe` held against the recount, on known and on seeded random cases, and the
-person's command.
+"""Volatile days: the recount against the paper, `probe` against the recount on known and random cases, and the command."""
 
-    python3 tests/volatile.py             all cases
-    python3 tests/volatile.py --quick     a tenth of the random ones
-
-It fails where an answer differs, or where something that the cases are to show never showed.
-"""
-
-import argparse
 import json
 import random
-import struct
-import subprocess
-import sys
 from collections import Counter
-from pathlib import Path
 from xml.etree import ElementTree
 
-ROOT = Path(__file__).resolve().parent.parent
-sys.path.insert(0, str(ROOT))
+import pytest
 
 from recount import programs, volatile
-from tests import command as commands
+from recount.volatile import MILLION, answer, change, changes, eased, periods, sigma
+from tests import command
+from tests.paths import EXAMPLES, ROOT, TARGET
+from tests.running import first_difference, run_program
+from tests.volatile_cases import MUST_SHOW, cases
 
-PROBE = ROOT / "target" / "bin" / "probe"
-LOW, HIGH = -(2**31), 2**31 - 1
-MILLION = 1_000_000
-
-
-def packed(*numbers):
-    return struct.pack(f"<{len(numbers)}I", *(n % 2**32 for n in numbers))
+# ---------------------------------------------------------------- the recount against the paper
 
 
-def prices_case(prices, threshold, kind=5):
-    return packed(kind, threshold, len(prices), *prices)
+def test_recount_rows():
+    """A row eased: M rounded up, a and b at their limits; a row that is refused stays."""
+    assert eased([1, 1, 1_000, 501, 60_000, 7, 600]) == [1, 1, 1_000, 251, 100_000, 14, 600]
+    assert eased([1, 1, 1_000, 0, 1, 1, 600]) == [1, 1, 1_000, 0, 1, 1, 600]
 
 
-# ---------------------------------------------------------------- what the cases are to show
-
-MUST_SHOW = [
-    "a period begins on the asked day",
-    "a period lasts to the asked day",
-    "a period ends on the asked day",
-    "a period ended on the day before the asked one",
-    "a period begins, ends and another begins",
-    "the last day's sigma is at least the threshold",
-    "a last day's sigma is the average itself",
-    "a first day's sigma, the last one, is at most the average",
-    "a sigma is the threshold itself",
-    "thirty sigmas before a first day",
-    "twenty-nine sigmas before a first day",
-    "no period in more than thirty sigmas",
-    "an R of 1,000,000",
-    "an R of -1,000,000",
-    "an R one past a limit",
-    "a refused R that no sigma needs",
-    "a previous price of zero",
-    "a last price of zero",
-    "a change of sign, accepted",
-    "a difference of 33 bits",
-    "under four prices",
-    "no price",
-    "a threshold of zero",
-    "the greatest threshold",
-    "a list that does not fit its count",
-    "a row eased",
-    "a doubled at its limit",
-    "b doubled at its limit",
-    "an odd M halved",
-    "a row of another length left",
-    "a row with a word out of range left",
-    "a strike's row eased",
-    "a strike's row with a past 100,000 eased",
-    "a strike's row with b past 1,000,000 eased",
-    "a strike's row with a word out of range left",
-    "the row of a day inside eased",
-    "a strike's row of a day inside eased",
-    "the row of a day outside left",
-    "the row of a refused list left",
-    "a strike above 1",
-]
+def test_recount_strike_rows():
+    """A strike's a and b are unread, so M alone is altered, whatever they are."""
+    assert eased([1, 1, 1_000, 501, 200_000, 7, 600], True) == [1, 1, 1_000, 251, 200_000, 7, 600]
+    assert eased([1, 1, 1_000, 501, 200_000, 7, 600]) == [1, 1, 1_000, 501, 200_000, 7, 600]
+    assert eased([1, 1, 1_000, 0, 1, 1, 600], True) == [1, 1, 1_000, 0, 1, 1, 600]
 
 
-def prices_sights(prices, threshold):
-    """What a list of prices shows, by the recount."""
-    pairs = list(zip(prices, prices[1:]))
-    if not prices:
-        yield "no price"
-    if len(prices) < 4:
-        yield "under four prices"
-    if threshold == 0:
-        yield "a threshold of zero"
-    if threshold == 2**32 - 1:
-        yield "the greatest threshold"
-    if any(abs(q - p) > HIGH for p, q in pairs):
-        yield "a difference of 33 bits"
-    if prices and prices[-1] == 0 and len(prices) > 1 and 0 not in prices[:-1]:
-        yield "a last price of zero"
-    if 0 in prices[:-1]:
-        yield "a previous price of zero"
-        return
-    rs = [change(p, q) for p, q in pairs]
-    if any(abs(r) == MILLION + 1 for r in rs):
-        yield "an R one past a limit"
-    if any(abs(r) > MILLION for r in rs):
-        if len(prices) < 4:
-            yield "a refused R that no sigma needs"
-        return
-    if MILLION in rs:
-        yield "an R of 1,000,000"
-    if -MILLION in rs:
-        yield "an R of -1,000,000"
-    if any((p < 0) != (q < 0) for p, q in pairs):
-        yield "a change of sign, accepted"
-    found = volatile.sigmas(prices)
-    if threshold in found:
-        yield "a sigma is the threshold itself"
-    yield from period_sights(found, threshold)
+def test_recount_changes():
+    """R, rounded toward zero either way, and its limits."""
+    assert changes([3, 4, 3, -3, -4, -3][:3]) == [333_333, -250_000]
+    assert change(2_000_000, -1) == -MILLION and answer([2_000_000, -2], 1) == "refused 22"
+    assert answer([5, 5, 0], 1) == "inside no" and answer([5, 0, 5], 1) == "refused 22"
 
 
-def change(p, q):
-    """R, refused or not."""
-    size = abs(q - p) * MILLION // abs(p)
-    return size if q >= p else -size
+@pytest.mark.parametrize("three", [[10, 20, 30], [10, 20, 29], [-MILLION, MILLION, MILLION], [0, 0, 0], [7, -7, 1]], ids=str)
+def test_recount_sigma(three):
+    """By the paper's own words."""
+    total = sum((3 * r - sum(three)) ** 2 for r in three)
+    n = sigma(three)
+    assert 18 * n * n <= total < 18 * (n + 1) ** 2
 
 
-def period_sights(found, threshold):
-    try:
-        periods = volatile.periods(found, threshold)
-    except volatile.Refused22:
-        first = next(d for d, s in enumerate(found) if s >= threshold) + 1
-        if first == 29:
-            yield "twenty-nine sigmas before a first day"
-        return
-    if not periods and len(found) > 30:
-        yield "no period in more than thirty sigmas"
-    if len(periods) > 1:
-        yield "a period begins, ends and another begins"
-    for first, last in periods:
-        average = sum(found[first - 30 : first]) // 30
-        if first == 30:
-            yield "thirty sigmas before a first day"
-        if first == len(found):
-            yield "a period begins on the asked day"
-        elif first == len(found) - 1 and found[first] <= average:
-            yield "a first day's sigma, the last one, is at most the average"
-        if last is None:
-            if first < len(found):
-                yield "a period lasts to the asked day"
-            continue
-        if last == len(found) - 1:
-            yield "a period ended on the day before the asked one"
-        if found[last] >= threshold:
-            yield "the last day's sigma is at least the threshold"
-        if found[last] == average:
-            yield "a last day's sigma is the average itself"
+def test_recount_periods():
+    """They begin, end and begin again; the last day's sigma begins none; 30 sigmas come before one, and 29 are refused."""
+    assert periods([1] * 30 + [5, 9, 9, 1, 9], 5) == [(31, 33), (35, None)]
+    assert periods([2] * 30 + [100, 50, 4, 2], 3) == [(31, 32)]
+    assert periods([1] * 29 + [5], 5) == [(30, None)]
+    with pytest.raises(volatile.Refused22):
+        periods([1] * 28 + [5], 5)
 
 
-def row_sights(words):
-    after = volatile.eased(words)
-    if len(words) != 7:
-        yield "a row of another length left"
-    elif after == words and (words[3], words[4], words[5]) != (1, 0, 0):
-        yield "a row with a word out of range left"
-    if after != words:
-        yield "a row eased"
-        if 2 * words[4] > after[4]:
-            yield "a doubled at its limit"
-        if 2 * words[5] > after[5]:
-            yield "b doubled at its limit"
-        if words[3] % 2:
-            yield "an odd M halved"
+# ---------------------------------------------------------------- probe against the recount
 
 
-def strike_sights(words):
-    """What a strike's row shows, by the recount."""
-    after = volatile.eased(words, True)
-    if len(words) != 7:
-        return
-    if after == words and words[3] != 1:
-        yield "a strike's row with a word out of range left"
-    if after != words:
-        yield "a strike's row eased"
-        if words[4] > 100_000:
-            yield "a strike's row with a past 100,000 eased"
-        if words[5] > 1_000_000:
-            yield "a strike's row with b past 1,000,000 eased"
-
-
-def inside_sights(strike, said, words):
-    """What a list of prices with a row shows, by the recount."""
-    if volatile.eased(words, strike == 1) == words:
-        return
-    if said == "inside yes":
-        yield "a strike's row of a day inside eased" if strike else "the row of a day inside eased"
-    if said == "inside no":
-        yield "the row of a day outside left"
-    if said == "refused 22":
-        yield "the row of a refused list left"
-
-
-# ---------------------------------------------------------------- cases
-
-
-def cycle(prices, count):
-    """Three prices again and again: every sigma is the same."""
-    return [prices[i % len(prices)] for i in range(count)]
-
-
-def known_prices():
-    """(prices, threshold) at the edges that the request names."""
-    yield from [([], 0), ([5], 1), ([5, 0], 1), ([0, 5], 1), ([5, 5, 0], 1), ([0], 0)]
-    for prices in (
-        [2_000_000, -1], [2_000_000, -2], [-2_000_000, 1], [-2_000_000, 2], [1, 2], [1, 3], [-1, 0],
-        [-1, -2], [-1, -3], [1, 0], [2, 0, 1], [LOW, HIGH], [HIGH, LOW], [LOW, -1], [HIGH, 0],
-        [1_000_000, 2_000_000], [1_000_000, 2_000_001], [1_000_001, -1], [1_000_001, 0],
-        [2**30, LOW], [2**30, HIGH], [-(2**30), HIGH], [LOW, 0, 5], [1, LOW], [1, HIGH],
-    ):
-        for threshold in (0, 1, 2**32 - 1):
-            yield prices, threshold
-            yield [7, 7, 7, *prices], threshold
-            yield [*prices, 7, 7], threshold
-    same = cycle([1_000, 1_100, 1_050], 60)
-    level = volatile.sigmas(same)[0]
-    for count in range(30, 60):
-        for threshold in (level, level + 1):
-            yield same[:count], threshold
-    # Quiet days, a jump so that exactly n sigmas are before the first day, and a while after it.
-    for quiet in range(28, 36):
-        for jump in (1_000, -1_000, 30_000):
-            prices = cycle([100_000, 100_010, 100_005], quiet + 3)
-            prices += [prices[-1] + jump, prices[-1] + 2 * jump, prices[-1], *prices[:12]]
-            for end in range(quiet, len(prices) + 1):
-                for threshold in (100, 5_000):
-                    yield prices[:end], threshold
-
-
-def walk(rng):
-    """Calm and wild days by turns; the threshold is one of the sigmas, or near one."""
-    price = rng.choice([1_000, 100_000, 10**6, -(10**6), 2 * 10**9, -50_000])
-    prices, wild = [price], False
-    for _ in range(rng.randrange(33, 140)):
-        if rng.random() < (0.25 if wild else 0.06):
-            wild = not wild
-        most = abs(price) * (60 if wild else 2) // 1_000 + 1
-        price = max(LOW, min(HIGH, price + rng.randint(-most, most)))
-        prices.append(price)
-    try:
-        found = volatile.sigmas(prices)
-    except volatile.Refused22:
-        return prices, rng.randrange(100_000)
-    later = found[29:] or found
-    threshold = max(0, rng.choice([max(found), rng.choice(later), rng.choice(later)]) + rng.choice([0, 0, 1, -1]))
-    if rng.random() < 0.7:  # nothing before the thirtieth sigma begins a period
-        threshold = max(threshold, max(found[:29], default=0) + 1)
-    return prices[: rng.randrange(max(1, len(prices) - 30), len(prices) + 1)], threshold
-
-
-def repeated(rng):
-    """A few levels of sigma that come again, so that sigmas meet the average and the threshold."""
-    base = rng.choice([1_000, 1_000_000])
-    level = lambda k, count: cycle([base, base + k, base + k // 2], count)
-    prices = level(4, 36)
-    for k in rng.choices([2, 4, 5, 8, 20, 200], k=5):
-        prices += level(k, rng.randrange(3, 40))
-    found = volatile.sigmas(prices)
-    return prices[: rng.randrange(33, len(prices) + 1)], rng.choice(sorted(set(found)))
-
-
-def rough(rng):
-    """Any prices at all, mostly refused."""
-    some = [0, 1, -1, 2, LOW, HIGH, MILLION, -MILLION, rng.randint(LOW, HIGH), rng.randint(-5, 5)]
-    return [rng.choice(some) for _ in range(rng.randrange(8))], rng.choice([0, 1, rng.getrandbits(32)])
-
-
-def any_row(rng):
-    words = [
-        rng.choice([1, 2]), rng.randrange(3), 1_000 * rng.randint(1, 86_400), rng.randint(1, 100_000),
-        rng.choice([0, 125, 49_999, 50_000, 50_001, 100_000, rng.randint(0, 100_000)]),
-        rng.choice([0, 1, 499_999, 500_000, 500_001, 1_000_000, rng.randint(0, 1_000_000)]),
-        rng.randint(1, 799),
-    ]
-    if rng.random() < 0.25:
-        words[rng.randrange(7)] = rng.choice([0, 3, 800, 999, 100_001, 1_000_001, 86_400_001, 2**32 - 1])
-    if rng.random() < 0.15:
-        words = [*words, *[1] * 9][: rng.randrange(17)]
-    return words
-
-
-def row_case(strike, words):
-    return packed(13, strike, len(words), *words)
-
-
-def inside_case(strike, prices, threshold, words):
-    return packed(14, strike, threshold, len(prices), len(words), *prices, *words)
-
-
-def any_strike_row(rng):
-    """A row whose a and b, which a strike leaves unread, are often out of range."""
-    words = any_row(rng)
-    if len(words) == 7 and rng.random() < 0.5:
-        words[4 + rng.randrange(2)] = rng.choice([100_001, 200_000, 1_000_001, 2**31, 2**32 - 1])
-    return words
-
-
-def any_eased(rng):
-    """(bytes, what they show) of a row by itself, and of one with the prices before its day."""
-    strike, words = rng.randrange(2), any_strike_row(rng)
-    yield row_case(strike, words), list(strike_sights(words) if strike else row_sights(words))
-    prices, threshold = rng.choice([walk, repeated, rough])(rng)
-    said = volatile.answer(prices, threshold)
-    yield inside_case(strike, prices, threshold, words), list(inside_sights(strike, said, words))
-
-
-def wrong_rows():
-    """Cases of rows that do not fit their counts, or name no open."""
-    row = [1, 1, 1_000, 501, 60_000, 7, 600]
-    for good in (row_case(1, row), inside_case(0, [5, 5, 5, 5], 1, row)):
-        yield from [good[: 4 * n] for n in range(1, len(good) // 4)]
-        yield from [good[:-1], good + b"\0", good + packed(1)]
-    yield from [row_case(1, [1] * 17), inside_case(1, [5], 1, [1] * 17), inside_case(0, [1] * 4_097, 1, row)]
-    yield from [packed(13, 1, 2**32 - 1), packed(14, 1, 1, 2**32 - 1, 7), packed(14, 1, 1, 4, 2**32 - 1)]
-
-
-def wrong_strikes():
-    row = [1, 1, 1_000, 501, 60_000, 7, 600]
-    for strike in (2, 3, 2**32 - 1):
-        yield from [row_case(strike, row), inside_case(strike, [5, 5, 5, 5], 1, row)]
-
-
-def wrong_cases():
-    """Cases that do not fit their counts, and are bad."""
-    good = prices_case([5, 5, 5, 5], 1)
-    yield from [packed(5), packed(5, 1), packed(6), packed(12, 0), good[:-1], good + b"\0", good + packed(1)]
-    yield from [packed(5, 1, 4_097, *[1] * 4_097), packed(6, 17, *[1] * 17), packed(6, 7, 1), packed(6, 0, 1)]
-    yield packed(5, 1, 2**32 - 1)
-
-
-def with_shorter(prices, threshold):
-    """The case of some prices, and of shorter lists of them: up to each period's first day, and, where
-    a period ended on their last day, with that day as the asked one."""
-    shows = list(prices_sights(prices, threshold))
-    yield prices_case(prices, threshold), shows
-    if "a period ended on the day before the asked one" in shows:
-        assert volatile.inside(prices[:-1], threshold)
-        yield prices_case(prices[:-1], threshold), ["a period ends on the asked day"]
-    try:
-        periods = volatile.periods(volatile.sigmas(prices), threshold)
-    except volatile.Refused22:
-        return
-    for first, _ in periods:
-        front = prices[: first + 4]
-        yield prices_case(front, threshold), list(prices_sights(front, threshold))
-
-
-def cases(rng, count):
-    """(bytes, what they show)"""
-    others = random.Random(13)
-    for data in wrong_cases():
-        yield data, ["a list that does not fit its count"]
-    for data in wrong_rows():
-        yield data, []
-    for data in wrong_strikes():
-        yield data, ["a strike above 1"]
-    for prices, threshold in known_prices():
-        yield from with_shorter(prices, threshold)
-    for words in ([], [1] * 16, [1, 1, 1_000, 1, 0, 0, 1], [2, 2, 86_400_000, 100_000, 100_000, 1_000_000, 799]):
-        yield packed(6, len(words), *words), list(row_sights(words))
-        yield row_case(1, words), list(strike_sights(words))
-    yield inside_case(1, cycle([1_000, 1_004, 1_002], 4_096), 2**20, [1] * 16), []
-    yield prices_case(cycle([1_000, 1_004, 1_002], 4_096), 2**20), []
-    for at in range(count):
-        make = rng.choice([walk, walk, walk, repeated, repeated, rough])
-        prices, threshold = make(rng)
-        yield from with_shorter(prices, threshold)
-        if at % 40 == 0:
-            yield prices_case(prices, threshold, 12), []
-        if at % 3 == 0:
-            words = any_row(rng)
-            yield packed(6, len(words), *words), list(row_sights(words))
-            yield from any_eased(others)
-
-
-def check_cases(count):
+@pytest.mark.usefixtures("programs")
+def test_probe(is_quick, note):
     seen = Counter()
-    for at, (data, shows) in enumerate(cases(random.Random(12), count)):
-        said = subprocess.run([PROBE], input=data, capture_output=True, check=True).stdout.decode()
-        due = programs.probe(data)
+    for at, (data, shows) in enumerate(cases(random.Random(12), 200 if is_quick else 2_000)):
+        said, due = run_program("probe", data), programs.probe(data)
         if said != due:
-            kept = ROOT / "target" / "volatile.case"
+            kept = TARGET / "volatile.case"
             kept.write_bytes(data)
-            sys.exit(f"case {at} differs, see {kept}:\nprobe   {said}recount {due}")
+            pytest.fail(f"case {at} differs, see {kept}: probe and recount: {first_difference(said, due)}")
         seen.update(shows)
         seen[due.split("\n")[0] if due.startswith(("inside", "refused")) else "other"] += 1
-    missing = [sight for sight in MUST_SHOW if not seen[sight]]
-    if missing:
-        sys.exit("never shown: " + "; ".join(missing))
-    print(f"volatile: {at + 1} cases agree, {seen['inside yes']} inside, {seen['inside no']} outside, {seen['refused 22']} refused")
+    assert not [situation for situation in MUST_SHOW if not seen[situation]], "these never came up"
+    note(f"volatile: {at + 1} cases agree, {seen['inside yes']} inside, {seen['inside no']} outside, {seen['refused 22']} refused", {what: seen[what] for what in MUST_SHOW})
 
 
-# ---------------------------------------------------------------- the person's command
+# ---------------------------------------------------------------- the command
+
+THRESHOLD, EXAMPLE = 15_000, EXAMPLES / "volatile.prices"
 
 
-def check_command():
-    """The table and the picture of the example, and what is wrong in a text."""
-    threshold, path = 15_000, ROOT / "examples" / "volatile.prices"
-    prices = [price for _, price in commands.prices(path)]
+@pytest.mark.usefixtures("library")
+def test_command():
+    """The table and the picture of the example."""
+    prices = [price for _, price in command.prices(EXAMPLE)]
     found = volatile.sigmas(prices)
-    periods = volatile.periods(found, threshold)
-    assert len(periods) == 2 and periods[1][1] is None, periods
-    within = [any(f <= d - 3 and (l is None or d - 3 <= l) for f, l in periods) for d in range(len(prices) + 1)]
-    judged = json.loads(commands.run("volatile", threshold, path, "--json").printed)
+    spans = volatile.periods(found, THRESHOLD)
+    assert len(spans) == 2 and spans[1][1] is None, spans
+    within = [any(f <= d - 3 and (l is None or d - 3 <= l) for f, l in spans) for d in range(len(prices) + 1)]
+    judged = json.loads(command.run("volatile", THRESHOLD, EXAMPLE, "--json").printed)
     assert judged["inside"] == within and [s for s in judged["sigmas"] if s is not None] == found
-    drawn = commands.run("volatile", threshold, path, "--picture")
+    drawn = command.run("volatile", THRESHOLD, EXAMPLE, "--picture")
     ElementTree.fromstring(drawn.printed)
     assert drawn.printed == (ROOT / "docs" / "volatile.svg").read_text(), "docs/volatile.svg is old"
-    lines = commands.run("volatile", threshold, path, "--both").printed.splitlines()
+    lines = command.run("volatile", THRESHOLD, EXAMPLE, "--both").printed.splitlines()
     assert len(lines) == len(prices) + 3 and lines[-2:] == ["the next day is inside", "the proved meter and the recount agree"], lines[-2:]
-    for bad, at in (("5\n5 5 5\n", 2), ("2026-01-05 12.5\n", 1), ("7\n\nx\n", 3), ("2147483648\n", 1)):
-        done = commands.run("volatile", threshold, "-", given=bad)
-        assert done.status == 1 and f"standard input: line {at}: " in done.complaint, done
-    refused = commands.run("volatile", "1", "-", given="5\n0\n5\n")
+
+
+@pytest.mark.usefixtures("library")
+@pytest.mark.parametrize(("text", "line"), [("5\n5 5 5\n", 2), ("2026-01-05 12.5\n", 1), ("7\n\nx\n", 3), ("2147483648\n", 1)])
+def test_command_on_wrong_prices(text, line):
+    done = command.run("volatile", THRESHOLD, "-", given=text)
+    assert done.status == 1 and f"standard input: line {line}: " in done.complaint, done
+
+
+@pytest.mark.usefixtures("library")
+def test_command_refused():
+    refused = command.run("volatile", "1", "-", given="5\n0\n5\n")
     assert refused.status == 1 and "refused 22: of the prices before day 3" in refused.printed, refused
-
-
-def main():
-    parser = argparse.ArgumentParser()
-    parser.add_argument("--quick", action="store_true")
-    quick = parser.parse_args().quick
-    if not PROBE.exists():
-        sys.exit("target/bin/probe is not built")
-    check_command()
-    check_cases(200 if quick else 2_000)
-
-
-if __name__ == "__main__":
-    main()
