@@ -1,6 +1,6 @@
 # Every target but `install` needs the Rattle kit (`rt` on the path) and Python 3; `test` also what tests/packages lists, `client`, `library` and
 # `dist` a C compiler, `card` the same, `bench` Rust with cargo.
-.PHONY: test demo statement card client library install dist bench
+.PHONY: test help demo statement card client library install dist bench clean
 
 VERSION := $(shell cat VERSION)
 MAJOR := $(firstword $(subst ., ,$(VERSION)))
@@ -10,11 +10,14 @@ PYTHON ?= /usr/bin/python3
 LIBRARY := target/library
 STRICT := -std=c11 -O2 -Wall -Wextra -Wpedantic -Werror -Iinclude
 
-test:
+test:  ## the gate: proofs, must-fail edits, programs and all tests; tests alone: bash tests/run
 	bash .ci/run
 
+help:  ## this list
+	@sed -n 's/^\([a-z]*\):[^#]*## \(.*\)/make \1\t\2/p' $(MAKEFILE_LIST) | expand -t 16
+
 # The sheet of a shipped session, and a month of calls; then a month's statement, where its needs are there.
-demo:
+demo:  ## a session's sheet, a month of calls and a month's statement
 	rt check sheet replay
 	@if command -v cc >/dev/null && $(PYTHON) -c 'import jinja2' 2>/dev/null; then $(MAKE) -s statement PYTHON=$(PYTHON); fi
 	PYTHON=$(PYTHON) ./quoting bytes examples/brent.session | target/bin/sheet
@@ -23,23 +26,23 @@ demo:
 	else echo "for a month's statement: apt-get install gcc python3-jinja2, then make statement"; fi
 
 # The statement of a shipped month as a page that can be printed: target/brent.html. Two of its messages are refused, so the command ends with 1.
-statement: library
+statement: library  ## target/brent.html: the statement of a shipped month
 	rm -f target/brent.html
 	PYTHON=$(PYTHON) ./quoting statement examples/programmes/brent.month --fix examples/programmes/brent.log \
 		--title "Brent, November 2026" -o target/brent.html || [ -s target/brent.html ]
 	@echo "the statement is target/brent.html"
 
 # The weight card as a page that can be printed: target/card.html
-card: library
+card: library  ## target/card.html: the weight card
 	PYTHON=$(PYTHON) ./quoting card -o target/card.html
 
 # The C client of examples/client.c, over the proved session run: target/client FILE
-client:
+client:  ## target/client: the C client of examples/client.c
 	rt staticlib session
 	cc -O2 -Iinclude -o target/client examples/client.c target/staticlib/libsession.a
 
 # Every proved call for C, with the refusals' sentences: target/library has both libraries, the header and what pkg-config reads.
-library:
+library:  ## target/library: the library for C, with its header and what pkg-config reads
 	rt staticlib quoting
 	mkdir -p $(LIBRARY)
 	cc $(STRICT) -fPIC -c lib/refusals.c -o $(LIBRARY)/refusals.o
@@ -54,7 +57,7 @@ library:
 	sed -e 's|@PREFIX@|$(PREFIX)|' -e 's|@VERSION@|$(VERSION)|' lib/quoting.pc.in > $(LIBRARY)/quoting.pc
 
 # Puts what `make library` has built where pkg-config finds it: make install PREFIX=/usr DESTDIR=/tmp/root
-install:
+install:  ## puts the library under PREFIX (/usr/local), below DESTDIR
 	[ -e $(LIBRARY)/libquoting.so ] || { echo "run make library first" >&2; exit 1; }
 	install -d $(DESTDIR)$(PREFIX)/include $(DESTDIR)$(PREFIX)/lib/pkgconfig
 	install -m 644 $(LIBRARY)/quoting.h $(DESTDIR)$(PREFIX)/include/quoting.h
@@ -66,7 +69,7 @@ install:
 
 # The same as a tar file, for machines without the kit: target/quoting-VERSION.tar.gz. It may be unpacked anywhere; BUILT says from which
 # commit and by which kit.
-dist: library
+dist: library  ## target/quoting-VERSION.tar.gz: the library for machines without the kit
 	rm -rf target/dist
 	$(MAKE) -s install DESTDIR=$(CURDIR)/target/dist PREFIX=/quoting-$(VERSION)
 	sed -e 's|@PREFIX@|$${pcfiledir}/../..|' -e 's|@VERSION@|$(VERSION)|' lib/quoting.pc.in > target/dist/quoting-$(VERSION)/lib/pkgconfig/quoting.pc
@@ -76,8 +79,13 @@ dist: library
 
 # The proved meter's C call against two meters in Rust, the proved reader of FIX messages against two in Rust, and a call of the proved
 # month against two months in Rust.
-bench:
+bench:  ## the proved meter against meters in Rust
 	rt staticlib session
 	rt staticlib quoting
 	objcopy --redefine-sym quoting_session=library_session target/staticlib/libquoting.a target/staticlib/libquoting_others.a
 	cd bench && cargo run --release --offline --quiet
+
+# The next gate proves all crates again.
+clean:  ## removes all that is built, with the proofs' results
+	rm -rf target build python/*.egg-info .mypy_cache bench/target
+	find . -name __pycache__ -prune -exec rm -rf {} +

@@ -7,7 +7,8 @@
     python3 recount/main.py safe_table < word    as the program safe_table
     python3 recount/main.py card < /dev/null     as the program card
     python3 recount/main.py ccall HEAD RECORDS   the C call's number for two files
-    python3 recount/main.py selftest             the recount held against itself and the paper
+
+Its own checks are tests/test_recount*.py.
 """
 
 import sys
@@ -15,7 +16,7 @@ from pathlib import Path
 
 sys.path.insert(0, str(Path(__file__).resolve().parent.parent))
 
-from recount import card, game, programs, selftest, session
+from recount import card, game, programs, session
 
 
 def main(words):
@@ -27,8 +28,6 @@ def main(words):
     elif len(words) == 3 and words[0] == "ccall":
         with open(words[1], "rb") as head, open(words[2], "rb") as data:
             print(session.ccall(head.read(), data.read()))
-    elif words == ["selftest"]:
-        return selftest.main()
     else:
         sys.stderr.write(__doc__)
         return 2

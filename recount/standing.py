@@ -5,7 +5,6 @@ accepted call the used records are sorted anew; what `after` says of a whole lis
 records at all.
 """
 
-import random
 
 JOIN, CHANGE, LEAVE = 1, 2, 3
 LIMIT = 512  # records and calls of a case
@@ -92,24 +91,3 @@ def probe(words, data):
         out.append(f"refused {refused}" if refused else f"accepted {count}")
     used = records[:count] if count <= size else []
     return [*out, " ".join(["standing", *(str(word) for record in used for word in record)])]
-
-
-# ---------------------------------------------------------------- against itself
-
-
-def check():
-    """From count 0 the records after any list of calls are what the calls alone say, in order."""
-    rng = random.Random(13)
-    for _ in range(500):
-        size = rng.randrange(6)
-        calls = []
-        for _ in range(rng.randrange(30)):
-            kind = rng.choice((JOIN, CHANGE, LEAVE))
-            calls.append((kind, rng.randrange(8), 0 if kind == LEAVE else rng.randrange(4)))
-        records, count, refused = [(9, 9)] * size, 0, []
-        for call in calls:
-            number, records, count = step(records, count, call)
-            refused.append(number)
-        ratings, due = after(size, calls)
-        assert records[:count] == in_order(ratings.items()) and refused == due, (size, calls)
-        assert not is_wrong(records, count) and len(records) == size

@@ -159,34 +159,3 @@ def probe(words: list[int], data: bytes) -> list[str] | None:
         return None
     prices = [signed(word) for word in words[3:]]
     return [answer(prices, words[1])] if words[0] == 5 else list(days(prices, words[1]))
-
-
-# ---------------------------------------------------------------- held against the paper
-
-
-def selftest():
-    # A row eased: M rounded up, a and b at their limits; a row that is refused stays.
-    assert eased([1, 1, 1_000, 501, 60_000, 7, 600]) == [1, 1, 1_000, 251, 100_000, 14, 600]
-    assert eased([1, 1, 1_000, 0, 1, 1, 600]) == [1, 1, 1_000, 0, 1, 1, 600]
-    # A strike's: a and b are unread, so M alone is altered, whatever they are.
-    assert eased([1, 1, 1_000, 501, 200_000, 7, 600], True) == [1, 1, 1_000, 251, 200_000, 7, 600]
-    assert eased([1, 1, 1_000, 501, 200_000, 7, 600]) == [1, 1, 1_000, 501, 200_000, 7, 600]
-    assert eased([1, 1, 1_000, 0, 1, 1, 600], True) == [1, 1, 1_000, 0, 1, 1, 600]
-    # R, rounded toward zero either way, and its limits.
-    assert changes([3, 4, 3, -3, -4, -3][:3]) == [333_333, -250_000]
-    assert change(2_000_000, -1) == -MILLION and answer([2_000_000, -2], 1) == "refused 22"
-    assert answer([5, 5, 0], 1) == "inside no" and answer([5, 0, 5], 1) == "refused 22"
-    # Sigma against the paper's own words.
-    for three in ([10, 20, 30], [10, 20, 29], [-MILLION, MILLION, MILLION], [0, 0, 0], [7, -7, 1]):
-        total = sum((3 * r - sum(three)) ** 2 for r in three)
-        n = sigma(three)
-        assert 18 * n * n <= total < 18 * (n + 1) ** 2, three
-    # Periods: begin, end and begin again; the last day's sigma begins none; 30 sigmas and 29.
-    assert periods([1] * 30 + [5, 9, 9, 1, 9], 5) == [(31, 33), (35, None)]
-    assert periods([2] * 30 + [100, 50, 4, 2], 3) == [(31, 32)]
-    assert periods([1] * 29 + [5], 5) == [(30, None)]
-    try:
-        periods([1] * 28 + [5], 5)
-    except Refused22:
-        return
-    raise AssertionError("a period began with 29 sigmas before it")

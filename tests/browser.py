@@ -11,10 +11,10 @@ from selenium import webdriver
 from selenium.webdriver.chrome.service import Service
 from selenium.webdriver.common.keys import Keys
 
-from tests.command import heeds_interrupts
+from tests.command import restore_sigint
+from tests.paths import ROOT, TARGET
 
-ROOT = Path(__file__).resolve().parent.parent
-SHOTS = ROOT / "target" / "watch"
+SHOTS = TARGET / "watch"
 PATIENCE = 60  # seconds: for a machine that has other work
 LINK = re.compile(r"watching (.+): (http://\S+)\n")
 
@@ -34,7 +34,7 @@ class Served:
 
     def __init__(self, *words, tree=ROOT):
         pipes = {"stdin": subprocess.PIPE, "stdout": subprocess.PIPE, "stderr": subprocess.PIPE}
-        self.process = subprocess.Popen([tree / "quoting", "watch", *map(str, words), "--port", "0"], cwd=ROOT, preexec_fn=heeds_interrupts, **pipes)
+        self.process = subprocess.Popen([tree / "quoting", "watch", *map(str, words), "--port", "0"], cwd=ROOT, preexec_fn=restore_sigint, **pipes)
         line = self.process.stdout.readline().decode() if select.select([self.process.stdout], [], [], PATIENCE)[0] else "nothing"
         found = LINK.fullmatch(line)
         if found is None:
@@ -114,6 +114,18 @@ class Browser:
         said = self.console()
         assert not said, said
         self.driver.get("about:blank")
+
+    def start_over(self):
+        """One empty window and an empty console, whatever a test before this has left."""
+        first, *others = self.driver.window_handles
+        for handle in others:
+            self.driver.switch_to.window(handle)
+            self.driver.close()
+        self.driver.switch_to.window(first)
+        self.driver.get("about:blank")
+        self.console()
+        self.size(1280)
+        self.theme("light")
 
     def console(self):
         return [each["message"] for each in self.driver.get_log("browser")]

@@ -1,16 +1,11 @@
 """The recount's calls as the bytes that the meter takes, for the tests' lists; texts of calls go by the package."""
 
-import struct
-import sys
-from pathlib import Path
-
-sys.path.insert(0, str(Path(__file__).resolve().parent.parent / "python"))
-
 from quoting import texts
 from recount import programs
 from recount.book import (
     Add, Amend, Ask, Cancel, Charge, Close, Commit, Deal, Drop, Look, Message, Open, Outlook, Report, Strike, Tick, Withdraw,
 )
+from tests.running import words
 
 to_bytes, to_text = texts.calls_bytes, texts.calls_text
 
@@ -51,10 +46,6 @@ def call_words(call):
     return [kinds[kind], *call]
 
 
-def pack(words):
-    return struct.pack(f"<{len(words)}I", *words)
-
-
 def calls_bytes(calls):
     """The bytes of a list of calls."""
-    return pack([word for call in calls for word in call_words(call)])
+    return words(*(word for call in calls for word in call_words(call)))

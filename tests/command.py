@@ -5,9 +5,6 @@ import signal
 import sys
 from collections import namedtuple
 from contextlib import redirect_stderr, redirect_stdout
-from pathlib import Path
-
-sys.path.insert(0, str(Path(__file__).resolve().parent.parent / "python"))
 
 from quoting import volatiles
 from quoting.cli import main
@@ -41,8 +38,8 @@ def run(*words, given=""):
     return Done(status, printed.text(), complaint.text())
 
 
-def heeds_interrupts():
-    """For a child: a test that is run in the background has Ctrl-C ignored, and its children with it."""
+def restore_sigint() -> None:
+    """For a child, before it starts: tests that run in the background have SIGINT ignored, and so would their children."""
     signal.signal(signal.SIGINT, signal.SIG_DFL)
 
 

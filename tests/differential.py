@@ -1,20 +1,11 @@
-"""The programs and the C call held against the recount, on seeded random cases.
+"""The programs and the C call against the recount, on known and seeded random cases: what is tested, and how.
 
-    python3 tests/differential.py                 thousands of cases, a few minutes at most
-    python3 tests/differential.py --quick         a tenth of them
-    python3 tests/differential.py --case FILE     one case again, with both answers
+tests/test_differential.py runs them. A case that differs is made smaller and written to target/differential/; this shows it again,
+with both answers:
 
-    --seed N           other cases (1 by default)
-    --seconds S        stop making new cases after so long
-    --only NAME ...    of replay, sheet, account, probe and ccall
-
-It fails where an answer differs, where a refusal number, a locked or a crossed quote was never met
-or something else that the cases are to show never showed, and where fewer than a third of the
-accepted sessions have kept time. A case that differs is made smaller and written to
-target/differential/.
+    python3 -m tests.differential target/differential/seed-1-7.replay
 """
 
-import argparse
 import random
 import re
 import struct
@@ -24,39 +15,16 @@ import time
 from collections import Counter
 from pathlib import Path
 
-ROOT = Path(__file__).resolve().parent.parent
-sys.path.insert(0, str(ROOT))
-
 from recount import account as accounts
 from recount import book, programs, records
 from recount import session as run
-from recount.book import BUY, SELL, Add, Cancel, Tick
-from tests import ask_sights, crossed, generate, known, months, outlook_sights, strike_sights
-from tests import volatile as volatile_cases
-from tests import calls_text
-from tests import session_text
+from recount.book import Tick
+from tests import ask_coverage, calls_text, crossed, generate, known, months, outlook_coverage, session_text, strike_coverage, volatile_cases
+from tests.paths import ARCHIVES, BIN, EXAMPLES, INCLUDE, ROOT, TARGET, TESTS
+from tests.running import run_program, words
 
-TARGET = ROOT / "target"
 FAILED = TARGET / "differential"
-LONGEST_RUN = 60  # seconds
 SHOWN_LINES = 60  # of a case or an answer
-
-
-def words(*numbers):
-    return struct.pack(f"<{len(numbers)}I", *numbers)
-
-
-def run_program(path, data):
-    """What a program prints; where it does not end well, that is a last line in brackets."""
-    try:
-        done = subprocess.run([path], input=data, capture_output=True, timeout=LONGEST_RUN)
-    except subprocess.TimeoutExpired as stopped:
-        text, end = stopped.stdout or b"", f"(no end within {LONGEST_RUN} s)\n"
-    else:
-        text, end = done.stdout, ""
-        if done.returncode:
-            end = f"(exit status {done.returncode})\n"
-    return text.decode(errors="replace") + end
 
 
 def case_rng(seed, name, at):
@@ -71,16 +39,10 @@ class Program:
 
     refusals = range(0)  # the numbers that its cases must have met
     must_show = {}  # what its answers must have shown, as patterns
-    must_sight = ()  # what its cases must have shown, by name
-
-    def __init__(self):
-        self.path = TARGET / "bin" / self.name
-
-    def missing(self):
-        return None if self.path.exists() else f"target/bin/{self.name} is not built"
+    must_meet = ()  # the situations that its cases must have met, by name
 
     def actual(self, data):
-        return run_program(self.path, data)
+        return run_program(BIN / self.name, data)
 
     def actual_many(self, cases):
         return (self.actual(data) for data in cases)
@@ -92,8 +54,8 @@ class Program:
         """The refusal numbers of an answer."""
         return [int(number) for number in re.findall(r"^refused (\d+)", answer, re.M)]
 
-    def sights_in(self, data, answer):
-        """What a case and its answer show, by name."""
+    def situations_in(self, data, answer):
+        """The situations that a case and its answer show, by name."""
         return ()
 
     def kept_in(self, answer):
@@ -113,7 +75,7 @@ class Replay(Program):
     name = "replay"
     cases = 2_500
     refusals = [*range(1, 15), 17, 18, 19]
-    must_sight = [*strike_sights.MUST_SHOW, *ask_sights.MUST_SHOW, *outlook_sights.MUST_SHOW]
+    must_meet = [*strike_coverage.MUST_SHOW, *ask_coverage.MUST_SHOW, *outlook_coverage.MUST_SHOW]
     must_show = {
         "15 failed cells and a fee": r"failed (\d+ )*15 .*fee [1-9]",
         "16 failed cells and no fee": r"failed (\d+ )*16 .*fee 0$",
@@ -137,8 +99,8 @@ class Replay(Program):
             known.ask_calls, known.share_calls, known.outlook_calls,
         ):
             yield calls_text.calls_bytes(calls())
-        for path in sorted((ROOT / "examples").glob("*.calls")):
-            if path.stem != "fix":  # that one is in tests/fix.py
+        for path in sorted(EXAMPLES.glob("*.calls")):
+            if path.stem != "fix":  # that one is in test_fix.py
                 yield calls_text.to_bytes(path.read_text())
         report, wrong_open = words(12), words(1, 6, 1, 1, 10_000, 500, 100, 1, 1, 2_000, 5)
         good_open = words(1, 7, 1, 1, 10_000, 500, 100, 1, 600, 1, 2_000, 5)
@@ -176,10 +138,10 @@ class Replay(Program):
     def kept_in(self, answer):
         return [int(kept) for kept in re.findall(r"^cell kept (\d+)", answer, re.M)]
 
-    def sights_in(self, data, answer):
+    def situations_in(self, data, answer):
         (calls, _), lines = programs.read_calls(data), answer.splitlines()
-        found = [part.sights(calls, lines) for part in (strike_sights, ask_sights, outlook_sights)]
-        return [sight for part in found for sight in part]
+        found = [part.situations(calls, lines) for part in (strike_coverage, ask_coverage, outlook_coverage)]
+        return [situation for part in found for situation in part]
 
     def parts(self, data):
         calls, stop = programs.read_calls(data)
@@ -208,7 +170,7 @@ class Sheet(Program):
         yield head + data + data
         yield head + data[:-20] + b"\7" + b"\0" * 40
         yield head + data[:-20] + records.write(Tick(0)) + b"\0" * 20
-        for path in sorted((ROOT / "examples").glob("*.session")):
+        for path in sorted(EXAMPLES.glob("*.session")):
             yield session_text.to_bytes(path.read_text())
         for row in generate.PROGRAMMES:
             rng = case_rng(0, "row", str(row))
@@ -255,7 +217,7 @@ class Probe(Program):
         "a day outside, with a row": r"^inside no\nrow \d",
         "prices that are refused, with a row": r"^refused 22\nrow \d",
     }
-    must_sight = [
+    must_meet = [
         "a row eased", "a row left", "a strike's row eased", "a strike's row left",
         *(f"an account by {rule} with time that is {state}" for rule in ("SP", "a strike") for state in accounts.STATES),
         "an account that just fits", "an account a word too long",
@@ -313,10 +275,10 @@ class Probe(Program):
             return name, self.account_case(rng, row, sp, data)
         return name, self.session_case(rng, row, sp, data)
 
-    def sights_in(self, data, answer):
+    def situations_in(self, data, answer):
         """The states of a case 15, and whether the row of a case 13 was altered."""
         if data[:4] == words(15):
-            yield from self.account_sights(programs.to_words(data), answer)
+            yield from self.account_situations(programs.to_words(data), answer)
         if data[:4] != words(13) or answer == "bad case\n":
             return
         kind, _, *before = programs.to_words(data)[1:]
@@ -325,7 +287,7 @@ class Probe(Program):
         yield f"{whose} row {'eased' if altered else 'left'}"
 
     @staticmethod
-    def account_sights(given, answer):
+    def account_situations(given, answer):
         found = re.match(r"account (\d+)((?: \d+){6})$", answer, re.M)
         if found:
             rule = "a strike" if given[4 + given[3]] else "SP"
@@ -382,17 +344,9 @@ class CCall(Program):
     refusals = [1, 2, 3, *range(8, 16)]
 
     def __init__(self):
-        self.library = TARGET / "staticlib" / "libsession.a"
         self.runner = TARGET / "ccall"
-
-    def missing(self):
-        if not self.library.exists():
-            return "target/staticlib/libsession.a is not built"
-        made = subprocess.run(
-            ["cc", "-std=c11", "-O2", "-Wall", "-Wextra", "-Werror", f"-I{ROOT / 'include'}",
-             ROOT / "tests" / "ccall.c", self.library, "-o", self.runner]
-        )
-        return "tests/ccall.c is not compiled" if made.returncode else None
+        strict = ["-std=c11", "-O2", "-Wall", "-Wextra", "-Werror", f"-I{INCLUDE}"]
+        subprocess.run(["cc", *strict, TESTS / "ccall.c", ARCHIVES / "libsession.a", "-o", self.runner], check=True)
 
     @staticmethod
     def case(head, data):
@@ -495,12 +449,13 @@ def show_difference(program, data):
 
 
 def write_failure(program, data, label):
+    """Makes the case smaller, keeps it in a file, shows both answers, and fails."""
     data = smaller(program, data)
     FAILED.mkdir(parents=True, exist_ok=True)
     path = FAILED / f"{label}.{program.name}"
     path.write_bytes(data)
     show_difference(program, data)
-    print(f"--- this case again: python3 tests/differential.py --case {path.relative_to(ROOT)}")
+    raise AssertionError(f"{program.name} and the recount differ; this case again: python3 -m tests.differential {path.relative_to(ROOT)}")
 
 
 # ---------------------------------------------------------------- many cases
@@ -510,17 +465,17 @@ class Tally:
     def __init__(self):
         self.cases = 0
         self.refused, self.generators, self.seen = Counter(), Counter(), Counter()
-        self.reached = Counter()  # refusals and sights, by the random cases alone
+        self.reached = Counter()  # refusals and situations, by the random cases alone
         self.accepted = self.with_time = 0
 
-    def count(self, program, name, answer, quotes, sights):
+    def count(self, program, name, answer, quotes, situations):
         self.cases += 1
         self.generators[name] += 1
         refused = set(program.refusals_in(answer))  # cases that met it
         self.refused.update(refused)
-        self.seen.update(sights)
+        self.seen.update(situations)
         if name != "special":
-            self.reached.update(refused | sights)
+            self.reached.update(refused | situations)
         self.seen.update(
             shown for shown, pattern in program.must_show.items() if re.search(pattern, answer, re.M)
         )
@@ -529,9 +484,6 @@ class Tally:
             self.seen.update(quotes)
         self.accepted += len(kept)
         self.with_time += sum(1 for k in kept if k > 0)
-
-    def random(self):
-        return self.cases - self.generators["special"]
 
 
 def named_cases(program, seed, count):
@@ -554,138 +506,49 @@ def batches(cases, size):
         yield batch
 
 
-def test(program, seed, count, until):
-    """Runs the cases; answers the tally, or None where an answer differs."""
+def run_cases(program, seed, count):
+    """Runs the cases; answers the tally, or fails where an answer differs."""
     tally = Tally()
     for batch in batches(named_cases(program, seed, count), 200 if program.name == "ccall" else 1):
         answers = program.actual_many([data for _, _, data in batch])
         for (label, name, data), actual in zip(batch, answers):
-            with crossed.noted() as quotes, strike_sights.noted() as sights:
+            with crossed.noted() as quotes, strike_coverage.noted() as situations:
                 expected = program.expected(data)
             if actual != expected:
                 write_failure(program, data, label)
-                return None
-            sights.update(program.sights_in(data, expected))
-            tally.count(program, name, expected, quotes, sights)
-        if time.monotonic() > until and name != "special":
-            print(f"{program.name}: time is up after {tally.cases} cases")
-            break
+            situations.update(program.situations_in(data, expected))
+            tally.count(program, name, expected, quotes, situations)
     return tally
 
 
-def complaints(program, tally, count):
-    """What the cases should have reached and did not. In a tenth of them chance is not held to it."""
-    whole = count == program.cases
-    if whole and tally.random() < count:
-        yield f"{program.name}: time was up after {tally.random()} of {count} random cases"
+def never_met(program, tally, whole):
+    """What the cases should have met and did not. In a tenth of them chance need not have brought all of it."""
     if whole and "far_behind" in tally.generators and not tally.generators["far_behind_then_best"]:
-        yield f"{program.name}: no order that was amended behind the best became the best"
+        yield "an order that was amended to a worse price and then became the best"
     reached = tally.reached if whole else tally.refused
-    never = [number for number in program.refusals if not reached[number]]
-    if never:
-        yield f"{program.name}: never refused by {', '.join(map(str, never))}"
-    for shown in (*program.must_show, *crossed.MUST_SHOW):
-        if not tally.seen[shown]:
-            yield f"{program.name}: no case with {shown}"
-    for shown in program.must_sight:
-        if not (tally.reached if whole else tally.seen)[shown]:
-            yield f"{program.name}: no case with {shown}"
-    if 3 * tally.with_time < tally.accepted:
-        yield f"{program.name}: {tally.with_time} of {tally.accepted} accepted have kept time"
+    yield from (f"refusal {number}" for number in program.refusals if not reached[number])
+    yield from (shown for shown in (*program.must_show, *crossed.MUST_SHOW) if not tally.seen[shown])
+    met = tally.reached if whole else tally.seen
+    yield from (situation for situation in program.must_meet if not met[situation])
 
 
-def print_tally(program, tally, seconds):
-    print(f"{program.name}: {tally.cases} cases agree with the recount, {seconds:.0f} s")
-    print(f"    {tally.with_time} of {tally.accepted} accepted sessions have kept time")
-    for title, counter in [
-        ("cases that met refusal", tally.refused), ("cases with", tally.seen),
-        ("cases from", tally.generators),
-    ]:
-        if counter:
-            shown = ", ".join(f"{what}: {count}" for what, count in sorted(counter.items()))
-            print(f"    {title} {shown}")
+def counts(tally):
+    """How many cases met each refusal and each situation, and how many came from each generator."""
+    return {**{f"refusal {number}": count for number, count in tally.refused.items()}, **tally.seen, **tally.generators}
 
 
-# ---------------------------------------------------------------- the run's limit of records
+# ---------------------------------------------------------------- one case again
 
 
-def check_record_limit(program):
-    """4,000,000 records run, the next is refused by 15; worked out by hand, not by the recount."""
-    head, _ = known.many_records(1)
-    first = records.write(Add(0, 1, BUY, 100, 10)) + records.write(Add(0, 2, SELL, 101, 10))
-    tick, gone = records.write(Tick(5_000)), records.write(Cancel(5_000, 1))
-    most = first + tick * (run.RUN_LIMIT - 3) + gone
-    refused = (15 << 32) + run.RUN_LIMIT + 1
-    for data, due in [
-        (most, 5_000),
-        (most + tick, refused),
-        (most + b"\0", refused),
-        (most[:-20] + b"\7" * 20 + tick, refused - 1),
-    ]:
-        answer = program.actual(program.case(head, data))
-        if answer != f"{due}\n":
-            print(f"ccall: with {len(data)} record bytes {answer.strip()}, due is {due}")
-            return False
-    return True
-
-
-# ---------------------------------------------------------------- the command line
-
-
-def run_case(path):
-    path = Path(path)
-    found = [kind for kind in PROGRAMS if path.suffix == f".{kind.name}"]
-    if not found:
-        sys.exit(f"{path}: the name does not end in .replay, .sheet, .probe or .ccall")
-    program = found[0]()
-    why = program.missing()
-    if why:
-        sys.exit(f"{program.name}: {why}")
-    same = show_difference(program, path.read_bytes())
+def main(names):
+    kinds = {f".{kind.name}": kind for kind in PROGRAMS}
+    if len(names) != 1 or Path(names[0]).suffix not in kinds:
+        sys.exit(__doc__)
+    path = Path(names[0])
+    same = show_difference(kinds[path.suffix](), path.read_bytes())
     print("--- the same" if same else "--- they differ")
     return 0 if same else 1
 
 
-def main():
-    parser = argparse.ArgumentParser(usage=__doc__)
-    parser.add_argument("--quick", action="store_true")
-    parser.add_argument("--seed", type=int, default=1)
-    parser.add_argument("--seconds", type=float)
-    parser.add_argument("--only", nargs="+", choices=[kind.name for kind in PROGRAMS])
-    parser.add_argument("--case")
-    args = parser.parse_args()
-    if args.case:
-        return run_case(args.case)
-
-    end = time.monotonic() + (args.seconds or (80 if args.quick else 400))
-    kinds = [kind for kind in PROGRAMS if args.only is None or kind.name in args.only]
-    wrong, cases = [], 0
-    for kind in kinds:
-        program = kind()
-        why = program.missing()
-        if why:
-            wrong.append(f"{program.name}: {why}")
-            continue
-        start = time.monotonic()
-        count = program.cases // 10 if args.quick else program.cases
-        until = start + (end - start) / 2 if kind is not kinds[-1] else end
-        tally = test(program, args.seed, count, until)
-        if tally is None:
-            wrong.append(f"{program.name}: an answer differs, see above")
-            continue
-        cases += tally.cases
-        print_tally(program, tally, time.monotonic() - start)
-        wrong += complaints(program, tally, count)
-        if program.name == "ccall" and not (args.quick or check_record_limit(program)):
-            wrong.append("ccall: wrong at the limit of records")
-    for line in wrong:
-        print(f"differential: {line}")
-    if wrong:
-        print("differential: not in order")
-        return 1
-    print(f"differential: {cases} cases agree, seed {args.seed}")
-    return 0
-
-
 if __name__ == "__main__":
-    sys.exit(main())
+    sys.exit(main(sys.argv[1:]))

@@ -1,33 +1,25 @@
-"""FIX messages (document 02, W11): `probe` and `replay` held against the recount.
+"""FIX messages (document 02, W11): `probe` and `replay` against the recount.
 
-    python3 tests/fix.py                 some thousand cases, some seconds
-    python3 tests/fix.py --seed N        other cases (1 by default)
-    python3 tests/fix.py --only NAME     messages, times, written or lists
-
-Single messages go through case 9 of `probe`, pairs of times through case 11, written messages
-through case 10 and, their bytes, through case 9 again; lists of calls with messages go through
-`replay`. It fails where an answer differs, and where something that the cases are to show never
-showed. A case that differs is written to target/differential/, and tests/differential.py runs it
-again.
+Single messages go through case 9 of `probe`, pairs of times through case 11, written messages through case 10 and, their bytes, through
+case 9 again; lists of calls with messages go through `replay`. A test fails where an answer differs, and where something that the cases
+are meant to show never came up. A case that differs is written to target/differential/, and `python3 -m tests.differential` shows it again.
 """
 
-import argparse
-import sys
 from collections import Counter
-from pathlib import Path
 from random import Random
 from typing import Iterator
 
-ROOT = Path(__file__).resolve().parent.parent
-sys.path.insert(0, str(ROOT))
+import pytest
 
 from recount import fix, programs
 from recount.book import Add, Cancel, Message, Open
 from recount.fix import END, USED, WORD
-from tests import message_lists, messages
-from tests import message_sights as sights
-from tests.differential import Program, Replay, case_rng, words, write_failure
-from tests import calls_text
+from tests import calls_text, message_lists, messages
+from tests import message_coverage as coverage
+from tests.conftest import Note
+from tests.differential import Program, Replay, case_rng, write_failure
+from tests.paths import EXAMPLES
+from tests.running import words
 
 LONG = 65_536  # bytes of a message that must pass through both programs
 TIME = b"20261115-10:00:00.000"
@@ -53,7 +45,7 @@ class Cases(Program):
 
 
 class Messages(Cases):
-    cases, title, must = 1_500, "messages", [*sights.MUST_READ, "long"]
+    cases, title, must = 1_500, "messages", [*coverage.MUST_READ, "long"]
 
     def special(self) -> Iterator[bytes]:
         yield from [words(9), words(9) + END, words(9)[:3], words(9) + bytes(26)]
@@ -70,11 +62,11 @@ class Messages(Cases):
     def make(self, rng: Random) -> bytes:
         return words(9) + messages.any_message(rng)[1]
 
-    def sights_in(self, data: bytes, answer: str) -> Iterator[str]:
+    def situations_in(self, data: bytes, answer: str) -> Iterator[str]:
         if len(data) > LONG and answer.startswith("message"):
             yield "long"
         elif len(data) < LONG:
-            yield from sights.sights_of_bytes(data[4:])
+            yield from coverage.situations_of_bytes(data[4:])
 
 
 # ---------------------------------------------------------------- times
@@ -82,7 +74,7 @@ class Messages(Cases):
 
 class Times(Cases):
     cases, title = 400, "times"
-    must = [*sights.MUST_TIME, "bad case", *(f"no date: {date}" for date in messages.WRONG_DATES)]
+    must = [*coverage.MUST_TIME, "bad case", *(f"no date: {date}" for date in messages.WRONG_DATES)]
 
     @staticmethod
     def case(start: bytes, time: bytes) -> bytes:
@@ -105,14 +97,14 @@ class Times(Cases):
         start, time = messages.time_pair(rng)
         return self.case(start, time)
 
-    def sights_in(self, data: bytes, answer: str) -> Iterator[str]:
+    def situations_in(self, data: bytes, answer: str) -> Iterator[str]:
         answer = answer.strip()
         if answer == "bad case":
             yield answer
             return
         size = programs.to_words(data)[1]
         start, time = data[8 : 8 + size], data[8 + size :]
-        yield from sights.sights_of_times(start, time, answer)
+        yield from coverage.situations_of_times(start, time, answer)
         if start == TIME and answer == "refused 21":
             yield f"no date: {time[:8].decode()}"
 
@@ -148,13 +140,13 @@ class Written(Cases):
         order = messages.order(rng, rng.choice("DFG"))
         return self.case(order._replace(time=messages.wrong_time(rng)) if rng.random() < 0.2 else order)
 
-    def sights_in(self, data: bytes, answer: str) -> Iterator[str]:
+    def situations_in(self, data: bytes, answer: str) -> Iterator[str]:
         if not answer.startswith("bytes"):
             yield answer.strip()
             return
         written = bytes.fromhex(answer[6:])
         yield f"{len(written)} bytes"
-        yield f"a {sights.kind_of(written)} is written"
+        yield f"a {coverage.kind_of(written)} is written"
 
     def further(self, data: bytes, answer: str) -> Iterator[bytes]:
         """What is written is read, by the same program."""
@@ -166,10 +158,10 @@ class Written(Cases):
 
 
 class Lists(Replay):
-    cases, title, must = 200, "lists", [*sights.MUST_LIST, "long"]
+    cases, title, must = 200, "lists", [*coverage.MUST_LIST, "long"]
 
     def special(self) -> Iterator[bytes]:
-        example = ROOT / "examples" / "fix.calls"
+        example = EXAMPLES / "fix.calls"
         yield calls_text.to_bytes(example.read_text())
         opened, report = calls_text.calls_bytes([Open([1, 1, 10_000, 500, 100, 1, 600], 1, 2_000)]), words(12)
         for data in messages.long_messages(LONG):
@@ -190,14 +182,14 @@ class Lists(Replay):
             return data[:at] + rng.choice([b"", rng.randbytes(4), words(16)]) + data[at + rng.randrange(5) :]
         return data
 
-    def sights_in(self, data: bytes, answer: str) -> Iterator[str]:
+    def situations_in(self, data: bytes, answer: str) -> Iterator[str]:
         calls, _ = programs.read_calls(data)
         if any(isinstance(call, Message) and len(call.bytes) >= LONG for call in calls) and "accepted" in answer:
             yield "long"
-        yield from sights.list_sights(calls, answer.splitlines())
+        yield from coverage.list_situations(calls, answer.splitlines())
 
     def further(self, data: bytes, answer: str) -> Iterator[bytes]:
-        """An accepted message stands there as those calls, a refused one as none."""
+        """The same list with each accepted message as its calls, and without the refused ones."""
         pairs = list(as_calls(data, answer.splitlines()))
         block = calls_text.calls_bytes([call for call, _ in pairs])
         assert programs.replay(block).splitlines() == [line for _, line in pairs], self.as_text(data)
@@ -232,8 +224,8 @@ def cases_of(program: Tested, seed: int) -> Iterator[tuple[str, bytes]]:
         yield f"{program.title}-seed-{seed}-{at}", program.make(case_rng(seed, program.title, at))
 
 
-def test(program: Tested, seed: int) -> Counter[str] | None:
-    """Runs the cases; what they showed, or None where an answer differs."""
+def run_cases(program: Tested, seed: int) -> Counter[str]:
+    """Runs the cases; what they showed."""
     seen: Counter[str] = Counter()
     todo = list(cases_of(program, seed))
     while todo:
@@ -241,39 +233,17 @@ def test(program: Tested, seed: int) -> Counter[str] | None:
         expected = program.expected(data)
         if program.actual(data) != expected:
             write_failure(program, data, label)
-            return None
         seen["cases"] += 1
         if not label.endswith("further"):
-            seen.update(set(program.sights_in(data, expected)))
+            seen.update(set(program.situations_in(data, expected)))
             todo += [(f"{label}-further", more) for more in program.further(data, expected)]
     return seen
 
 
-PROGRAMS: list[type[Tested]] = [Messages, Times, Written, Lists]
-
-
-def main() -> int:
-    parser = argparse.ArgumentParser(usage=__doc__)
-    parser.add_argument("--seed", type=int, default=1)
-    parser.add_argument("--only", choices=[kind.title for kind in PROGRAMS])
-    args = parser.parse_args()
-    wrong = []
-    for kind in PROGRAMS:
-        program = kind()
-        if args.only not in (None, program.title):
-            continue
-        why = program.missing()
-        seen = None if why else test(program, args.seed)
-        if seen is None:
-            wrong.append(f"{program.title}: {why or 'an answer differs, see above'}")
-            continue
-        wrong += [f"{program.title}: no case with {what!r}" for what in program.must if not seen[what]]
-        print(f"fix: {program.title}: {seen['cases']} cases agree with the recount")
-        print("    cases with " + ", ".join(f"{what}: {seen[what]}" for what in sorted(program.must)))
-    for line in wrong:
-        print(f"fix: {line}")
-    return 1 if wrong else 0
-
-
-if __name__ == "__main__":
-    sys.exit(main())
+@pytest.mark.usefixtures("programs")
+@pytest.mark.parametrize("kind", [Messages, Times, Written, Lists], ids=lambda kind: kind.title)
+def test_fix(kind: type[Tested], seed: int, note: Note) -> None:
+    program = kind()
+    seen = run_cases(program, seed)
+    assert not [what for what in program.must if not seen[what]], "these never came up"
+    note(f"fix: {seen['cases']} {program.title} agree", {what: seen[what] for what in program.must})

@@ -1,27 +1,19 @@
-"""The library for C: every call held against the recount, and some of the cases against `probe`.
-
-    python3 tests/library.py               all cases
-    python3 tests/library.py --quick       a tenth of the random ones
+"""The library for C: every call against the recount, and some of the cases against `probe`.
 
 What `make library` has built in target/library is taken. tests/library.c runs the cases twice: linked with the archive, its own side
 compiled with the address and undefined-behaviour sanitizers, and with the shared library; each time once in turn and once on four threads.
 A month's calls run one by one on words of the caller's, and as a whole list; refused ones must leave the hints, byte for byte. Then the header
 as C and as C++, the C++ example, the C example that holds a month (with the sanitizers, and under valgrind) against `replay`, what the shared
-library shows, and an installed copy through pkg-config. It fails where an answer or a buffer differs, and where a refusal that a call can give
-never came.
+library shows, and an installed copy through pkg-config. A test fails where an answer or a buffer differs, and where a refusal that a call can
+give never came up.
 """
 
-import argparse
 import random
 import re
-import struct
 import subprocess
-import sys
 from collections import defaultdict, namedtuple
-from pathlib import Path
 
-ROOT = Path(__file__).resolve().parent.parent
-sys.path.insert(0, str(ROOT))
+import pytest
 
 from recount import account as accounts
 from recount import fix, game, programs, standing, strikes, volatile
@@ -31,16 +23,14 @@ from recount.book import (
     Report, Row, Strike, Tick, Ticket, Withdraw, choose, narrow, weight,
 )
 from recount.outlook import OutlookView
-from tests import generate, known, message_lists, messages, months
-from tests import standing as standing_cases
-from tests import strikes as strike_cases
-from tests import volatile as volatile_cases
-from tests import calls_text
-from tests import session_text
+from tests import calls_text, generate, known, message_lists, messages, months, session_text, standing_cases, strike_cases, volatile_cases
+from tests.paths import BIN, EXAMPLES, INCLUDE, LIBRARY, ROOT, TESTS
+from tests.running import words
 
-TARGET = ROOT / "target"
-BUILT = TARGET / "library"
-STRICT = ["-Wall", "-Wextra", "-Wpedantic", "-Werror", f"-I{ROOT / 'include'}"]
+pytestmark = pytest.mark.usefixtures("library", "programs")
+
+STRICT = ["-Wall", "-Wextra", "-Wpedantic", "-Werror", f"-I{INCLUDE}"]
+SANITIZED = ["-fsanitize=address,undefined", "-fno-sanitize-recover=all"]
 SHORT = 16 << 32
 SIXTY = b"20261115-10:00:00.000"
 
@@ -66,7 +56,7 @@ Case = namedtuple("Case", "call count fill numbers first second", defaults=[0, 0
 
 
 def packed(numbers):
-    return struct.pack(f"<{len(numbers)}I", *(n % 2**32 for n in numbers))
+    return words(*numbers)
 
 
 def as_bytes(case):
@@ -315,7 +305,7 @@ def sizes(rng, needed):
 def session_cases(rng, count):
     sessions = list(known.sessions())
     for name in ("brent", "document01", "gold-mini"):
-        data = session_text.to_bytes((ROOT / "examples" / f"{name}.session").read_text())
+        data = session_text.to_bytes((EXAMPLES / f"{name}.session").read_text())
         sessions.append((data[:32], data[32:]))
     sessions += [generate.any_session(rng)[1:] for _ in range(count)]
     sessions += [(head[:size], data) for head, data in sessions[:2] for size in (0, 31)] + [(sessions[0][0] + b"\0", b"")]
@@ -358,7 +348,7 @@ def row_cases(rng, count):
 
 
 def fix_cases(rng, count):
-    shipped = re.findall(rb"8=FIX.*?\x0110=...\x01", calls_text.to_bytes((ROOT / "examples" / "fix.calls").read_text()), re.S)
+    shipped = re.findall(rb"8=FIX.*?\x0110=...\x01", calls_text.to_bytes((EXAMPLES / "fix.calls").read_text()), re.S)
     some = shipped + [messages.any_message(rng)[1] for _ in range(count)] + [messages.good(rng) for _ in range(count)]
     for data in [*some, b""]:
         yield Case(5, sizes(rng, 13), rng.randrange(256), first=data)
@@ -479,11 +469,22 @@ def all_cases(rng, count):
         yield from make(rng, count)
 
 
+@pytest.fixture(scope="module")
+def count(is_quick):
+    """How many random cases of a kind."""
+    return 30 if is_quick else 300
+
+
+@pytest.fixture(scope="module")
+def cases(count):
+    return list(all_cases(random.Random(1), count))
+
+
 # ---------------------------------------------------------------- against the programs
 
 
 def program(name, data):
-    return subprocess.run([TARGET / "bin" / name], input=data, capture_output=True, check=True, timeout=60).stdout.decode()
+    return subprocess.run([BIN / name], input=data, capture_output=True, check=True, timeout=60).stdout.decode()
 
 
 def numbers_in(line):
@@ -525,18 +526,20 @@ def said_by_probe(case):
     return None
 
 
-def check_programs(rng, cases, count):
-    seen = 0
+@pytest.mark.xdist_group("library")
+def test_programs(cases, count, note):
+    rng, seen = random.Random(2), 0
     by_call = defaultdict(list)
     for case in cases:
         by_call[case.call].append(case)
     for call in (2, 4, 7, 8, 10, 16):
-        for case in rng.sample(by_call[call], min(count, len(by_call[call]))):
+        for case in rng.sample(by_call[call], min(count // 10, len(by_call[call]))):
             said = said_by_probe(case)
             if said is not None and said[0] is not None:
                 assert said == due(case), (case, said, due(case))
                 seen += 1
-    return seen
+    assert seen, "no case of probe's"
+    note(f"library: {seen} cases agree with probe")
 
 
 # ---------------------------------------------------------------- the library
@@ -554,13 +557,12 @@ def answers(runner, cases, extra=None):
     return [[int(word) for word in line.split()] for line in done.stdout.splitlines()]
 
 
-def check_calls(cases):
+@pytest.mark.xdist_group("library")
+def test_calls(cases, tmp_path, note):
     archive = compiled(
-        TARGET / "library_archive", "cc", "-std=c11", "-g", "-O1", *STRICT, "-fsanitize=address,undefined", "-fno-sanitize-recover=all",
-        "-pthread", ROOT / "tests" / "library.c", BUILT / "libquoting.a")
+        tmp_path / "archive", "cc", "-std=c11", "-g", "-O1", *STRICT, *SANITIZED, "-pthread", TESTS / "library.c", LIBRARY / "libquoting.a")
     shared = compiled(
-        TARGET / "library_shared", "cc", "-std=c11", "-O2", *STRICT, "-pthread", ROOT / "tests" / "library.c", f"-L{BUILT}", "-lquoting",
-        f"-Wl,-rpath,{BUILT}")
+        tmp_path / "shared", "cc", "-std=c11", "-O2", *STRICT, "-pthread", TESTS / "library.c", f"-L{LIBRARY}", "-lquoting", f"-Wl,-rpath,{LIBRARY}")
     found = answers(archive, cases)
     assert found == answers(shared, cases), "the archive and the shared library differ"
     assert len(found) == len(cases)
@@ -575,10 +577,11 @@ def check_calls(cases):
     for call, (name, refusals) in NAMES.items():
         missing = {0, *refusals} - seen[call]
         assert not missing, f"no case of {name} was answered by {sorted(missing)}"
-    check_refused_kinds(cases)
+    note(f"library: {len(cases)} cases, each on four threads too, agree with the recount")
 
 
-def check_refused_kinds(cases):
+@pytest.mark.xdist_group("library")
+def test_refused_kinds(cases):
     """The lists of `run_month` have refused calls of every kind that may be refused: the hints were compared after each of them."""
     met = {kind: set() for kind in REFUSED_IN_LISTS}
     for case in (case for case in cases if case.call == 14):
@@ -594,26 +597,34 @@ def check_refused_kinds(cases):
 # ---------------------------------------------------------------- header, example, symbols, installation
 
 
-def check_header():
-    header = (ROOT / "include" / "quoting.h").read_text()
-    version = (ROOT / "VERSION").read_text().strip()
-    assert f'#define QUOTING_VERSION "{version}"' in header, "VERSION and the header differ"
-    one = TARGET / "header_alone"
-    for compiler, language, standard in (("cc", "c", "c99"), ("cc", "c", "c17"), ("c++", "c++", "c++11"), ("c++", "c++", "c++20")):
-        source = one.with_suffix(".c" if language == "c" else ".cpp")
-        source.write_text('#include "quoting.h"\nint main(void) { return (int) quoting_refusal_of(0); }\n')
-        compiled(one, compiler, f"-std={standard}", *STRICT, source)
-    declared = set(re.findall(r"^[a-z][\w ]*[ *](quoting_\w+)\(", header, re.M)) - {"quoting_refusal_of"}
-    names = subprocess.run(["nm", "-D", "--defined-only", BUILT / "libquoting.so"], capture_output=True, text=True, check=True)
+HEADER = (INCLUDE / "quoting.h").read_text()
+VERSION = (ROOT / "VERSION").read_text().strip()
+
+
+@pytest.mark.parametrize(("compiler", "language", "standard"), [("cc", "c", "c99"), ("cc", "c", "c17"), ("c++", "c++", "c++11"), ("c++", "c++", "c++20")])
+def test_header_alone(tmp_path, compiler, language, standard):
+    source = tmp_path / f"alone.{'c' if language == 'c' else 'cpp'}"
+    source.write_text('#include "quoting.h"\nint main(void) { return (int) quoting_refusal_of(0); }\n')
+    compiled(tmp_path / "alone", compiler, f"-std={standard}", *STRICT, source)
+
+
+def test_header_numbers():
+    assert f'#define QUOTING_VERSION "{VERSION}"' in HEADER, "VERSION and the header differ"
+    for name, last in (("refusal", 27), ("answer", 6)):
+        [enum] = re.findall(rf"^enum quoting_{name} {{(.*?)}}", HEADER, re.M | re.S)
+        assert re.findall(r" = (\d+)", enum) == [str(n) for n in range(last)], f"the numbers of enum quoting_{name}"
+    for name, number in (("MONTH_WORDS", MONTH_WORDS), ("HINT_BYTES", HINT_BYTES), ("ANSWER_WORDS", ANSWER_WORDS)):
+        assert f"#define QUOTING_{name} {number}\n" in HEADER, name
+
+
+def test_shared_library():
+    """It shows what the header declares, under its soname."""
+    declared = set(re.findall(r"^[a-z][\w ]*[ *](quoting_\w+)\(", HEADER, re.M)) - {"quoting_refusal_of"}
+    names = subprocess.run(["nm", "-D", "--defined-only", LIBRARY / "libquoting.so"], capture_output=True, text=True, check=True)
     shown = {line.split()[-1] for line in names.stdout.splitlines()}
     assert shown == declared, f"shown and not declared, or the other way round: {shown ^ declared}"
-    dynamic = subprocess.run(["readelf", "-d", BUILT / "libquoting.so"], capture_output=True, text=True, check=True).stdout
-    assert f"[libquoting.so.{version.split('.')[0]}]" in dynamic, "the soname is wrong"
-    for name, count in (("refusal", 27), ("answer", 6)):
-        [enum] = re.findall(rf"^enum quoting_{name} {{(.*?)}}", header, re.M | re.S)
-        assert re.findall(r" = (\d+)", enum) == [str(n) for n in range(count)], f"the numbers of enum quoting_{name}"
-    for name, number in (("MONTH_WORDS", MONTH_WORDS), ("HINT_BYTES", HINT_BYTES), ("ANSWER_WORDS", ANSWER_WORDS)):
-        assert f"#define QUOTING_{name} {number}\n" in header, name
+    dynamic = subprocess.run(["readelf", "-d", LIBRARY / "libquoting.so"], capture_output=True, text=True, check=True).stdout
+    assert f"[libquoting.so.{VERSION.split('.')[0]}]" in dynamic, "the soname is wrong"
 
 
 TEXTS = """#include <stdio.h>
@@ -626,27 +637,25 @@ int main(void) {
 """
 
 
-def check_installed():
+def test_installed(tmp_path):
     """An installed copy, found through pkg-config."""
-    root = TARGET / "installed"
-    subprocess.run(["rm", "-rf", root], check=True)
+    root = tmp_path / "installed"
     subprocess.run(["make", "-s", "install", f"DESTDIR={root}", "PREFIX=/usr"], cwd=ROOT, check=True)
     flags = subprocess.run(
         ["pkg-config", f"--define-variable=prefix={root}/usr", "--cflags", "--libs", root / "usr/lib/pkgconfig/quoting.pc"],
         capture_output=True, text=True, check=True).stdout.split()
-    source = TARGET / "texts.c"
+    source = tmp_path / "texts.c"
     source.write_text(TEXTS)
-    texts = compiled(TARGET / "texts", "cc", "-std=c11", "-Wall", "-Wextra", "-Wpedantic", "-Werror", source, *flags, f"-Wl,-rpath,{root}/usr/lib")
+    texts = compiled(tmp_path / "texts", "cc", "-std=c11", "-Wall", "-Wextra", "-Wpedantic", "-Werror", source, *flags, f"-Wl,-rpath,{root}/usr/lib")
     version, accepted, *refused, unknown = subprocess.run([texts], capture_output=True, text=True, check=True).stdout.splitlines()
-    assert version == (ROOT / "VERSION").read_text().strip() and accepted == "accepted" and unknown == "unknown refusal"
+    assert version == VERSION and accepted == "accepted" and unknown == "unknown refusal"
     assert len(set(refused)) == 26 and not any(text.endswith(".") for text in refused)
 
 
-def check_example():
+def test_pairs_example(tmp_path):
     """The C++ example on shipped and known sessions."""
-    example = compiled(
-        TARGET / "pairs", "c++", "-std=c++17", "-O2", *STRICT, ROOT / "examples" / "pairs.cpp", BUILT / "libquoting.a")
-    sessions = [session_text.to_bytes((ROOT / "examples" / f"{name}.session").read_text()) for name in ("brent", "document01", "gold-mini")]
+    example = compiled(tmp_path / "pairs", "c++", "-std=c++17", "-O2", *STRICT, EXAMPLES / "pairs.cpp", LIBRARY / "libquoting.a")
+    sessions = [session_text.to_bytes((EXAMPLES / f"{name}.session").read_text()) for name in ("brent", "document01", "gold-mini")]
     for data in [*sessions, *(head + data for head, data in known.sessions())]:
         if len(data) < 200_000:
             printed = subprocess.run([example], input=data, capture_output=True, check=True).stdout.decode().splitlines()
@@ -671,21 +680,38 @@ def view_lines(v):
     return "".join(line + "\n" for line in lines)
 
 
-def check_month_example(rng, count):
-    """The C example that holds a month: on lists of calls the lines of `replay`, on a FIX message a line those of the same calls."""
-    source = [ROOT / "examples" / "month.c", BUILT / "libquoting.a"]
-    plain = compiled(TARGET / "month", "cc", "-std=c11", "-g", "-O2", *STRICT, *source)
-    watched = compiled(
-        TARGET / "month_watched", "cc", "-std=c11", "-g", "-O1", *STRICT, "-fsanitize=address,undefined", "-fno-sanitize-recover=all", *source)
+MONTH = [EXAMPLES / "month.c", LIBRARY / "libquoting.a"]
+
+
+@pytest.fixture(scope="module")
+def plain(library, tmp_path_factory):
+    """The C example that holds a month."""
+    return compiled(tmp_path_factory.mktemp("plain") / "month", "cc", "-std=c11", "-g", "-O2", *STRICT, *MONTH)
+
+
+@pytest.fixture(scope="module")
+def watched(library, tmp_path_factory):
+    """The same with the sanitizers."""
+    return compiled(tmp_path_factory.mktemp("watched") / "month", "cc", "-std=c11", "-g", "-O1", *STRICT, *SANITIZED, *MONTH)
+
+
+@pytest.mark.xdist_group("month")
+def test_month_example(plain, watched, count, note):
+    """On lists of calls it prints the lines of `replay`."""
     # how long a block may be is the program's alone
-    lists = [data for data in some_lists(rng, count) if not programs.replay(data).endswith("too long\n")]
+    lists = [data for data in some_lists(random.Random(3), count // 10) if not programs.replay(data).endswith("too long\n")]
     for at, data in enumerate(lists):
         line = program("replay", data)
         assert line == programs.replay(data)
         under = ["valgrind", "-q", "--error-exitcode=3", plain] if at % 40 == 0 else [watched]
         assert printed_by(under, data) == line, (data.hex(), line)
         assert printed_by([watched, "view"], data) == line + view_lines(view_words(data)), data.hex()
-    check_in_turn(plain, lists[0])
+    note(f"library: {len(lists)} lists by the month's example agree with replay")
+
+
+@pytest.mark.xdist_group("month")
+def test_month_example_on_messages(watched):
+    """On a FIX message a line it prints those of the same calls."""
     given = SIXTY.decode(), 1, 1, 10_000, 500, 100, 1, 600, 1, 2_000
     orders = [fix.order_of([1, 7, 0, 1, 500, 99], SIXTY), fix.order_of([2, 8, 9, 0, 0, 0], SIXTY), fix.order_of([2, 8, 7, 0, 0, 0], SIXTY)]
     bodies = [*map(fix.write, orders), b"no message"]
@@ -694,13 +720,14 @@ def check_month_example(rng, count):
     for end in (b"\1", b"|"):
         data = b"".join(body.replace(b"\1", end) + b"\n" for body in bodies)
         assert printed_by([watched, *map(str, given)], data) == lines, lines
-    return len(lists)
 
 
-def check_in_turn(example, data):
+@pytest.mark.xdist_group("month")
+def test_month_example_in_turn(plain):
     """A call is written only once the line of the one before is read."""
+    data = calls_text.calls_bytes(known.paper_calls())
     due_lines = programs.replay(data).splitlines(True)
-    with subprocess.Popen([example], stdin=subprocess.PIPE, stdout=subprocess.PIPE) as running:
+    with subprocess.Popen([plain], stdin=subprocess.PIPE, stdout=subprocess.PIPE) as running:
         for block, line in zip(blocks_of(data), due_lines):
             running.stdin.write(block)
             running.stdin.flush()
@@ -713,24 +740,3 @@ def printed_by(words, data):
     done = subprocess.run(words, input=data, capture_output=True, timeout=600)
     assert done.returncode == 0, (words, done.returncode, done.stderr.decode()[-2000:])
     return done.stdout.decode()
-
-
-def main():
-    parser = argparse.ArgumentParser(description=__doc__.splitlines()[0])
-    parser.add_argument("--quick", action="store_true", help="a tenth of the random cases")
-    count = 30 if parser.parse_args().quick else 300
-    if not (BUILT / "libquoting.so").exists():
-        sys.exit("target/library is not built: run make library")
-    rng = random.Random(1)
-    cases = list(all_cases(rng, count))
-    check_calls(cases)
-    checked = check_programs(rng, cases, count // 10)
-    check_header()
-    check_installed()
-    check_example()
-    lists = check_month_example(rng, count // 10)
-    print(f"library: {len(cases)} cases, each on four threads too, and {checked} of them by probe: all as the recount; {lists} lists by replay")
-
-
-if __name__ == "__main__":
-    main()

@@ -36,7 +36,7 @@ MUST_READ = [
 ]
 
 
-def sights_of_bytes(data: bytes) -> Iterator[str]:
+def situations_of_bytes(data: bytes) -> Iterator[str]:
     """What a single message shows."""
     pieces = data.split(END)
     try:
@@ -69,7 +69,7 @@ MUST_TIME = [
 ]
 
 
-def sights_of_times(start: bytes, time: bytes, answer: str) -> Iterator[str]:
+def situations_of_times(start: bytes, time: bytes, answer: str) -> Iterator[str]:
     yield answer
     if answer == "refused 21":
         starts, ends = (is_time(text) for text in (start, time))
@@ -111,13 +111,13 @@ MUST_LIST = [
     "G refused 21: the side, and a cause of 8 to 12",
     "G accepted with 64 live", "G accepted with 11 of 41", "G accepted with another 11", "F accepted whatever its 11",
     "20 with a wrong start", "a message of 20", "a message of 21",
-    *(f"a ticket that is old behind an accepted {kind}" for kind in USED),
-    "a ticket that is good behind a refused message", "a ticket by the count behind a D or F",
-    "a ticket by the count behind a G", "a message with none open", "a message and kept time",
+    *(f"a ticket that is old after an accepted {kind}" for kind in USED),
+    "a ticket that is good after a refused message", "a ticket by the count after a D or F",
+    "a ticket by the count after a G", "a message with none open", "a message and kept time",
 ]
 
 
-def message_sights(book: Book, call: Message, answer: str) -> Iterator[str]:
+def message_situations(book: Book, call: Message, answer: str) -> Iterator[str]:
     """Of one message and its line, with the book before it."""
     quoting = book.quoting
     if quoting is None:
@@ -140,10 +140,10 @@ def message_sights(book: Book, call: Message, answer: str) -> Iterator[str]:
     if quoting is not None and kind == "F" and answer == "accepted" and numbers[11] not in quoting.live:
         yield "F accepted whatever its 11"
     if quoting is not None and kind == "G":
-        yield from replace_sights(quoting, numbers, t, answer)
+        yield from replace_situations(quoting, numbers, t, answer)
 
 
-def replace_sights(quoting: Quoting, numbers: dict[int, int], t: int, answer: str) -> Iterator[str]:
+def replace_situations(quoting: Quoting, numbers: dict[int, int], t: int, answer: str) -> Iterator[str]:
     if answer == "accepted":
         yield "G accepted with 11 of 41" if numbers[11] == numbers[41] else "G accepted with another 11"
         if len(quoting.live) == LIVE_LIMIT:
@@ -155,25 +155,25 @@ def replace_sights(quoting: Quoting, numbers: dict[int, int], t: int, answer: st
             yield "G refused 21: the side, and a cause of 8 to 12"
 
 
-Behind = list[tuple[object, str]]  # calls and their lines since an ask
+Since = list[tuple[object, str]]  # calls and their lines since an ask
 
 
-def list_sights(calls: list[object], answers: list[str]) -> Iterator[str]:
+def list_situations(calls: list[object], answers: list[str]) -> Iterator[str]:
     """What the calls and their lines show."""
     book, messages = Book(), 0
-    asked: dict[tuple[int, ...], tuple[Ticket, Behind]] = {}
+    asked: dict[tuple[int, ...], tuple[Ticket, Since]] = {}
     for call, answer in zip(calls, answers):
         if isinstance(call, Message):
-            yield from message_sights(book, call, answer)
+            yield from message_situations(book, call, answer)
             messages += answer == "accepted"
         elif isinstance(call, Commit):
-            ticket, behind = asked.get(call[:4], (None, []))
-            yield from ticket_sights(call, answer, ticket, behind)
+            ticket, since = asked.get(call[:4], (None, []))
+            yield from ticket_situations(call, answer, ticket, since)
         given = book.call(call)
         if isinstance(call, Ask) and answer.startswith("asked"):
             asked[tuple(call)] = (given.ticket, [])
-        for _, behind in asked.values():
-            behind.append((call, answer))
+        for _, since in asked.values():
+            since.append((call, answer))
         if messages and answer.startswith("cell kept") and not answer.startswith("cell kept 0"):
             yield "a message and kept time"
 
@@ -182,17 +182,17 @@ def kind_of(data: bytes) -> str:
     return data.split(END)[2][3:].decode()
 
 
-def ticket_sights(call: Commit, answer: str, ticket: Ticket | None, between: Behind) -> Iterator[str]:
+def ticket_situations(call: Commit, answer: str, ticket: Ticket | None, between: Since) -> Iterator[str]:
     """Of a commit, by the ticket that was given for its amendment and what stands between."""
     counted = [other for other, line in between if line == "accepted" and not isinstance(other, UNCOUNTED)]
     kinds = [kind_of(other.bytes) for other in counted if isinstance(other, Message)]
     if call.ticket == ticket:
         if answer == "refused 19" and len(kinds) == len(counted) == 1:
-            yield f"a ticket that is old behind an accepted {kinds[0]}"
+            yield f"a ticket that is old after an accepted {kinds[0]}"
         refused = any(isinstance(other, Message) and line.startswith("refused") for other, line in between)
         if answer == "accepted" and refused:
-            yield "a ticket that is good behind a refused message"
+            yield "a ticket that is good after a refused message"
     elif ticket and answer == "accepted" and len(kinds) == len(counted) == 1:
         more = call.ticket.count - ticket.count
         if more == 1 + (kinds[0] == "G"):
-            yield f"a ticket by the count behind a {'G' if more == 2 else 'D or F'}"
+            yield f"a ticket by the count after a {'G' if more == 2 else 'D or F'}"

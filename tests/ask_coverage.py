@@ -8,7 +8,7 @@ import re
 from recount.book import UNCOUNTED, Ask, Commit, Look, Outlook, Report, Tick, Ticket
 
 OWN = (7, 8, 9, 11, 12)  # amend's refusals
-GOOD_BEHIND = {Report: "a report", Look: "a look", Outlook: "an outlook", Ask: "another ask"}
+GOOD_AFTER = {Report: "a report", Look: "a look", Outlook: "an outlook", Ask: "another ask"}
 
 MUST_SHOW = [
     "an answered ask",
@@ -16,7 +16,7 @@ MUST_SHOW = [
     "an ask whose quotes are not those of the report before it",
     *(f"an ask refused by {number}" for number in OWN),
     "an accepted commit",
-    *(f"a commit that is still good behind {what}" for what in (*GOOD_BEHIND.values(), "a refused call")),
+    *(f"a commit that is still good after {what}" for what in (*GOOD_AFTER.values(), "a refused call")),
     "a commit that a tick made old",
     "a commit that its own amend made old",
     "a commit given twice",
@@ -31,23 +31,23 @@ def quotes(line):
     return re.search(r" bid (\S+) ask (\S+) ", line).groups()
 
 
-def sights(calls, answers):
+def situations(calls, answers):
     """What the calls and their lines show."""
     count, asked_at, lines = 0, {}, list(zip(calls, answers))
     for at, (call, answer) in enumerate(lines):
         if isinstance(call, Ask):
             if answer.startswith("asked"):
                 asked_at[Ticket(*call, count)] = at
-            yield from ask_sights(answer, lines[at - 1][1] if at else "")
+            yield from ask_situations(answer, lines[at - 1][1] if at else "")
         elif isinstance(call, Commit):
-            yield from commit_sights(call, answer, count)
+            yield from commit_situations(call, answer, count)
             if call.ticket in asked_at:
                 between = lines[asked_at[call.ticket] + 1 : at]
-                yield from between_sights(call, answer, between)
+                yield from between_situations(call, answer, between)
         count += answer == "accepted" and not isinstance(call, UNCOUNTED)
 
 
-def ask_sights(answer, before):
+def ask_situations(answer, before):
     if answer.startswith("refused"):
         yield f"an ask {answer[:7]} by {answer[8:]}"
         return
@@ -58,7 +58,7 @@ def ask_sights(answer, before):
         yield "an ask whose quotes are not those of the report before it"
 
 
-def commit_sights(call, answer, count):
+def commit_situations(call, answer, count):
     due = Ticket(*call[:4], count)
     if answer == "accepted":
         yield "an accepted commit"
@@ -78,15 +78,15 @@ def commit_sights(call, answer, count):
             yield "a ticket whose count differs in its high word alone"
 
 
-def between_sights(call, answer, between):
+def between_situations(call, answer, between):
     """Of a commit and what stands between the ask and it."""
     accepted = [other for other, line in between if line == "accepted" and not isinstance(other, UNCOUNTED)]
     if answer == "accepted":
         for other, line in between:
             if line.startswith("refused"):
-                yield "a commit that is still good behind a refused call"
-            elif type(other) in GOOD_BEHIND:
-                yield f"a commit that is still good behind {GOOD_BEHIND[type(other)]}"
+                yield "a commit that is still good after a refused call"
+            elif type(other) in GOOD_AFTER:
+                yield f"a commit that is still good after {GOOD_AFTER[type(other)]}"
     if answer == "refused 19" and len(accepted) == 1:
         if isinstance(accepted[0], Tick):
             yield "a commit that a tick made old"

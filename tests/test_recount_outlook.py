@@ -1,16 +1,19 @@
-"""The outlook compared with what really follows: events and a close, run through the plain book."""
+"""The recount's outlook compared with what really follows: events and a close, run through its book."""
 
 import random
 from collections import Counter
 from itertools import product
 from typing import Any, NamedTuple
 
+import pytest
+
 from recount import programs
 from recount.book import (
-    BUY, NO_LIMIT, SELL, Add, Book, Cancel, CellView, Close, Drop, Look, Open, Outlook, Refused, Report, Row, Tick,
+    BUY, NO_LIMIT, SELL, Add, Book, Cancel, CellView, Close, Look, Open, Outlook, Refused, Report, Row, Tick,
     none_too_many,
 )
 from recount.outlook import OutlookView
+from tests.conftest import Note
 
 ROW = Row(1, 1, 1_000, 500, 0, 1, 600)  # it keeps a spread of one step
 CELL = (1, 1, 1)
@@ -147,32 +150,33 @@ def compare(book: Book, said: OutlookView, left: int) -> list[str]:
     return [compare_by(book, said.by, ways), compare_full(book, said.full, ways)]
 
 
-def check_ways(rng: random.Random, cases: int) -> None:
+CASES = 400
+
+
+def test_ways(note: Note) -> None:
     """Some with a spread limit below 1, where no quote keeps."""
-    met: Counter[str] = Counter()
-    for _ in range(cases):
+    rng, met = random.Random(1), Counter[str]()
+    for _ in range(CASES):
         row = ROW._replace(b=rng.choice([1, 1, 1, 0]), share=rng.choice([1, 600, 601, 597, 799, 3]))
         limit, left = rng.choice([0, 1, 2, 3, NO_LIMIT, NO_LIMIT]), rng.randrange(6)
         book = quanta(rng, row, limit, left)
         met.update(compare(book, book.call(Outlook()), left))
     assert met.keys() == BY | OF_FULL, f"never met: {(BY | OF_FULL) - met.keys()}"
+    note(f"recount: the outlooks of {CASES} quanta are what follows", met)
 
 
-def check_words() -> None:
-    """None open, then a quantum that nobody quotes, with no lapse left and with one."""
+def test_none_open() -> None:
+    assert Book().call(Outlook()) == Refused(7)
+
+
+@pytest.mark.parametrize(("limit", "due"), [
+    (0, "outlook need 600 left 1000 by 0 full 800 lapses 0 rest no lost no weight 0 20000"),
+    (1, "outlook need 600 left 1000 by 400 full 800 lapses 1 rest no lost no weight 0 20000"),
+    (NO_LIMIT, "outlook need 600 left 1000 by 400 full 800 lapses none rest no lost no weight 0 20000"),
+])
+def test_line(limit: int, due: str) -> None:
+    """A quantum that nobody quotes, with no lapse left, with one, and with no limit; outlooks are not counted."""
     book = Book()
-    assert book.call(Outlook()) == Refused(7)
-    for limit, due in [
-        (0, "outlook need 600 left 1000 by 0 full 800 lapses 0 rest no lost no weight 0 20000"),
-        (1, "outlook need 600 left 1000 by 400 full 800 lapses 1 rest no lost no weight 0 20000"),
-        (NO_LIMIT, "outlook need 600 left 1000 by 400 full 800 lapses none rest no lost no weight 0 20000"),
-    ]:
-        book.call(Open(list(ROW), 1, 0, limit))
-        assert programs.answer_line(book.call(Outlook())) == due
-        assert book.count % 2 == 1  # outlooks are not counted
-        book.call(Drop())
-
-
-def check() -> None:
-    check_words()
-    check_ways(random.Random(1), 400)
+    book.call(Open(list(ROW), 1, 0, limit))
+    assert programs.answer_line(book.call(Outlook())) == due
+    assert book.count == 1

@@ -1,36 +1,41 @@
-"""Messages between QuickFIX (target/peer/peer, of tests/peer/peer.cpp) and us.
+"""Messages between QuickFIX, a FIX engine that terminals use, and our reader and writer (document 02, W11).
 
-    tests/peer/run                 by the recount
-    tests/peer/run --programs      by target/bin/probe and target/bin/replay, too
-
-Messages that QuickFIX makes, bare and with the header and the tags that terminals send, are read by
-us; those that we write are read by it, and one with another length or checksum is not; a session
-between its initiator and its acceptor is read as it came, and a month takes its orders. Fields must
-be equal each time.
+Messages that QuickFIX makes, bare and with the header and the tags that terminals send, are read by us; those that we write are read by
+it, and one with another length or checksum is not; a session between its initiator and its acceptor over loopback is read as it came, and
+a month takes its orders. Fields must be equal each time, by the recount, `probe` and `replay`. tests/peer/peer.cpp is QuickFIX's side.
 """
 
 import random
 import re
 import subprocess
-import sys
-from pathlib import Path
 from random import Random
 
-ROOT = Path(__file__).resolve().parent.parent.parent
-sys.path.insert(0, str(ROOT))
+import pytest
 
 from recount import fix, programs
 from recount.book import BUY, SELL, Close, Look, Message, Open, Report
 from recount.fix import END, Order
-from tests import messages
-from tests.differential import words
-from tests import calls_text
+from tests import calls_text, messages
+from tests.paths import TARGET, TESTS
+from tests.running import run_program, words
 
-PEER = ROOT / "target" / "peer" / "peer"
+pytestmark = [pytest.mark.usefixtures("programs", "peer_built"), pytest.mark.xdist_group("peer")]
+
+PEER = TARGET / "peer" / "peer"
 SECONDS = 90
 EACH = 300  # orders each way
 HEADER = (34, 49, 52, 56)  # before the body
 TERMINAL = {"D": (21, 40, 55, 59), "F": (54, 55), "G": (21, 40, 55, 59)}  # in it
+
+
+@pytest.fixture(scope="module")
+def peer_built() -> None:
+    source = TESTS / "peer" / "peer.cpp"
+    if PEER.exists() and PEER.stat().st_mtime > source.stat().st_mtime:
+        return
+    PEER.parent.mkdir(parents=True, exist_ok=True)
+    flags = ["-std=c++14", "-O1", "-Wall", "-Wextra", "-Wno-deprecated"]
+    subprocess.run(["c++", *flags, source, "-lquickfix", "-lpthread", "-o", PEER], check=True)
 
 
 def peer(command: str, lines: list[str]) -> list[str]:
@@ -40,12 +45,10 @@ def peer(command: str, lines: list[str]) -> list[str]:
     return done.stdout.splitlines()
 
 
-def ours(name: str, data: bytes, by_programs: bool) -> str:
-    """What the recount's `probe` or `replay` prints, and the program's own as well if it is asked for."""
+def ours(name: str, data: bytes) -> str:
+    """What both the recount and the program print."""
     printed: str = getattr(programs, name)(data)
-    if by_programs:
-        done = subprocess.run([ROOT / "target" / "bin" / name], input=data, capture_output=True, timeout=SECONDS)
-        assert done.stdout.decode() == printed, (name, data.hex(), done.stdout, printed)
+    assert run_program(name, data) == printed, data.hex()
     return printed
 
 
@@ -67,8 +70,9 @@ def tags(data: bytes) -> list[int]:
 # ---------------------------------------------------------------- each way
 
 
-def check_theirs(rng: Random, by_programs: bool) -> None:
+def test_quickfix_makes() -> None:
     """QuickFIX makes, we read."""
+    rng = random.Random(1)
     orders = [(messages.order(rng, rng.choice("DFG")), rng.random() < 0.7) for _ in range(EACH)]
     made = peer("make", [order_line(*item) for item in orders])
     assert len(made) == EACH
@@ -79,13 +83,14 @@ def check_theirs(rng: Random, by_programs: bool) -> None:
             assert found[3:7] == list(HEADER) and set(TERMINAL[order.kind]) <= set(found[7:]), data
         else:
             assert sorted(tags(data)) == sorted((8, 9, 35, *fix.USED[order.kind], 60, 10)), data
-        assert ours("probe", words(9) + data, by_programs) == fix.line(order) + "\n", data
+        assert ours("probe", words(9) + data) == fix.line(order) + "\n", data
 
 
-def check_ours(rng: Random, by_programs: bool) -> None:
+def test_quickfix_reads() -> None:
     """We write, QuickFIX reads; it does not where the length or the checksum is another."""
+    rng = random.Random(2)
     orders = [messages.order(rng, rng.choice("DFG")) for _ in range(EACH)]
-    written = [bytes.fromhex(ours("probe", order_words(order), by_programs)[6:]) for order in orders]
+    written = [bytes.fromhex(ours("probe", order_words(order))[6:]) for order in orders]
     assert peer("parse", [data.hex() for data in written]) == [fix.line(order) for order in orders]
     wrong = [rng.choice([other_length, other_sum])(data).hex() for data in written]
     for data, said in zip(wrong, peer("parse", wrong)):
@@ -126,38 +131,23 @@ def morning(rng: Random, count: int) -> list[Order]:
     return out
 
 
-def check_session(rng: Random, by_programs: bool) -> None:
+def test_quickfix_session() -> None:
     """What came over the line: orders in their turn, and what the session itself sends, which is 20."""
+    rng = random.Random(3)
     orders = morning(rng, 60)
     came = [bytes.fromhex(line) for line in peer("session", [order_line(order, True) for order in orders])]
     admin = [data for data in came if not re.search(rb"\x0135=[DFG]\x01", data)]
     assert {data.split(END)[2] for data in admin} >= {b"35=A", b"35=5"}, "no logon or logout came"
     for data in admin:
-        assert ours("probe", words(9) + data, by_programs) == "refused 20\n", data
+        assert ours("probe", words(9) + data) == "refused 20\n", data
     application = [data for data in came if data not in admin]
     assert len(application) == len(orders)
     for order, data in zip(orders, application):
         assert tags(data)[3:7] == list(HEADER), data
-        assert ours("probe", words(9) + data, by_programs) == fix.line(order) + "\n", data
+        assert ours("probe", words(9) + data) == fix.line(order) + "\n", data
     opened = Open([1, 1, 31_500_000, 1_000, 150, 3, 600], 16, 8_452)
     sent = [Message(START, data) for data in came]
     calls = [opened, *sent, Report(), Close(1, 1), Look(16, 1, 1)]
-    lines = ours("replay", calls_text.calls_bytes(calls), by_programs).splitlines()
+    lines = ours("replay", calls_text.calls_bytes(calls)).splitlines()
     due = ["refused 20" if data in admin else "accepted" for data in came]
     assert lines[1 : 1 + len(came)] == due and lines[-3].startswith("report open yes time 60000 "), lines
-
-
-def main(given: list[str]) -> int:
-    if given not in ([], ["--programs"]):
-        sys.stderr.write(__doc__ or "")
-        return 2
-    by_programs = bool(given)
-    check_theirs(random.Random(1), by_programs)
-    check_ours(random.Random(2), by_programs)
-    check_session(random.Random(3), by_programs)
-    print(f"peer: QuickFIX and we read {EACH} of each other's messages, and a session of it over loopback")
-    return 0
-
-
-if __name__ == "__main__":
-    sys.exit(main(sys.argv[1:]))

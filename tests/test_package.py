@@ -1,9 +1,4 @@
-"""The package `quoting`: its types, its examples, its calls against the recount, and against the header.
-
-    /usr/bin/python3 tests/package.py
-
-Needs libquoting (make library), and mypy, pyflakes and numpy (tests/packages).
-"""
+"""The package `quoting`: its types, its calls against the recount, and against the header. Its doctests are run by pytest itself."""
 
 import doctest
 import os
@@ -12,17 +7,13 @@ import re
 import shutil
 import subprocess
 import sys
-import tempfile
 import threading
 from concurrent.futures import ThreadPoolExecutor
 from importlib import import_module
-from pathlib import Path
 from pkgutil import walk_packages
 
-ROOT = Path(__file__).resolve().parent.parent
-sys.path[:0] = [str(ROOT), str(ROOT / "python")]
-
 import numpy
+import pytest
 
 import quoting
 from quoting import Add, Amend, Cancel, Deal, Refused, Row, Rule, Tenths, Tick, accounts, events, fix, inputs, native, refusals, standings, texts
@@ -34,21 +25,22 @@ from recount import session as run
 from recount.book import NO_LIMIT, Book
 from recount.book import Row as RecountRow
 from recount.book import choose, weight, widest
-from tests import calls_text, generate, known, message_lists, messages, months
-from tests import strikes as strike_cases
-from tests import volatile as volatile_cases
+from tests import calls_text, generate, known, message_lists, messages, months, strike_cases, volatile_cases
+from tests.paths import EXAMPLES, ROOT
+
+pytestmark = pytest.mark.usefixtures("library")
 
 PACKAGE = ROOT / "python" / "quoting"
-PYTHON = os.environ.get("PYTHON", "/usr/bin/python3")
 
 
 # ---------------------------------------------------------------- types, examples, the header
 
 
-def check_types():
-    for words in (["-m", "mypy", "--strict", "--no-error-summary", PACKAGE], ["-m", "pyflakes", PACKAGE, ROOT / "tests", ROOT / "tools"]):
-        done = subprocess.run([PYTHON, *words], cwd=ROOT / "target", capture_output=True, text=True)
-        assert done.returncode == 0, done.stdout + done.stderr
+@pytest.mark.parametrize("words", [["mypy", "--no-error-summary"], ["pyflakes", PACKAGE, "recount", "tests", "tools"]], ids=lambda words: words[0])
+def test_types(words):
+    """mypy goes by pyproject.toml."""
+    done = subprocess.run([sys.executable, "-m", *words], cwd=ROOT, capture_output=True, text=True)
+    assert done.returncode == 0, done.stdout + done.stderr
 
 
 def modules():
@@ -56,21 +48,20 @@ def modules():
     return [import_module(name) for name in ["quoting", *names] if not name.endswith("__main__")]
 
 
-def check_docstrings():
-    """Every example in a docstring holds; every module says what it is."""
-    tried = 0
+def test_docstrings(request):
+    """Every module says what it is; there are many examples, and pytest runs them."""
+    examples, finder = 0, doctest.DocTestFinder(exclude_empty=True)
     for module in modules():
         assert module.__doc__, f"{module.__name__} says nothing of itself"
-        done = doctest.testmod(module)
-        assert not done.failed, module.__name__
-        tried += done.attempted
-    assert tried > 40, tried
+        examples += sum(len(each.examples) for each in finder.find(module, module.__name__))
+    assert examples > 40, examples
+    assert request.config.getoption("doctestmodules"), "pyproject.toml has no --doctest-modules"
 
 
 TYPES = {"size_t": native.SIZE, "uint32_t": native.WORD}
 
 
-def check_header():
+def test_header():
     """The types of each call are those of the header."""
     header = re.sub(r"/\*.*?\*/", "", (ROOT / "include" / "quoting.h").read_text(), flags=re.S)
     declared = re.findall(r"^uint64_t (quoting_\w+)\(([^)]*)\);", header, re.M)
@@ -82,27 +73,26 @@ def check_header():
     assert quoting.version() == (ROOT / "VERSION").read_text().strip()
 
 
-def check_refusals():
+def test_refusals():
     assert (ROOT / "docs" / "REFUSALS.md").read_text() == refusals.page(), "docs/REFUSALS.md is old"
     assert list(refusals.HELP) == list(range(1, 27))
     assert len({each.sentence for each in refusals.all_of_them()}) == 26
 
 
-def check_installed():
+def test_installed(tmp_path):
     """pip puts the package with the library into a venv with system packages, without a network."""
-    with tempfile.TemporaryDirectory() as folder:
-        tree, venv = Path(folder) / "tree", Path(folder) / "venv"
-        for name in ("python", "target/library"):
-            shutil.copytree(ROOT / name, tree / name, symlinks=True)
-        for name in ("pyproject.toml", "setup.py", "VERSION"):
-            shutil.copy(ROOT / name, tree / name)
-        plain = {name: value for name, value in os.environ.items() if name not in ("QUOTING_LIBRARY", "PYTHONPATH")}
-        subprocess.run([PYTHON, "-m", "venv", "--system-site-packages", venv], check=True)
-        subprocess.run([venv / "bin" / "pip", "install", "-q", "--no-index", "--no-build-isolation", tree], check=True, capture_output=True)
-        done = subprocess.run([venv / "bin" / "quoting", "sheet", ROOT / "examples" / "document01.session"], cwd=folder, env=plain, capture_output=True, text=True)
-        assert done.stdout.startswith("kept 6000 of 10000\n"), done
-        where = subprocess.run([venv / "bin" / "python", "-c", "import quoting; print(quoting.native.candidates()[0])"], cwd=folder, env=plain, capture_output=True, text=True)
-        assert where.stdout.strip().startswith(str(venv)), where
+    tree, venv = tmp_path / "tree", tmp_path / "venv"
+    for name in ("python", "target/library"):
+        shutil.copytree(ROOT / name, tree / name, symlinks=True, ignore=shutil.ignore_patterns("__pycache__"))
+    for name in ("pyproject.toml", "setup.py", "VERSION"):
+        shutil.copy(ROOT / name, tree / name)
+    plain = {name: value for name, value in os.environ.items() if name not in ("QUOTING_LIBRARY", "PYTHONPATH")}
+    subprocess.run([sys.executable, "-m", "venv", "--system-site-packages", venv], check=True)
+    subprocess.run([venv / "bin" / "pip", "install", "-q", "--no-index", "--no-build-isolation", tree], check=True, capture_output=True)
+    done = subprocess.run([venv / "bin" / "quoting", "sheet", EXAMPLES / "document01.session"], cwd=tmp_path, env=plain, capture_output=True, text=True)
+    assert done.stdout.startswith("kept 6000 of 10000\n"), done
+    where = subprocess.run([venv / "bin" / "python", "-c", "import quoting; print(quoting.native.candidates()[0])"], cwd=tmp_path, env=plain, capture_output=True, text=True)
+    assert where.stdout.strip().startswith(str(venv)), where
 
 
 # ---------------------------------------------------------------- sessions
@@ -149,7 +139,8 @@ def csv_of(listed):
     return "\r\n".join(lines)
 
 
-def check_sessions(rng):
+def test_sessions():
+    rng = random.Random(1)
     sessions = [*known.sessions(), *(generate.any_session(rng)[1:] for _ in range(120))]
     seen = set()
     for head, data in sessions:
@@ -164,21 +155,28 @@ def check_sessions(rng):
     assert seen >= {0, 2, 3, 8, 9, 10, 11, 12, 14, 15}, seen
 
 
-def check_arrays():
-    """An array of another dtype or of scattered records is refused; a large one is not copied, and other threads run meanwhile."""
-    rule = Rule(Row(1, 1, "24:00:00", 1, 100, 1, "60%"), 2000)
-    ticks = numpy.zeros(2_000_000, dtype=events.dtype())
-    ticks["kind"], ticks["t"] = 6, numpy.arange(2_000_000)
-    assert quoting.session(rule, ticks).kept == 0
+RULE = Rule(Row(1, 1, "24:00:00", 1, 100, 1, "60%"), 2000)
+
+
+@pytest.fixture(scope="module")
+def ticks():
+    found = numpy.zeros(2_000_000, dtype=events.dtype())
+    found["kind"], found["t"] = 6, numpy.arange(2_000_000)
+    return found
+
+
+def test_arrays(ticks):
+    """An array of another dtype or of scattered records is refused."""
+    assert quoting.session(RULE, ticks).kept == 0
     for wrong, said in ((ticks[::2], "numpy.ascontiguousarray"), (ticks["t"], "dtype"), (ticks.reshape(2, -1), "one dimension")):
-        try:
-            quoting.session(rule, wrong)
-        except ValueError as error:
-            assert said in str(error), error
-        else:
-            raise AssertionError("an array that does not fit was taken")
+        with pytest.raises(ValueError, match=said):
+            quoting.session(RULE, wrong)
+
+
+def test_other_threads_run(ticks):
+    """A large array is not copied, and other threads run while its session does."""
     seen, done = 0, threading.Event()
-    worker = threading.Thread(target=lambda: [quoting.session(rule, ticks), done.set()])
+    worker = threading.Thread(target=lambda: [quoting.session(RULE, ticks), done.set()])
     worker.start()
     while not done.is_set():
         seen += 1
@@ -186,7 +184,8 @@ def check_arrays():
     assert seen > 10, f"{seen} turns of this thread while the other ran a session"
 
 
-def check_rows(rng):
+def test_rows():
+    rng = random.Random(2)
     for _ in range(300):
         _, holiday, expiry, quantum, u, h, *words = generate.any_tables(rng)
         words = words[: u // 7 * 7] + words[u : u + h // 7 * 7]
@@ -197,8 +196,9 @@ def check_rows(rng):
         assert (found.words if found else []) == choose(*tables, bool(holiday), expiry, quantum)
 
 
-def check_accounts(rng):
+def test_accounts():
     """Every account is the recount's, by SP and by a strike; its kept stretches are the session's pairs."""
+    rng = random.Random(8)
     seen = set()
     for head, data in [*known.sessions(), *(generate.any_session(rng)[1:] for _ in range(80))]:
         strike = quoting.Strike(*generate.any_strike(rng)) if rng.random() < 0.4 else None
@@ -230,8 +230,9 @@ def lists(rng, count):
             yield [calls_text.calls_bytes([call]) for call in calls], [programs.answer_line(book.call(call)) for call in calls]
 
 
-def check_months(rng):
+def test_months():
     """Every answer of a list, call by call, is the recount's; four threads with a month each have the same."""
+    rng = random.Random(6)
     seen, given = set(), list(lists(rng, 40))
     for blocks, due in given:
         found = [line(answer) for answer in quoting.answers_to(blocks)]
@@ -256,8 +257,9 @@ def due_view(quoted):
     return quoting.View(quoted.day, row, spread, limit, widest(quoted.row, quoted.sp), state, orders)
 
 
-def check_views(rng):
+def test_views():
     """After every call of a list, what stands is the recount's."""
+    rng = random.Random(7)
     shown = set()
     for make in (months.any_calls, message_lists.any_calls):
         for _ in range(25):
@@ -272,7 +274,7 @@ def check_views(rng):
     assert shown >= {None, *recount_account.STATES}, shown
 
 
-def check_month_methods():
+def test_month_methods():
     """Each call by its method; a refusal is raised and leaves the month; after its block a month is at an end."""
     with quoting.Month() as month:
         month.open(Row(1, 1, "0:00:10", 500, 100, 1, "60%"), 1, 2000, lapses=3)
@@ -294,17 +296,10 @@ def check_month_methods():
         month.open([1, 1, 10_000, 500, 0, 0, 600], 2, quoting.Strike(75, 40, 365, 0))
         month.drop()
         for wrong in (b"", b"123", bytes(4), 2 * texts.c.block(texts.c.Drop())):
-            try:
+            with pytest.raises(ValueError, match="not one call"):
                 month.block(wrong)
-            except ValueError as error:
-                assert "not one call" in str(error)
-            else:
-                raise AssertionError(wrong)
-    try:
+    with pytest.raises(ValueError):
         month.report()
-    except ValueError:
-        return
-    raise AssertionError("a month was called behind its block")
 
 
 # ---------------------------------------------------------------- the other calls
@@ -323,7 +318,8 @@ def due_weight(kept, length, share):
     return 3 if kept > length else weight(kept, length, share)
 
 
-def check_others(rng):
+def test_others():
+    rng = random.Random(3)
     for _ in range(500):
         length, share = rng.choice([1_000, 31_500_000, 1_500, 0]), rng.choice([1, 600, 725, 799, 800])
         kept = rng.choice([0, length * share // 1000, length, length + 1, rng.randrange(length + 1)])
@@ -335,8 +331,9 @@ def check_others(rng):
         assert refused_or(lambda: quoting.board(board, first, second)) == due
 
 
-def check_standings(rng):
+def test_standings():
     """After any list of calls the places are those of the makers and ratings that the recount has, and so are the refusals."""
+    rng = random.Random(7)
     seen = set()
     for _ in range(200):
         size = rng.choice((1, 2, 4, 9))
@@ -350,7 +347,8 @@ def check_standings(rng):
     assert seen == {0, 24, 25}, seen
 
 
-def check_volatile(rng):
+def test_volatile():
+    rng = random.Random(4)
     for _ in range(200):
         prices, threshold = rng.choice([volatile_cases.walk, volatile_cases.repeated, volatile_cases.rough])(rng)
         due = {"inside yes": True, "inside no": False, "refused 22": 22}[volatile.answer(prices, threshold)]
@@ -362,7 +360,8 @@ def check_volatile(rng):
             assert eased == (22 if due == 22 else Row.of_words(wanted)), (row, eased)
 
 
-def check_fix(rng):
+def test_fix():
+    rng = random.Random(5)
     seen = set()
     for _ in range(800):
         data = messages.any_message(rng)[1] if rng.random() < 0.5 else messages.good(rng)
@@ -382,43 +381,19 @@ def check_fix(rng):
 # ---------------------------------------------------------------- units and files
 
 
-def check_units():
-    """A share without its unit is refused with both readings; times and shares are read as they are written."""
-    for bare in (60, "60", 600):
-        try:
-            Row(1, 1, 10_000, 500, 100, 1, bare)
-        except ValueError as error:
-            assert f"write {bare}% (" in str(error) and f"or {bare} tenths (" in str(error), error
-        else:
-            raise AssertionError(f"a bare share of {bare!r} was taken")
+@pytest.mark.parametrize("bare", [60, "60", 600])
+def test_share_without_a_unit(bare):
+    """It is refused with both readings."""
+    with pytest.raises(ValueError) as error:
+        Row(1, 1, 10_000, 500, 100, 1, bare)
+    assert f"write {bare}% (" in str(error.value) and f"or {bare} tenths (" in str(error.value)
+
+
+def test_units():
+    """Times and shares are read as they are written."""
     row = Row(1, 1, "0:00:10", 500, 100, 1, "72.5%")
     assert row == Row(1, 1, 10_000, 500, 100, 1, Tenths(725)) == Row(1, 1, 10_000, 500, 100, 1, "725 tenths")
     assert RecountRow(*row.words).share == 725
     wall = inputs.reading.Options(start=36_000_000, step=inputs.Decimal("0.01"))
     line = texts.session_bytes("row 1 1 8:45:00 1000 150 3 60%\nsp 84.52\nadd 10:00:30 1 buy 84.47 600", wall)
     assert line == texts.session_bytes("row 1 1 8:45:00 1000 150 3 60%\nsp 8452\nadd 0:00:30 1 buy 8447 600")
-
-
-def main():
-    check_types()
-    check_docstrings()
-    check_header()
-    check_refusals()
-    check_sessions(random.Random(1))
-    check_accounts(random.Random(8))
-    check_arrays()
-    check_months(random.Random(6))
-    check_views(random.Random(7))
-    check_month_methods()
-    check_rows(random.Random(2))
-    check_others(random.Random(3))
-    check_standings(random.Random(7))
-    check_volatile(random.Random(4))
-    check_fix(random.Random(5))
-    check_units()
-    check_installed()
-    print("package: types, examples, header, sessions, arrays, months, the other calls and the installed package are right")
-
-
-if __name__ == "__main__":
-    main()

@@ -1,35 +1,12 @@
-"""Volatile days: `probe` held against the recount, on known and on seeded random cases, and the
-person's command.
+"""Volatile days (document 02, W12): prices and rows at the edges and at random, and what they show."""
 
-    python3 tests/volatile.py             all cases
-    python3 tests/volatile.py --quick     a tenth of the random ones
-
-It fails where an answer differs, or where something that the cases are to show never showed.
-"""
-
-import argparse
-import json
 import random
-import struct
-import subprocess
-import sys
-from collections import Counter
-from pathlib import Path
-from xml.etree import ElementTree
 
-ROOT = Path(__file__).resolve().parent.parent
-sys.path.insert(0, str(ROOT))
+from recount import volatile
+from tests.running import words as packed
 
-from recount import programs, volatile
-from tests import command as commands
-
-PROBE = ROOT / "target" / "bin" / "probe"
 LOW, HIGH = -(2**31), 2**31 - 1
 MILLION = 1_000_000
-
-
-def packed(*numbers):
-    return struct.pack(f"<{len(numbers)}I", *(n % 2**32 for n in numbers))
 
 
 def prices_case(prices, threshold, kind=5):
@@ -82,7 +59,7 @@ MUST_SHOW = [
 ]
 
 
-def prices_sights(prices, threshold):
+def prices_situations(prices, threshold):
     """What a list of prices shows, by the recount."""
     pairs = list(zip(prices, prices[1:]))
     if not prices:
@@ -116,7 +93,7 @@ def prices_sights(prices, threshold):
     found = volatile.sigmas(prices)
     if threshold in found:
         yield "a sigma is the threshold itself"
-    yield from period_sights(found, threshold)
+    yield from period_situations(found, threshold)
 
 
 def change(p, q):
@@ -125,7 +102,7 @@ def change(p, q):
     return size if q >= p else -size
 
 
-def period_sights(found, threshold):
+def period_situations(found, threshold):
     try:
         periods = volatile.periods(found, threshold)
     except volatile.Refused22:
@@ -157,7 +134,7 @@ def period_sights(found, threshold):
             yield "a last day's sigma is the average itself"
 
 
-def row_sights(words):
+def row_situations(words):
     after = volatile.eased(words)
     if len(words) != 7:
         yield "a row of another length left"
@@ -173,7 +150,7 @@ def row_sights(words):
             yield "an odd M halved"
 
 
-def strike_sights(words):
+def strike_situations(words):
     """What a strike's row shows, by the recount."""
     after = volatile.eased(words, True)
     if len(words) != 7:
@@ -188,7 +165,7 @@ def strike_sights(words):
             yield "a strike's row with b past 1,000,000 eased"
 
 
-def inside_sights(strike, said, words):
+def inside_situations(strike, said, words):
     """What a list of prices with a row shows, by the recount."""
     if volatile.eased(words, strike == 1) == words:
         return
@@ -307,10 +284,10 @@ def any_strike_row(rng):
 def any_eased(rng):
     """(bytes, what they show) of a row by itself, and of one with the prices before its day."""
     strike, words = rng.randrange(2), any_strike_row(rng)
-    yield row_case(strike, words), list(strike_sights(words) if strike else row_sights(words))
+    yield row_case(strike, words), list(strike_situations(words) if strike else row_situations(words))
     prices, threshold = rng.choice([walk, repeated, rough])(rng)
     said = volatile.answer(prices, threshold)
-    yield inside_case(strike, prices, threshold, words), list(inside_sights(strike, said, words))
+    yield inside_case(strike, prices, threshold, words), list(inside_situations(strike, said, words))
 
 
 def wrong_rows():
@@ -340,7 +317,7 @@ def wrong_cases():
 def with_shorter(prices, threshold):
     """The case of some prices, and of shorter lists of them: up to each period's first day, and, where
     a period ended on their last day, with that day as the asked one."""
-    shows = list(prices_sights(prices, threshold))
+    shows = list(prices_situations(prices, threshold))
     yield prices_case(prices, threshold), shows
     if "a period ended on the day before the asked one" in shows:
         assert volatile.inside(prices[:-1], threshold)
@@ -351,7 +328,7 @@ def with_shorter(prices, threshold):
         return
     for first, _ in periods:
         front = prices[: first + 4]
-        yield prices_case(front, threshold), list(prices_sights(front, threshold))
+        yield prices_case(front, threshold), list(prices_situations(front, threshold))
 
 
 def cases(rng, count):
@@ -366,8 +343,8 @@ def cases(rng, count):
     for prices, threshold in known_prices():
         yield from with_shorter(prices, threshold)
     for words in ([], [1] * 16, [1, 1, 1_000, 1, 0, 0, 1], [2, 2, 86_400_000, 100_000, 100_000, 1_000_000, 799]):
-        yield packed(6, len(words), *words), list(row_sights(words))
-        yield row_case(1, words), list(strike_sights(words))
+        yield packed(6, len(words), *words), list(row_situations(words))
+        yield row_case(1, words), list(strike_situations(words))
     yield inside_case(1, cycle([1_000, 1_004, 1_002], 4_096), 2**20, [1] * 16), []
     yield prices_case(cycle([1_000, 1_004, 1_002], 4_096), 2**20), []
     for at in range(count):
@@ -378,61 +355,5 @@ def cases(rng, count):
             yield prices_case(prices, threshold, 12), []
         if at % 3 == 0:
             words = any_row(rng)
-            yield packed(6, len(words), *words), list(row_sights(words))
+            yield packed(6, len(words), *words), list(row_situations(words))
             yield from any_eased(others)
-
-
-def check_cases(count):
-    seen = Counter()
-    for at, (data, shows) in enumerate(cases(random.Random(12), count)):
-        said = subprocess.run([PROBE], input=data, capture_output=True, check=True).stdout.decode()
-        due = programs.probe(data)
-        if said != due:
-            kept = ROOT / "target" / "volatile.case"
-            kept.write_bytes(data)
-            sys.exit(f"case {at} differs, see {kept}:\nprobe   {said}recount {due}")
-        seen.update(shows)
-        seen[due.split("\n")[0] if due.startswith(("inside", "refused")) else "other"] += 1
-    missing = [sight for sight in MUST_SHOW if not seen[sight]]
-    if missing:
-        sys.exit("never shown: " + "; ".join(missing))
-    print(f"volatile: {at + 1} cases agree, {seen['inside yes']} inside, {seen['inside no']} outside, {seen['refused 22']} refused")
-
-
-# ---------------------------------------------------------------- the person's command
-
-
-def check_command():
-    """The table and the picture of the example, and what is wrong in a text."""
-    threshold, path = 15_000, ROOT / "examples" / "volatile.prices"
-    prices = [price for _, price in commands.prices(path)]
-    found = volatile.sigmas(prices)
-    periods = volatile.periods(found, threshold)
-    assert len(periods) == 2 and periods[1][1] is None, periods
-    within = [any(f <= d - 3 and (l is None or d - 3 <= l) for f, l in periods) for d in range(len(prices) + 1)]
-    judged = json.loads(commands.run("volatile", threshold, path, "--json").printed)
-    assert judged["inside"] == within and [s for s in judged["sigmas"] if s is not None] == found
-    drawn = commands.run("volatile", threshold, path, "--picture")
-    ElementTree.fromstring(drawn.printed)
-    assert drawn.printed == (ROOT / "docs" / "volatile.svg").read_text(), "docs/volatile.svg is old"
-    lines = commands.run("volatile", threshold, path, "--both").printed.splitlines()
-    assert len(lines) == len(prices) + 3 and lines[-2:] == ["the next day is inside", "the proved meter and the recount agree"], lines[-2:]
-    for bad, at in (("5\n5 5 5\n", 2), ("2026-01-05 12.5\n", 1), ("7\n\nx\n", 3), ("2147483648\n", 1)):
-        done = commands.run("volatile", threshold, "-", given=bad)
-        assert done.status == 1 and f"standard input: line {at}: " in done.complaint, done
-    refused = commands.run("volatile", "1", "-", given="5\n0\n5\n")
-    assert refused.status == 1 and "refused 22: of the prices before day 3" in refused.printed, refused
-
-
-def main():
-    parser = argparse.ArgumentParser()
-    parser.add_argument("--quick", action="store_true")
-    quick = parser.parse_args().quick
-    if not PROBE.exists():
-        sys.exit("target/bin/probe is not built")
-    check_command()
-    check_cases(200 if quick else 2_000)
-
-
-if __name__ == "__main__":
-    main()

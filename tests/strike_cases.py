@@ -1,43 +1,11 @@
-"""Strikes (document 02, W4): spread limits through `replay`, boards through `probe`, and the person's
-command, against the recount.
+"""Strikes and boards (document 02, W4) at the edges and at random, and what boards show."""
 
-    python3 tests/strikes.py             all cases
-    python3 tests/strikes.py --quick     a tenth of the random ones
-
-It fails where an answer differs, or where something that the cases are to show never showed.
-"""
-
-import argparse
-import random
-import sys
-from collections import Counter
-from pathlib import Path
-
-ROOT = Path(__file__).resolve().parent.parent
-sys.path.insert(0, str(ROOT))
-
-from recount import programs
 from recount.book import Strike
 from recount.strikes import LENGTHS, SHARES, board, met_by_products
-from tests import calls_text, command, generate, known, strike_sights
-from tests.differential import run_program, words
+from tests import generate
+from tests.running import words
 
-REPLAY = ROOT / "target" / "bin" / "replay"
-PROBE = ROOT / "target" / "bin" / "probe"
 GREATEST = 2**32 - 1
-
-
-def agree(program, data, kept_as):
-    """The answer that the program and the recount give alike; where they differ the case is kept."""
-    said, due = run_program(program, data), getattr(programs, program.name)(data)
-    if said != due:
-        kept = ROOT / "target" / kept_as
-        kept.write_bytes(data)
-        pairs = zip([*said.splitlines(), "(nothing)"], [*due.splitlines(), "(nothing)"])
-        line, (one, other) = next((at, pair) for at, pair in enumerate(pairs, 1) if pair[0] != pair[1])
-        sys.exit(f"strikes: answers differ, see {kept}: line {line}\n{program.name:<8}{one}\nrecount {other}")
-    return due
-
 
 # ---------------------------------------------------------------- spread limits
 
@@ -54,21 +22,6 @@ def limit_strikes(rng, count):
         yield Strike(a, 1, rng.choice([365, 364, 91, 92]), 0)
     for _ in range(count):
         yield generate.any_strike(rng)
-
-
-def check_limits(count):
-    """Each strike's quantum at its limit, a step past it and a step less."""
-    rng, seen = random.Random(4), Counter()
-    strikes = list(limit_strikes(rng, count))
-    for at in range(0, len(strikes), 200):
-        calls = [call for strike in strikes[at : at + 200] for call in known.spread_calls(strike)]
-        with strike_sights.noted() as spreads:
-            agree(REPLAY, calls_text.calls_bytes(calls), "strikes.replay")
-        seen.update(spreads)
-    missing = [spread for spread in strike_sights.SPREADS if not seen[spread]]
-    if missing:
-        sys.exit("never shown: " + "; ".join(missing))
-    print(f"strikes: {len(strikes)} spread limits agree")
 
 
 # ---------------------------------------------------------------- boards
@@ -160,7 +113,7 @@ def known_boards():
         yield 1, 1, [(length + 1 & GREATEST, length)]
 
 
-def board_sights(first, second, strikes):
+def board_situations(first, second, strikes):
     """What a board shows, by its numbers and the recount."""
     answer = board(first, second, strikes)
     if answer == 18:
@@ -212,87 +165,3 @@ def odd_and_bad():
         yield good + more, "bad case: more behind it"
         yield words(4, 1, 1, 1, 1_000) + more, "bad case: more behind it"
     yield words(4, 1, 1, 3, 1_000, 1_000), "bad case: cut short"
-
-
-def check_boards(count):
-    rng, seen, cases = random.Random(5), Counter(), 0
-    boards = [*known_boards(), *(rng.choice([planned, planned, spoiled])(rng) for _ in range(count))]
-    for given in boards:
-        answer = agree(PROBE, case(*given), "strikes.probe")
-        due = board(*given)
-        assert answer == ("refused 18\n" if due == 18 else f"board {due}\n"), given
-        seen.update(board_sights(*given))
-        cases += 1
-    for data, shown in odd_and_bad():
-        answer = agree(PROBE, data, "strikes.probe")
-        assert answer == ("refused 18\n" if shown.startswith("18") else "bad case\n"), data.hex()
-        seen[shown] += 1
-        cases += 1
-    missing = [sight for sight in MUST_SHOW if not seen[sight]]
-    if missing:
-        sys.exit("never shown: " + "; ".join(missing))
-    print(f"strikes: {cases} boards agree, {seen['met']} met")
-
-
-# ---------------------------------------------------------------- the person's command
-
-KNOWN = """\
-strike             kept         of  share  due  lacks
-CALL-CS        25950250   31500000  82.38   55      -
-CALL-CS+500    23400000   31500000  74.28   55      -
-CALL-CS+1000   18900000   31500000  60.00   55      -
-CALL-CS+1500   17325000   31500000  55.00   55      -
-CALL-CS+2000   17324999   31500000  54.99   55      1
-PUT-CS         27600000   31500000  87.61   55      -
-PUT-CS-500     21670000   31500000  68.79   55      -
-input          29690000   31500000  94.25   55      -
-together      181860249  252000000  72.16   60      -
-board failed
-"""
-
-# Shares, a text, the exit status, and what is said last.
-SAID = [
-    (1, 1, "5 0:00:01", 0, "board failed"),
-    (1, 1, "10 1000 # at its share", 0, "board met"),
-    (0, 1, "10 1000", 1, "quoting: refused 18: a share of 0 is not 1 to 100"),
-    (1, 1, "", 1, "quoting: refused 18: no strike"),
-    (1, 1, "a 1 1000\nb 1 2000", 1, "quoting: refused 18: b: a length of 2000, but a has 1000"),
-    (1, 1, "a 1001 1000", 1, "quoting: refused 18: a: 1001 kept of 1000"),
-    (1, 1, "cell kept 5 of 999 and so on", 1, "quoting: refused 18: input: a length of 999 is no row's"),
-    (1, 1, "5 1000\n" * 33, 1, "quoting: refused 18: 33 strikes, of 32 at most"),
-    (1, 1, "accepted\nrefused 7\nreport open no\nasked bid 5\ncell kept 10 of 1000", 0, "board met"),
-    (1, 1, "report 5 1000\naccepted 10 1000\nrefused 10 1000\nasked 10 1000\ncell 10 1000", 0, "board failed"),
-    (1, 1, "report 10 1000\naccepted 10 1000\nrefused 10 1000\nasked 10 1000\ncell 10 1000", 0, "board met"),
-    (1, 1, "5", 1, "quoting: standard input: line 1: a strike is written: NAME K L, or cell kept K of L .."),
-    (1, 1, "5 1000\na b 5 1000", 1, "quoting: standard input: line 2: a strike is written: NAME K L, or cell kept K of L .."),
-    (1, 1, "cell kept 5", 1, "quoting: standard input: line 1: an answer of the month begins with: cell kept K of L"),
-    (1, 1, "a x 1000", 1, "quoting: standard input: line 1: K: 'x' is not a number"),
-    (1, 1, "a 5 1000\nb 6 1000\na 5 1000", 1, "quoting: standard input: line 3: the strike a is given twice"),
-    (1, 1, "accepted\ncell kept 5 of 1000\ncell kept 6 of 1000", 1, "quoting: standard input: a strike's month has one look, but here are 2 cells"),
-    (1, 1, "accepted\nreport open no", 1, "quoting: standard input: a strike's month has one look, but here are 0 cells"),
-]
-
-
-def check_command():
-    examples = ROOT / "examples"
-    month = programs.replay(calls_text.to_bytes((examples / "strike.calls").read_text()))
-    done = command.run("board", "55", "60", examples / "strikes.board", "-", given=month)
-    assert (done.status, done.printed) == (0, KNOWN), done
-    for first, second, source, status, said in SAID:
-        done = command.run("board", first, second, "-", given=source)
-        assert (done.status, (done.printed + done.complaint).splitlines()[-1]) == (status, said), (source, done)
-
-
-def main():
-    parser = argparse.ArgumentParser()
-    parser.add_argument("--quick", action="store_true")
-    quick = parser.parse_args().quick
-    if not (PROBE.exists() and REPLAY.exists()):
-        sys.exit("target/bin/probe or target/bin/replay is not built")
-    check_command()
-    check_boards(200 if quick else 2_000)
-    check_limits(200 if quick else 2_000)
-
-
-if __name__ == "__main__":
-    main()

@@ -1,7 +1,5 @@
 """The command `quoting` as its users run it: help, statuses, files, odd streams; and every reader on damaged files.
 
-    /usr/bin/python3 tests/commands.py
-
 Whatever a file holds, the command ends by itself with status 0, 1 or 2, says what is wrong in a sentence with the file's name, prints no
 traceback and leaves no half of an output file.
 """
@@ -12,19 +10,17 @@ import random
 import re
 import signal
 import subprocess
-import sys
-import tempfile
 import time
 from pathlib import Path
 
-ROOT = Path(__file__).resolve().parent.parent
-sys.path[:0] = [str(ROOT), str(ROOT / "python")]
+import pytest
 
 from quoting import fix, texts
 from tests import command
+from tests.paths import EXAMPLES, QUOTING
 
-QUOTING = ROOT / "quoting"
-EXAMPLES = ROOT / "examples"
+pytestmark = pytest.mark.usefixtures("library")
+
 NAMES = ["account", "bytes", "board", "calls", "card", "fix", "game", "outlook", "picture", "refusal", "sheet", "standing", "text", "volatile"]
 ROW = ["--row", "1 1 8:45:00 1000 150 3 60%", "--sp", "8452"]
 START = ["--start", "20261116-10:00:00.000"]
@@ -41,17 +37,20 @@ def shell(line, **more):
 # ---------------------------------------------------------------- as it is used
 
 
-def check_help():
+@pytest.mark.parametrize("name", NAMES)
+def test_help(name):
     """Each subcommand has help with examples, and wrong use ends with status 2."""
-    for name in NAMES:
-        done = command.run(name, "--help")
-        assert done.status == 0 and "examples:" in done.printed and f"quoting {name}" in done.printed, (name, done)
-        assert command.run(name, "--no-such-option").status == 2, name
+    done = command.run(name, "--help")
+    assert done.status == 0 and "examples:" in done.printed and f"quoting {name}" in done.printed, done
+    assert command.run(name, "--no-such-option").status == 2
+
+
+def test_help_of_all():
     assert command.run().status == 2 and command.run("no-such-command").status == 2
     assert all(name in command.run("--help").printed for name in NAMES)
 
 
-def check_sheet():
+def test_sheet():
     """The session of document 01 in its forms, all with one sheet."""
     text = (EXAMPLES / "document01.session").read_text()
     due = "kept 6000 of 10000\npair 0 6000\nverdict met\nweight 10000\n"
@@ -72,7 +71,7 @@ def check_sheet():
     assert off.status == 1 and "line 2: price: 84.465 is between two steps of 0.01" in off.complaint, off
 
 
-def check_refused():
+def test_refused():
     """A refusal is status 1 with its sentence, the record and the line."""
     text = (EXAMPLES / "document01.session").read_text().replace("add 0 2 sell", "add 0 1 sell")
     done = command.run("sheet", "-", given=text)
@@ -89,7 +88,7 @@ def check_refused():
         assert len(json.loads(command.run("calls", EXAMPLES / f"{name}.calls", "--json").printed)["calls"]) == len(lines.splitlines())
 
 
-def check_outlook():
+def test_outlook():
     """A quantum of ten seconds, quoted from its start: after two of them four more are due, and the maker may wait until 0:00:06."""
     text = "row 1 1 0:00:10 500 100 1 60%\nsp 2000\nadd 0 1 buy 99 500\nadd 0 2 sell 101 500\n"
     done = command.run("outlook", "-", "--at", "2000", "--json", given=text)
@@ -102,7 +101,7 @@ def check_outlook():
     assert refused.status == 1 and "line 5: refused 11 at 3: " in refused.complaint, refused
 
 
-def check_account():
+def test_account():
     """The account of document 01's session: kept until its buy is gone."""
     text = (EXAMPLES / "document01.session").read_text()
     done = command.run("account", "-", "--both", given=text)
@@ -111,7 +110,7 @@ def check_account():
     assert json.loads(command.run("account", "-", "--json", given=text).printed)["totals"]["no-bid"] == 4_000
 
 
-def check_old_months():
+def test_old_months():
     """A list of before W6 turns into one of today, as a text and as bytes."""
     old = "open row 1 1 8:45:00 1000 150 3 60 day 1 sp 8452\nreport\n"
     new = "open row 1 1 31500000 1000 150 3 60% day 1 sp 8452 lapses none\nreport\n"
@@ -124,7 +123,7 @@ def check_old_months():
     assert command.run("text", "-", given=old).status == 1
 
 
-def check_fix_log():
+def test_fix_log():
     """A log in its forms gives the same session, and the month accepts it."""
     times = ["20261116-10:00:05.000", "20261116-10:00:05.000", "20261116-10:20:00.000", "20261116-12:00:00.000"]
     orders = [fix.Order("D", 1, 0, "buy", 1000, 8446, times[0]), fix.Order("D", 2, 0, "sell", 1000, 8458, times[1]),
@@ -147,35 +146,37 @@ def check_fix_log():
 # ---------------------------------------------------------------- odd streams and files
 
 
-def check_streams():
-    """Closed streams, a full device, a reader that goes, an ASCII terminal: a sentence and a status, no traceback."""
-    for line, status, said in [
-        ("quoting sheet - <&-", 1, "standard input is closed"),
-        ("quoting sheet brent.session >&-", 1, "standard output is closed"),
-        ("quoting sheet brent.session >/dev/full", 1, "No space left on device"),
-        ("quoting calls month.calls >/dev/full", 1, "No space left on device"),
-        ("quoting sheet brent.session -o /dev/full", 1, "No space left on device"),
-        ("quoting sheet brent.session -o no/such/folder/x", 1, "No such file or directory"),
-        ("quoting sheet .", 1, ".: Is a directory"),
-        ("quoting sheet no-such.session", 1, "no-such.session: No such file or directory"),
-    ]:
-        done = shell(line)
-        assert done[0] == status and said in done[2], (line, done)
+@pytest.mark.parametrize(("line", "said"), [
+    ("quoting sheet - <&-", "standard input is closed"),
+    ("quoting sheet brent.session >&-", "standard output is closed"),
+    ("quoting sheet brent.session >/dev/full", "No space left on device"),
+    ("quoting calls month.calls >/dev/full", "No space left on device"),
+    ("quoting sheet brent.session -o /dev/full", "No space left on device"),
+    ("quoting sheet brent.session -o no/such/folder/x", "No such file or directory"),
+    ("quoting sheet .", ".: Is a directory"),
+    ("quoting sheet no-such.session", "no-such.session: No such file or directory"),
+])
+def test_streams(line, said):
+    """Closed streams and a full device: a sentence and a status, no traceback."""
+    done = shell(line)
+    assert done[0] == 1 and said in done[2], done
+
+
+def test_reader_that_goes():
     status, _, said = shell("quoting card | (exec 0<&-; sleep 1); exit ${PIPESTATUS[0]}")
     assert (status, said) == (1, "quoting: standard output: the reader has gone\n"), (status, said)
     status, _, _ = shell("quoting sheet brent.session 2>&- >/dev/full")
     assert status == 1
 
 
-def check_letters():
+def test_letters(tmp_path):
     """A Cyrillic name on an ASCII terminal."""
-    with tempfile.TemporaryDirectory() as folder:
-        path = Path(folder) / "сессия.session"
-        path.write_text((EXAMPLES / "document01.session").read_text() + "# конец\n")
-        ascii_only = {**os.environ, "LC_ALL": "C", "PYTHONIOENCODING": "ascii", "PYTHONUTF8": "0", "PYTHONCOERCECLOCALE": "0"}
-        for line in (f"quoting picture {path}", f"quoting picture {path} -o {folder}/x.svg", f"quoting sheet {path}", f"quoting board 1 1 {path}"):
-            status, _, _ = shell(line, env=ascii_only)
-            assert status == ("board" in line), line
+    path = tmp_path / "сессия.session"
+    path.write_text((EXAMPLES / "document01.session").read_text() + "# конец\n")
+    ascii_only = {**os.environ, "LC_ALL": "C", "PYTHONIOENCODING": "ascii", "PYTHONUTF8": "0", "PYTHONCOERCECLOCALE": "0"}
+    for line in (f"quoting picture {path}", f"quoting picture {path} -o {tmp_path}/x.svg", f"quoting sheet {path}", f"quoting board 1 1 {path}"):
+        status, _, _ = shell(line, env=ascii_only)
+        assert status == ("board" in line), line
 
 
 def wait_for_read(child):
@@ -189,25 +190,24 @@ def wait_for_read(child):
         time.sleep(5)
 
 
-def check_interrupt():
+def test_interrupt():
     """Ctrl-C while it waits for input."""
     pipes = {"stdin": subprocess.PIPE, "stdout": subprocess.PIPE, "stderr": subprocess.PIPE}
-    waiting = subprocess.Popen([QUOTING, "sheet", "-"], preexec_fn=command.heeds_interrupts, **pipes)
+    waiting = subprocess.Popen([QUOTING, "sheet", "-"], preexec_fn=command.restore_sigint, **pipes)
     wait_for_read(waiting)
     waiting.send_signal(signal.SIGINT)
     _, said = waiting.communicate(timeout=10)
     assert (waiting.returncode, said) == (130, b"quoting: stopped\n"), (waiting.returncode, said)
 
 
-def check_files():
+def test_files(tmp_path):
     """-o leaves the old file where something is wrong, and nothing beside it."""
-    with tempfile.TemporaryDirectory() as folder:
-        path = Path(folder) / "out"
-        path.write_text("old")
-        assert command.run("sheet", "-", "-o", path, given="row 1").status == 1
-        assert path.read_text() == "old" and os.listdir(folder) == ["out"]
-        assert command.run("bytes", EXAMPLES / "brent.session", "-o", path).status == 0
-        assert path.read_bytes() == texts.session_bytes((EXAMPLES / "brent.session").read_text()) and os.listdir(folder) == ["out"]
+    path = tmp_path / "out"
+    path.write_text("old")
+    assert command.run("sheet", "-", "-o", path, given="row 1").status == 1
+    assert path.read_text() == "old" and os.listdir(tmp_path) == ["out"]
+    assert command.run("bytes", EXAMPLES / "brent.session", "-o", path).status == 0
+    assert path.read_bytes() == texts.session_bytes((EXAMPLES / "brent.session").read_text()) and os.listdir(tmp_path) == ["out"]
 
 
 # ---------------------------------------------------------------- damaged files
@@ -247,36 +247,19 @@ def damaged(rng, data):
     ])()
 
 
-def fuzz(rng, count):
+DAMAGED = 60  # of each good file
+
+
+def test_damaged(note):
     """Whatever the file: a status, and with 1 or 2 a sentence that names the file or the refusal."""
-    statuses = {0: 0, 1: 0, 2: 0}
+    rng, statuses = random.Random(1), {0: 0, 1: 0, 2: 0}
     for words, data in good_files():
-        for _ in range(count):
+        for _ in range(DAMAGED):
             given = damaged(rng, data)
             done = command.run(*words, given=given)
             said = done.printed + done.complaint
             assert done.status in statuses and "Traceback" not in said, (words, given, done)
             assert done.status == 0 or re.search(r"refused \d+|standard input|quoting: -: |stopped at word|passed over|no message", said), (words, given, done)
             statuses[done.status] += 1
-    assert statuses[0] > count and statuses[1] > count, statuses
-    return sum(statuses.values())
-
-
-def main():
-    check_help()
-    check_sheet()
-    check_refused()
-    check_account()
-    check_outlook()
-    check_old_months()
-    check_fix_log()
-    check_streams()
-    check_letters()
-    check_interrupt()
-    check_files()
-    tried = fuzz(random.Random(1), 60)
-    print(f"commands: help, forms, refusals, streams and files are right, and {tried} damaged files ended in a sentence")
-
-
-if __name__ == "__main__":
-    main()
+    assert statuses[0] > DAMAGED and statuses[1] > DAMAGED, statuses
+    note(f"commands: {sum(statuses.values())} damaged files ended in a sentence")

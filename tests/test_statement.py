@@ -1,28 +1,22 @@
-"""`quoting statement`: figures taken out of the pages, held against the recount and the program replay.
-
-    /usr/bin/python3 tests/statement.py
-"""
+"""`quoting statement`: figures taken out of the pages, compared with the recount's and those of the program replay."""
 
 import os
 import random
 import re
 import subprocess
-import sys
-import tempfile
 from html.parser import HTMLParser
-from pathlib import Path
 
-ROOT = Path(__file__).resolve().parent.parent
-sys.path[:0] = [str(ROOT), str(ROOT / "python")]
+import pytest
 
 from quoting import both, reading, texts
 from quoting import calls as c
 from quoting.statement import course, figures, picture, sources
 from recount import book, programs
 from tests import command
+from tests.paths import BIN, EXAMPLES, PROGRAMMES, QUOTING
 
-EXAMPLES = ROOT / "examples"
-PROGRAMMES = EXAMPLES / "programmes"
+pytestmark = pytest.mark.usefixtures("library")
+
 LISTS = [(EXAMPLES / f"{name}.calls", []) for name in ("month", "strike", "fix", "ask")]
 LISTS += [(PROGRAMMES / f"{name}.month", [PROGRAMMES / f"{name}.log"]) for name in ("brent", "gold-mini")]
 SERIES = [(expiry, quantum) for expiry in (1, 2) for quantum in (0, 1, 2)]
@@ -168,71 +162,72 @@ def check_quanta(page, month, starts):
         assert [(time(row[1]), time(row[2])) for row in rows] == due, place
 
 
-def check_lists():
+@pytest.mark.parametrize(("path", "logs"), LISTS, ids=[path.name for path, _ in LISTS])
+def test_pages(path, logs, note):
     """Every example's page."""
-    quanta = 0
-    for path, logs in LISTS:
-        listed = sources.from_list(str(path), reading.PLAIN, [str(log) for log in logs])
-        month = Month([sent.block for sent in listed.calls])
-        page, _ = made(path, *(["--fix", *logs] if logs else []), status=int(bool(month.refused)))
-        starts = {}
-        for sent in listed.calls:
-            call = c.call_of(sent.block)
-            if sent.start and isinstance(call, c.Open):
-                starts[call.day, *call.words[:2]] = picture.offset_of(sent.start)
-        if path.name == "fix.calls":
-            starts = {place: 10 * 3_600_000 for place in month.book.cells}
-        check_top(page, month, len(listed.calls))
-        check_grid(page, month)
-        check_quanta(page, month, starts)
-        rows = page.tables.get("refused", [[]])[1:]
-        assert [(number(row[0]), int(row[4])) for row in rows] == month.refused, path
-        assert all(not each.startswith("http") and each[0] == "#" for each in page.loaded), page.loaded
-        quanta += len(page.articles)
-    return quanta
+    listed = sources.from_list(str(path), reading.PLAIN, [str(log) for log in logs])
+    month = Month([sent.block for sent in listed.calls])
+    page, _ = made(path, *(["--fix", *logs] if logs else []), status=int(bool(month.refused)))
+    starts = {}
+    for sent in listed.calls:
+        call = c.call_of(sent.block)
+        if sent.start and isinstance(call, c.Open):
+            starts[call.day, *call.words[:2]] = picture.offset_of(sent.start)
+    if path.name == "fix.calls":
+        starts = {place: 10 * 3_600_000 for place in month.book.cells}
+    check_top(page, month, len(listed.calls))
+    check_grid(page, month)
+    check_quanta(page, month, starts)
+    rows = page.tables.get("refused", [[]])[1:]
+    assert [(number(row[0]), int(row[4])) for row in rows] == month.refused
+    assert all(not each.startswith("http") and each[0] == "#" for each in page.loaded), page.loaded
+    note(f"statement: {len(page.articles)} quanta of {path.name} are the recount's")
 
 
-def check_replay():
+@pytest.mark.usefixtures("programs")
+def test_replay():
     """The proved program's last report has the page's fee."""
     path = EXAMPLES / "month.calls"
     data = texts.calls_bytes(path.read_text() + "\nreport\n")
-    printed = subprocess.run([ROOT / "target/bin/replay"], input=data, capture_output=True, check=True).stdout.decode()
+    printed = subprocess.run([BIN / "replay"], input=data, capture_output=True, check=True).stdout.decode()
     fee = int(printed.split()[-1])
     page, _ = made(path, status=1)
     assert fee and f"{fee:,} kopecks" in page.text, fee
 
 
-def made_beside(answers):
-    """The page of examples/month.calls beside a recount whose answers are changed."""
+@pytest.fixture
+def made_beside(monkeypatch):
+    """Makes the page of examples/month.calls beside a recount whose answers are changed."""
     right = both.answer_lines
-    both.answer_lines = lambda data: answers(right(data))
-    try:
+
+    def make(answers):
+        monkeypatch.setattr(both, "answer_lines", lambda data: answers(right(data)))
         return made(EXAMPLES / "month.calls", status=1)
-    finally:
-        both.answer_lines = right
+
+    return make
 
 
-def check_difference():
-    """A recount that answers otherwise is loud: first on the page, no fee, status 1; so is one that stops."""
+def test_difference(made_beside):
+    """A recount that answers otherwise is loud: first on the page, no fee, status 1."""
     page, done = made_beside(lambda lines: [line.replace("kept 31490000 of", "kept 31489999 of") for line in lines])
     assert page.text.index("The two readings differ. This statement settles nothing.") < page.text.index("Fee of the month")
     assert "not settled" in page.text and "Both readings agree" not in page.text and "DIFFER" in done.complaint
     assert "They part at call 10, line 13: the meter answers “cell kept 31490000 of" in page.text
     assert page.tables["both"][1][0] == "≠ time kept, all quanta" and page.tables["both"][1][3] == "differs", page.tables["both"][:3]
-    for stop in (0, 5, 57, -1):
-        page, done = made_beside(lambda lines: lines[:stop])
-        assert "The two readings differ" in page.text and "the recount “nothing”" in page.text and "DIFFER" in done.complaint, stop
 
 
-def check_misfit():
+@pytest.mark.parametrize("stop", [0, 5, 57, -1])
+def test_difference_by_a_stop(made_beside, stop):
+    """So is a recount that stops."""
+    page, done = made_beside(lambda lines: lines[:stop])
+    assert "The two readings differ" in page.text and "the recount “nothing”" in page.text and "DIFFER" in done.complaint
+
+
+def test_misfit(monkeypatch):
     """So is a page whose own figures do not add up: a stretch too long, and the divisor taken wrongly."""
-    rights = course.Quantum.stretches, figures.DIVISOR
-    course.Quantum.stretches = lambda self, cell: [picture.Stretch(0, cell.length, "kept")]
-    figures.DIVISOR = 79_000
-    try:
-        page, done = made(EXAMPLES / "month.calls", status=1)
-    finally:
-        course.Quantum.stretches, figures.DIVISOR = rights
+    monkeypatch.setattr(course.Quantum, "stretches", lambda self, cell: [picture.Stretch(0, cell.length, "kept")])
+    monkeypatch.setattr(figures, "DIVISOR", 79_000)
+    page, done = made(EXAMPLES / "month.calls", status=1)
     assert "The figures do not fit together. This statement settles nothing." in page.text and "not settled" in page.text
     assert done.complaint.count("THE FIGURES DO NOT FIT TOGETHER") == 5, done.complaint
 
@@ -246,38 +241,64 @@ def quantum(day, kept, active=0, passive=0, series="1 1"):
     return f"open row {series} 100_000 500 100 1 60% day {day} sp 2000\nadd 0 1 buy 99 500\nadd 0 2 sell 101 500\n{cancel}\nclose {active} {passive}\n"
 
 
-def check_odd(here):
-    """Sixteen failed quanta, the cap, many short gaps, a month with nothing, one left open, a name with signs of HTML."""
-    file = here / "odd.calls"
+@pytest.fixture
+def page_of(tmp_path):
+    """Makes the page of a list of calls."""
+    file = tmp_path / "odd.calls"
 
-    def page_of(text, status=0, *more):
+    def make(text, status=0, *more):
         file.write_text(text)
         return made(file, *more, status=status)[0]
 
+    return make
+
+
+def test_sixteen_failed(page_of):
     page = page_of("".join(quantum(day, 10, 10**9, 10**9) for day in range(1, 17)) + quantum(17, 100, 10**6, 10**6))
     assert "has 16 failed quanta, more than 15: no fee" in page.text and page.tables["sum"][-1][1] == "0 roubles 00 kopecks"
+
+
+def test_cap(page_of):
     page = page_of(quantum(1, 100, 10**11, 10**11))
     assert "1,200,000 roubles 00 kopecks: reached" in page.text and page.tables["sum"][-1][1] == "1,200,000 roubles 00 kopecks"
+
+
+def test_short_gaps(page_of):
     gaps = "".join(f"amend {t} 1 {99 if t % 20 else 90} 500\n" for t in range(10, 8_000, 10))
     page = page_of(f"open row 1 1 100_000 500 100 1 60% day 1 sp 2000\nadd 0 1 buy 99 500\nadd 0 2 sell 101 500\n{gaps}close 0 0")
     lapses = page.articles[1, 1, 1]["lap"]
     assert lapses[0] == ["lapses: 399, no limit"] and lapses[-1] == ["and 392 others, 0:00:03.920 in all"] and len(lapses) == 9, lapses
+
+
+def test_empty_month(page_of):
     assert page_of("report").tables["sum"][-1][1] == "0 roubles 00 kopecks"
-    for text in ("start 20261102-10:00:00.000\n", "start 20261102-10:00:00.000\nreport", "start x\n", "start 20261102-10:00:00.000\n" * 2):
-        file.write_text(text)
-        done = command.run("statement", file)
-        assert done.status == 1 and "start" in done.complaint and not done.printed, (text, done)
+
+
+@pytest.mark.parametrize("text", ["start 20261102-10:00:00.000\n", "start 20261102-10:00:00.000\nreport", "start x\n", "start 20261102-10:00:00.000\n" * 2])
+def test_wrong_start(tmp_path, text):
+    file = tmp_path / "odd.calls"
+    file.write_text(text)
+    done = command.run("statement", file)
+    assert done.status == 1 and "start" in done.complaint and not done.printed, done
+
+
+def test_open_at_the_end(page_of, tmp_path):
+    """Under a name with characters of HTML; the page is UTF-8 on an ASCII terminal too."""
     page = page_of(quantum(1, 80) + quantum(2, 80).replace("close", "tick 9 #"), 1, "--title", "<b>&\"'")
     assert "A quantum is open at the end of the calls (day 2, expiry 1, quantum 1)" in page.text and "Statement: <b>&\"'" in page.text
-    ascii = {"LC_ALL": "C", "PYTHONUTF8": "0", "PYTHONCOERCECLOCALE": "0"}
-    printed = subprocess.run([ROOT / "quoting", "statement", file], env={**os.environ, **ascii}, capture_output=True).stdout.decode()
-    assert "(2A + 3P) × w" in printed, "the page is UTF-8 on an ASCII terminal too"
+    ascii_only = {"LC_ALL": "C", "PYTHONUTF8": "0", "PYTHONCOERCECLOCALE": "0"}
+    done = subprocess.run([QUOTING, "statement", tmp_path / "odd.calls"], env={**os.environ, **ascii_only}, capture_output=True)
+    assert "(2A + 3P) × w" in done.stdout.decode()
+
+
+def test_bytes_that_stop(tmp_path):
+    file = tmp_path / "odd.calls"
     file.write_bytes(texts.calls_bytes(quantum(1, 80)) + b"\7")
     page, done = made(file, status=1)
     assert "stopped at word" in page.text and "stopped at word" in done.complaint and page.tables["grid"][2][2] == "met 20,000"
 
 
-def check_crowded():
+def test_crowded():
     """A column with many stretches is filled by their shares."""
     stretches = [picture.Stretch(at, 10, "kept" if at % 20 else "no bid") for at in range(0, 20_000, 10)]
     drawn = list(picture.columns(picture.Scale(20_000, []), stretches))
@@ -285,68 +306,70 @@ def check_crowded():
     assert len(heights) == picture.RIGHT - picture.LEFT and all(abs(tall - picture.STRIP_HEIGHT / 2) < 1.1 for tall in heights), heights[:5]
 
 
-def check_sessions(here):
-    """A folder of sessions is the list that they make."""
-    folder = here / "november"
+CHARGES = "day,expiry,quantum,active,passive,lapses\n2,1,1,10_000,20_000,\n3,1,1,10_000,20_000,0\n3,2,0,5,5,none\n"
+
+
+@pytest.fixture
+def sessions(tmp_path):
+    """A folder of three sessions in their forms, with the charges."""
+    folder = tmp_path / "november"
     folder.mkdir()
     session = "row 1 1 100_000 500 100 1 60%\nsp 2000\nadd 0 1 buy 99 500\nadd 0 2 sell 101 500\ncancel 70_000 1\n"
     (folder / "02-1-1.session").write_text(session)
     (folder / "3-1-1.bin").write_bytes(texts.session_bytes(session))
     (folder / "03-2-0.csv").write_text("row,2,0,100000,500,100,1,60%\nsp,2000\nt,kind,id,side,price,volume\n0,add,1,buy,99,500\n")
-    charges = "day,expiry,quantum,active,passive,lapses\n2,1,1,10_000,20_000,\n3,1,1,10_000,20_000,0\n3,2,0,5,5,none\n"
-    (folder / "charges.csv").write_text(charges)
-    page, _ = made("--sessions", folder, status=0)
+    (folder / "charges.csv").write_text(CHARGES)
+    return folder
+
+
+def test_sessions(sessions):
+    """A folder of sessions is the list that they make."""
+    page, _ = made("--sessions", sessions, status=0)
     assert page.tables["grid"][3][2] == "met 10,312" and page.tables["grid"][4][2] == "failed" and page.tables["grid"][4][4] == "failed"
     assert "too many lapses: 1 of 0" in page.articles[3, 1, 1]["text"] and page.tables["sum"][-1][1] == "103 roubles 12 kopecks"
-    (folder / "notes.txt").write_text("?")
-    assert "notes.txt: not named" in made("--sessions", folder, status=1)[1].complaint
-    wrong = {
-        "day,expiry\n": "line 1: the columns are", charges + "3,2,0,5,5,\n": "line 5: this day", charges[:-15]: "no line for it",
-        charges.replace("20_000", "x", 1): "line 2: passive: 'x'"}
-    for text, said in wrong.items():
-        (folder / "charges.csv").write_text(text)
-        done = command.run("statement", "--sessions", folder)
-        assert done.status == 1 and said in done.complaint and not done.printed, (said, done)
-    (folder / "charges.csv").write_text(charges)
-    (folder / "02-1-1.session").rename(folder / "02-1-2.session")
-    assert command.run("statement", "--sessions", folder).status == 1
-    told = command.run("statement", "--help")
-    assert told.status == 0 and "examples:" in told.printed and "quoting statement" in told.printed
+    (sessions / "notes.txt").write_text("?")
+    assert "notes.txt: not named" in made("--sessions", sessions, status=1)[1].complaint
+
+
+@pytest.mark.parametrize(("text", "said"), [
+    ("day,expiry\n", "line 1: the columns are"), (CHARGES + "3,2,0,5,5,\n", "line 5: this day"), (CHARGES[:-15], "no line for it"),
+    (CHARGES.replace("20_000", "x", 1), "line 2: passive: 'x'"),
+], ids=["columns", "twice", "absent", "number"])
+def test_wrong_charges(sessions, text, said):
+    (sessions / "charges.csv").write_text(text)
+    done = command.run("statement", "--sessions", sessions)
+    assert done.status == 1 and said in done.complaint and not done.printed, done
+
+
+def test_session_under_another_name(sessions):
+    (sessions / "02-1-1.session").rename(sessions / "02-1-2.session")
+    assert command.run("statement", "--sessions", sessions).status == 1
+
+
+def test_help():
+    done = command.run("statement", "--help")
+    assert done.status == 0 and "examples:" in done.printed and "quoting statement" in done.printed
     assert command.run("statement").status == command.run("statement", "x", "--sessions", "y").status == 2
 
 
-def check_damaged(here, rng, count):
+DAMAGED = 120
+
+
+def test_damaged(tmp_path):
     """Whatever a month or a log holds: a page and 0 or 1, or a sentence with the file's name."""
+    rng = random.Random(1)
     month, log = ((PROGRAMMES / f"brent.{kind}").read_bytes() for kind in ("month", "log"))
     month, log = b"\n".join(month.split(b"\n")[:20]), b"\n".join(log.split(b"\n")[:60])
     pages = 0
-    for at in range(count):
+    for at in range(DAMAGED):
         files = [bytearray(month), bytearray(log)]
         for _ in range(rng.randint(1, 4)):
             place = rng.randrange(len(files[at % 2]))
             files[at % 2][place : place + rng.randint(0, 9)] = rng.choice([b"", b"\n", b"|", b"start ", b"\xff", b"\0", b"10=", b"9"])
-        (here / "m.month").write_bytes(files[0])
-        (here / "m.log").write_bytes(files[1])
-        done = command.run("statement", here / "m.month", "--fix", here / "m.log")
+        (tmp_path / "m.month").write_bytes(files[0])
+        (tmp_path / "m.log").write_bytes(files[1])
+        done = command.run("statement", tmp_path / "m.month", "--fix", tmp_path / "m.log")
         assert done.status in (0, 1) and "Traceback" not in done.complaint and "DIFFER" not in done.complaint, (bytes(files[at % 2]), done)
         assert done.printed or "m.month: " in done.complaint, (bytes(files[at % 2]), done)
         pages += bool(done.printed)
-    assert count // 3 < pages < count, pages
-
-
-def main():
-    with tempfile.TemporaryDirectory() as name:
-        here = Path(name)
-        quanta = check_lists()
-        check_replay()
-        check_difference()
-        check_misfit()
-        check_odd(here)
-        check_crowded()
-        check_sessions(here)
-        check_damaged(here, random.Random(1), 120)
-    print(f"statement: the figures of {len(LISTS)} pages with {quanta} quanta are the recount's, a difference is loud, 120 damaged months end well")
-
-
-if __name__ == "__main__":
-    main()
+    assert DAMAGED // 3 < pages < DAMAGED, pages

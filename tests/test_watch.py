@@ -1,8 +1,7 @@
-"""`quoting watch` in a real browser: the figures on the page held against the program replay, and everything that may happen to a feed.
+"""`quoting watch` in a real browser: the figures on the page against the program replay, and everything that may happen to a feed.
 
-    /usr/bin/python3 tests/watch.py
-
-Needs Chromium with its driver and Selenium (tests/packages). Pictures of the page, to be looked at, go to target/watch.
+All of it runs in one process, one test after another: there is one Chromium, and some tests measure time. Pictures of the page, to be
+looked at, go to target/watch.
 """
 
 import asyncio
@@ -15,14 +14,10 @@ import shutil
 import signal
 import subprocess
 import sys
-import tempfile
 import threading
 import time
-from pathlib import Path
 
-ROOT = Path(__file__).resolve().parent.parent
-sys.path[:0] = [str(ROOT), str(ROOT / "python")]
-
+import pytest
 import websockets
 
 from quoting import calls as c
@@ -40,14 +35,29 @@ from quoting.watch.recounting import Recounting
 from recount import book
 from tests import browser, command
 from tests.browser import Browser, Served, children
+from tests.paths import BIN, EXAMPLES, LIBRARY, PROGRAMMES, ROOT
 
-REPLAY = ROOT / "target" / "bin" / "replay"
-EXAMPLE = ROOT / "examples" / "watch.calls"
+pytestmark = [pytest.mark.usefixtures("library", "programs"), pytest.mark.xdist_group("watch"), pytest.mark.long]
+
+EXAMPLE = EXAMPLES / "watch.calls"
 OPEN = "open row 1 1 8:45:00 1000 150 3 60% day 3 sp 8452 lapses 2\n"
 QUOTES = "add 0:00:01 1 buy 8446 1000\nadd 0:00:01 2 sell 8458 1000\n"
 
 
 # ---------------------------------------------------------------- figures against replay
+
+
+@pytest.fixture(scope="module")
+def chromium(library):
+    with Browser() as found:
+        yield found
+
+
+@pytest.fixture
+def page(chromium):
+    """The browser, with one empty window."""
+    chromium.start_over()
+    return chromium
 
 
 def blocks_of(text):
@@ -56,7 +66,7 @@ def blocks_of(text):
 
 def replayed(blocks):
     """The lines of the program replay."""
-    done = subprocess.run([REPLAY], input=b"".join(blocks), capture_output=True, check=True, timeout=60)
+    done = subprocess.run([BIN / "replay"], input=b"".join(blocks), capture_output=True, check=True, timeout=60)
     return done.stdout.decode().splitlines()
 
 
@@ -148,7 +158,7 @@ def hold_band(seen, report, outlook):
 # ---------------------------------------------------------------- the example, played
 
 
-def check_played(page):
+def test_played(page):
     """The example at three moments and at the end; slower where the machine has so much other work that three are not seen."""
     blocks = blocks_of(EXAMPLE.read_text())
     for speed in (3_000, 600, 100):
@@ -231,7 +241,7 @@ def check_grid(page):
 # ---------------------------------------------------------------- a feed that is typed
 
 
-def check_fed(page):
+def test_fed(page):
     """Calls as they come: what can't be read, what is refused, asks, and the recount that is killed."""
     with Served("--calls", "-", "--silence", "0") as served:
         page.visit(served.link)
@@ -299,7 +309,7 @@ def check_killed(page, served, text):
     hold(page.until("the reading goes on", lambda seen: seen["state_key"] == "kept"), blocks_of(text))
 
 
-def check_broken(page):
+def test_broken(page):
     """A feed that breaks off in an open quantum, comes back, and ends there."""
     with Served("--calls", "-", "--silence", "1") as served:
         page.visit(served.link)
@@ -318,7 +328,7 @@ def check_broken(page):
         page.leave()
 
 
-def check_silent():
+def test_silent():
     """Silence counts in the open quantum alone: one whose end comes before the feed was silent for too long is not broken off."""
     watch = object.__new__(loop.Watch)  # without a feed and the recount's process
     for last, silent, due in [(5_000, 3, False), (5_000, 5, True), (5_000, 500, True), (58_000, 3, False), (58_000, 5, False), (58_000, 500, False)]:
@@ -341,28 +351,31 @@ EDITS = [
 ]
 
 
-def tree_without_recount(folder):
-    """The package alone, as it is installed."""
-    shutil.copytree(ROOT / "python", folder / "python", ignore=shutil.ignore_patterns("__pycache__"))
-    shutil.copy(ROOT / "quoting", folder / "quoting")
+@pytest.fixture
+def tree(tmp_path, monkeypatch):
+    """The package alone, as it is installed, without a recount."""
+    shutil.copytree(ROOT / "python", tmp_path / "python", ignore=shutil.ignore_patterns("__pycache__"))
+    shutil.copy(ROOT / "quoting", tmp_path / "quoting")
+    if "QUOTING_LIBRARY" not in os.environ:
+        monkeypatch.setenv("QUOTING_LIBRARY", str(LIBRARY / "libquoting.so"))
+    return tmp_path
 
 
-def check_differs(page):
-    """The recount is made to differ: a red page and nothing else, with the right call. Without a recount the page says so."""
-    os.environ.setdefault("QUOTING_LIBRARY", str(ROOT / "target" / "library" / "libquoting.so"))
-    with tempfile.TemporaryDirectory() as name:
-        folder = Path(name)
-        tree_without_recount(folder)
-        with Served("--calls", EXAMPLE, "--no-follow", tree=folder) as served:
-            page.visit(served.link)
-            page.until("no recount", lambda seen: (seen["readings"], seen["readings_kind"]) == ("The recount is not here", "absent"))
-            page.leave()
-        shutil.copytree(ROOT / "recount", folder / "recount")
-        book_text = (folder / "recount" / "book.py").read_text()
-        for old, new, *told in EDITS:
-            assert book_text.count(old) == 1, old
-            (folder / "recount" / "book.py").write_text(book_text.replace(old, new))
-            check_red(page, folder, *told)
+def test_no_recount(page, tree):
+    with Served("--calls", EXAMPLE, "--no-follow", tree=tree) as served:
+        page.visit(served.link)
+        page.until("no recount", lambda seen: (seen["readings"], seen["readings_kind"]) == ("The recount is not here", "absent"))
+        page.leave()
+
+
+@pytest.mark.parametrize(("old", "new", "last", "call", "word"), EDITS, ids=["locked quotes", "equal times"])
+def test_differs(page, tree, old, new, last, call, word):
+    """The recount is made to differ: a red page and nothing else, with the right call."""
+    shutil.copytree(ROOT / "recount", tree / "recount")
+    book_text = (tree / "recount" / "book.py").read_text()
+    assert book_text.count(old) == 1, old
+    (tree / "recount" / "book.py").write_text(book_text.replace(old, new))
+    check_red(page, tree, last, call, word)
 
 
 def check_red(page, folder, last, call, word):
@@ -384,29 +397,26 @@ def check_red(page, folder, last, call, word):
         page.leave()
 
 
-def check_first():
-    """Of many calls the first behind which the readings differ is named, whether each is tried or they are halved."""
+@pytest.mark.parametrize("most", [recounter.MOST_WALKED, 0], ids=["each tried", "halved"])
+def test_first(monkeypatch, most):
+    """Of many calls the first after which the readings differ is named, whether each is tried or they are halved."""
     locked = 137
     text = OPEN + QUOTES + "".join(f"amend {2_000 + at} 2 {8446 if at == locked else 8458} 1000\n" for at in range(200))
-    calls, within, walked = blocks_of(text), book.within, recounter.MOST_WALKED
+    calls, within = blocks_of(text), book.within
     month, due = Month(), 3 + locked + 2  # the locked quotes have lasted a millisecond when the next call comes
     called = [recounter.Called(block, f"call {at}", line(month.block(block))) for at, block in enumerate(calls, start=1)]
     check = recounter.Check(recounter.shown_by(month, False), recounter.words_of(month))
-    try:
-        for most in (walked, 0):
-            book.within, recounter.MOST_WALKED = within, most
-            reader = recounter.Recounter()
-            assert not [said for each in called[:50] for said in reader.take(each)]
-            book.within = lambda row, sp, bid, ask: bid is not None and bid == ask or within(row, sp, bid, ask)
-            assert not [said for each in called[50:] for said in reader.take(each)]
-            first, last = reader.check(check)
-            assert (first.call, first.is_exact) == (len(calls), False), first
-            assert (last.call, last.is_exact, last.called.place) == (due, True, f"call {due}"), last
-    finally:
-        book.within, recounter.MOST_WALKED = within, walked
+    monkeypatch.setattr(recounter, "MOST_WALKED", most)
+    reader = recounter.Recounter()
+    assert not [said for each in called[:50] for said in reader.take(each)]
+    monkeypatch.setattr(book, "within", lambda row, sp, bid, ask: bid is not None and bid == ask or within(row, sp, bid, ask))
+    assert not [said for each in called[50:] for said in reader.take(each)]
+    first, last = reader.check(check)
+    assert (first.call, first.is_exact) == (len(calls), False), first
+    assert (last.call, last.is_exact, last.called.place) == (due, True, f"call {due}"), last
 
 
-def check_prompt():
+def test_prompt():
     """A check that is answered before the call that gave it has returned is answered, and the next one is made."""
     recount, month, given = object.__new__(Recounting), Month(), []
 
@@ -451,7 +461,7 @@ async def all_follow(served, count):
     return pages
 
 
-def check_many(page):
+def test_many(page, note):
     """Twenty pages in one browser and twenty elsewhere; Ctrl-C with all of them open."""
 
     async def run():
@@ -475,13 +485,7 @@ def check_many(page):
         took = asyncio.run(run())
         assert took < 2, f"Ctrl-C took {took:.2f} s"
         page.until("the meter is lost", lambda seen: seen["band"] == "away")
-        for handle in handles[1:]:
-            page.driver.switch_to.window(handle)
-            page.driver.close()
-        page.driver.switch_to.window(handles[0])
-        page.driver.get("about:blank")
-        page.console()
-    return took
+    note(f"watch: Ctrl-C with forty pages took {took:.2f} s")
 
 
 async def visit(served, over):
@@ -494,24 +498,24 @@ async def visit(served, over):
             await asyncio.sleep(0.001)
 
 
-def check_coming():
+@pytest.mark.parametrize("turn", range(3))
+def test_coming(turn):
     """Ctrl-C while pages come and go: it ends at once, with its sentence and nothing else."""
 
     async def visits():
         await asyncio.gather(*(visit(served, over) for _ in range(25)))
 
-    for _ in range(3):
-        over = threading.Event()
-        with Served("--calls", EXAMPLE, "--no-follow") as served:
-            coming = threading.Thread(target=lambda: asyncio.run(visits()))
-            coming.start()
-            try:
-                time.sleep(0.5)
-                took = served.stop()
-            finally:
-                over.set()
-                coming.join()
-        assert took < 2, f"Ctrl-C took {took:.2f} s"
+    over = threading.Event()
+    with Served("--calls", EXAMPLE, "--no-follow") as served:
+        coming = threading.Thread(target=lambda: asyncio.run(visits()))
+        coming.start()
+        try:
+            time.sleep(0.5)
+            took = served.stop()
+        finally:
+            over.set()
+            coming.join()
+    assert took < 2, f"Ctrl-C took {took:.2f} s"
 
 
 def asked(served, method="GET", path="/", **headers):
@@ -569,7 +573,7 @@ async def answers(served, count):
     return [found[at] for at in range(count)]
 
 
-def check_strangers():
+def test_strangers():
     """Requests by another name, from another origin, of other kinds; messages that no page sends."""
     with Served("--calls", "-", "--silence", "0") as served:
         served.send(OPEN + QUOTES)
@@ -600,7 +604,7 @@ def check_strangers():
         assert "ask again" in told[-1]["lines"][0], told[-1]
 
 
-def check_token():
+def test_token():
     """On another address nothing is answered without the token of the link."""
     with Served("--calls", EXAMPLE, "--no-follow", "--listen", "127.0.0.1") as served:
         token = re.fullmatch(r"http://127\.0\.0\.1:\d+/\?token=(\S{20,})", served.link)[1]
@@ -612,7 +616,7 @@ def check_token():
         assert asyncio.run(turned_away(served)) == 403
 
 
-def check_listened(page):
+def test_listened(page):
     with Served("--calls", EXAMPLE, "--no-follow", "--listen", "127.0.0.1") as served:
         page.visit(served.link)
         page.until("the figures", lambda seen: seen["is_open"] and seen["feed_kind"] == "ended")
@@ -629,12 +633,12 @@ async def crowd(served):
     return more
 
 
-def check_crowd():
+def test_crowd():
     with Served("--calls", EXAMPLE, "--no-follow") as served:
         assert asyncio.run(crowd(served)) == server.TOO_MANY
 
 
-def check_slow():
+def test_slow():
     """A page that is slow to take what it is sent skips states, and gets the newest one when it is ready again."""
 
     class Slow:
@@ -700,35 +704,40 @@ async def lags_seen(served, written):
     return lags
 
 
-def check_fast():
+def lag_and_lateness(path):
+    """The greatest time by which a page was after the feed, and by which the writer was late, in seconds."""
+    written = []
+    path.write_text(OPEN + "add 0:00:00 1 buy 8446 999\nadd 0:00:00 2 sell 8458 1000\n")
+    with Served("--calls", path) as served:
+        writer = threading.Thread(target=write_fast, args=(path, written))
+        writer.start()
+        lag = max(asyncio.run(lags_seen(served, written)))
+        writer.join()
+    return lag, max(then - before for before, then in zip(written, written[1:])) - PAUSE
+
+
+def test_fast(tmp_path, note):
     """A page stays within 300 ms of a feed of 1,000 events a second. Where the machine has so much other work that the writer itself was
-    kept waiting, the page may be behind by twice that more; and it may be tried again."""
+    kept waiting, the page may be later by twice that; and it may be tried again."""
     found = []
-    for _ in range(4):
-        with tempfile.TemporaryDirectory() as folder:
-            path, written = Path(folder) / "fast.calls", []
-            path.write_text(OPEN + "add 0:00:00 1 buy 8446 999\nadd 0:00:00 2 sell 8458 1000\n")
-            with Served("--calls", path) as served:
-                writer = threading.Thread(target=write_fast, args=(path, written))
-                writer.start()
-                lag = max(asyncio.run(lags_seen(served, written)))
-                writer.join()
-        late = max(then - before for before, then in zip(written, written[1:])) - PAUSE
+    for turn in range(4):
+        lag, late = lag_and_lateness(tmp_path / f"fast{turn}.calls")
         found.append((lag, late))
         if lag < 0.3 + 2 * late:
-            return lag, meter_share()
-    raise AssertionError(f"a page was behind the feed, and the writer late, by {found} s")
+            note(f"watch: a feed of {RATE} events a second was seen within {1000 * lag:.0f} ms")
+            return
+    raise AssertionError(f"a page was after the feed, and the writer late, by {found} s")
 
 
-def meter_share():
-    """The part of a core that the meter takes at that rate."""
+def test_meter_share(note):
+    """The meter takes less than a tenth of a core at that rate."""
     meter, blocks = Meter("fast"), blocks_of(OPEN + "add 0:00:00 1 buy 8446 999\nadd 0:00:00 2 sell 8458 1000\n" + "".join(map(line_of, range(RATE))))
     began = time.process_time()
     for block in blocks:
         meter.take(Sent(block, "line 1"), 0.0)
     share = time.process_time() - began
     assert share < 0.1, f"the meter takes {share:.3f} of a core at {RATE} events a second"
-    return share
+    note(f"watch: the meter took {100 * share:.1f}% of a core at {RATE} events a second")
 
 
 # ---------------------------------------------------------------- the command
@@ -753,31 +762,33 @@ WRONG = [
 ]
 
 
-def check_command():
-    """Wrong use and what is not there, as sentences; the examples of the help."""
-    for status, said, words in WRONG:
-        done = command.run("watch", *words, *([] if "--port" in words else ["--port", "0"]))
-        assert done.status == status and said in done.complaint and "Traceback" not in done.complaint, (words, done)
-    sys.modules["uvicorn"], before = None, sys.modules.get("uvicorn")
-    try:
-        done = command.run("watch", "--calls", EXAMPLE)
-        assert done.status == 1 and "apt-get install python3-uvicorn\n" in done.complaint, done
-    finally:
-        sys.modules["uvicorn"] = before
-        if before is None:
-            del sys.modules["uvicorn"]
+@pytest.mark.parametrize(("status", "said", "words"), WRONG, ids=[said for _, said, _ in WRONG])
+def test_wrong_use(status, said, words):
+    """Wrong use and what is not there, as sentences."""
+    done = command.run("watch", *words, *([] if "--port" in words else ["--port", "0"]))
+    assert done.status == status and said in done.complaint and "Traceback" not in done.complaint, done
+
+
+def test_without_uvicorn(monkeypatch):
+    monkeypatch.setitem(sys.modules, "uvicorn", None)
+    done = command.run("watch", "--calls", EXAMPLE)
+    assert done.status == 1 and "apt-get install python3-uvicorn\n" in done.complaint, done
+
+
+def test_help():
+    """Its two examples run; another command on their port says so."""
     examples = re.findall(r"^  quoting watch (.*examples/.*)$", command.run("watch", "--help").printed, re.M)
     assert len(examples) == 2, examples
-    for line_ in examples:
-        with Served(*shlex.split(line_)) as served:
+    for words in map(shlex.split, examples):
+        with Served(*words) as served:
             taken = command.run("watch", "--calls", EXAMPLE, "--port", served.port)
             assert taken.status == 1 and "Address already in use; --port names another" in taken.complaint, taken
 
 
-def check_restarted(page):
+def test_restarted(page):
     """A log of messages with its list, read twice from its beginning: the same figures, which are those of the statement's calls."""
-    folder = ROOT / "examples" / "programmes"
-    words = ["--fix", folder / "brent.log", "--open", folder / "brent.month", "--no-follow", "--title", "Brent"]
+    log, month = PROGRAMMES / "brent.log", PROGRAMMES / "brent.month"
+    words = ["--fix", log, "--open", month, "--no-follow", "--title", "Brent"]
     found = []
     for number_ in (signal.SIGTERM, signal.SIGINT):
         with Served(*words) as served:
@@ -789,34 +800,6 @@ def check_restarted(page):
             page.leave()
             served.stop(number_)
     assert found[0] == found[1], found
-    calls = sources.from_list(str(folder / "brent.month"), reading.PLAIN, [str(folder / "brent.log")]).calls
+    calls = sources.from_list(str(month), reading.PLAIN, [str(log)]).calls
     assert calls_read(seen) == len(calls), (seen["feed"], len(calls))
     hold(seen, [sent.block for sent in calls])
-
-
-def main():
-    began = time.monotonic()
-    with Browser() as page:
-        check_played(page)
-        check_fed(page)
-        check_broken(page)
-        check_differs(page)
-        check_restarted(page)
-        check_listened(page)
-        took = check_many(page)
-    check_first()
-    check_prompt()
-    check_silent()
-    check_slow()
-    check_coming()
-    check_crowd()
-    check_strangers()
-    check_token()
-    check_command()
-    lag, share = check_fast()
-    print(f"watch: the page's figures are replay's, asks, troubles, both readings and strangers are right; a feed of {RATE} events a second was seen"
-          f" within {1000 * lag:.0f} ms and took {100 * share:.1f}% of a core, Ctrl-C {took:.2f} s, all {time.monotonic() - began:.0f} s")
-
-
-if __name__ == "__main__":
-    main()

@@ -58,7 +58,7 @@ def just_past(strike):
     return [name for name, value, most in zip(strike._fields, strike, STRIKE_LIMITS) if value == most + 1]
 
 
-def sights(calls, answers):
+def situations(calls, answers):
     """What the calls and their lines show, apart from the spreads."""
     accepted = set()
     for call, answer in zip(calls, answers):

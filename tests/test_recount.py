@@ -1,4 +1,4 @@
-"""The recount held against the paper's own checks and against itself.
+"""The recount against the paper's own checks and against itself.
 
 Kept time is counted in three ways: as the paper's sentence says it, for every millisecond from the
 whole list of events; millisecond by millisecond in one walk; and from event to event. Lapses are
@@ -8,9 +8,9 @@ are made in two, millisecond by millisecond and from event to event.
 
 import random
 
-from recount import (
-    account, fix_checks, game, message_checks, outlook_checks, programs, records, session, standing, strikes, volatile,
-)
+import pytest
+
+from recount import account, programs, records, session
 from recount.book import (
     BUY, CHARGE_LIMIT, DAYS, EXPIRIES, NO_LIMIT, QUANTA, SELL, Accepted, Add, Amend, Ask, Book,
     Cancel, Cell, Charge, Close, Commit, Deal, Look, Open, Order, Refused, Report, Row, Strike,
@@ -41,54 +41,88 @@ def orders(*buys):
     return {i: Order(i, BUY, price, volume) for i, (volume, price) in enumerate(buys)}
 
 
-def check_paper():
-    # C1 to C3: best bid with M 500.
-    assert best_bid(orders((300, 100), (200, 99)), 500) == 99
-    assert best_bid(orders((300, 100), (200, 99), (400, 98)), 500) == 99
-    assert best_bid(orders((200, 99), (400, 98)), 500) == 98
-    # C4 and C5: the spread; SP -5 leaves the limit b.
-    row = Row(1, 1, 10_000, 500, 100, 1, 600)
-    assert within(row, 2_000, 99, 101) and not within(row, 2_000, 99, 102)
-    assert not within(row, 1_999, 99, 101) and within(row, 1_999, 100, 101)
-    assert within(row, -5, 100, 101) and not within(row, -5, 99, 101)
-    for sp in (-5, 0, 1_999, 2_000, 2_999, 10**9):
-        for wide_row in (row, row._replace(a=0), row._replace(b=0), row._replace(a=100_000)):
-            wide = widest(wide_row, sp)
-            assert within(wide_row, sp, 0, wide) == (wide > 0) and not within(wide_row, sp, 0, wide + 1)
-            # Document 02, W2: D = 0 and D = -1 keep nothing, whatever a, b and SP.
-            assert not within(wide_row, sp, 100, 100) and not within(wide_row, sp, 100, 99)
-    # C6 to C10: weights with p 600 and L 31,500,000.
-    for kept, due in [
-        (18_899_999, 0), (18_900_000, 10_000), (22_050_000, 10_312),
-        (25_199_999, 19_752), (25_200_000, 20_000),
-    ]:
-        assert weight(kept, 31_500_000, 600) == due, (kept, due)
-    # Document 02, W6: 72.5% of 10,000 is 7,250; f 762 makes n 37 and d 75; p 1 and 799 are in the range.
-    for kept, share, due in [
-        (7_249, 725, 0), (7_250, 725, 10_000), (7_625, 725, 10_292), (7_999, 725, 19_350),
-        (7_989, 799, 0), (7_990, 799, 10_000), (7_999, 799, 10_000), (8_000, 799, 20_000),
-        (9, 1, 0), (10, 1, 10_000), (8_000, 1, 20_000),
-    ]:
-        assert weight(kept, 10_000, share) == due, (kept, share, due)
-    assert [s for s in range(1_001) if row_fits(row._replace(share=s))] == list(range(1, 800))
-    # C11 and C12: the fee.
-    assert fee({(1, 1, 1): Cell(22_050_000, 31_500_000, 600, NO_LIMIT, 0, 10_000, 20_000)}) == 10_312
-    top = Cell(31_500_000, 31_500_000, 600, NO_LIMIT, 0, 10**9, 10**9)
-    assert fee({(1, 1, 1): top}) == 120_000_000
-    # Document 02, W8: 186 cells with the greatest charges.
-    most = top._replace(active=CHARGE_LIMIT, passive=CHARGE_LIMIT)
+@pytest.mark.parametrize(("buys", "due"), [
+    ([(300, 100), (200, 99)], 99), ([(300, 100), (200, 99), (400, 98)], 99), ([(200, 99), (400, 98)], 98),
+], ids=["C1", "C2", "C3"])
+def test_best_bid(buys, due):
+    """With M 500."""
+    assert best_bid(orders(*buys), 500) == due
+
+
+ROW = Row(1, 1, 10_000, 500, 100, 1, 600)
+
+
+def test_spread():
+    """C4 and C5; SP -5 leaves the limit b."""
+    assert within(ROW, 2_000, 99, 101) and not within(ROW, 2_000, 99, 102)
+    assert not within(ROW, 1_999, 99, 101) and within(ROW, 1_999, 100, 101)
+    assert within(ROW, -5, 100, 101) and not within(ROW, -5, 99, 101)
+
+
+@pytest.mark.parametrize("sp", [-5, 0, 1_999, 2_000, 2_999, 10**9])
+@pytest.mark.parametrize("row", [ROW, ROW._replace(a=0), ROW._replace(b=0), ROW._replace(a=100_000)])
+def test_widest(row, sp):
+    wide = widest(row, sp)
+    assert within(row, sp, 0, wide) == (wide > 0) and not within(row, sp, 0, wide + 1)
+    # Document 02, W2: D = 0 and D = -1 keep nothing, whatever a, b and SP.
+    assert not within(row, sp, 100, 100) and not within(row, sp, 100, 99)
+
+
+@pytest.mark.parametrize(("kept", "due"), [
+    (18_899_999, 0), (18_900_000, 10_000), (22_050_000, 10_312), (25_199_999, 19_752), (25_200_000, 20_000),
+], ids=["C6", "C7", "C8", "C9", "C10"])
+def test_weight(kept, due):
+    """With p 600 and L 31,500,000."""
+    assert weight(kept, 31_500_000, 600) == due
+
+
+@pytest.mark.parametrize(("kept", "share", "due"), [
+    (7_249, 725, 0), (7_250, 725, 10_000), (7_625, 725, 10_292), (7_999, 725, 19_350),
+    (7_989, 799, 0), (7_990, 799, 10_000), (7_999, 799, 10_000), (8_000, 799, 20_000),
+    (9, 1, 0), (10, 1, 10_000), (8_000, 1, 20_000),
+])
+def test_weight_by_tenths(kept, share, due):
+    """Document 02, W6: 72.5% of 10,000 is 7,250; f 762 makes n 37 and d 75; p 1 and 799 are in the range."""
+    assert weight(kept, 10_000, share) == due
+
+
+def test_shares():
+    assert [s for s in range(1_001) if row_fits(ROW._replace(share=s))] == list(range(1, 800))
+
+
+PAID = Cell(22_050_000, 31_500_000, 600, NO_LIMIT, 0, 10_000, 20_000)
+TOP = Cell(31_500_000, 31_500_000, 600, NO_LIMIT, 0, 10**9, 10**9)
+
+
+def test_fee():
+    """C11 and C12."""
+    assert fee({(1, 1, 1): PAID}) == 10_312
+    assert fee({(1, 1, 1): TOP}) == 120_000_000
+
+
+def test_fee_of_the_greatest_charges():
+    """Document 02, W8: in 186 cells."""
+    most = TOP._replace(active=CHARGE_LIMIT, passive=CHARGE_LIMIT)
     assert fee({(d, e, q): most for d in DAYS for e in EXPIRIES for q in QUANTA}) == 120_000_000
-    # 15 failed cells in a series leave the fee, 16 make it 0.
-    paid = {(31, 1, 1): Cell(22_050_000, 31_500_000, 600, NO_LIMIT, 0, 10_000, 20_000)}
-    failed = Cell(0, 1_000, 600, NO_LIMIT, 1, 5, 5)
+
+
+def test_failed_cells():
+    """15 in a series leave the fee, 16 make it 0."""
+    paid, failed = {(31, 1, 1): PAID}, Cell(0, 1_000, 600, NO_LIMIT, 1, 5, 5)
     fifteen = {(day, 1, 1): failed for day in range(1, 16)}
     assert fee({**paid, **fifteen}) == 10_312
     assert fee({**paid, **fifteen, (16, 1, 1): failed}) == 0
     assert fee({**paid, **fifteen, (16, 2, 1): failed}) == 10_312
-    # An event at t = L adds nothing to K.
+
+
+def test_event_at_the_end():
+    """An event at t = L adds nothing to K."""
     events = [Add(0, 1, BUY, 99, 500), Add(10_000, 2, SELL, 101, 500)]
-    assert stretches_by_milliseconds(row, 2_000, events, 10_000) == []
-    # The printed session, as sheet and as the C call answer it.
+    assert stretches_by_milliseconds(ROW, 2_000, events, 10_000) == []
+
+
+def test_printed_session():
+    """As sheet and as the C call answer it."""
     assert programs.sheet(example_bytes()) == EXAMPLE_SHEET
     assert session.ccall(example_bytes()[:32], example_bytes()[32:]) == 6_000
 
@@ -101,8 +135,9 @@ def weight_in_percent(kept, length, share):
     return 20_000 if f >= 800 else 10_000 + 10_000 * (f - 10 * share) ** 5 // (800 - 10 * share) ** 5
 
 
-def check_percents(rng):
+def test_percents():
     """Document 02, W6: a p in percent, times ten, gives the weight that it gave."""
+    rng = random.Random(1)
     for share in range(1, 80):
         for _ in range(100):
             length = 1_000 * rng.choice([1, 7, 10, 31_500, 86_400])
@@ -111,34 +146,43 @@ def check_percents(rng):
             assert weight(kept, length, 10 * share) == weight_in_percent(kept, length, share)
 
 
-def check_lapses():
+@pytest.mark.parametrize(("limit", "count", "is_met"), [
+    (NO_LIMIT, 70_000, True), (1_000, 1_000, True), (1_000, 1_001, False), (0, 0, True), (0, 1, False), (NO_LIMIT, 43_200_000, True),
+])
+def test_lapse_limit(limit, count, is_met):
     """Document 02, W1: with no limit no count is too many, with one a count above it is."""
-    for limit, count, is_met in [
-        (NO_LIMIT, 70_000, True), (1_000, 1_000, True), (1_000, 1_001, False),
-        (0, 0, True), (0, 1, False), (NO_LIMIT, 43_200_000, True),
-    ]:
-        cell = Cell(31_500_000, 31_500_000, 600, limit, count, 1_000, 0)
-        assert cell_met(cell) == is_met and cell_weight(cell) == (20_000 if is_met else 0)
-        assert fee({(1, 1, 1): cell}) == (500 if is_met else 0)
-    # One at the start, one between, one at the end; one in a quantum without a quote; none.
+    cell = Cell(31_500_000, 31_500_000, 600, limit, count, 1_000, 0)
+    assert cell_met(cell) == is_met and cell_weight(cell) == (20_000 if is_met else 0)
+    assert fee({(1, 1, 1): cell}) == (500 if is_met else 0)
+
+
+def test_lapses():
+    """One at the start, one between, one at the end; one in a quantum without a quote; none."""
     assert lapses_by_stretches([(200, 300), (700, 100)], 1_000) == 3
     assert lapses_by_stretches([(0, 300), (700, 300)], 1_000) == 1
     assert lapses_by_stretches([], 1_000) == 1
     assert lapses_by_stretches([(0, 1_000)], 1_000) == 0
     assert lapses_by_stretches([], 0) == 0
+
+
+def test_refused_lapse_limits():
     book = Book()
     for limit in (1_001, 65_534, 65_536, 2**32 - 1):
         assert refusal(book, Open(EXAMPLE_ROW, 1, 2_000, limit)) == 17
         assert refusal(book, Open(EXAMPLE_ROW, 32, 2_000, limit)) == 3
-    for limit in (0, 1_000, NO_LIMIT):
-        assert refusal(book, Open(EXAMPLE_ROW, 1, 2_000, limit)) == 0
-        assert refusal(book, Open(EXAMPLE_ROW, 2, 2_000, 1_001)) == 6
-        book.call(Close(0, 0))
-        view = book.call(Look(1, 1, 1))
-        assert (view.limit, view.lapses) == (limit, 1)
-        book.call(Charge(1, 1, 1, 5, 5))
-        assert book.call(Look(1, 1, 1))[3:5] == (limit, 1)
-        book.call(Withdraw(1, 1, 1))
+
+
+@pytest.mark.parametrize("limit", [0, 1_000, NO_LIMIT])
+def test_accepted_lapse_limits(limit):
+    book = Book()
+    assert refusal(book, Open(EXAMPLE_ROW, 1, 2_000, limit)) == 0
+    assert refusal(book, Open(EXAMPLE_ROW, 2, 2_000, 1_001)) == 6
+    book.call(Close(0, 0))
+    view = book.call(Look(1, 1, 1))
+    assert (view.limit, view.lapses) == (limit, 1)
+    book.call(Charge(1, 1, 1, 5, 5))
+    assert book.call(Look(1, 1, 1))[3:5] == (limit, 1)
+    book.call(Withdraw(1, 1, 1))
 
 
 def refusal(book, call):
@@ -146,9 +190,9 @@ def refusal(book, call):
     return answer.number if isinstance(answer, Refused) else 0
 
 
-def check_refusals():
-    """Each number from 1 to 16, and the lowest where several apply; 17 is in check_lapses, 18 in
-    check_strikes, 19 in check_asks."""
+def test_refusals():
+    """Each number from 1 to 14, and the lowest where several apply; 15 and 16 are in test_refused_runs, 17 in
+    test_refused_lapse_limits, 18 in test_refused_strikes, 19 in test_asks."""
     good = EXAMPLE_ROW
     book = Book()
     assert refusal(book, Open(good[:6], 32, 0)) == 1
@@ -181,6 +225,11 @@ def check_refusals():
     assert refusal(book, Charge(1, 1, 2, 0, 100_000_000_001)) == 3
     assert refusal(book, Withdraw(1, 1, 1)) == 0
     assert refusal(book, Withdraw(1, 1, 1)) == 5
+
+
+def test_refused_runs():
+    """15 by the place of the record, 16 for a buffer that is too short."""
+    good = EXAMPLE_ROW
     records_of_example = example_bytes()[32:]
     ran = lambda **more: session.run(good, 2_000, records_of_example, **more)
     assert ran(buffer_words=2).pairs == [(0, 6_000)]
@@ -195,16 +244,19 @@ def check_refusals():
     assert cut == session.Stopped(15, 6)
 
 
-def check_strikes():
+@pytest.mark.parametrize("strike", [
+    Strike(75, 40, 365, 0), Strike(5, 1, 365, 0), Strike(15, 1, 365, 0), Strike(200, 100_000, 100, 3),
+    Strike(0, 5, 5, 9), Strike(9, 0, 9, 1), Strike(9, 9, 0, 1_000_000),
+])
+def test_widest_of_a_strike(strike):
+    wide = widest(ROW, strike)
+    assert within(ROW, strike, 0, wide) and not within(ROW, strike, 0, wide + 1)
+    assert not within(ROW, strike, 100, 100) and not within(ROW, strike, 100, 99)
+
+
+def test_refused_strikes():
     """Document 02, W4: a strike's open goes by its own a and b and not by the row's, and has no SP."""
-    row, unread = Row(*EXAMPLE_ROW), [*EXAMPLE_ROW[:4], 2**32 - 1, 2**32 - 1, *EXAMPLE_ROW[6:]]
-    for strike in (
-        Strike(75, 40, 365, 0), Strike(5, 1, 365, 0), Strike(15, 1, 365, 0), Strike(200, 100_000, 100, 3),
-        Strike(0, 5, 5, 9), Strike(9, 0, 9, 1), Strike(9, 9, 0, 1_000_000),
-    ):
-        wide = widest(row, strike)
-        assert within(row, strike, 0, wide) and not within(row, strike, 0, wide + 1), strike
-        assert not within(row, strike, 100, 100) and not within(row, strike, 100, 99), strike
+    unread = [*EXAMPLE_ROW[:4], 2**32 - 1, 2**32 - 1, *EXAMPLE_ROW[6:]]
     book, good = Book(), Strike(75, 40, 365, 0)
     for wrong in (
         good._replace(a=201), good._replace(difference=100_001), good._replace(days=366),
@@ -233,7 +285,7 @@ def held(book):
     return book.count, dict(book.cells), q and (vars(q) | {"events": list(q.events), "live": dict(q.live)})
 
 
-def check_asks():
+def test_asks():
     """Document 02, W5: an ask alters nothing and answers as after the amend; 19 comes after amend's own."""
     book, named = Book(), (5, 1, 100, 500)
     assert refusal(book, Ask(*named)) == refusal(book, Commit(*named, Ticket(*named, 1))) == 7
@@ -279,7 +331,7 @@ def check_asks():
     assert book.count == 0 and book.call(Commit(*named, Ticket(*named, 0))) == Accepted()
 
 
-def check_rows():
+def test_rows():
     """Choosing goes by the first row with expiry and quantum, whatever its other words."""
     usual = [1, 0, 9, 9, 9, 9, 9, 1, 1, 7, 7, 7, 7, 7, 1, 1, 8, 8, 8, 8, 8, 2, 2]
     holiday = [1, 1, 5, 5, 5, 5, 5]
@@ -337,9 +389,15 @@ def check_account(row, sp, events, kept):
     assert sum(found.times) == sum(length for _, length, _ in found.stretches) == row.length, (row, sp, events)
 
 
-def check_counting(rng, cases, said):
+COUNTED = 400  # cases
+SAID = 40  # of them also by the paper's sentence
+
+
+def test_counting():
+    """Kept time, lapses and accounts in their several ways."""
+    rng = random.Random(1)
     with_time = most_lapses = 0
-    for case in range(cases):
+    for case in range(COUNTED):
         row = [1, 0, 1_000 * rng.randrange(1, 4), rng.randrange(1, 6),
                rng.choice([0, 5_000, 10_000]), rng.randrange(6), 600]
         sp = rng.choice([-5, 0, 100, 100, Strike(rng.randrange(60), 1, 365, rng.randrange(3))])
@@ -353,7 +411,7 @@ def check_counting(rng, cases, said):
         for end in (quoting.time, row.length):
             walked = stretches_by_milliseconds(row, sp, events, end)
             assert walked == stretches_by_events(row, sp, events, end), (row, sp, events, end)
-            if case < said:
+            if case < SAID:
                 assert walked == stretches_as_said(row, sp, events, end), (row, sp, events, end)
             gaps = lapses_by_stretches(walked, end)
             assert gaps == lapses_by_milliseconds(row, sp, events, end), (row, sp, events, end)
@@ -367,12 +425,13 @@ def check_counting(rng, cases, said):
         with_time += bool(walked)
         most_lapses = max(most_lapses, gaps)
     assert most_lapses >= 3, "too few lapses in the cases"
-    assert 3 * with_time >= cases, "too few of the cases have kept time"
+    assert 3 * with_time >= COUNTED, "too few of the cases have kept time"
 
 
-def check_quotes(rng, cases):
+def test_quotes():
     """The best quotes are the paper's: of the prices that qualify, the greatest and the least."""
-    for _ in range(cases):
+    rng = random.Random(1)
+    for _ in range(2_000):
         live = {id: Order(id, rng.choice((BUY, SELL)), rng.randrange(5), rng.randrange(1, 5))
                 for id in range(rng.randrange(10))}
         least = rng.randrange(1, 12)
@@ -386,9 +445,10 @@ def check_quotes(rng, cases):
         assert best_ask(live, least) == min(asks, default=None)
 
 
-def check_records(rng, cases):
+def test_records():
     """Reading what was written gives the event, writing what was read gives the bytes."""
-    for _ in range(cases):
+    rng = random.Random(2)
+    for _ in range(2_000):
         word = lambda: rng.choice([0, 1, 2**32 - 1, rng.getrandbits(32)])
         price = rng.choice([0, -1, -(2**31), 2**31 - 1])
         event = rng.choice([
@@ -405,7 +465,7 @@ def check_records(rng, cases):
         assert records.read(data[: rng.randrange(20)]) is None
 
 
-def check_reports():
+def test_reports():
     """A report with none open, and a replay that stops."""
     none = (
         "report open no time 0 orders 0 bid absent ask absent kept 0 lapses 0"
@@ -415,27 +475,3 @@ def check_reports():
     assert programs.replay(twelve) == none
     assert programs.replay(twelve + eight + b"\1") == none + "refused 7\nstopped at word 3\n"
     assert Book().call(Report()).fee == 0
-
-
-def main():
-    rng = random.Random(1)
-    check_paper()
-    check_percents(random.Random(1))
-    check_lapses()
-    check_refusals()
-    check_strikes()
-    check_asks()
-    check_rows()
-    check_quotes(rng, 2_000)
-    check_records(rng, 2_000)
-    check_reports()
-    game.check()
-    volatile.selftest()
-    standing.check()
-    strikes.check()
-    fix_checks.check()
-    message_checks.check()
-    outlook_checks.check()
-    check_counting(rng, 400, 40)
-    print("recount: agrees with the paper's checks and with itself")
-    return 0

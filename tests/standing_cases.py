@@ -1,46 +1,16 @@
-"""Standing of makers: the proved calls, through `probe`, against the recount.
-
-Random lists of calls run from count 0 and from records and counts of any kind, right and wrong ones;
-inputs that are no case are tried too. The command `standing` is held against the recount
-and against a text whose table is known. It fails where an answer differs, and where something that
-the cases are to show never showed.
-"""
-
-import random
-import struct
-import subprocess
-import sys
-from collections import Counter
-from pathlib import Path
-
-ROOT = Path(__file__).resolve().parent.parent
-sys.path.insert(0, str(ROOT))
+"""The standing of makers (document 02, W13): records and lists of calls, right and wrong ones, and what their answers show."""
 
 from recount import programs, standing
 from recount.standing import CHANGE, JOIN, LEAVE, LIMIT
-from tests import command as commands
+from tests.running import words
 
-PROBE = ROOT / "target" / "bin" / "probe"
 GREATEST = 2**32 - 1
 MARKS = 65_536  # makers whose numbers differ by a multiple of it share a mark
-
-
-def words(*numbers):
-    return struct.pack(f"<{len(numbers)}I", *numbers)
 
 
 def case(records, count, calls):
     flat = [word for item in [*records, (len(calls),), *calls] for word in item]
     return words(7, len(records), count, *flat)
-
-
-def run(data):
-    done = subprocess.run([PROBE], input=data, capture_output=True, timeout=60)
-    assert done.returncode == 0, (data.hex(), done.returncode)
-    return done.stdout.decode()
-
-
-# ---------------------------------------------------------------- cases
 
 
 def number(rng, few):
@@ -144,77 +114,3 @@ DUE = [
     *(f"refused {n} {kind}" for n in (23, 24) for kind in ("join", "change", "leave")),
     "refused 25 join", "equal ratings", "makers of one mark", "standing alone", "all records used", "bad case",
 ]
-
-
-def check_probe(seen):
-    rng = random.Random(13)
-    cases = [from_nothing(rng) for _ in range(1_500)] + [from_records(rng) for _ in range(1_500)]
-    for data in [*cases, *long_lists(rng), *no_cases(rng)]:
-        printed = run(data)
-        due = programs.probe(data)
-        assert printed == due, (data.hex(), printed, due)
-        look(seen, data, printed)
-
-
-def check_afresh(seen):
-    """From count 0: the makers and ratings that the calls alone leave, in order."""
-    rng = random.Random(14)
-    for _ in range(500):
-        size = rng.choice((1, 2, 4, 9))
-        calls = [call(rng, 6) for _ in range(rng.randrange(40))]
-        *answers, last = run(case([(7, 7)] * size, 0, calls)).splitlines()
-        ratings, refused = standing.after(size, calls)
-        flat = [word for record in standing.in_order(ratings.items()) for word in record]
-        assert last.split() == ["standing", *map(str, flat)], (size, calls)
-        found = [int(answer.split()[1]) if answer.startswith("refused") else 0 for answer in answers]
-        assert found == refused, (size, calls)
-        seen["afresh"] += 1
-
-
-# ---------------------------------------------------------------- the command
-
-
-def command(source):
-    return commands.run("standing", "-", given=source)
-
-
-KNOWN = """\
-line 8: join 204 990: refused 24: the maker is present at a join, or absent at a change or leave
-line 10: change 118 700: refused 24: the maker is present at a join, or absent at a change or leave
-line 14: join 500 119: refused 25: every record is used
-place  maker  rating
-    1     31     910
-    2     77     905
-    3      5     300
-    4    412     300
-    5     96     120
-    6    204      60
-"""
-
-
-def check_command(seen):
-    """A refused call makes the status 1."""
-    status, printed, _ = command((ROOT / "examples/makers.standing").read_text(encoding="utf-8"))
-    assert (status, printed) == (1, KNOWN), printed
-    status, printed, _ = command("join 3 5 # the only one\n")
-    assert (status, printed) == (0, "place  maker  rating\n    1      3       5\n"), printed
-    wrong = ["jion 1 2", "join 1", "leave 1 0", "join 1 4294967296", "join x 1", "records 1000001",
-             "join 1 2\nrecords 3", "records"]
-    for source in wrong:
-        status, printed, complaint = command(source)
-        assert status == 1 and not printed and ":" in complaint, (source, printed, complaint)
-        seen["wrong text"] += 1
-
-
-def main():
-    seen = Counter()
-    check_probe(seen)
-    check_afresh(seen)
-    check_command(seen)
-    missing = [what for what in DUE if not seen[what]]
-    assert not missing, f"never showed: {missing}"
-    print("standing:", ", ".join(f"{what} {seen[what]}" for what in [*DUE, "afresh", "wrong text"]))
-
-
-if __name__ == "__main__":
-    main()

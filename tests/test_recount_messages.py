@@ -1,10 +1,10 @@
-"""Messages in the plain book (document 02, W11): the calls that they are, refusals, the count, and the
-blocks of a list."""
+"""Messages in the recount's book (document 02, W11): the calls that they are, refusals, the count, and the blocks of a list."""
 
 from recount import programs
 from recount.book import BUY, SELL, Accepted, Add, Ask, Book, Cancel, Commit, Drop, Message, Open, Refused, Ticket
 from recount.fix import WORD
-from recount.fix_checks import LATE, NEW, START, at, framed, raw, words
+from tests.fix_examples import LATE, NEW, START, at, framed, raw
+from tests.running import words
 
 ROW = [1, 1, 10_000, 500, 100, 1, 600]
 
@@ -37,7 +37,7 @@ def held(book: Book) -> tuple[object, ...]:
     return book.count, dict(book.cells), q and (q.cell, q.row, q.sp, q.limit, list(q.events), dict(q.live))
 
 
-def check_none_open() -> None:
+def test_none_open() -> None:
     """With no quantum open: 20 and 21 first, then 7, whatever the time and the side."""
     book = Book()
     for call in (new(5, 1), new(-1, 1), new(LATE, 1, volume=0), cancel(5, 1), replace(-1, 1, 1, side=2)):
@@ -53,7 +53,7 @@ def open_book() -> Book:
     return book
 
 
-def check_each_kind() -> None:
+def test_each_kind() -> None:
     """D is add, F cancels the order that 41 names, G is that cancel and an add under 11."""
     book = open_book()
     assert answer(book, new(0, 1)) == answer(book, new(0, 2, side=2, price=-7)) == 0 and book.count == 3
@@ -69,7 +69,7 @@ def check_each_kind() -> None:
     assert answer(book, replace(5, 8, 9)) == 0 and book.count == 1  # the count goes round
 
 
-def check_refusals() -> None:
+def test_refusals() -> None:
     """8 to 13 through each kind; for a G the cancel's, then the add's on the book after the cancel."""
     book = open_book()
     assert answer(book, new(-1, 1)) == answer(book, cancel(-1, 1)) == answer(book, replace(-1, 1, 1)) == 8
@@ -94,8 +94,8 @@ def check_refusals() -> None:
     assert answer(book, replace(10_000, 1, 99)) == answer(book, cancel(10_000, 1)) == 0
 
 
-def check_side() -> None:
-    """A G's 54 is held against the live order before 7 to 13; with no such order it is no cause."""
+def test_side() -> None:
+    """A G's 54 is compared with the live order before 7 to 13; with no such order it is no cause."""
     book = open_book()
     assert answer(book, new(5, 1)) == answer(book, new(5, 2, side=2)) == 0
     for call in (replace(5, 9, 1, side=2), replace(5, 9, 2), replace(-1, 9, 2), replace(LATE, 2, 1, side=2)):
@@ -108,7 +108,7 @@ def check_side() -> None:
     assert answer(book, Drop()) == 0 and answer(book, wrong) == 7
 
 
-def check_tickets() -> None:
+def test_tickets() -> None:
     """A refused message leaves a ticket good; an accepted D or F is one call, a G two."""
     book, named = open_book(), (5, 1, 100, 500)
     assert answer(book, new(5, 1)) == 0
@@ -123,7 +123,7 @@ def check_tickets() -> None:
 # ---------------------------------------------------------------- blocks
 
 
-def check_block() -> None:
+def test_block() -> None:
     data, report = raw(NEW), words(12)
     for start in (b"", START[:3], START, START + b"0"):
         for filling in (b"\0\0\0", b"\xff\1|"):
@@ -142,12 +142,3 @@ def check_block() -> None:
     for start, length in ((2**32 - 1, 2**32 - 1), (0, most + 1), (most, 1)):
         assert programs.replay(words(16, start, length)) == "too long\n"
     assert programs.replay(words(16, 1, most - 1)) == "stopped at word 1\n"
-
-
-def check() -> None:
-    check_none_open()
-    check_each_kind()
-    check_refusals()
-    check_side()
-    check_tickets()
-    check_block()

@@ -1,20 +1,14 @@
-"""What the live page is handed: its sentences, its sections against the library and the recount, the course of the day, asks.
-
-    /usr/bin/python3 tests/frames.py
-"""
+"""What the live page is handed: its sentences, its sections against the library and the recount, the course of the day, asks."""
 
 import copy
 import random
-import sys
 import time
 import tracemalloc
 from collections import Counter
 from decimal import Decimal
 from itertools import groupby
-from pathlib import Path
 
-ROOT = Path(__file__).resolve().parent.parent
-sys.path[:0] = [str(ROOT), str(ROOT / "python")]
+import pytest
 
 from quoting import calls as c
 from quoting.events import Add, Amend, Cancel
@@ -29,8 +23,10 @@ from quoting.watch.meter import Meter
 from recount import account as accounts
 from recount import book, programs
 from tests import calls_text, known, message_lists, months
+from tests.paths import EXAMPLES, PROGRAMMES
 
-EXAMPLES = ROOT / "examples"
+pytestmark = pytest.mark.usefixtures("library")
+
 KEYS = ["kept", "nobid", "noask", "neither", "crossed", "wide"]
 WORDS = ["kept", "no bid", "no ask", "neither quote", "locked or crossed", "too wide"]
 SERIES = [(expiry, quantum) for expiry in (1, 2) for quantum in (0, 1, 2)]
@@ -155,24 +151,25 @@ def lost_cases():
     yield opened(row="1 1 8:45:00 1000 150 0 60%", sp=0), 1 * H, (*lost, "Nothing can be kept: the spread limit is below 1.", why)
 
 
-def check_sentences():
+def in_utc(sentence):
+    for time_of_day in ("18:45:00", ":00 at the latest", ":59 at the latest"):
+        clock, _, rest = time_of_day.partition(" ")
+        sentence = sentence.replace(time_of_day, f"{clock} UTC {rest}".rstrip())
+    return sentence
+
+
+@pytest.mark.parametrize(("text", "now", "due"), [*keep_cases(), *rest_cases(), *hold_cases(), *lost_cases()])
+def test_sentences(text, now, due):
     """By a wall clock's start; in UTC and without a start the same, with what their times are."""
-    count = 0
-    for text, now, due in [*keep_cases(), *rest_cases(), *hold_cases(), *lost_cases()]:
-        found = band(meter_of(text, 10 * H), now)
-        assert found == due, (text, now, found, due)
-        found = band(meter_of(text, start=START), now)
-        assert found == tuple(each.replace("18:45:00", "18:45:00 UTC").replace(":00 at the latest", ":00 UTC at the latest")
-                              .replace(":59 at the latest", ":59 UTC at the latest") for each in due), (text, found)
-        kind, head, sub, why = band(meter_of(text), now)
-        assert (kind, head) == due[:2] and "18:45:00" not in sub + why, (text, sub, why)
-        told = any(word in due[2] + due[3] for word in ("18:45:00", "at the latest"))
-        assert why.endswith("Times count from the quantum's start.") == told, (text, why)
-        count += 1
-    return count
+    assert band(meter_of(text, 10 * H), now) == due
+    assert band(meter_of(text, start=START), now) == tuple(map(in_utc, due))
+    kind, head, sub, why = band(meter_of(text), now)
+    assert (kind, head) == due[:2] and "18:45:00" not in sub + why, (sub, why)
+    has_time = any(word in due[2] + due[3] for word in ("18:45:00", "at the latest"))
+    assert why.endswith("Times count from the quantum's start.") == has_time, why
 
 
-def check_other_bands():
+def test_other_bands():
     meter = meter_of(opened() + QUOTES.format(t="0:15:00") + "tick 4:00:00", 10 * H)
     due = ("broken", "Feed broken off", "Not known since 14:00:00",
            "Keep quoting until it is back. It was then: keep 1:30:00 more, from 17:15:00 at the latest.")
@@ -429,8 +426,9 @@ def toggled(rng, length):
             live ^= {id}
 
 
-def check_promises(rng):
+def test_promises(note):
     """At many moments of random quanta; each kind of band comes up."""
+    rng = random.Random(35)
     tried = Counter()
     for _ in range(60):
         pair = Pair()
@@ -445,7 +443,7 @@ def check_promises(rng):
                 tried[try_promise(pair.book, now, shown, outlook)] += 1
                 now = outlook.by if shown["kind"] == "keep" and outlook.by > now else None  # at the latest time too
     assert len(tried) == 5 and min(tried.values()) >= 5, tried
-    return sum(tried.values())
+    note(f"frames: {sum(tried.values())} promises of the band were tried out on the recount", tried)
 
 
 def moments(rng, quoting):
@@ -456,8 +454,9 @@ def moments(rng, quoting):
     return [last, last + 1, rng.randrange(last, length + 1), length + 5]
 
 
-def check_lists(rng):
+def test_lists(note):
     """Sections after prefixes of the examples and of random lists."""
+    rng = random.Random(31)
     lists = [c.blocks(calls_text.to_bytes(path.read_text()))[0] for path in sorted(EXAMPLES.glob("*.calls"))]
     lists += [c.blocks(calls_text.calls_bytes(months.any_calls(rng)[1]))[0] for _ in range(24)]
     lists += [c.blocks(calls_text.calls_bytes(message_lists.any_calls(rng)[1]))[0] for _ in range(4)]
@@ -472,7 +471,7 @@ def check_lists(rng):
             if at % often == 0 or at == len(blocks) - 1 or block[0] in ALTERING:
                 pair.compare(rng.choice(moments(rng, pair.book.quoting)))
                 looked += 1
-    return len(lists), looked
+    note(f"frames: {looked} looks at {len(lists)} lists by both readings")
 
 
 # ---------------------------------------------------------------- the course, millisecond by millisecond
@@ -514,8 +513,8 @@ def any_notes(rng, length):
     return notes
 
 
-def check_course(rng):
-    count = 0
+def test_course():
+    rng = random.Random(32)
     for _ in range(120):
         length = 1000 * rng.choice([1, 1, 2, 4, 7])
         course, notes = Course(length), any_notes(rng, length)
@@ -529,12 +528,11 @@ def check_course(rng):
             assert course.parts == parts, (notes, course.parts, parts)
             assert [tuple(each) for each in seen.stretches] == stretches[:NEWEST] and seen.earlier == max(0, len(stretches) - NEWEST), notes
             assert (seen.totals, seen.lapses, seen.going) == (totals, lapses, going), (notes, now)
-            count += 1
-    return count
 
 
-def check_day(rng):
+def test_day():
     """A client that gets the day piece by piece has in the end what a fresh one gets; of one quantum's nothing is left in the next."""
+    rng = random.Random(33)
     meter, held, got, sent = Meter("x"), {}, None, 0
     rows = [(1, 0, 4_000), (1, 1, 9_000)]
     for expiry, quantum, length in rows:
@@ -563,8 +561,9 @@ def check_day(rng):
 # ---------------------------------------------------------------- asks
 
 
-def check_asks(rng):
+def test_asks():
     """Both quotes, whether it would keep, the ticket and refusals, by the recount; the month stays as it is."""
+    rng = random.Random(34)
     asked, kinds = 0, set()
     while asked < 150:
         pair = Pair()
@@ -574,7 +573,6 @@ def check_asks(rng):
                 kinds.add(ask_once(rng, pair))
                 asked += 1
     assert {"kept", "refused"} < kinds and len(kinds) >= 6, kinds
-    return asked
 
 
 def ask_once(rng, pair):
@@ -605,7 +603,7 @@ def ask_once(rng, pair):
     return KEYS[state]
 
 
-def check_ask_texts():
+def test_ask_texts():
     """What is typed: times of day and from the start, decimals, and what cannot be read."""
     text = opened() + QUOTES.format(t="0") + "tick 5:00:00"
     known = meter_of(text, start=START)
@@ -644,7 +642,7 @@ def check_ask_texts():
 # ---------------------------------------------------------------- problems, faults, sizes
 
 
-def check_problems():
+def test_problems():
     meter = meter_of(f"{opened()}\ncancel 0:00:01 999", 10 * H)
     found = frames.sections(meter, 0, frames.Status(wall=CAME + 299))
     text = "refused 11: no order with this id is live (cancel 10:00:01 999)"
@@ -672,28 +670,29 @@ def check_problems():
     assert shown["count"] == 103 and len(shown["rows"]) == 20 and shown["rows"][0]["text"] == "again"
 
 
-def check_faults():
-    """A course that is not the report's stops the page, whichever figure it is; a difference of the recount goes before it."""
-    def spoil(course, name):
-        if name == "kept":
-            course._totals[0] += 1
-        elif name == "lapses":
-            course._lapses += 1
-        elif name == "state":
-            course.state = 5
-        else:
-            course._totals[4] += 1
+def spoil(course, name):
+    if name == "kept":
+        course._totals[0] += 1
+    elif name == "lapses":
+        course._lapses += 1
+    elif name == "state":
+        course.state = 5
+    else:
+        course._totals[4] += 1
 
-    for name in ("kept", "lapses", "state", "gone"):
-        meter = meter_of(opened() + QUOTES.format(t="0:15:00") + "tick 4:00:00", 10 * H)
-        assert frames.sections(meter, 4 * H, frames.Status())["differs"] is None
-        spoil(meter.course, name)
-        meter.calls += 1  # another call has come, so that the figures are made anew
-        found = frames.sections(meter, 4 * H, frames.Status())["differs"]
-        assert found["head"] == "Stop: the figures do not fit together" and found["call"] == 5, found
-        assert name in [row["word"] for row in found["rows"] if not row["same"]], (name, found)
-        told = {"call": 3, "head": "Stop: readings differ", "rows": [], "text": ""}
-        assert frames.sections(meter, 4 * H, frames.Status(differs=told))["differs"] == told
+
+@pytest.mark.parametrize("name", ["kept", "lapses", "state", "gone"])
+def test_faults(name):
+    """A course that is not the report's stops the page, whichever figure it is; a difference of the recount goes before it."""
+    meter = meter_of(opened() + QUOTES.format(t="0:15:00") + "tick 4:00:00", 10 * H)
+    assert frames.sections(meter, 4 * H, frames.Status())["differs"] is None
+    spoil(meter.course, name)
+    meter.calls += 1  # another call has come, so that the figures are made again
+    found = frames.sections(meter, 4 * H, frames.Status())["differs"]
+    assert found["head"] == "Stop: the figures do not fit together" and found["call"] == 5, found
+    assert name in [row["word"] for row in found["rows"] if not row["same"]], found
+    differs = {"call": 3, "head": "Stop: readings differ", "rows": [], "text": ""}
+    assert frames.sections(meter, 4 * H, frames.Status(differs=differs))["differs"] == differs
 
 
 def dense(count, orders=30, length=31_500_000):
@@ -710,7 +709,7 @@ def dense(count, orders=30, length=31_500_000):
         yield c.block(Amend(t, id, price, volume))
 
 
-def check_sizes():
+def test_sizes(note):
     """What is held does not grow with the events, and a call is quick."""
     sent = [Sent(block, "line 1") for block in dense(16_000)]
     slices = [sent[first : first + 2_000] for first in range(0, len(sent), 2_000)]
@@ -731,13 +730,12 @@ def check_sizes():
     assert 1_400 < len(course.parts) <= 1_500 and len(course._ended) == NEWEST and course._count > 4_000, course._count
     best = 1e6 * min(took)
     assert best < 60, took
-    return best
+    note(f"frames: the meter took {best:.0f} µs a call")
 
 
-def check_logs():
+def test_logs():
     """The Brent month with its log: the statement's calls, and in the end the statement's fee."""
-    programmes = EXAMPLES / "programmes"
-    listed = from_list(str(programmes / "brent.month"), Options(), [str(programmes / "brent.log")])
+    listed = from_list(str(PROGRAMMES / "brent.month"), Options(), [str(PROGRAMMES / "brent.log")])
     pair = Pair()
     for at, sent in enumerate(listed.calls):
         pair.take(sent.block)
@@ -760,33 +758,10 @@ class FixedClock:
         return self.ms
 
 
-def check_clock():
+def test_clock():
     """What a clock says is held between the last event and the end."""
     meter = meter_of(opened() + QUOTES.format(t="1:00:00"), start=START)
     for says, due in ((0, H), (2 * H, 2 * H), (99 * H, 31_500_000)):
         clock = FixedClock(says)
         assert meter.now_at(clock) == due and clock.asked == (START, H, CAME)
     assert meter_of("").now_at(FixedClock(5)) == 0
-
-
-def main():
-    said = check_sentences()
-    check_other_bands()
-    lists, looked = check_lists(random.Random(31))
-    check_logs()
-    promises = check_promises(random.Random(35))
-    course = check_course(random.Random(32))
-    check_day(random.Random(33))
-    asked = check_asks(random.Random(34))
-    check_ask_texts()
-    check_problems()
-    check_faults()
-    check_clock()
-    best = check_sizes()
-    looks = f"{looked} looks at {lists} lists by both readings"
-    print(f"frames: {said} sentences, {promises} promises, {looks}, {course} courses, {asked} asks, {best:.0f} µs a call")
-    return 0
-
-
-if __name__ == "__main__":
-    sys.exit(main())

@@ -31,7 +31,7 @@ MUST_SHOW = [
 ]
 
 
-def sights(calls, answers):
+def situations(calls, answers):
     """What the calls and their lines show."""
     opened = None
     for call, answer in zip(calls, answers):
@@ -39,10 +39,10 @@ def sights(calls, answers):
             opened = call
         elif isinstance(call, Outlook):
             found = LINE.fullmatch(answer)
-            yield from outlook_sights(opened, found.groups()) if found else [f"an outlook refused by {answer[8:]}"]
+            yield from outlook_situations(opened, found.groups()) if found else [f"an outlook refused by {answer[8:]}"]
 
 
-def outlook_sights(opened, shown):
+def outlook_situations(opened, shown):
     need, left, by, full, lapses, rest, lost, resting, keeping = shown
     need, left, resting, keeping = int(need), int(left), int(resting), int(keeping)
     row = Row(*opened.words)
@@ -53,9 +53,9 @@ def outlook_sights(opened, shown):
     elif left <= 8:
         yield "an outlook with a few milliseconds left"
     if lost == "yes":
-        yield from lost_sights(need, left, lapses, can_keep)
+        yield from lost_situations(need, left, lapses, can_keep)
         return
-    yield from open_sights(need, left, now, by, lapses, rest)
+    yield from open_situations(need, left, now, by, lapses, rest)
     if full == "never":
         yield "the full weight never, and not lost"
     else:
@@ -66,7 +66,7 @@ def outlook_sights(opened, shown):
         yield "resting and keeping weigh the same"
 
 
-def lost_sights(need, left, lapses, can_keep):
+def lost_situations(need, left, lapses, can_keep):
     if need <= left and can_keep and lapses == "over":
         yield "lost with lapses over alone"
     if need == left + 1 and lapses != "over":
@@ -75,7 +75,7 @@ def lost_sights(need, left, lapses, can_keep):
         yield "lost with a spread limit below 1, with nothing else in the way"
 
 
-def open_sights(need, left, now, by, lapses, rest):
+def open_situations(need, left, now, by, lapses, rest):
     if left and rest == "yes":
         yield "nothing more needed, and the maker may rest"
         if lapses == "0":

@@ -1,7 +1,4 @@
-"""`quoting settle` on folders of sessions: the recount's figures, order, refusals, resuming, memory, and a Dask cluster that loses a worker.
-
-    /usr/bin/python3 tests/settle.py
-"""
+"""`quoting settle` on folders of sessions: the recount's figures, order, refusals, resuming, memory, and a Dask cluster that loses a worker."""
 
 import csv
 import os
@@ -10,20 +7,20 @@ import signal
 import socket
 import subprocess
 import sys
-import tempfile
 import time
 from contextlib import ExitStack
 from pathlib import Path
 
-ROOT = Path(__file__).resolve().parent.parent
-sys.path[:0] = [str(ROOT), str(ROOT / "python")]
+import pytest
 
 from quoting import texts
 from recount import book, programs, records
 from recount import session as recounted
 from tests import command
+from tests.paths import QUOTING, ROOT
 
-QUOTING = ROOT / "quoting"
+pytestmark = pytest.mark.usefixtures("library")
+
 HEAD = recounted.HEAD
 ENVIRONMENT = {**os.environ, "PYTHONPATH": str(ROOT / "python")}
 
@@ -109,8 +106,15 @@ def due(data):
 # ---------------------------------------------------------------- the table
 
 
-def check_figures(folder, made):
+@pytest.fixture
+def day(tmp_path):
+    """A folder of 60 sessions, and their bytes by name."""
+    return tmp_path / "day", fill(tmp_path / "day", random.Random(1), 60)
+
+
+def test_figures(day):
     """Every figure is the recount's, in the order of the names, with any number of threads."""
+    folder, made = day
     status, summary, said = settle(folder.name, "-o", "one.csv", "--threads", "1", cwd=folder.parent)
     rows = rows_of(folder.parent / "one.csv")
     assert (status, said) == (0, ""), (status, said)
@@ -129,45 +133,49 @@ def check_figures(folder, made):
     assert printed == (folder.parent / "one.csv").read_text() and status == 0
 
 
-def check_refusals(folder, made):
+# A session that is refused or can't be read: its bytes, and its row's status, refusal and place.
+BAD = {
+    "bad-id.session": (b"row 1 1 0:00:10 500 100 1 60%\nsp 2000\ncancel 0 7\n", ("refused", "11", "record 1, line 3")),
+    "cut.bin": (None, ("refused", "15", "record 61")),
+    "no-row.csv": (b"t,kind,id,side,price,volume\n", ("unreadable", "", "")),
+    "no-text.session": (b"row 1\xc3\xa9\n\xff", ("unreadable", "", "line 2")),
+    "short.bin": (bytes(31), ("refused", "1", "")),
+    "word.session": (b"row 1 1 0:00:10 500 100 1 60%\nsp 2000\nadd 0 1 bid 99 500\n", ("unreadable", "", "line 3")),
+}
+
+
+def test_refusals(day):
     """What is refused or can't be read is a row and a line on standard error, and the others are settled."""
-    bad = {
-        "bad-id.session": ("refused", "11", "record 1, line 3"), "cut.bin": ("refused", "15", "record 61"),
-        "no-row.csv": ("unreadable", "", ""), "no-text.session": ("unreadable", "", "line 2"), "short.bin": ("refused", "1", ""),
-        "word.session": ("unreadable", "", "line 3"),
-    }
-    whole = a_session(random.Random(5), 59)
-    contents = {
-        "bad-id.session": b"row 1 1 0:00:10 500 100 1 60%\nsp 2000\ncancel 0 7\n", "cut.bin": whole[:-1],
-        "no-row.csv": b"t,kind,id,side,price,volume\n", "no-text.session": b"row 1\xc3\xa9\n\xff", "short.bin": bytes(31),
-        "word.session": b"row 1 1 0:00:10 500 100 1 60%\nsp 2000\nadd 0 1 bid 99 500\n",
-    }
-    for name, content in contents.items():
-        (folder / name).write_bytes(content)
-    names = [*sorted([*made, *bad])]
+    folder, made = day
+    for name, (content, _) in BAD.items():
+        (folder / name).write_bytes(a_session(random.Random(5), 59)[:-1] if content is None else content)
+    names = [*sorted([*made, *BAD])]
     (folder.parent / "list").write_text("".join(f"{folder.name}/{name}\n" for name in [*names, "absent"]))
     status, summary, said = settle("list", "-o", "bad.csv", cwd=folder.parent)
     rows = {Path(row["file"]).name: row for row in rows_of(folder.parent / "bad.csv")}
     assert list(rows) == [*names, "absent"] and status == 1
-    for name, told in bad.items():
+    for name, (_, wanted) in BAD.items():
         row = rows[name]
-        assert (row["status"], row["refusal"], row["place"]) == told and row["reason"] and not row["kept"], row
+        assert (row["status"], row["refusal"], row["place"]) == wanted and row["reason"] and not row["kept"], row
         assert f"{folder.name}/{name}: " in said, said
     assert rows["absent"]["reason"] == "No such file or directory"
     assert all(rows[name]["status"] == "settled" for name in made)
     assert "3 refused, 4 unreadable" in summary, summary
-    for name in bad:
-        (folder / name).unlink()
-    assert settle(folder.name, "-o", "/dev/full", cwd=folder.parent)[0] == 1
-    assert settle(folder.name, "--resume", cwd=folder.parent)[0] == 2
-    status, told, _ = settle("--help", cwd=folder.parent)
-    assert status == 0 and "examples:" in told and "quoting settle" in told
-    status, _, said = settle(folder.name, "--scheduler", "no such address", cwd=folder.parent)
+
+
+def test_wrong_use(tmp_path):
+    """A device that is full, --resume without a file, help, a scheduler and a folder that are not there."""
+    fill(tmp_path / "day", random.Random(1), 3)
+    assert settle("day", "-o", "/dev/full", cwd=tmp_path)[0] == 1
+    assert settle("day", "--resume", cwd=tmp_path)[0] == 2
+    status, printed, _ = settle("--help", cwd=tmp_path)
+    assert status == 0 and "examples:" in printed and "quoting settle" in printed
+    status, _, said = settle("day", "--scheduler", "no such address", cwd=tmp_path)
     assert status == 1 and "--scheduler no such address: " in said, said
-    assert settle("absent", "-o", "no.csv", cwd=folder.parent)[0] == 1 and not (folder.parent / "no.csv").exists()
+    assert settle("absent", "-o", "no.csv", cwd=tmp_path)[0] == 1 and not (tmp_path / "no.csv").exists()
 
 
-# ---------------------------------------------------------------- left off and resumed
+# ---------------------------------------------------------------- stopped and resumed
 
 
 def wait_for(path, size, process):
@@ -184,16 +192,18 @@ def left_off(folder, how):
     """The status and complaints of a run that a signal ended, with its part left."""
     part = folder.parent / "on.csv.part"
     part.unlink(missing_ok=True)
-    run = subprocess.Popen([QUOTING, "settle", folder.name, "-o", "on.csv", "--threads", "1"], cwd=folder.parent, stderr=subprocess.PIPE, preexec_fn=command.heeds_interrupts)
+    run = subprocess.Popen([QUOTING, "settle", folder.name, "-o", "on.csv", "--threads", "1"], cwd=folder.parent, stderr=subprocess.PIPE, preexec_fn=command.restore_sigint)
     wait_for(part, 400, run)
     run.send_signal(how)
     said = run.communicate()[1].decode()
     return run.returncode, said
 
 
-def check_resume(folder, made):
-    """A run that was ended goes on behind its last whole row, and the table is the same."""
+def test_resume(day):
+    """A run that was ended goes on after its last whole row, and the table is the same."""
+    folder, made = day
     here, part = folder.parent, folder.parent / "on.csv.part"
+    settle(folder.name, "-o", "one.csv", cwd=here)
     whole = (here / "one.csv").read_bytes()
     assert left_off(folder, signal.SIGINT) == (130, "quoting: stopped\n") and whole.startswith(part.read_bytes())
     left_off(folder, signal.SIGKILL)
@@ -212,32 +222,33 @@ def check_resume(folder, made):
 
 # ---------------------------------------------------------------- memory
 
+# The peak is that of the process itself; getrusage would count the test's own before the child began.
 PEAK = """
-import resource, sys
+import sys
 from quoting.cli import main
 main(["settle", sys.argv[1], "-o", sys.argv[2], "--threads", "2"])
-print(resource.getrusage(resource.RUSAGE_SELF).ru_maxrss)
+print(next(line.split()[1] for line in open("/proc/self/status") if line.startswith("VmHWM:")))
 """
 
 
-def check_memory(here):
+def test_memory(tmp_path, note):
     """Ten times the sessions need no more memory: 4 and 40 of 4 MB each."""
     one, peaks = a_session(random.Random(3), 20_000), []
     front = HEAD.size + 2 * 20  # with both adds
     long = one[:front] + sorted_by_time(one[front:] * 10)
     for count in (4, 40):
-        folder = here / f"large{count}"
+        folder = tmp_path / f"large{count}"
         folder.mkdir()
         for at in range(count):
             (folder / f"{at:02}.bin").write_bytes(long)
         done = subprocess.run(
-            [sys.executable, "-c", PEAK, folder, here / "large.csv"], env=ENVIRONMENT, capture_output=True, text=True, check=True)
+            [sys.executable, "-c", PEAK, folder, tmp_path / "large.csv"], env=ENVIRONMENT, capture_output=True, text=True, check=True)
         peaks.append(int(done.stdout.split()[-1]))
-        assert {row["status"] for row in rows_of(here / "large.csv")} == {"settled"}
+        assert {row["status"] for row in rows_of(tmp_path / "large.csv")} == {"settled"}
         for each in folder.iterdir():
             each.unlink()
     assert peaks[1] < peaks[0] + 12_000, peaks
-    return peaks
+    note(f"settle: 4 and 40 large sessions in {peaks[0]} and {peaks[1]} KB")
 
 
 def sorted_by_time(records):
@@ -262,25 +273,6 @@ def process(stack, *words):
     return made
 
 
-def check_cluster(here):
-    """A scheduler and two workers as processes, one killed in the middle: the same table."""
-    fill(here / "many", random.Random(9), 240, 400)
-    settle("many", "-o", "alone.csv", cwd=here)
-    with ExitStack() as stack:
-        address = f"tcp://127.0.0.1:{free_port()}"
-        process(stack, "distributed.cli.dask_scheduler", "--host", "127.0.0.1", "--port", address.rsplit(":", 1)[1], "--no-dashboard")
-        worker = ["distributed.cli.dask_worker", address, "--nthreads", "1", "--no-nanny", "--no-dashboard"]
-        first, _ = process(stack, *worker), process(stack, *worker)
-        wait_for_workers(address, 2)
-        run = subprocess.Popen([QUOTING, "settle", "many", "-o", "many.csv", "--scheduler", address], cwd=here, stdout=subprocess.PIPE)
-        wait_for(here / "many.csv.part", 2_000, run)
-        assert run.poll() is None
-        first.kill()
-        told = run.communicate(timeout=120)[0].decode()
-    assert run.returncode == 0 and told.startswith("240 sessions: "), told
-    assert (here / "many.csv").read_bytes() == (here / "alone.csv").read_bytes()
-
-
 WORKERS = """
 import sys
 from distributed import Client
@@ -293,17 +285,20 @@ def wait_for_workers(address, count):
     subprocess.run([sys.executable, "-c", WORKERS, address, str(count)], check=True, capture_output=True)
 
 
-def main():
-    with tempfile.TemporaryDirectory() as name:
-        here = Path(name)
-        made = fill(here / "day", random.Random(1), 60)
-        check_figures(here / "day", made)
-        check_refusals(here / "day", made)
-        check_resume(here / "day", made)
-        low, high = check_memory(here)
-        check_cluster(here)
-    print(f"settle: 60 sessions as the recount has them, resumed, refused; 4 and 40 large ones in {low} and {high} KB; a worker lost, nothing else")
-
-
-if __name__ == "__main__":
-    main()
+def test_cluster(tmp_path):
+    """A scheduler and two workers as processes, one killed in the middle: the same table."""
+    fill(tmp_path / "many", random.Random(9), 240, 400)
+    settle("many", "-o", "alone.csv", cwd=tmp_path)
+    with ExitStack() as stack:
+        address = f"tcp://127.0.0.1:{free_port()}"
+        process(stack, "distributed.cli.dask_scheduler", "--host", "127.0.0.1", "--port", address.rsplit(":", 1)[1], "--no-dashboard")
+        worker = ["distributed.cli.dask_worker", address, "--nthreads", "1", "--no-nanny", "--no-dashboard"]
+        first, _ = process(stack, *worker), process(stack, *worker)
+        wait_for_workers(address, 2)
+        run = subprocess.Popen([QUOTING, "settle", "many", "-o", "many.csv", "--scheduler", address], cwd=tmp_path, stdout=subprocess.PIPE)
+        wait_for(tmp_path / "many.csv.part", 2_000, run)
+        assert run.poll() is None
+        first.kill()
+        printed = run.communicate(timeout=120)[0].decode()
+    assert run.returncode == 0 and printed.startswith("240 sessions: "), printed
+    assert (tmp_path / "many.csv").read_bytes() == (tmp_path / "alone.csv").read_bytes()

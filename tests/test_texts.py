@@ -2,12 +2,11 @@
 
 import random
 import re
-import sys
-from pathlib import Path
 from xml.etree import ElementTree
 
-ROOT = Path(__file__).resolve().parent.parent
-sys.path[:0] = [str(ROOT), str(ROOT / "python")]
+import pytest
+from hypothesis import given, settings
+from hypothesis import strategies as st
 
 from quoting import calls as package_calls
 from quoting import picture, reading, texts
@@ -16,50 +15,71 @@ from recount.book import Accepted, Book, Message, Open, Row, row_fits
 from tests import calls_text as calls
 from tests import known, message_lists, months
 from tests import session_text as session
+from tests.paths import EXAMPLES, PROGRAMMES, ROOT
+from tests.running import words as packed
+
+pytestmark = pytest.mark.usefixtures("library")
+
+SESSIONS, LISTS = (sorted(EXAMPLES.glob(pattern)) for pattern in ("*.session", "*.calls"))
 
 
-def check_examples():
+def name_of(path):
+    return path.stem
+
+
+def test_examples_are_there():
+    assert SESSIONS and LISTS
+
+
+@pytest.mark.parametrize("path", [*SESSIONS, *LISTS], ids=lambda path: path.name)
+def test_examples(path):
     """Each example turns into bytes, and its bytes into a text of the same bytes."""
-    for pattern, tool in (("*.session", session), ("*.calls", calls)):
-        found = sorted((ROOT / "examples").glob(pattern))
-        assert found, pattern
-        for path in found:
-            data = tool.to_bytes(path.read_text())
-            assert tool.to_bytes(tool.to_text(data)) == data, path.name
+    tool = session if path.suffix == ".session" else calls
+    data = tool.to_bytes(path.read_text())
+    assert tool.to_bytes(tool.to_text(data)) == data
+
+
+def test_words():
+    """What words a line becomes."""
     written = calls.to_bytes("commit 0:00:01 2 -3 4 ticket 5 6 -7 8 4294967298\nask 1 2 -1 4")
     due = f"words 15 1000 2 {2**32 - 3} 4 5 6 {2**32 - 7} 8 2 1 14 1 2 {2**32 - 1} 4"
     assert written == calls.to_bytes(due)
-    example = (ROOT / "examples" / "document01.session").read_text()
     for line in ("lapses none", "lapses 65535", ""):
         assert calls.to_bytes(f"open row 1 day 1 sp 1 {line}")[-4:] == b"\xff\xff\0\0", line
         strike = calls.to_bytes(f"strike row 1 day 1 a 2 difference 3 days 4 b 5 {line}")
         assert strike == calls.to_bytes("words 13 1 1 1 2 3 4 5 65535"), line
-    for word, tenths in (("60%", 600), ("600 tenths", 600), ("72.5%", 725), ("0.1%", 1), ("79.9%", 799), ("80.0%", 800)):
-        row = f"1 1 10000 500 100 1 {word}"
-        assert session.row_words(row.split())[6] == tenths, word
-        opened = programs.read_calls(calls.to_bytes(f"open row {row} day 1 sp 1"))[0][0]
-        assert opened.words[6] == tenths, word
-    printed = "kept 6000 of 10000\npair 0 6000\nverdict met\nweight 10000\n"
-    assert programs.sheet(session.to_bytes(example)) == printed
 
 
-def check_answers():
+@pytest.mark.parametrize(("word", "tenths"), [("60%", 600), ("600 tenths", 600), ("72.5%", 725), ("0.1%", 1), ("79.9%", 799), ("80.0%", 800)])
+def test_shares(word, tenths):
+    row = f"1 1 10000 500 100 1 {word}"
+    assert session.row_words(row.split())[6] == tenths
+    opened = programs.read_calls(calls.to_bytes(f"open row {row} day 1 sp 1"))[0][0]
+    assert opened.words[6] == tenths
+
+
+def test_session_of_document_01():
+    example = (EXAMPLES / "document01.session").read_text()
+    assert programs.sheet(session.to_bytes(example)) == "kept 6000 of 10000\npair 0 6000\nverdict met\nweight 10000\n"
+
+
+@pytest.mark.parametrize("path", LISTS, ids=name_of)
+def test_answers(path):
     """What the comments of an example say of refusals is so, and fix.answers has all of its lines."""
-    for path in sorted((ROOT / "examples").glob("*.calls")):
-        answers = programs.replay(calls.to_bytes(path.read_text())).splitlines()
-        lines = [line for line in path.read_text().splitlines() if line.split("#")[0].strip()]
-        assert len(lines) == len(answers), path.name
-        for line, answer in zip(lines, answers):
-            said = re.match(r" *refused [0-9]+", line.partition("#")[2])
-            assert said is None or said[0].strip() == answer, (path.name, line, answer)
-        if path.stem == "fix":
-            assert "".join(f"{answer}\n" for answer in answers) == path.with_suffix(".answers").read_text()
+    answers = programs.replay(calls.to_bytes(path.read_text())).splitlines()
+    lines = [line for line in path.read_text().splitlines() if line.split("#")[0].strip()]
+    assert len(lines) == len(answers)
+    for line, answer in zip(lines, answers):
+        said = re.match(r" *refused [0-9]+", line.partition("#")[2])
+        assert said is None or said[0].strip() == answer, (line, answer)
+    if path.stem == "fix":
+        assert "".join(f"{answer}\n" for answer in answers) == path.with_suffix(".answers").read_text()
 
 
 MESSAGE = "8=FIX.4.4|9=40|35=F|11=8|41=7|60=20261115-10:00:00.001|10=081|"
 
 
-def check_message_texts():
+def test_message_texts():
     """A message in its several texts, and the one that its bytes turn into."""
     data = MESSAGE.replace("|", "\1").encode()
     start, body = "20261115-10:00:00.000", MESSAGE[15:-7]
@@ -70,7 +90,7 @@ def check_message_texts():
         assert programs.read_calls(written) == ([due], None), line
         assert calls.to_text(written) == f"message {start} frame {body}\n", line
     size = len(start) + len(data)
-    assert written[:12] == calls.pack([16, len(start), len(data)]) and len(written) == 12 + size + -size % 4
+    assert written[:12] == packed(16, len(start), len(data)) and len(written) == 12 + size + -size % 4
     # Each other sign, no bytes at all, and words of the text itself as bytes.
     for data, shown in [
         (b"", "-"), (b"-", r"\x2d"), (b"--", "--"), (b"frame", r"\x66rame"), (b"\x01\x01", "||"), (b"\\x41", r"\\x41"),
@@ -83,8 +103,9 @@ def check_message_texts():
         assert programs.read_calls(calls.to_bytes(line))[0] == [Message(b"", data)], line
 
 
-def check_message_bytes(rng):
+def test_message_bytes():
     """Any start and message, with any filling, among other calls."""
+    rng = random.Random(2)
     signs = b"\1=|\\#- x0189" + bytes(range(256))
     filled = 0
     for _ in range(500):
@@ -93,8 +114,8 @@ def check_message_bytes(rng):
             data = fix.framed(data)
         size = -(len(start) + len(data)) % 4
         filling = rng.choice([bytes(size), rng.randbytes(size)])
-        block = calls.pack([16, len(start), len(data)]) + start + data + filling
-        block = calls.pack([12]) + block + calls.pack([12])
+        block = packed(16, len(start), len(data)) + start + data + filling
+        block = packed(12) + block + packed(12)
         shown = calls.to_text(block)
         assert calls.to_bytes(shown) == block, (block.hex(), shown)
         assert (f"message {texts.message_text(start)} " in shown) == (not any(filling)), shown
@@ -102,29 +123,29 @@ def check_message_bytes(rng):
     assert 50 < filled < 450, filled
 
 
-def check_pictures():
+@pytest.mark.parametrize("path", SESSIONS, ids=name_of)
+def test_pictures(path):
     """Each session gives a picture, and the one in docs/ is of the present example."""
-    for path in sorted((ROOT / "examples").glob("*.session")):
-        data = session.to_bytes(path.read_text())
-        svg = picture.picture(path.stem, data)
-        for drawn in (svg, picture.picture(path.stem, data, 0), picture.picture(path.stem, data, 1_000)):
-            ElementTree.fromstring(drawn)
-        if path.stem == "brent":
-            assert svg == (ROOT / "docs" / "session.svg").read_text(), "docs/session.svg is old"
+    data = session.to_bytes(path.read_text())
+    svg = picture.picture(path.stem, data)
+    for drawn in (svg, picture.picture(path.stem, data, 0), picture.picture(path.stem, data, 1_000)):
+        ElementTree.fromstring(drawn)
+    if path.stem == "brent":
+        assert svg == (ROOT / "docs" / "session.svg").read_text(), "docs/session.svg is old"
 
 
-def check_picture_limit():
+def test_picture_limit():
     """The count against the limit, and the verdict by it; none without a limit."""
-    data = session.to_bytes((ROOT / "examples" / "document01.session").read_text())
+    data = session.to_bytes((EXAMPLES / "document01.session").read_text())
     assert "lapses" not in picture.picture("one", data)
     for limit, said in ((0, "one: failed, weight 0<"), (1, "one: met, weight 10000<")):
         svg = picture.picture("one", data, limit)
         assert f"lapses 1, at most {limit}<" in svg and said in svg, limit
 
 
-def check_picture_words():
+def test_picture_words():
     """The required share is drawn in percent, half ones too; a long name leaves room for the verdict."""
-    source = (ROOT / "examples" / "document01.session").read_text()
+    source = (EXAMPLES / "document01.session").read_text()
     for share, said in (("60%", "required 60%<"), ("72.5%", "required 72.5%<"), ("1 tenths", "required 0.1%<")):
         svg = picture.picture("one", session.to_bytes(source.replace("1 60%\n", f"1 {share}\n")))
         assert said in svg, share
@@ -138,7 +159,7 @@ def kept_rects(svg):
     return [(float(height), float(width)) for _, y, width, height in found if picture.TOP <= float(y) < picture.BOTTOM]
 
 
-def check_picture_gaps():
+def test_picture_gaps():
     """Gaps shorter than a pixel are drawn as their share, longer ones as they are."""
     lines = ["row 1 1 790_000 1 100 1 60%", "sp 2000", "add 0 1 buy 99 1", "add 0 2 sell 100 1"]
     for second in range(790):
@@ -151,10 +172,10 @@ def check_picture_gaps():
     assert kept_rects(picture.picture("long", session.to_bytes(long))) == [(tall, 100.0), (tall, 590.0)]
 
 
-def check_rows():
+def test_rows():
     """Every row of the programmes is one that a month opens with."""
     rows = 0
-    for file in sorted((ROOT / "examples" / "programmes").glob("*.rows")):
+    for file in sorted(PROGRAMMES.glob("*.rows")):
         for at, name, words in reading.lines(file.read_text()):
             row = session.row_words(words)
             assert row_fits(Row(*row)), (file, at, name)
@@ -163,12 +184,17 @@ def check_rows():
     assert rows == 56 + 120 + 72 + 12 + 24, rows
 
 
-def check_any_bytes(rng):
+def some_bytes(*likely):
+    """Any bytes, and bytes out of a few, so that kinds of records and calls are among them."""
+    return st.binary(max_size=120) | st.lists(st.sampled_from(likely), max_size=120).map(bytes)
+
+
+@settings(derandomize=True, database=None, deadline=None, max_examples=200)
+@pytest.mark.parametrize("tool", [session, calls], ids=["session", "calls"])
+@given(data=some_bytes(0, 0, 0, 1, 2, 3, 6, 13, 14, 15, 16, 255))
+def test_any_bytes(tool, data):
     """Whatever the bytes, their text turns into them again."""
-    for _ in range(500):
-        data = bytes(rng.choice([0, 0, 0, 1, 2, 3, 6, 13, 14, 15, 16, 255]) for _ in range(rng.randrange(120)))
-        assert session.to_bytes(session.to_text(data)) == data, data.hex()
-        assert calls.to_bytes(calls.to_text(data)) == data, data.hex()
+    assert tool.to_bytes(tool.to_text(data)) == data
 
 
 ERRORS = [  # what reads, a text, the line and what is said
@@ -220,19 +246,16 @@ ERRORS = [  # what reads, a text, the line and what is said
 ]
 
 
-def check_errors():
-    for tool, source, line, said in ERRORS:
-        try:
-            tool.to_bytes(source)
-        except reading.TextError as error:
-            found = (error.line, str(error)[: len(said)])
-            assert found == (line, said), (source, error.line, str(error))
-        else:
-            raise AssertionError(f"accepted: {source!r}")
+@pytest.mark.parametrize(("tool", "source", "line", "said"), ERRORS, ids=[said[:30] for *_, said in ERRORS])
+def test_errors(tool, source, line, said):
+    with pytest.raises(reading.TextError) as error:
+        tool.to_bytes(source)
+    assert (error.value.line, str(error.value)[: len(said)]) == (line, said)
 
 
-def check_calls(rng):
+def test_calls():
     """The package's block of a call is the tests' own, and its line reads back, for all lists that the tests make."""
+    rng = random.Random(3)
     seen = set()
     for _ in range(60):
         for call in [*months.any_calls(rng)[1], *known.ask_calls(), *known.outlook_calls(), *message_lists.any_calls(rng)[1]]:
@@ -242,24 +265,3 @@ def check_calls(rng):
             assert calls.to_bytes(texts.block_line(block)) == block, call
             seen.add(type(call).__name__)
     assert len(seen) == 16, seen
-
-
-def main():
-    check_examples()
-    check_answers()
-    check_message_texts()
-    check_message_bytes(random.Random(2))
-    check_pictures()
-    check_picture_limit()
-    check_picture_words()
-    check_picture_gaps()
-    check_rows()
-    check_any_bytes(random.Random(1))
-    check_errors()
-    check_calls(random.Random(3))
-    print("texts: examples, pictures, rows, round trips and errors are right")
-    return 0
-
-
-if __name__ == "__main__":
-    sys.exit(main())

@@ -7,18 +7,14 @@ cover the kept milliseconds and no others, the run's list must be one, and every
 more pairs. It fails too where no other list has two pairs that overlap, touch or start together.
 """
 
-import sys
 from collections import Counter, defaultdict
-from pathlib import Path
 
-ROOT = Path(__file__).resolve().parent.parent
-sys.path.insert(0, str(ROOT))
+import pytest
 
 from recount import programs, records
 from recount.book import BUY, SELL, Add, Cancel, Tick
-from tests.differential import run_program, words
+from tests.running import run_program, words
 
-PROBE = ROOT / "target" / "bin" / "probe"
 WINDOW = 7  # milliseconds
 MOST = 4  # stretches that so many milliseconds can have
 ROW = [1, 0, 1_000, 1, 0, 1, 600]
@@ -34,14 +30,15 @@ def covered(pairs):
     return bits
 
 
-def all_lists():
+@pytest.fixture(scope="module")
+def lists():
     """All sorted lists of pairs in the window, by what they cover."""
     ones = [(o, n) for o in range(WINDOW) for n in range(1, WINDOW - o + 1)]
-    lists, found = [()], defaultdict(list)
+    so_far, found = [()], defaultdict(list)
     for _ in range(MOST + 1):
-        for pairs in lists:
+        for pairs in so_far:
             found[covered(pairs)].append(pairs)
-        lists = [l + (p,) for l in lists for p in ones if not l or l[-1][0] <= p[0]]
+        so_far = [l + (p,) for l in so_far for p in ones if not l or l[-1][0] <= p[0]]
     return found
 
 
@@ -90,8 +87,8 @@ def shows(pairs):
             yield "touch"
 
 
-def check_the_check(lists):
-    """A list with a pair in two, in another order, with one twice, too short or too long is told."""
+def test_is_fewest(lists):
+    """A list with a pair in two, in another order, with one twice, too short or too long is found out."""
     kept = 0b1011011
     assert is_fewest(lists, kept, ((0, 2), (3, 2), (6, 1)))
     for wrong in [
@@ -101,31 +98,19 @@ def check_the_check(lists):
         assert not is_fewest(lists, kept, wrong), wrong
 
 
-def main():
-    lists = all_lists()
-    check_the_check(lists)
-    seen, sessions = Counter(), 0
+@pytest.mark.parametrize("shown", ["start together", "overlap", "touch"])
+def test_other_lists(lists, shown):
+    """Some list that is not the fewest has two pairs that do so."""
+    seen = Counter(each for kept in range(1 << WINDOW) for pairs in lists[kept] for each in set(shows(pairs)))
+    assert seen[shown]
+
+
+@pytest.mark.usefixtures("programs")
+@pytest.mark.parametrize("busy", [False, True], ids=["calm", "busy"])
+@pytest.mark.parametrize("at", [0, LENGTH - WINDOW], ids=["start", "end"])
+def test_fewest_pairs(lists, at, busy, note):
     for kept in range(1 << WINDOW):
-        for pairs in lists[kept]:
-            seen.update(set(shows(pairs)))
-        for at in (0, LENGTH - WINDOW):
-            for busy in (False, True):
-                case = words(1, 2 * MOST + 1, FILL, len(ROW), *ROW, 0) + session_bytes(kept, at, busy)
-                for name, answer in [
-                    ("probe", run_program(PROBE, case)), ("the recount", programs.probe(case)),
-                ]:
-                    if not is_fewest(lists, kept, pairs_of(answer, at)):
-                        print(f"fewest: {name}, kept {kept:0{WINDOW}b} at {at}: {answer}")
-                        return 1
-                sessions += 1
-    for shown in ("start together", "overlap", "touch"):
-        if not seen[shown]:
-            print(f"fewest: no other list in which two pairs {shown}")
-            return 1
-    count = sum(map(len, lists.values()))
-    print(f"fewest: {sessions} sessions have the fewest pairs of {count} lists")
-    return 0
-
-
-if __name__ == "__main__":
-    sys.exit(main())
+        case = words(1, 2 * MOST + 1, FILL, len(ROW), *ROW, 0) + session_bytes(kept, at, busy)
+        for name, answer in [("probe", run_program("probe", case)), ("the recount", programs.probe(case))]:
+            assert is_fewest(lists, kept, pairs_of(answer, at)), f"{name}, kept {kept:0{WINDOW}b} at {at}: {answer}"
+    note(f"fewest: {1 << WINDOW} sessions {'busy' if busy else 'calm'} at {at} have the fewest pairs of {sum(map(len, lists.values()))} lists")
