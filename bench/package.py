@@ -39,7 +39,7 @@ def by_c(array):
     """The call alone, its buffer there before."""
     head, buffer = RULE.head, native.words(RECORDS + 4)
     start = time.process_time()
-    native.library().quoting_session_pairs(native.address(head), len(head), array.ctypes.data, array.nbytes, native.address(buffer), len(buffer))
+    native.call("quoting_session_pairs", head, len(head), array.ctypes.data, array.nbytes, buffer, len(buffer))
     return time.process_time() - start, list(buffer[:3])
 
 

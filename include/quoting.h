@@ -11,7 +11,11 @@
  *   - Lent strings, tables and buffers are looked at only during the call. What is only read may overlap; what is written may overlap
  *     nothing else. A pointer may be null only if its length is 0.
  *   - A length counts what the pointer points to: bytes, words of 32 bits, prices, strikes or records, not bytes alone.
- *   - Nothing is allocated and no state is kept between calls, so calls from several threads don't disturb each other.
+ *   - Nothing is allocated and no state is kept between calls. Threads may call at the same time on different buffers only: while a call
+ *     writes to a buffer, a month's words or its hints for one, no other call may read or write it. A month that several threads use needs
+ *     a lock of theirs around each call.
+ *   - A call works on its thread's stack: QUOTING_STACK_MONTH and its neighbours say with how many bytes at most. A thread with a stack of
+ *     128 KB is too small for a month's messages, reports and opens.
  *   - The words of a month are written by quoting_month_fresh and quoting_month_call alone: a caller may keep, copy and store them, and
  *     hands quoting_month_call and quoting_month_view no others.
  * Nothing else is asked of the caller: whatever numbers, bytes and words are handed over, each call ends and answers as is said here. That
@@ -39,6 +43,13 @@
 #define QUOTING_ANSWER_WORDS 20
 /* The most words of a view: 17, and four for each of 64 orders. */
 #define QUOTING_VIEW_WORDS 273
+
+/* The most stack that a call uses, in bytes, as measured on x86-64 (tests/stack.c) and rounded up. What the thread itself needs comes on top.
+   MONTH is for quoting_month_call and quoting_calls, STANDING for quoting_standing, OTHERS for every other call. A month's events, asks and
+   looks stay within OTHERS too. */
+#define QUOTING_STACK_MONTH 147456
+#define QUOTING_STACK_STANDING 69632
+#define QUOTING_STACK_OTHERS 12288
 
 #ifdef __cplusplus
 extern "C" {

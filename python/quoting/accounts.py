@@ -3,8 +3,8 @@
 from dataclasses import dataclass
 from typing import Any, Optional, Union
 
-from quoting import native
-from quoting.calls import Strike
+from quoting import native, ranges
+from quoting.calls import Strike, strike_words
 from quoting.events import SIZE
 from quoting.rules import Rule
 from quoting.sessions import Events, lent
@@ -34,20 +34,20 @@ class Account:
 
 
 def spread_numbers(sp: int, strike: Optional[Strike]) -> list[int]:
-    """By what the spread is judged: whether by a strike, SP in two's complement, a strike's four numbers."""
+    """What the spread limit goes by: whether by a strike, SP in two's complement, a strike's four numbers."""
     if strike is None:
-        return [0, sp & 0xFFFFFFFF, 0, 0, 0, 0]
-    return [1, 0, strike.a, strike.difference, strike.days, strike.b]
+        return [0, ranges.two_complement(sp, "sp"), 0, 0, 0, 0]
+    return [1, 0, *strike_words(strike)]
 
 
 def words(rule: Union[Rule, bytes], events: Events, strike: Optional[Strike] = None) -> Any:
     """The words that the library writes: the six states' milliseconds, the number of stretches, three words for each."""
-    given = rule if isinstance(rule, Rule) else Rule.of_bytes(bytes(rule))
-    row, spread = native.words_of(given.row.words), spread_numbers(given.sp, strike)
-    data, size, _lent = lent(events)
+    given = rule if isinstance(rule, Rule) else Rule.of_bytes(ranges.data(rule, "rule"))
+    row, spread = ranges.words(given.row.words, "row"), spread_numbers(given.sp, strike)
+    data, size, _alive = lent(events)
     most = FRONT + 3 * (-(-size // SIZE) + 1)  # n records make at most n + 1 stretches
     buffer = native.words(most)
-    native.call("quoting_account", native.address(row), 7, *spread, data, size, native.address(buffer), most)
+    native.call("quoting_account", row, 7, *spread, data, size, buffer, most)
     return buffer
 
 

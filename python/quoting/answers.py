@@ -1,4 +1,4 @@
-"""What the month answers to a call, from its twenty words (docs/FORMATS.md), and the line that `replay` prints of it.
+"""The month's answer to a call, from its twenty words (docs/FORMATS.md), and the line that `replay` prints of it.
 
 >>> answer_of([1, 7] + 18 * [0])
 Refused(7, 0, 'no quantum is open')
@@ -24,7 +24,7 @@ class Accepted:
 
 @dataclass(frozen=True)
 class Cell:
-    """A closed quantum: what it kept, its row's share, lapses against their limit (None: no limit), charges, verdict, weight."""
+    """A closed quantum: the time kept, its row's share, lapses against their limit (None: no limit), charges, verdict, weight."""
 
     kept: int
     length: int
@@ -63,9 +63,10 @@ class MonthReport:
 
 @dataclass(frozen=True)
 class Outlook:
-    """How the open quantum stands: milliseconds that must still be kept and that are left; until when nothing need be kept (None: never)
-    and what the full weight still needs (None: it can't be had); the lapses left (None: no limit, -1: over it); whether the maker may
-    rest, whether the quantum is lost; the weight if nothing more is kept, and if all that is left is."""
+    """What the open quantum still needs: the milliseconds that must still be kept, and those that remain; until when nothing need be kept
+    (None: never), and the milliseconds that the full weight still needs (None: it is out of reach); the lapses that remain (None: no limit,
+    -1: over it); whether the maker may stop quoting, whether the quantum is lost; the weight if nothing more is kept, and if all the
+    remaining time is."""
 
     need: int
     left: int
@@ -99,6 +100,8 @@ def outlook_of(w: Sequence[int]) -> Outlook:
 
 def answer_of(w: Sequence[int]) -> Answer:
     """The answer that twenty words are."""
+    if w[0] == 0:
+        return Accepted()
     if w[0] == 1:
         return Refused.of(w[1])
     if w[0] == 2:
@@ -108,7 +111,7 @@ def answer_of(w: Sequence[int]) -> Answer:
     if w[0] == 4:
         quotes = quote(w[5], w[6]), quote(w[7], w[8])
         return MonthReport(w[2] == 1, w[3], w[4], *quotes, w[9], w[10], tuple(w[11:17]), long(w[17], w[18]))
-    return outlook_of(w) if w[0] == 5 else Accepted()
+    return outlook_of(w)
 
 
 # ---------------------------------------------------------------- as a line

@@ -7,11 +7,12 @@
 """
 
 import struct
-from dataclasses import astuple, dataclass
-from typing import Callable, Optional, Sequence, Union
+from dataclasses import dataclass
+from typing import Any, Callable, Optional, Sequence, Union
 
-from quoting.events import SIDES, Add, Amend, Cancel, Deal, Event, Side, Tick
-from quoting.values import Time, milliseconds
+from quoting import ranges
+from quoting.events import Add, Amend, Cancel, Deal, Event, Side, Tick, side_number
+from quoting.values import Time, time_of
 
 NO_LIMIT = 65_535  # says that there is no lapse limit
 SIDE_NAMES: dict[int, Side] = {1: "buy", 2: "sell"}
@@ -19,7 +20,7 @@ SIDE_NAMES: dict[int, Side] = {1: "buy", 2: "sell"}
 
 @dataclass(frozen=True)
 class Strike:
-    """What a strike's open is told in place of SP: a in tenths, the premiums' difference, days to the expiry, b."""
+    """The numbers of a strike's open in place of SP: a in tenths, the premiums' difference, days to the expiry, b."""
 
     a: int
     difference: int
@@ -29,7 +30,7 @@ class Strike:
 
 @dataclass(frozen=True)
 class Open:
-    """Opens a quantum. The words of the row are as they stand, of any number; `spread` is SP, or a strike."""
+    """Opens a quantum. The row may have any number of words, and the month refuses other than seven; `spread` is SP, or a strike."""
 
     words: Sequence[int]
     day: int
@@ -78,7 +79,7 @@ class Report:
 
 @dataclass(frozen=True)
 class Outlook:
-    """How the open quantum stands, and whether the maker may rest."""
+    """What the open quantum still needs, and whether the maker may stop quoting."""
 
 
 @dataclass(frozen=True)
@@ -121,65 +122,96 @@ Call = Union[Open, Event, Close, Drop, Charge, Withdraw, Look, Report, Outlook, 
 
 # ---------------------------------------------------------------- written
 
+# The layouts of the events' blocks: words low byte first, a price in two's complement.
+ADD, AMEND, CANCEL, DEAL, TICK = (struct.Struct(f"<{codes}") for codes in ("IIIIiI", "IIIiI", "III", "IIII", "II"))
 
-def halves(number: int) -> list[int]:
+
+def halves(number: int, name: str) -> list[int]:
     """A charge or a count as two words, the low one first."""
-    return [number & 0xFFFFFFFF, number >> 32]
+    high, low = divmod(ranges.long(number, name), 2**32)
+    return [low, high]
 
 
-def amendment(call: Union[Amend, Ask, Commit, Ticket]) -> list[int]:
-    return [milliseconds(call.t), call.id, call.price, call.volume]
+def strike_words(strike: Strike) -> list[int]:
+    numbers = (strike.a, "a"), (strike.difference, "difference"), (strike.days, "days"), (strike.b, "b")
+    return [ranges.word(number, name) for number, name in numbers]
 
 
-def open_words(call: Open) -> list[int]:
-    front = [len(call.words), *call.words, call.day]
+def cell_words(call: Union[Charge, Withdraw, Look]) -> list[int]:
+    return [ranges.word(call.day, "day"), ranges.word(call.expiry, "expiry"), ranges.word(call.quantum, "quantum")]
+
+
+def amendment(call: Union[Amend, Ask, Commit]) -> tuple[int, int, int, int]:
+    """t, id, price and volume, checked."""
+    return time_of(call.t, "t"), ranges.word(call.id, "id"), ranges.signed(call.price, "price"), ranges.word(call.volume, "volume")
+
+
+def ticket_words(ticket: Ticket) -> list[int]:
+    if not isinstance(ticket, Ticket):
+        raise ranges.type_error(ticket, "ticket", "the ticket of an ask")
+    t, price = ranges.word(ticket.t, "ticket.t"), ranges.two_complement(ticket.price, "ticket.price")
+    front = [t, ranges.word(ticket.id, "ticket.id"), price, ranges.word(ticket.volume, "ticket.volume")]
+    return [*front, *halves(ticket.count, "ticket.count")]
+
+
+def add_block(call: Add) -> bytes:
+    t, id, side = time_of(call.t, "t"), ranges.word(call.id, "id"), side_number(call.side)
+    return ADD.pack(2, t, id, side, ranges.signed(call.price, "price"), ranges.word(call.volume, "volume"))
+
+
+def open_block(call: Open) -> bytes:
+    words = [ranges.word(number, f"row[{at}]") for at, number in enumerate(call.words)]
+    front, limit = [len(words), *words, ranges.word(call.day, "day")], ranges.word(call.lapses, "lapses")
     if isinstance(call.spread, Strike):
-        return [13, *front, *astuple(call.spread), call.lapses]
-    return [1, *front, call.spread, call.lapses]
+        return pack([13, *front, *strike_words(call.spread), limit])
+    return pack([1, *front, ranges.two_complement(call.spread, "sp"), limit])
 
 
-def event_words(call: Event) -> list[int]:
-    if isinstance(call, Add):
-        return [2, milliseconds(call.t), call.id, SIDES[call.side], call.price, call.volume]
-    if isinstance(call, Amend):
-        return [3, *amendment(call)]
-    if isinstance(call, Cancel):
-        return [4, milliseconds(call.t), call.id]
-    return [5, milliseconds(call.t), call.id, call.volume] if isinstance(call, Deal) else [6, milliseconds(call.t)]
+def commit_block(call: Commit) -> bytes:
+    return AMEND.pack(15, *amendment(call)) + pack(ticket_words(call.ticket))
 
 
-def words_of(call: Call) -> list[int]:
-    """The words of a call's block, but for a message's; a negative price is in two's complement."""
-    if isinstance(call, Open):
-        return open_words(call)
-    if isinstance(call, (Add, Amend, Cancel, Deal, Tick)):
-        return event_words(call)
-    if isinstance(call, Close):
-        return [7, *halves(call.active), *halves(call.passive)]
-    if isinstance(call, Charge):
-        return [9, call.day, call.expiry, call.quantum, *halves(call.active), *halves(call.passive)]
-    if isinstance(call, (Withdraw, Look)):
-        return [10 if isinstance(call, Withdraw) else 11, call.day, call.expiry, call.quantum]
-    if isinstance(call, Ask):
-        return [14, *amendment(call)]
-    if isinstance(call, Commit):
-        return [15, *amendment(call), *amendment(call.ticket), *halves(call.ticket.count)]
-    return [{Drop: 8, Report: 12, Outlook: 17}[type(call)]]
+def message_block(call: Message) -> bytes:
+    start, message = ranges.data(call.start, "start"), ranges.data(call.bytes, "message")
+    return pack([16, len(start), len(message)]) + start + message + bytes(-(len(start) + len(message)) % 4)
+
+
+WRITERS: dict[type, Callable[[Any], bytes]] = {
+    Open: open_block,
+    Add: add_block,
+    Amend: lambda call: AMEND.pack(3, *amendment(call)),
+    Cancel: lambda call: CANCEL.pack(4, time_of(call.t, "t"), ranges.word(call.id, "id")),
+    Deal: lambda call: DEAL.pack(5, time_of(call.t, "t"), ranges.word(call.id, "id"), ranges.word(call.volume, "volume")),
+    Tick: lambda call: TICK.pack(6, time_of(call.t, "t")),
+    Close: lambda call: pack([7, *halves(call.active, "active"), *halves(call.passive, "passive")]),
+    Drop: lambda call: pack([8]),
+    Charge: lambda call: pack([9, *cell_words(call), *halves(call.active, "active"), *halves(call.passive, "passive")]),
+    Withdraw: lambda call: pack([10, *cell_words(call)]),
+    Look: lambda call: pack([11, *cell_words(call)]),
+    Report: lambda call: pack([12]),
+    Ask: lambda call: AMEND.pack(14, *amendment(call)),
+    Commit: commit_block,
+    Message: message_block,
+    Outlook: lambda call: pack([17]),
+}
 
 
 def pack(words: Sequence[int]) -> bytes:
     """Words of four bytes, low byte first."""
-    if not all(-(2**31) <= word < 2**32 for word in words):
-        raise ValueError("a number is past 32 bits")
-    return struct.pack(f"<{len(words)}I", *(word & 0xFFFFFFFF for word in words))
+    return struct.pack(f"<{len(words)}I", *(ranges.word(each, f"word {at}") for at, each in enumerate(words)))
 
 
 def block(call: Call) -> bytes:
-    """The bytes of a call's block."""
-    if isinstance(call, Message):
-        data = call.start + call.bytes
-        return pack([16, len(call.start), len(call.bytes)]) + data + bytes(-len(data) % 4)
-    return pack(words_of(call))
+    """The bytes of a call's block; each number is checked against its range.
+
+    >>> block(Cancel(5, -1))
+    Traceback (most recent call last):
+    ValueError: id is -1, it must be 0 to 4294967295
+    """
+    writer = WRITERS.get(type(call))
+    if writer is None:
+        raise ranges.type_error(call, "a call", "one of quoting.calls or an event")
+    return writer(call)
 
 
 # ---------------------------------------------------------------- read
@@ -203,7 +235,7 @@ def add_of(w: Sequence[int]) -> Optional[Call]:
     return Add(w[0], w[1], side, signed(w[3]), w[4]) if side else None
 
 
-# The words behind a block's kind, and the call that they are.
+# The number of words after a block's kind, and the call that they are.
 FIXED: dict[int, tuple[int, Callable[[Sequence[int]], Optional[Call]]]] = {
     2: (5, add_of),
     3: (4, lambda w: Amend(*amended(w))),
@@ -227,7 +259,7 @@ def word_at(data: bytes, at: int) -> int:
 
 
 def size_at(data: bytes, at: int) -> Optional[int]:
-    """The bytes of the block at a place, None where no call's kind stands there or its size is cut off."""
+    """The bytes of the block at a place, None where no call begins there or its size is cut off."""
     kind = word_at(data, at)
     if kind in FIXED and len(data) >= at + 4:
         return 4 + 4 * FIXED[kind][0]

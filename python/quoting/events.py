@@ -10,10 +10,11 @@ import struct
 from dataclasses import dataclass
 from typing import Any, Iterable, Iterator, Literal, Optional, Union
 
-from quoting.values import Time, milliseconds
+from quoting.ranges import signed, type_error, word
+from quoting.values import Time, time_of
 
 SIZE = 20
-LAYOUT = struct.Struct("<4BIIiI")  # kind, three zero bytes, t, id, price, volume
+LAYOUT = struct.Struct("<B3xIIiI")  # kind, three zero bytes, t, id, price, volume
 
 Side = Literal["buy", "sell"]
 
@@ -58,29 +59,33 @@ KINDS = {"add": Add, "amend": Amend, "cancel": Cancel, "deal": Deal, "tick": Tic
 SIDES: dict[str, int] = {"buy": 1, "sell": 2}
 
 
+def side_number(side: str) -> int:
+    """1 of a buy, 2 of a sell."""
+    if not isinstance(side, str):
+        raise type_error(side, "side", "buy or sell")
+    if side not in SIDES:
+        raise ValueError(f"side: {side!r} is neither buy nor sell")
+    return SIDES[side]
+
+
 def fields(event: Event) -> tuple[int, int, int, int, int]:
-    """Kind, t, id, price and volume; what the event doesn't take is zero."""
-    t = milliseconds(event.t)
+    """Kind, t, id, price and volume, each checked; what the event doesn't take is zero."""
     if isinstance(event, Add):
-        if event.side not in SIDES:
-            raise ValueError(f"side: {event.side!r} is neither buy nor sell")
-        return SIDES[event.side], t, event.id, event.price, event.volume
+        return side_number(event.side), time_of(event.t, "t"), word(event.id, "id"), signed(event.price, "price"), word(event.volume, "volume")
     if isinstance(event, Amend):
-        return 3, t, event.id, event.price, event.volume
+        return 3, time_of(event.t, "t"), word(event.id, "id"), signed(event.price, "price"), word(event.volume, "volume")
     if isinstance(event, Cancel):
-        return 4, t, event.id, 0, 0
+        return 4, time_of(event.t, "t"), word(event.id, "id"), 0, 0
     if isinstance(event, Deal):
-        return 5, t, event.id, 0, event.volume
-    return 6, t, 0, 0, 0
+        return 5, time_of(event.t, "t"), word(event.id, "id"), 0, word(event.volume, "volume")
+    if isinstance(event, Tick):
+        return 6, time_of(event.t, "t"), 0, 0, 0
+    raise type_error(event, "an event", "an Add, Amend, Cancel, Deal or Tick")
 
 
 def record(event: Event) -> bytes:
     """The 20 bytes of an event."""
-    kind, *rest = fields(event)
-    try:
-        return LAYOUT.pack(kind, 0, 0, 0, *rest)
-    except struct.error:
-        raise ValueError(f"{event}: a number is past 32 bits") from None
+    return LAYOUT.pack(*fields(event))
 
 
 def records(events: Iterable[Event]) -> bytes:
@@ -88,10 +93,10 @@ def records(events: Iterable[Event]) -> bytes:
 
 
 def event_of(data: bytes) -> Optional[Event]:
-    """The event of a record, None where its bytes are none."""
+    """The event of a record, None where the bytes are no record."""
     if len(data) != SIZE:
         return None
-    kind, z1, z2, z3, t, id, price, volume = LAYOUT.unpack(data)
+    kind, t, id, price, volume = LAYOUT.unpack(data)
     choices: dict[int, Event] = {
         1: Add(t, id, "buy", price, volume), 2: Add(t, id, "sell", price, volume), 3: Amend(t, id, price, volume),
         4: Cancel(t, id), 5: Deal(t, id, volume), 6: Tick(t),
@@ -101,12 +106,12 @@ def event_of(data: bytes) -> Optional[Event]:
 
 
 def split(data: bytes) -> Iterator[bytes]:
-    """The records one by one; bytes behind the last full one are one cut short."""
+    """The records one by one; bytes after the last full one are one that is cut short."""
     return (data[at : at + SIZE] for at in range(0, len(data), SIZE))
 
 
 def dtype() -> Any:
-    """The record's dtype for numpy arrays, which the C calls take as they stand.
+    """The record's dtype for numpy arrays, whose memory the C calls read.
 
     >>> dtype().itemsize
     20

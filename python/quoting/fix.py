@@ -15,13 +15,13 @@ from dataclasses import dataclass
 from datetime import datetime, timedelta
 from typing import Optional
 
-from quoting import native
-from quoting.events import Add, Cancel, Event, Side
+from quoting import native, ranges
+from quoting.events import Add, Cancel, Event, Side, side_number
+from quoting.ranges import word
 
 KINDS = {1: "D", 2: "F", 3: "G"}
 NUMBERS = {kind: number for number, kind in KINDS.items()}
 SIDES: dict[int, Side] = {1: "buy", 2: "sell"}
-SIDE_NUMBERS = {None: 0, "buy": 1, "sell": 2}
 WORDS, MOST_BYTES = 13, 114
 END = b"\x01"
 TIME = re.compile(r"[0-9]{8}-[0-9]{2}:[0-9]{2}:[0-9]{2}\.[0-9]{3}")
@@ -42,26 +42,34 @@ class Order:
 
 def read(message: bytes) -> Order:
     """The order that a message says; refused by 20 or 21."""
-    found = native.words(WORDS)
-    native.call("quoting_fix", native.address(message), len(message), native.address(found), WORDS)
+    given, found = ranges.data(message, "message"), native.words(WORDS)
+    native.call("quoting_fix", given, len(given), found, WORDS)
     kind, id, refers, side, volume, price, *time = found
     return Order(KINDS[kind], id, refers, SIDES.get(side), volume, signed(price), "%04d%02d%02d-%02d:%02d:%02d.%03d" % tuple(time))
 
 
 def write(order: Order) -> bytes:
-    """The bytes of a message, with the used tags alone."""
-    numbers = [NUMBERS.get(order.kind, 0), order.id, order.refers, SIDE_NUMBERS[order.side], order.volume, order.price]
-    fields, sixty, buffer = native.words_of(numbers), order.time.encode(), native.bytes_of(MOST_BYTES)
-    lent = [native.address(fields), len(fields), native.address(sixty), len(sixty), native.address(buffer), MOST_BYTES]
-    return bytes(buffer[: native.call("quoting_fix_write", *lent)])
+    """The bytes of a message, with the used tags alone.
+
+    >>> write(Order("F", 7, refers=-1, time="20261115-10:00:00.000"))
+    Traceback (most recent call last):
+    ValueError: refers is -1, it must be 0 to 4294967295
+    """
+    side = 0 if order.side is None else side_number(order.side)
+    front = [NUMBERS.get(order.kind, 0), word(order.id, "id"), word(order.refers, "refers"), side, word(order.volume, "volume")]
+    fields = ranges.words([*front, ranges.two_complement(order.price, "price")], "fields")
+    if not isinstance(order.time, str):
+        raise ranges.type_error(order.time, "time", "a text YYYYMMDD-HH:MM:SS.sss")
+    sixty, buffer = order.time.encode(), native.bytes_of(MOST_BYTES)
+    return bytes(buffer[: native.call("quoting_fix_write", fields, len(fields) // 4, sixty, len(sixty), buffer, MOST_BYTES)])
 
 
-def signed(word: int) -> int:
-    return word - (1 << 32) if word >> 31 else word
+def signed(number: int) -> int:
+    return number - (1 << 32) if number >> 31 else number
 
 
 def framed(body: bytes) -> bytes:
-    """The body with 8, 9 and 10 put around it, length and checksum worked out.
+    """The body with 8, 9 and 10 around it, length and checksum computed.
 
     >>> framed(b"35=D\\x01")
     b'8=FIX.4.4\\x019=5\\x0135=D\\x0110=183\\x01'
@@ -84,7 +92,7 @@ def events_of(order: Order, start: str) -> list[Event]:
     """The events that a message is in a quantum that starts then: D an add, F a cancel, G both."""
     t = (moment(order.time) - moment(start)) // timedelta(milliseconds=1)
     if not 0 <= t < 2**32:
-        raise ValueError(f"{order.time} is {'before' if t < 0 else 'too long behind'} the quantum's start {start}")
+        raise ValueError(f"{order.time} is {'before' if t < 0 else 'too long after'} the quantum's start {start}")
     cancel, add = Cancel(t, order.refers), Add(t, order.id, order.side or "buy", order.price, order.volume)
     if order.kind == "G":
         return [cancel, add]

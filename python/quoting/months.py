@@ -1,6 +1,6 @@
-"""A month of the maker's calls, held in words of our own, by the proved call of the library.
+"""A month of the maker's calls, in words of its own, by the proved call of the library.
 
-A method a call: it answers what the month shows, or raises `Refused`, and a refused call leaves the month as it was.
+Each call is a method: it answers what the month shows, or raises `Refused`, and a refused call leaves the month as it was.
 
 >>> with Month() as month:
 ...     month.open(Row(1, 1, "8:45:00", 1000, 150, 3, "60%"), day=1, sp=8452)
@@ -11,27 +11,36 @@ A method a call: it answers what the month shows, or raises `Refused`, and a ref
 ...     month.close(active=10_000, passive=20_000)
 ...     month.look(1, 1, 1).weight, month.report().fee
 (20000, 20000)
+
+A month can be copied, pickled and compared. Its words can be stored, and read again with a check.
+
+>>> again = Month.from_words(month.words())
+>>> again == month, again
+(True, <Month: 5 calls accepted, 1 quantum closed, none open>)
 """
 
+import sys
+from array import array
+from functools import lru_cache
 from types import TracebackType
-from typing import Any, Iterable, Iterator, NamedTuple, Optional, Sequence, Union
+from typing import Any, Iterable, Iterator, NamedTuple, NoReturn, Optional, Sequence, Union
 
 from quoting import calls as c
-from quoting import native
+from quoting import month_words, native, ranges
 from quoting.answers import WORDS, Answer, Asked, Cell, MonthReport, Outlook, answer_of, quote
 from quoting.events import Add, Amend, Cancel, Deal, Side, Tick
 from quoting.native import Refused
 from quoting.rules import Row
-from quoting.values import Time
+from quoting.values import Time, clock
 from quoting.views import MOST_WORDS as VIEW_WORDS
 from quoting.views import View, view_of
 
-MOST_WORDS = 65_536  # more than a month has
 HINT_BYTES = 2_048
-NO_CALL = 3  # the library's refusal of bytes that are not one block
+NO_CALL = 3  # the library's refusal of bytes that are not one block, and, at place 1, of words that are no month's
 STATE_WORD = 15  # of a view
 REPORT_BLOCK = c.block(c.Report())
-REPORT = native.address(REPORT_BLOCK), len(REPORT_BLOCK)
+
+MonthWords, AnswerWords, ViewWords = (native.WORD * count for count in (month_words.COUNT, WORDS, VIEW_WORDS))
 
 
 class Glance(NamedTuple):
@@ -43,25 +52,47 @@ class Glance(NamedTuple):
     ask: Optional[int]
 
 
+@lru_cache(maxsize=None)
+def fresh_words() -> bytes:
+    """The words of a fresh month, as they are in memory."""
+    words = MonthWords()
+    native.call("quoting_month_fresh", words, month_words.COUNT)
+    return bytes(words)
+
+
+def raise_for(refused: Refused) -> NoReturn:
+    """Raises a refusal of the call itself, which is no answer of the month."""
+    if refused.number == NO_CALL and refused.place == 1:
+        raise ValueError("the words of this month are damaged: they are no month's")
+    if refused.number == NO_CALL:
+        raise ValueError("these bytes are not one call")
+    raise refused
+
+
 class Month:
-    """A fresh month; in a `with` block it ends at the block's end, and later calls are errors."""
+    """A fresh month; in a `with` block it ends at the block's end, and later calls are errors.
+
+    Threads may use one month at the same time: each call is made as a whole, and gets its own answer. (The calls keep the interpreter's
+    lock. On a build of Python without one, guard each month by a lock of your own.) A message, a report or an open takes up to 150 KB of
+    its thread's stack.
+    """
 
     def __init__(self) -> None:
-        room = native.words(MOST_WORDS)
-        size = native.call("quoting_month_fresh", native.address(room), MOST_WORDS)
-        self._hold((native.WORD * size)(*room[:size]))
+        self._hold(fresh_words())
 
     def _hold(self, words: Any) -> None:
-        self._words = words
+        self._words = MonthWords.from_buffer_copy(words)
         self._hints = native.bytes_of(HINT_BYTES)
-        self._answer, self._view = native.words(WORDS), native.words(VIEW_WORDS)
-        self._month = [part for each in (self._words, self._hints) for part in (native.address(each), len(each))]
-        self._shown = [native.address(self._answer), WORDS]
-        self._viewed = [*self._month[:2], native.address(self._view), VIEW_WORDS]
         self._ended = False
 
+    def _check_open(self) -> None:
+        if self._ended:
+            raise ValueError("the month has ended with its block")
+
+    # ------------------------------------------------------------ copies and words
+
     def copy(self) -> "Month":
-        """A month of its own with the same words: what is called on the one leaves the other as it is.
+        """A month of its own with the same words: a call on one of the two leaves the other as it is.
 
         >>> with Month() as month:
         ...     month.open(Row(1, 1, "8:45:00", 1000, 150, 3, "60%"), day=1, sp=8452)
@@ -70,11 +101,100 @@ class Month:
         ...     ahead.report().time, month.report().time
         (3600000, 0)
         """
-        if self._ended:
-            raise ValueError("the month has ended with its block")
+        self._check_open()
         other = Month.__new__(Month)
-        other._hold(type(self._words).from_buffer_copy(self._words))
+        other._hold(self._words)
         return other
+
+    def __copy__(self) -> "Month":
+        return self.copy()
+
+    def __deepcopy__(self, memo: dict[int, Any]) -> "Month":
+        return self.copy()
+
+    def __reduce__(self) -> tuple[Any, tuple[bytes]]:
+        self._check_open()
+        return Month.from_words, (self.words(),)
+
+    def __eq__(self, other: object) -> bool:
+        """Whether both months have the same words."""
+        if not isinstance(other, Month):
+            return NotImplemented
+        return bytes(self._words) == bytes(other._words)
+
+    __hash__ = None  # type: ignore[assignment]  # a month changes
+
+    def __repr__(self) -> str:
+        w = month_words.read(self.words())
+        closed = sum(w[month_words.CELLS :: month_words.CELL_WORDS])
+        day, expiry = w[month_words.PLACE] // 6 + 1, w[month_words.PLACE] // 3 % 2 + 1
+        orders = sum(w[first + month_words.NUMBER] for first in month_words.SIDES.values())
+        opened = f"day {day} expiry {expiry} quantum {w[month_words.PLACE] % 3} open at {clock(w[month_words.TIME])} with {counted(orders, 'order')}"
+        accepted = c.long(*w[month_words.ACCEPTED : month_words.ACCEPTED + 2])
+        shown = f"{counted(accepted, 'call')} accepted, {counted(closed, 'quantum', 'quanta')} closed, {opened if w[month_words.OPEN] else 'none open'}"
+        return f"<Month: {shown}>"
+
+    def words(self) -> bytes:
+        """The month's words, four bytes each, low byte first: the same for equal months, on every machine (docs/FORMATS.md)."""
+        found = array("I", bytes(self._words))
+        if sys.byteorder == "big":
+            found.byteswap()
+        return found.tobytes()
+
+    @classmethod
+    def from_words(cls, words: bytes) -> "Month":
+        """The month that has these words, which may come from a file. They are checked once: each is in its range, ids are distinct, the
+        notes' ids are the table's, and what follows from the row and the orders is as the library computes it. A ValueError names the
+        word that is wrong, counted from 0.
+
+        >>> damaged = bytearray(Month().words())
+        >>> damaged[4 * 2460] = 1
+        >>> Month.from_words(damaged)
+        Traceback (most recent call last):
+        ValueError: these are no month's words: word 2454, whether the cell is filled, is 0, but others of its words are not 0
+        """
+        given = month_words.read(words)
+        due = cls._reopened(month_words.opening(given))
+        for at, word in enumerate(given[: month_words.CELLS]):
+            free = at in month_words.CLOCK and at != month_words.KEEPS and given[month_words.OPEN]
+            if word != due[at] and not free and not month_words.ACCEPTED <= at < month_words.QUANTUM:
+                month_words.wrong(at, f"is {word}, it must be {due[at]}")
+        month = cls.__new__(cls)
+        month._hold(array("I", given).tobytes())
+        return month
+
+    @classmethod
+    def _reopened(cls, opening: Optional[month_words.Opening]) -> Any:
+        """The words of a month whose quantum was opened so, and got these orders at time 0."""
+        month = Month()
+        if opening is None:
+            return month._words
+        try:
+            month.open(opening.row, opening.day, opening.spread, opening.limit)
+            for order in opening.orders:
+                month.add(0, order.id, order.side, order.price, order.volume)
+        except Refused as refused:
+            raise ValueError(f"these are no month's words: the quantum is {refused}") from None
+        return month._words
+
+    @classmethod
+    def of_calls(cls, calls: bytes) -> "Month":
+        """The month after a list of calls, from a fresh one (docs/FORMATS.md, "A list of calls"). A call that the month refuses leaves it
+        as it was, as in `replay`; bytes that are no call are a ValueError.
+
+        >>> Month.of_calls(c.block(c.Open([1, 1, 31_500_000, 1000, 150, 3, 600], 1, 8452)) + c.block(Tick(1_000)))
+        <Month: 2 calls accepted, 0 quanta closed, day 1 expiry 1 quantum 1 open at 0:00:01 with 0 orders>
+        """
+        given = ranges.data(calls, "calls")
+        blocks, stop = c.blocks(given)
+        if stop != len(given):
+            raise ValueError(f"byte {stop} of {len(given)}: no call begins there, or it is cut short")
+        month = cls()
+        for each in blocks:
+            month.block(each)
+        return month
+
+    # ------------------------------------------------------------ calls
 
     def __enter__(self) -> "Month":
         return self
@@ -83,24 +203,25 @@ class Month:
         self._ended = True
 
     def block(self, data: bytes) -> Answer:
-        """What the month answers to a call's block, a refusal as a value."""
-        if self._ended:
-            raise ValueError("the month has ended with its block")
+        """The month's answer to a call's block, a refusal as a value."""
+        self._check_open()
+        given = ranges.data(data, "data")
+        answer = AnswerWords()  # of this call alone: another thread may call before it is read
         try:
-            native.call("quoting_month_call", *self._month, native.address(data), len(data), *self._shown)
+            native.call("quoting_month_call", self._words, month_words.COUNT, self._hints, HINT_BYTES, given, len(given), answer, WORDS)
         except Refused as refused:
-            raise ValueError("these bytes are not one call") if refused.number == NO_CALL else refused from None
-        return answer_of(list(self._answer))
+            raise_for(refused)
+        return answer_of(answer)  # type: ignore[arg-type]  # an array of words is a sequence of numbers, without saying so
 
     def call(self, call: c.Call) -> Answer:
-        """What the month answers to a call; a refusal is raised."""
+        """The month's answer to a call; a refusal is raised."""
         answer = self.block(c.block(call))
         if isinstance(answer, Refused):
             raise answer
         return answer
 
     def open(self, row: Union[Row, Sequence[int]], day: int, sp: Union[int, c.Strike], lapses: Optional[int] = None) -> None:
-        """Opens a quantum by a row, or by words as they stand; a strike may be told in place of SP."""
+        """Opens a quantum by a row, or by a list of words; a strike may be given in place of SP."""
         words = row.words if isinstance(row, Row) else list(row)
         self.call(c.Open(words, day, sp, c.NO_LIMIT if lapses is None else lapses))
 
@@ -146,13 +267,13 @@ class Month:
         return answer
 
     def outlook(self) -> Outlook:
-        """How the open quantum stands, and whether the maker may rest."""
+        """What the open quantum still needs, and whether the maker may stop quoting."""
         answer = self.call(c.Outlook())
         assert isinstance(answer, Outlook)
         return answer
 
     def view(self) -> Optional[View]:
-        """The open quantum as it stands now, or None where none is open.
+        """The open quantum as it is now, or None where none is open.
 
         >>> with Month() as month:
         ...     month.open(Row(1, 1, "8:45:00", 1000, 150, 3, "60%"), day=1, sp=8452)
@@ -161,13 +282,13 @@ class Month:
         ...     found.state, found.widest, [order.id for order in found.orders]
         ('no-ask', 12, [7])
         """
-        if self._ended:
-            raise ValueError("the month has ended with its block")
-        written = native.call("quoting_month_view", *self._viewed)
-        return view_of(list(self._view[:written])) if written else None
+        self._check_open()
+        view = ViewWords()
+        written = view_words(self._words, view)
+        return view_of(view[:written]) if written else None
 
     def glance(self) -> Optional[Glance]:
-        """What a follower notes after each event, without the rest of a report and a view; None where no quantum is open.
+        """Time, state and both quotes alone, for a program that follows each event; None where no quantum is open.
 
         >>> with Month() as month:
         ...     month.open(Row(1, 1, "8:45:00", 1000, 150, 3, "60%"), day=1, sp=8452)
@@ -175,16 +296,16 @@ class Month:
         ...     month.glance()
         Glance(time=10000, state=2, bid=8446, ask=None)
         """
-        if self._ended:
-            raise ValueError("the month has ended with its block")
-        if not native.call("quoting_month_view", *self._viewed):
+        self._check_open()
+        words = MonthWords.from_buffer_copy(self._words)  # both calls see one month, whatever another thread does
+        view, w = ViewWords(), AnswerWords()
+        if not view_words(words, view):
             return None
-        native.call("quoting_month_call", *self._month, *REPORT, *self._shown)
-        w = self._answer
-        return Glance(w[3], self._view[STATE_WORD], quote(w[5], w[6]), quote(w[7], w[8]))
+        native.call("quoting_month_call", words, month_words.COUNT, self._hints, HINT_BYTES, REPORT_BLOCK, len(REPORT_BLOCK), w, WORDS)
+        return Glance(w[3], view[STATE_WORD], quote(w[5], w[6]), quote(w[7], w[8]))
 
     def ask(self, t: Time, id: int, price: int, volume: int) -> Asked:
-        """What an amendment would do, and a ticket for it."""
+        """The quotes after an amendment, and a ticket for it; the month stays as it is."""
         answer = self.call(c.Ask(t, id, price, volume))
         assert isinstance(answer, Asked)
         return answer
@@ -198,8 +319,21 @@ class Month:
         self.call(c.Message(start.encode() if isinstance(start, str) else start, message))
 
 
+def view_words(words: Any, view: Any) -> int:
+    """Writes the view of a month's words; answers the number of words written, 0 where no quantum is open."""
+    try:
+        return native.call("quoting_month_view", words, month_words.COUNT, view, VIEW_WORDS)
+    except Refused as refused:
+        raise_for(refused)
+
+
+def counted(number: int, one: str, more: str = "") -> str:
+    """A number with its noun: 1 call, 2 calls."""
+    return f"{number} {one if number == 1 else more or one + 's'}"
+
+
 def answers_to(blocks: Iterable[bytes]) -> Iterator[Answer]:
-    """What a fresh month answers to each block of a list, a refusal as a value.
+    """A fresh month's answer to each block of a list, a refusal as a value.
 
     >>> list(answers_to([c.block(c.Drop())]))
     [Refused(7, 0, 'no quantum is open')]

@@ -11,8 +11,9 @@ import struct
 from dataclasses import dataclass
 from typing import Sequence
 
+from quoting import ranges
 from quoting.native import Refused
-from quoting.values import Share, Tenths, Time, milliseconds, tenths
+from quoting.values import Share, Tenths, Time, milliseconds, tenths, time_of
 
 HEAD = struct.Struct("<7Ii")  # the row's seven words, then SP
 COLUMNS = ("expiry", "quantum", "L", "M", "a", "b", "p")
@@ -20,7 +21,8 @@ COLUMNS = ("expiry", "quantum", "L", "M", "a", "b", "p")
 
 @dataclass(frozen=True)
 class Row:
-    """Expiry, quantum, L, M, a, b and p. The length is a time, the share needs its unit; ranges are the meter's to refuse."""
+    """Expiry, quantum, L, M, a, b and p. The length is a time, the share needs its unit. Each is a number of 32 bits; the papers' ranges
+    are checked by the library."""
 
     expiry: int
     quantum: int
@@ -31,7 +33,9 @@ class Row:
     share: Share
 
     def __post_init__(self) -> None:
-        object.__setattr__(self, "length", milliseconds(self.length))
+        for name in ("expiry", "quantum", "minimum", "a", "b"):
+            object.__setattr__(self, name, ranges.word(getattr(self, name), name))
+        object.__setattr__(self, "length", time_of(self.length, "length"))
         object.__setattr__(self, "share", tenths(self.share))
 
     @property
@@ -51,13 +55,13 @@ class Rule:
     row: Row
     sp: int
 
+    def __post_init__(self) -> None:
+        object.__setattr__(self, "sp", ranges.signed(self.sp, "sp"))
+
     @property
     def head(self) -> bytes:
         """The 32 leading bytes of a session."""
-        try:
-            return HEAD.pack(*self.row.words, self.sp)
-        except struct.error:
-            raise ValueError(f"{self}: a number is past 32 bits") from None
+        return HEAD.pack(*self.row.words, self.sp)
 
     @classmethod
     def of_bytes(cls, head: bytes) -> "Rule":

@@ -17,7 +17,7 @@ from functools import cached_property
 from typing import Any, Iterable, Union
 
 from quoting import events as lists
-from quoting import native, texts
+from quoting import native, ranges, texts
 from quoting.events import Event
 from quoting.rules import HEAD, Rule
 
@@ -27,7 +27,7 @@ FRONT = 3  # words before the pairs: K, the weight, the number of pairs
 
 @dataclass(frozen=True)
 class Session:
-    """What a session run answers. `words` are those that the library wrote: K, weight, number of pairs, the pairs."""
+    """The answer of a session run. `words` are those that the library wrote: K, weight, number of pairs, the pairs."""
 
     rule: Rule
     words: Any
@@ -65,34 +65,34 @@ class Session:
 
 def session(rule: Union[Rule, bytes], events: Events) -> Session:
     """Runs one session. `events` are a list of events, a text of CSV, bytes of records, or a numpy array of `events.dtype()`, whose
-    memory is handed over as it stands. A refusal is raised as `Refused`; its place is the record counted from 1."""
-    head = rule.head if isinstance(rule, Rule) else bytes(rule)
-    data, size, _lent = lent(events)
+    memory is read without a copy. A refusal is raised as `Refused`; its place is the record counted from 1."""
+    head = rule.head if isinstance(rule, Rule) else ranges.data(rule, "rule")
+    data, size, _alive = lent(events)
     most = FRONT + 2 * ((-(-size // lists.SIZE) + 1) // 2)  # a run of n records has at most (n + 1) / 2 kept stretches
     buffer = native.words(most)
-    native.call("quoting_session_pairs", native.address(head), len(head), data, size, native.address(buffer), most)
+    native.call("quoting_session_pairs", head, len(head), data, size, buffer, most)
     return Session(Rule.of_bytes(head[: HEAD.size]), buffer)
 
 
 def lent(events: Events) -> tuple[Any, int, Any]:
-    """Where the records stand, their bytes, and what must live meanwhile."""
+    """The records as the library takes them, their bytes, and what must live meanwhile."""
     if hasattr(events, "__array_interface__"):
         return array_lent(events)
-    if isinstance(events, bytes):
-        data = events
-    elif isinstance(events, str):
+    if isinstance(events, str):
         data = texts.csv_bytes(events, head=b"")
-    elif isinstance(events, (bytearray, memoryview)):
-        data = bytes(events)
+    elif isinstance(events, (bytes, bytearray, memoryview)):
+        data = ranges.data(events, "events")
     else:
         data = lists.records(events)
-    return native.address(data), len(data), data
+    return data, len(data), data
 
 
 def array_lent(array: Any) -> tuple[Any, int, Any]:
     """A numpy array's memory, without a copy."""
     if array.dtype != lists.dtype():
         raise ValueError(f"the array's dtype is {array.dtype}, not that of quoting.events.dtype()")
+    if hasattr(array, "mask"):
+        raise ValueError("the array is masked, and the library would read the masked records too: give the records that count, array.compressed()")
     if array.ndim != 1 or not array.flags.c_contiguous:
-        raise ValueError("the array is not of one dimension, or its records are not one behind the other: hand over numpy.ascontiguousarray(..)")
+        raise ValueError("the array is not of one dimension, or its records do not follow each other: give numpy.ascontiguousarray(..)")
     return array.ctypes.data, array.nbytes, array

@@ -10,9 +10,11 @@ Traceback (most recent call last):
 quoting.native.Refused: refused 24: the maker is present at a join, or absent at a change or leave
 """
 
+import threading
 from dataclasses import dataclass, field
+from typing import Any, Iterable
 
-from quoting import native, reading, values
+from quoting import native, ranges, reading, values
 from quoting.reading import TextError
 
 KINDS = {"join": 1, "change": 2, "leave": 3}
@@ -21,22 +23,53 @@ MOST_RECORDS = 1_000_000
 
 
 class Standing:
-    """Makers with their ratings, the greatest rating first, equal ratings by lower number; so many records at most."""
+    """Makers with their ratings, the greatest rating first, equal ratings by lower number; so many records at most.
+
+    Threads may use one standing at the same time. It can be copied and pickled."""
 
     def __init__(self, records: int = RECORDS) -> None:
-        self._records = native.words(2 * records)
-        self._size, self._count = records, 0
+        self._size = ranges.word(records, "records")
+        self._records, self._count = native.words(2 * self._size), 0
+        self._lock = threading.Lock()  # of the records and their count
+
+    @classmethod
+    def of_places(cls, places: Iterable[tuple[int, int]], records: int = RECORDS) -> "Standing":
+        """The standing with these places, maker and rating; a call is refused by 23 where they are out of order."""
+        standing = cls(records)
+        data = ranges.words([number for maker, rating in places for number in (maker, rating)], "places")
+        if len(data) > 8 * standing._size:
+            raise ValueError(f"{len(data) // 8} places, of {standing._size} records")
+        standing._records[: len(data) // 4] = native.words_of(data)[:]
+        standing._count = len(data) // 8
+        return standing
+
+    def __reduce__(self) -> tuple[Any, tuple[list[tuple[int, int]], int]]:
+        return type(self).of_places, (self.places, self._size)
+
+    def __eq__(self, other: object) -> bool:
+        """Whether both have the same places and as many records."""
+        if not isinstance(other, Standing):
+            return NotImplemented
+        return (self.places, self._size) == (other.places, other._size)
+
+    __hash__ = None  # type: ignore[assignment]  # a standing changes
+
+    def __repr__(self) -> str:
+        return f"<Standing: {self._count} of {self._size} records used>"
 
     @property
     def places(self) -> list[tuple[int, int]]:
         """Maker and rating, the best first."""
-        used = self._records[: 2 * self._count]
+        with self._lock:
+            used = self._records[: 2 * self._count]
         return list(zip(used[::2], used[1::2]))
 
     def call(self, name: str, maker: int, rating: int = 0) -> None:
-        call, outcome = native.words_of([KINDS[name], maker, rating]), native.words(1)
-        lent = [native.address(self._records), self._size, self._count, native.address(call), 3, native.address(outcome), 1]
-        self._count = native.call("quoting_standing", *lent)
+        if name not in KINDS:
+            raise ValueError(f"name is {name!r}, it must be join, change or leave")
+        call, outcome = ranges.words([KINDS[name], ranges.word(maker, "maker"), ranges.word(rating, "rating")], "call"), native.words(1)
+        with self._lock:
+            self._count = native.call("quoting_standing", self._records, self._size, self._count, call, 3, outcome, 1)
         if outcome[0]:
             raise native.Refused.of(outcome[0])
 

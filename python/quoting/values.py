@@ -1,4 +1,4 @@
-"""Numbers, times and shares, as they are written in texts and handed over in Python.
+"""Numbers, times and shares, as they are written in texts and given in Python.
 
 A number may have underscores. A time is milliseconds, or h:mm:ss with or without thousandths. A share needs its unit, since 60 was
 60% before the share was counted in tenths of a percent and would be 6% now.
@@ -17,11 +17,10 @@ from decimal import Decimal
 from fractions import Fraction
 from typing import Union
 
-Span = tuple[int, int]
+from quoting import ranges
 
-WORD: Span = (0, 2**32 - 1)
-SIGNED: Span = (-(2**31), 2**31 - 1)
-LONG: Span = (0, 2**64 - 1)
+Span = ranges.Span
+WORD, SIGNED, LONG = ranges.WORD, ranges.SIGNED, ranges.LONG
 
 SECOND, MINUTE, HOUR = 1_000, 60_000, 3_600_000
 
@@ -48,7 +47,7 @@ Share = Union[Tenths, str]
 
 def brief(word: str) -> str:
     """A word as a message shows it: a long one by its two ends."""
-    return word if len(word) <= MOST_DIGITS else f"{word[:16]}..{word[-8:]} ({len(word)} signs)"
+    return word if len(word) <= MOST_DIGITS else f"{word[:16]}..{word[-8:]} ({len(word)} characters)"
 
 
 def whole(word: str, span: Span) -> int:
@@ -69,33 +68,58 @@ def whole(word: str, span: Span) -> int:
 
 
 def milliseconds(value: Time) -> int:
-    """A time in milliseconds."""
-    if isinstance(value, int):
-        return value
-    parts = CLOCK.fullmatch(value)
-    if parts is None and ":" in value:
-        raise ValueError(f"{brief(value)!r} is not a time h:mm:ss")
+    """A time in milliseconds.
+
+    >>> milliseconds(-1)
+    Traceback (most recent call last):
+    ValueError: time is -1, it must be 0 to 4294967295
+    """
+    return time_in(value) if isinstance(value, str) else time_of(value, "time")
+
+
+def time_in(text: str) -> int:
+    """The milliseconds of a time in a text."""
+    parts = CLOCK.fullmatch(text)
+    if parts is None and ":" in text:
+        raise ValueError(f"{brief(text)!r} is not a time h:mm:ss")
     if parts is None:
-        return whole(value, WORD)
+        return whole(text, WORD)
     h, m, s, ms = (int(part or 0) for part in parts.groups())
     return whole(str(((h * 60 + m) * 60 + s) * SECOND + ms), WORD)
 
 
+def time_of(value: Time, name: str) -> int:
+    """The milliseconds of a time that is given by this name; an error says the name.
+
+    >>> time_of("8:99:00", "t")
+    Traceback (most recent call last):
+    ValueError: t: '8:99:00' is not a time h:mm:ss
+    """
+    if type(value) is int and 0 <= value <= ranges.MOST_WORD:
+        return value
+    if not isinstance(value, str):
+        return ranges.number(value, WORD, name, "a time: milliseconds or a text h:mm:ss")
+    try:
+        return time_in(value)
+    except ValueError as error:
+        raise ValueError(f"{name}: {error}") from None
+
+
 def bare_share(word: str) -> str:
-    """What is said of a share without its unit: both readings of it."""
+    """A message about a share without its unit, with both readings of it."""
     value = whole(word, WORD)
     return f"{word} has no unit: write {value}% ({10 * value} tenths of a percent) or {value} tenths ({share_text(Tenths(value))})"
 
 
-def tenths(value: Share) -> Tenths:
+def tenths(value: Share, name: str = "share") -> Tenths:
     """A share in tenths of a percent."""
     if isinstance(value, Tenths):
-        return value
+        return Tenths(ranges.word(int(value), name))
     if not isinstance(value, str):
-        raise ValueError(bare_share(str(value)))
-    name, _, unit = value.strip().partition(" ")
+        raise ValueError(bare_share(str(ranges.number(value, WORD, name, "a share like '60%' or '600 tenths'"))))
+    first, _, unit = value.strip().partition(" ")
     if unit.strip() == "tenths":
-        return Tenths(whole(name, WORD))
+        return Tenths(whole(first, WORD))
     parts = PERCENT.fullmatch(value)
     if parts is None and "%" in value:
         raise ValueError(f"{brief(value)!r} is not a percentage with at most one decimal")
@@ -121,7 +145,7 @@ def share_text(share: int) -> str:
 
 
 def part_text(kept: int, length: int) -> str:
-    """A part of a length in percent, rounded down to hundredths, so that what is short of a share never shows as reached.
+    """A part of a length in percent, rounded down to hundredths, so that a part below a share never shows as that share.
 
     >>> part_text(17_324_999, 31_500_000)
     '54.99%'
