@@ -24,8 +24,10 @@ LONGEST_BODY = 65_535  # bytes: a damaged length must not make a reader wait for
 TAIL = 6  # the bytes of 10=ddd
 CHECKSUM = re.compile(rb"10=([0-9]{3})(?![0-9])")
 VERSION = re.compile(rb"8=([A-Z0-9.]*)")
+CUT_LENGTH = re.compile(rb"(?:9(?:=[0-9]*)?)?")
 BAR, BAR_LESS = b"|", ord("|") - fix.END[0]
 REQUESTS = (b"D", b"F", b"G")
+NOWHERE = 1 << 62
 
 
 # ---------------------------------------------------------------- what is found
@@ -163,18 +165,17 @@ class Window:
         name = version[1].decode() if version else ""
         if name != "FIX.4.4":
             return f"its version (8) is {name[:20]}, and FIX.4.4 is read"
-        after = self.data[at + 9 : at + 10]
-        if not after:
-            return "it is cut off after 8"
-        if after not in (fix.END, BAR):
+        after, rest = self.data[at + 9 : at + 10], self.data[at + 10 : at + LONGEST_HEAD]
+        if after not in (fix.END, BAR, b""):
             return f"after 8=FIX.4.4 comes {after.decode('latin-1')!r}, neither byte 1 nor |"
-        return "9, the length, does not follow 8" if len(self.data) - at >= LONGEST_HEAD else "it is cut off within 9, or 9 does not follow 8"
+        is_cut = len(self.data) - at < LONGEST_HEAD and CUT_LENGTH.fullmatch(rest)
+        return "it is cut off" if is_cut else "9, the length, does not follow 8"
 
     def first_ten(self, separator: bytes, start: int) -> int:
-        """The place of the first separator with 10= after it, from there on."""
+        """The place of the first separator with 10= after it, from there on; past all bytes where there is none."""
         if self.tens.get(separator, -1) < start:
             found = self.data.find(separator + b"10=", start)
-            self.tens[separator] = found if found >= 0 else len(self.data)
+            self.tens[separator] = found if found >= 0 else NOWHERE
         return self.tens[separator]
 
     def checksum(self, separator: bytes, at: int, due: int) -> int:

@@ -197,7 +197,7 @@ def place_request(listed: Listed, span: Optional[Span], each: logs.Sorted, place
         listed.reports.counts[each.omission] += 1
     if each.data is not None:
         span.messages.append((place, each.data))
-        if each.found.kind == b"D" or None not in each.owner:
+        if time_of(each.found.data) and (each.found.kind == b"D" or None not in each.owner):
             span.owners[each.owner] += 1
 
 

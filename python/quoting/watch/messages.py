@@ -74,12 +74,13 @@ class Quantum:
             yield Trouble(message.place, f"not in the figures: {each.omission.counted(1)}", each.omission)
         if each.data is None:
             return
-        if not self.owner.fits(each.owner):
+        is_refused = message.time is None  # by the month, whosever it is
+        if not is_refused and not self.owner.fits(each.owner):
             text = f"this message of {owner_text(each.owner)} is left out: its quantum has messages of {owner_text(self.owner)}"
             yield Trouble(message.place, text)
             yield Trouble(message.place, text, Omission.OTHER)
             return
-        self.owner = self.owner.or_else(each.owner)
+        self.owner = self.owner if is_refused else self.owner.or_else(each.owner)
         yield Sent(c.block(c.Message(self.span.start.encode(), each.data)), message.place)
 
 
