@@ -538,13 +538,19 @@ def programme(name):
     return str(PROGRAMMES / f"{name}.month"), str(PROGRAMMES / f"{name}.log")
 
 
+def sent_of(items):
+    return [item for item in items if isinstance(item, Sent)]
+
+
 def test_months():
     """A finished month gives exactly the statement's calls."""
     for name in ("brent", "gold-mini"):
         calls, log = programme(name)
         due = sources.from_list(calls, PLAIN, [log])
         feed = MessagesFeed(log, calls, PLAIN, None, FeedClock(), False)
-        assert drained(feed) == due.calls and feed.ended == "end" and not due.left and feed.passed_over == 0, name
+        found = drained(feed)
+        assert sent_of(found) == due.calls and feed.ended == "end" and feed.passed_over == 0, name
+        assert [f"{item.place}: {item.text}" for item in found if isinstance(item, Trouble)] == due.left and len(due.left) == 1, due.left
         assert feed.count == sum(os.path.getsize(file) for file in (calls, log)) and feed.name == log
 
 
@@ -560,11 +566,11 @@ def test_growing_months(tmp_path):
             size = rng.choice([1, 40, 700, 5_000])
             append(month.log, data[place : place + size])
             place += size
-            found += month.feed.read()
+            found += sent_of(month.feed.read())
             check_opened(found, month.feed.seen)
         assert 600 < len(found) < len(due), (name, len(found))
         month.clock.time = datetime(2026, 12, 1)
-        found += drained(month.feed)
+        found += sent_of(drained(month.feed))
         assert [(item.block, item.start) for item in found] == [(item.block, item.start) for item in due], name
         assert [item.place.split("/")[-1] for item in found] == [item.place.split("/")[-1].replace(f"{name}.log", "log") for item in due]
 
@@ -579,18 +585,18 @@ def test_any_months(tmp_path):
     rng = random.Random(4)
     left = 0
     for _ in range(60):
-        calls = "".join(quantum(f"10:00:{rng.randrange(60):02}.000", rng.choice("AB "), day) for day in range(1, rng.randrange(2, 6)))
+        calls = "".join(quantum(f"10:00:{rng.randrange(60):02}.000", rng.choice("AB"), day) for day in range(1, rng.randrange(2, 6)))
         calls = "report\n" + calls.replace("close", rng.choice(["close", "look 1 1 1\nclose"]))
         times = [rng.choice([None, f"10:00:{rng.randrange(60):02}.{rng.randrange(1000):03}"]) for _ in range(30)]
         sent = [message(id, time, rng.choice("AB")) for id, time in enumerate(times)]
         log = b"".join(each.replace(b"\x01", rng.choice([b"|", b"\x01"])) + rng.choice([b"\n", b"\r\n", b" "]) for each in sent)
         month = Month(tmp_path, calls, log + b"8=FIX.4.4|35=0|10=000|\n", follow=False)
         due = sources.from_list(str(month.list), PLAIN, [str(month.log)])
-        found = drained(month.feed)
-        assert [item for item in found if isinstance(item, Sent)] == due.calls
-        assert month.feed.passed_over == len(due.left) and month.feed.ended == "end"
-        assert len(found) - len(due.calls) == min(1, len(due.left)), "one trouble for all messages in no quantum"
-        left += len(due.left)
+        found, in_no_quantum = drained(month.feed), len(due.left) - 1
+        assert sent_of(found) == due.calls and due.left[-1].endswith("refused 20: 9, the length, does not follow 8"), due.left[-1]
+        assert month.feed.passed_over == in_no_quantum and month.feed.ended == "end"
+        assert len(found) - len(due.calls) == 1 + min(1, in_no_quantum), "one trouble for all messages in no quantum"
+        left += in_no_quantum
     assert left > 100, left
 
 
@@ -619,12 +625,13 @@ def test_time(tmp_path):
     assert month.read() == []
     assert month.more(message(1, "10:00:00.000")) == ["line 2", "log: line 1"]
     damaged = message(2, "10:00:30.000").replace(b"54=1", b"54=2")
-    assert month.more(message(3, "10:00:10.000"), damaged) == ["log: line 2"]
+    found = month.more(message(3, "10:00:10.000"), damaged)
+    assert found[0] == "log: line 2" and found[1][0] == "log: line 3" and found[1][1].startswith("refused 20: the checksum (10) is "), found
     assert month.more(message(4, "10:00:10.001")) == [in_none(4), "line 3"]
     late = ("log: line 5", "this message came when its quantum was past and the list had gone on; it is not counted")
-    assert month.more(message(5, "10:00:09.000"), message(6, "10:00:15.000")) == [late] and month.feed.passed_over == 3
+    assert month.more(message(5, "10:00:09.000"), message(6, "10:00:15.000")) == [late] and month.feed.passed_over == 3, month.feed.passed_over
     assert month.more(message(7, None)) == [(late[0].replace("5", "7"), late[1])], "it goes where the one before it went"
-    assert month.more(message(8, "10:00:20.000")) == ["line 5", "log: line 3", "log: line 8"], "kept until its quantum opens"
+    assert month.more(message(8, "10:00:20.000")) == ["line 5", "log: line 8"]
     month.clock.time = at("10:00:35")
     assert month.read() == []
     assert month.more(message(9, "10:00:30.000"), message(10, None)) == ["log: line 9", "log: line 10"]
@@ -719,15 +726,16 @@ def test_log_ends(tmp_path):
     month.log.rename(month.log.with_suffix(".1"))
     assert month.more(message(4, "10:00:03.000")) + month.read() == [("log", TURNED[1]), "log: line 1"]
     raw = message(5, "10:00:04.000") + message(6, "10:00:05.000")
+    sizes = [size * len(raw) // 2 for size in range(6)]
     for byte in raw[:-1]:
         append(month.log, bytes([byte]))
         found = month.read()
         assert found == [] or byte == 1, "a message came before its end"
     assert month.more() == [] and len(raw) > 100
     append(month.log, raw[-1:] + raw + raw[:20])
-    assert month.read() == ["log: line 2"] * 3
+    assert month.read() == [f"log: line 2, byte {1 + size}" for size in sizes[1:4]]
     append(month.log, raw[20:] + b"\n")
-    assert month.read() == ["log: line 2"] * 2
+    assert month.read() == [f"log: line 2, byte {1 + size}" for size in sizes[4:6]]
     assert month.more(message(7, "10:00:06.000")) == ["log: line 3"]
     month.log.unlink()
     os.mkfifo(month.log)
@@ -848,7 +856,7 @@ def test_played_months():
     due = [sent.place for sent in sources.from_list(calls, PLAIN, [log]).calls]
     for step in (0.25, 3.0):
         found, _ = played(MessagesFeed(log, calls, PLAIN, None, FeedClock(), False), 3_600, step)
-        assert [place for _, items in found for place in items] == due, step
+        assert [place for _, items in found for place in items if isinstance(place, str)] == due, step
         times = {place: time for time, items in found for place in items}
         first = times[f"{log}: line 1"] - times["line 9"]  # 10:23:30.245 in a quantum from 10:00:00
         assert 1_410.245 / 3_600 <= first <= 1_410.245 / 3_600 + step, first

@@ -212,7 +212,7 @@ def test_difference(made_beside):
     page, done = made_beside(lambda lines: [line.replace("kept 31490000 of", "kept 31489999 of") for line in lines])
     assert page.text.index("The two readings differ. This statement settles nothing.") < page.text.index("Fee of the month")
     assert "not settled" in page.text and "Both readings agree" not in page.text and "DIFFER" in done.complaint
-    assert "They part at call 10, line 13: the meter answers “cell kept 31490000 of" in page.text
+    assert "They differ first at call 10, line 13: the meter answers “cell kept 31490000 of" in page.text
     assert page.tables["both"][1][0] == "≠ time kept, all quanta" and page.tables["both"][1][3] == "differs", page.tables["both"][:3]
 
 

@@ -1,11 +1,14 @@
 """A month's statement: one HTML page that needs nothing else, to be read on a screen or printed on A4.
 
-From a list of the month's calls (text or bytes, - is standard input), or from a folder of sessions. At the top stand the proved meter's
+From a list of the month's calls (text or bytes, - is standard input), or from a folder of sessions. At the top are the proved meter's
 reading and the recount's, side by side, and whether they agree; then failures, fee, the month as a grid, the sum cell by cell, refused
 calls, and each closed quantum with its picture, its times and its lapses.
 
 With --fix the list is a text with opens and closes, and before each open a line `start YYYYMMDD-HH:MM:SS.sss SYMBOL`: the messages of the
-logs from then to the quantum's end, with that symbol (55), stand behind the open. SYMBOL may be left out.
+logs from then to the quantum's end, with that symbol (55), follow the open. SYMBOL may be omitted where the quantum's messages have one
+symbol only, or --symbol names it. Where a quantum's messages have several accounts (1), --account names the one to read.
+
+What the exchange answered in the logs (fills, rejects, cancels, expiries) is not read: the page says at its top how much of it there is.
 
 With --sessions the files of a folder are named DAY-EXPIRY-QUANTUM.session (or .csv, .bin, .txt), as 02-1-1.csv, and charges.csv in it has
 the columns day,expiry,quantum,active,passive and, where there are lapse limits, lapses; charges are in kopecks.
@@ -24,12 +27,15 @@ from typing import Iterator
 
 from quoting import inputs, output
 from quoting.reading import STANDARD
+from quoting.selection import Owner
 from quoting.statement import page, sources
 
 
 def add(parser: argparse.ArgumentParser) -> None:
     parser.add_argument("file", metavar="FILE", nargs="?", help="a list of calls, or - for standard input")
     parser.add_argument("--fix", nargs="+", metavar="LOG", default=[], help="logs of FIX messages that go into the list")
+    parser.add_argument("--symbol", metavar="SYMBOL", help="with --fix, the symbol (55) of each quantum whose start names none")
+    parser.add_argument("--account", metavar="ACCOUNT", help="with --fix, read the messages of this account (1)")
     parser.add_argument("--sessions", metavar="FOLDER", help="a folder of sessions in place of a list")
     parser.add_argument("--charges", metavar="CSV", help="the file of charges (FOLDER/charges.csv)")
     parser.add_argument("--title", help="the page's title (the file's name)")
@@ -41,10 +47,12 @@ def add(parser: argparse.ArgumentParser) -> None:
 def listed_of(args: argparse.Namespace) -> sources.Listed:
     if (args.file is None) == (args.sessions is None):
         args.parser.error("a list of calls, or --sessions FOLDER, is needed, and not both")
+    if not args.fix and (args.symbol, args.account) != (None, None):
+        args.parser.error("--symbol and --account go with --fix")
     if args.sessions is None:
         if args.charges is not None:
             args.parser.error("--charges goes with --sessions")
-        return sources.from_list(args.file, inputs.options_of(args), args.fix)
+        return sources.from_list(args.file, inputs.options_of(args), args.fix, Owner.named(args.symbol, args.account))
     if args.fix:
         args.parser.error("--fix goes with a list of calls")
     return sources.from_sessions(args.sessions, args.charges, inputs.options_of(args))
@@ -52,12 +60,14 @@ def listed_of(args: argparse.Namespace) -> sources.Listed:
 
 def complaints(made: page.Statement) -> Iterator[str]:
     """What is wrong with a month, a line each."""
+    if made.listed.reports:
+        yield f"NOT IN THE FIGURES: {made.listed.reports.sentence()}"
     yield from made.listed.left
     yield from (f"THE FIGURES DO NOT FIT TOGETHER: {fault}" for fault in made.faults)
-    if made.parting is not None:
-        yield f"THE PROVED METER AND THE RECOUNT DIFFER: {page.parting_text(made)}"
-    if made.course.bad:
-        yield f"{len(made.course.bad)} of {len(made.listed.calls)} calls are refused: they are listed on the page"
+    if made.first_difference is not None:
+        yield f"THE PROVED METER AND THE RECOUNT DIFFER: {page.difference_text(made)}"
+    if made.course.refused_calls:
+        yield f"{len(made.course.refused_calls)} of {len(made.listed.calls)} calls are refused: they are listed on the page"
 
 
 def run(args: argparse.Namespace) -> int:

@@ -5,6 +5,10 @@ closes that the log lacks (--open), as `quoting statement --fix` reads it: befor
 Both are read as they grow. What can't be read is shown on the page with its line, and the reading goes on. Stopped and started again, it
 reads the feed from its beginning and shows the same figures.
 
+A quantum counts one symbol (55), that of its `start`, of --symbol or of its first message, and one account (1), that of --account or of its
+first message; other messages are left out, and the page says so. What the exchange answered in a log (fills, rejects, cancels, expiries)
+is not read: the page says how much of it there is, and does not answer for a quantum that it concerns.
+
 With --replay a finished file is played at a multiple of its own pace. The recount reads the same calls in a process of its own, and the
 page says on how many both agree; where they differ the reading stops and the page names the call.
 
@@ -29,6 +33,7 @@ from quoting import fix, inputs, native, output
 from quoting.inputs import WrongUse
 from quoting.native import Missing
 from quoting.reading import STANDARD, Options
+from quoting.selection import Owner
 from quoting.watch import hosts
 
 PORT = 8470
@@ -65,6 +70,8 @@ def add(parser: argparse.ArgumentParser) -> None:
     parser.add_argument(
         "--start", metavar="TIME", help="with --calls the quantum's start, H:MM:SS: times h:mm:ss are a wall clock's; "
         "with --fix the start, YYYYMMDD-HH:MM:SS.sss, of an open without a line of its own")
+    parser.add_argument("--symbol", metavar="SYMBOL", help="with --fix, the symbol (55) of each quantum whose start names none")
+    parser.add_argument("--account", metavar="ACCOUNT", help="with --fix, read the messages of this account (1)")
     parser.add_argument("--step", type=inputs.step_of, metavar="STEP", help="prices are decimals, in steps of STEP, as 0.01")
     parser.add_argument(
         "--follow", action=argparse.BooleanOptionalAction, help="go on as the feed grows (the default), or read it to its end")
@@ -90,6 +97,8 @@ def check(args: argparse.Namespace) -> None:
         raise WrongUse("--calls FILE or --fix LOG is needed, and not both")
     if (args.fix is None) != (args.open is None):
         raise WrongUse("--fix LOG and --open FILE go together")
+    if args.fix is None and (args.symbol, args.account) != (None, None):
+        raise WrongUse("--symbol and --account go with --fix")
     if STANDARD in (args.fix, args.open):
         raise WrongUse("--fix and --open name files; standard input goes with --calls")
     if args.replay is not None and args.follow:
@@ -128,7 +137,8 @@ def watch_of(args: argparse.Namespace) -> Any:
     if args.fix is None:
         feed = feeds.CallsFeed(args.calls, options, follow)
     else:
-        feed = messages.MessagesFeed(args.fix, args.open, options, args.start, clock, follow)
+        chosen = Owner.named(args.symbol, args.account)
+        feed = messages.MessagesFeed(args.fix, args.open, options, args.start, clock, follow, chosen)
     if args.replay is not None:
         feed = clock = playing.Playing(feed, args.replay)
     return loop.Watch(feed, clock, Meter(name_of(args), start, args.step), args.silence if follow else 0.0, args.replay)

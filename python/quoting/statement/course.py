@@ -113,7 +113,7 @@ def report_of(text: str) -> MonthReport:
 
 
 @dataclass(frozen=True)
-class Bad:
+class RefusedCall:
     """A refused call: its number, its place, its line, the cell that was open, the refusal."""
 
     number: int
@@ -161,14 +161,14 @@ class Course:
     """The proved month's reading, with what the page shows of each closed quantum and of each refused call."""
 
     quanta: dict[Place, Quantum] = field(default_factory=dict)
-    bad: list[Bad] = field(default_factory=list)
+    refused_calls: list[RefusedCall] = field(default_factory=list)
     opened: Optional[Quantum] = None
 
     def take(self, month: Month, number: int, sent: Sent, answer: Answer) -> None:
         """Follows a call and its answer."""
         if isinstance(answer, Refused):
             cell = self.opened.cell if self.opened else None
-            self.bad.append(Bad(number, sent.place, call_text(sent.block), cell, answer))
+            self.refused_calls.append(RefusedCall(number, sent.place, call_text(sent.block), cell, answer))
             return
         call = c.call_of(sent.block)
         if isinstance(call, c.Open):
@@ -202,7 +202,7 @@ def by_recount(listed: Listed) -> Reading:
     return Reading.of(both.answer_lines(b"".join([sent.block for sent in listed.calls] + LOOKS)))
 
 
-def parting(ours: Reading, theirs: Reading) -> Optional[tuple[int, str, str]]:
+def first_difference(ours: Reading, theirs: Reading) -> Optional[tuple[int, str, str]]:
     """The first call, counted from 1, on which the readings differ, with both answers; a look or a report behind the list may be it."""
     for number, (left, right) in enumerate(zip_longest(ours.answers, theirs.answers, fillvalue="nothing"), start=1):
         if left != right:

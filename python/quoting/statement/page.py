@@ -8,19 +8,19 @@ from typing import Any, Optional
 from quoting import native
 from quoting.native import Missing
 from quoting.statement import figures
-from quoting.statement.course import CELLS, DAYS, SERIES, Bad, Course, Reading, by_meter, by_recount, parting
+from quoting.statement.course import CELLS, DAYS, SERIES, RefusedCall, Course, Reading, by_meter, by_recount, first_difference
 from quoting.statement.figures import Fee, Shown
 from quoting.statement.picture import KEYS
 from quoting.statement.sources import Listed
 from quoting.values import clock, part_text
 
 TEMPLATE = Path(__file__).resolve().parent / "page.html"
-MOST_SIGNS = 96  # of a refused call, as it is listed
+MOST_CHARACTERS = 96  # of a refused call, as it is listed
 
 
 @dataclass(frozen=True)
 class Statement:
-    """A month with both readings; `faults` are sentences about what does not fit together, which should never be."""
+    """A month with both readings; `faults` are sentences about figures that do not fit together, which should never happen."""
 
     title: str
     listed: Listed
@@ -31,8 +31,8 @@ class Statement:
     quanta: list[Shown]
 
     @property
-    def parting(self) -> Optional[tuple[int, str, str]]:
-        return parting(self.meter, self.recount)
+    def first_difference(self) -> Optional[tuple[int, str, str]]:
+        return first_difference(self.meter, self.recount)
 
     @property
     def faults(self) -> list[str]:
@@ -43,12 +43,12 @@ class Statement:
 
     @property
     def differs(self) -> bool:
-        return self.parting is not None or bool(self.faults)
+        return self.first_difference is not None or bool(self.faults)
 
     @property
     def is_whole(self) -> bool:
         """Nothing was refused or left out, and the readings agree."""
-        return not (self.differs or self.course.bad or self.listed.left)
+        return not (self.differs or self.course.refused_calls or self.listed.left or self.listed.reports)
 
 
 def statement(title: str, listed: Listed) -> Statement:
@@ -62,8 +62,8 @@ def statement(title: str, listed: Listed) -> Statement:
 
 
 def brief(text: str) -> str:
-    """A call's line, cut where it is long."""
-    return text if len(text) <= MOST_SIGNS else text[:MOST_SIGNS] + " .."
+    """A call's line, shortened where it is long."""
+    return text if len(text) <= MOST_CHARACTERS else text[:MOST_CHARACTERS] + " .."
 
 
 def small(time: str) -> str:
@@ -72,8 +72,8 @@ def small(time: str) -> str:
     return f"{whole}<small>.{rest}</small>" if rest else whole
 
 
-def place_text(bad: Bad) -> str:
-    return "day {}, expiry {}, quantum {}".format(*bad.cell) if bad.cell else "no quantum open"
+def place_text(call: RefusedCall) -> str:
+    return "day {}, expiry {}, quantum {}".format(*call.cell) if call.cell else "no quantum open"
 
 
 def depth(weight: int) -> int:
@@ -81,11 +81,11 @@ def depth(weight: int) -> int:
     return 14 + (weight - 10_000) * 41 // 10_000
 
 
-def parting_text(made: Statement) -> str:
-    """Where the readings part."""
-    if made.parting is None:
+def difference_text(made: Statement) -> str:
+    """Where the readings differ first."""
+    if made.first_difference is None:
         return ""
-    number, ours, theirs = made.parting
+    number, ours, theirs = made.first_difference
     calls = made.listed.calls
     if number <= len(calls):
         place = f"call {number:,}, {calls[number - 1].place}"
@@ -93,7 +93,7 @@ def parting_text(made: Statement) -> str:
         place = "the cell of day {}, expiry {}, quantum {}".format(*CELLS[number - len(calls) - 1])
     else:
         place = "the report at the end"
-    return f"They part at {place}: the meter answers “{ours}”, the recount “{theirs}”."
+    return f"They differ first at {place}: the meter answers “{ours}”, the recount “{theirs}”."
 
 
 def template() -> Any:
@@ -117,13 +117,13 @@ def html(made: Statement) -> str:
     text: str = template().render(
         made=made, fee=made.fee, report=made.meter.report, cells=cells, days=DAYS, series=SERIES, met=met,
         by_series=[pair for pair in by_series if pair[1]], both=figures.compared(made.meter, made.recount),
-        parting=parting_text(made), place_text=place_text, part=part_text, charge_sum=figures.charge_sum, term=figures.term,
+        difference=difference_text(made), place_text=place_text, part=part_text, charge_sum=figures.charge_sum, term=figures.term,
         cap=figures.CAP, divisor=figures.DIVISOR, allowed=figures.ALLOWED, keys=KEYS, version=native.version(), foot=foot_text(made))
     return text
 
 
 def foot_text(made: Statement) -> str:
-    """The foot of each printed page, a string of CSS: signs that could end it stay away."""
-    title = "".join(sign for sign in made.title if sign.isprintable() and sign not in "\"'\\<>&{}")
+    """The foot of each printed page, a string of CSS: characters that could end it are dropped."""
+    title = "".join(letter for letter in made.title if letter.isprintable() and letter not in "\"'\\<>&{}")
     fee = "Not settled" if made.differs else f"Fee {figures.roubles(made.meter.report.fee)}"
-    return f"Statement: {title}. {fee}."
+    return f"Statement: {title}. {fee}{', without what the exchange answered' if made.listed.reports.answers else ''}."

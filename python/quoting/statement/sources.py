@@ -1,10 +1,11 @@
 r"""Where a month's calls come from: a list (text or bytes), a list with the messages of FIX logs put in, or a folder of sessions.
 
 In a text `start TIME` or `start TIME SYMBOL` before an open says when its quantum starts. The messages of the logs from then to the
-quantum's end, of that symbol (55) where one is named, stand then behind the open.
+quantum's end, of that symbol (55) where one is named, then follow the open.
 """
 
 import re
+from collections import Counter
 from dataclasses import dataclass, field
 from datetime import datetime, timedelta
 from pathlib import Path
@@ -14,13 +15,17 @@ from quoting import calls as c
 from quoting import fix, inputs, logs, reading, texts, values
 from quoting.events import event_of, split
 from quoting.reading import Options, TextError
+from quoting.reports import Reports
+from quoting.reports import time_of as answer_time
 from quoting.rules import HEAD, Rule
+from quoting.scanning import Rejected, messages
+from quoting.selection import NOBODY, Choice, Owner, listed, owner_text
 
 NAME = re.compile(r"([0-9]{1,2})-([0-9])-([0-9])\.(session|csv|bin|txt)")
 CHARGES = "charges.csv"
 CHARGE_COLUMNS = ["day", "expiry", "quantum", "active", "passive", "lapses"]
-TIME, SYMBOL = re.compile(rb"\x0160=([^\x01]*)\x01"), re.compile(rb"\x0155=([^\x01]*)\x01")
-PLACED_BEFORE = "start is written: start YYYYMMDD-HH:MM:SS.sss, with the symbol (55) behind it if need be, and an open follows"
+TIME = re.compile(rb"\x0160=([^\x01]*)\x01")
+PLACED_BEFORE = "start is written: start YYYYMMDD-HH:MM:SS.sss, with the symbol (55) after it if need be, and an open follows"
 
 
 @dataclass(frozen=True)
@@ -34,11 +39,14 @@ class Sent:
 
 @dataclass
 class Listed:
-    """All calls of a month; what was left out, a sentence each."""
+    """All calls of a month; what was left out, a sentence each; what the exchange answered in the logs, which no call says; and which
+    messages were skipped without loss, a sentence each."""
 
     name: str
     calls: list[Sent] = field(default_factory=list)
     left: list[str] = field(default_factory=list)
+    reports: Reports = field(default_factory=Reports)
+    skipped: list[str] = field(default_factory=list)
 
 
 # ---------------------------------------------------------------- a list
@@ -53,16 +61,34 @@ class Span:
     begins: datetime
     ends: datetime
     messages: list[tuple[str, bytes]] = field(default_factory=list)
+    owners: Counter[Owner] = field(default_factory=Counter)  # of the requests
 
     def takes(self, time: datetime, symbol: Optional[bytes]) -> bool:
         return self.begins <= time <= self.ends and self.symbol in (None, symbol)
 
+    def may_take(self, time: Optional[datetime], symbol: Optional[bytes]) -> bool:
+        """Whether an answer may be about this quantum: what it does not say excludes nothing, and its time may be cut to seconds."""
+        is_in = time is None or self.begins.replace(microsecond=0) <= time <= self.ends
+        return is_in and (None in (self.symbol, symbol) or self.symbol == symbol)
+
+    def check_owners(self) -> None:
+        """Refuses requests of several symbols or accounts in one quantum."""
+        for what in ("symbol", "account"):
+            counts: Counter[Optional[bytes]] = Counter()
+            for owner, count in self.owners.items():
+                counts[getattr(owner, what)] += count
+            try:
+                Choice(what, None, counts)
+            except ValueError as error:
+                raise TextError(f"the quantum that starts {self.start}: {error}") from None
+
 
 class ListReader:
-    """Gathers the calls of a text, and the quanta that take messages behind their opens."""
+    """Gathers the calls of a text, and the quanta that take messages after their opens."""
 
-    def __init__(self, name: str, options: Options) -> None:
-        self.options, self.listed = options, Listed(name)
+    def __init__(self, name: str, options: Options, chosen: Owner = NOBODY) -> None:
+        self.options, self.listed, self.chosen = options, Listed(name), chosen
+        self.sorter = logs.Sorter(chosen.account)
         self.started: Optional[tuple[str, Optional[bytes]]] = None
         self.spans: dict[int, Span] = {}  # by the number of calls up to the open
 
@@ -88,12 +114,13 @@ class ListReader:
         start = self.started[0] if self.started else None
         self.listed.calls.append(Sent(block, f"line {at}", start))
         if self.started is not None:
-            self.spans[len(self.listed.calls)] = span_of(*self.started, c.call_of(block))
+            start_time, symbol = self.started
+            self.spans[len(self.listed.calls)] = span_of(start_time, symbol or self.chosen.symbol, c.call_of(block))
         self.started = None
 
     def with_messages(self) -> Listed:
-        """The list with each quantum's messages behind its open."""
-        whole = Listed(self.listed.name, [], self.listed.left)
+        """The list with each quantum's messages after its open."""
+        whole = Listed(self.listed.name, [], self.listed.left, self.listed.reports, self.listed.skipped)
         for count, sent in enumerate(self.listed.calls, start=1):
             whole.calls.append(sent)
             span = self.spans.get(count)
@@ -120,26 +147,58 @@ def span_of(start: str, symbol: Optional[bytes], opened: Optional[c.Call]) -> Sp
     return Span(start, symbol, begins, begins + timedelta(milliseconds=length))
 
 
-def text_list(name: str, text: str, options: Options, log_names: Sequence[str]) -> Listed:
-    reader = ListReader(name, options)
+def text_list(name: str, text: str, options: Options, log_names: Sequence[str], chosen: Owner) -> Listed:
+    reader = ListReader(name, options, chosen)
     reader.read(text)
     for log in log_names:
         place_messages(reader, log, reading.read_bytes(log))
+    try:
+        for span in reader.spans.values():
+            span.check_owners()
+    except TextError as error:
+        error.file = name
+        raise
+    others = Counter({owner_text(owner): count for owner, count in reader.sorter.others.items()})
+    if others:
+        reader.listed.skipped.append(f"Messages of other accounts were skipped: {listed(others)}")
     return reader.with_messages()
 
 
 def place_messages(reader: ListReader, log: str, data: bytes) -> None:
     """Each message to its quantum. One whose time can't be read goes where the one before it went, to be refused there."""
     spans, before = list(reader.spans.values()), None
-    for found in logs.messages(data):
-        if found.kind is not None and found.kind not in logs.TAKEN:
+    for item in messages(data):
+        each = reader.sorter.sort(item)
+        if each is None:
             continue
-        span = span_for(found.data, spans) if time_of(found.data) else before
-        if span is None:
-            reader.listed.left.append(f"{log}: line {found.line}: this message is in no quantum of the list")
-            continue
-        span.messages.append((f"{log}: line {found.line}", found.data))
-        before = span
+        place = f"{log}: {item.place}"
+        if isinstance(each, Rejected):
+            reader.listed.left.append(f"{place}: {each.why}")
+        elif not each.found.is_request:
+            count_answer(reader.listed.reports, each, spans)
+        else:
+            span = span_for(each, spans) if time_of(each.found.data) else before
+            place_request(reader.listed, span, each, place)
+            before = span or before
+
+
+def count_answer(reports: Reports, each: logs.Sorted, spans: list[Span]) -> None:
+    """Counts an answer that may be about one of the quanta."""
+    time = answer_time(each.found)
+    if each.omission is not None and any(span.may_take(time, each.owner.symbol) for span in spans):
+        reports.counts[each.omission] += 1
+
+
+def place_request(listed: Listed, span: Optional[Span], each: logs.Sorted, place: str) -> None:
+    if span is None:
+        listed.left.append(f"{place}: this message is in no quantum of the list")
+        return
+    if each.omission is not None:
+        listed.reports.counts[each.omission] += 1
+    if each.data is not None:
+        span.messages.append((place, each.data))
+        if time_of(each.found.data) and (each.found.kind == b"D" or None not in each.owner):
+            span.owners[each.owner] += 1
 
 
 def time_of(message: bytes) -> Optional[datetime]:
@@ -150,24 +209,24 @@ def time_of(message: bytes) -> Optional[datetime]:
         return None
 
 
-def span_for(message: bytes, spans: list[Span]) -> Optional[Span]:
-    time, symbol = time_of(message), SYMBOL.search(message)
+def span_for(each: logs.Sorted, spans: list[Span]) -> Optional[Span]:
+    time = time_of(each.found.data)
     assert time is not None
-    return next((span for span in spans if span.takes(time, symbol[1] if symbol else None)), None)
+    return next((span for span in spans if span.takes(time, each.owner.symbol)), None)
 
 
-def from_list(name: str, options: Options, log_names: Sequence[str] = ()) -> Listed:
-    """The calls of a list of any form."""
+def from_list(name: str, options: Options, log_names: Sequence[str] = (), chosen: Owner = NOBODY) -> Listed:
+    """The calls of a list of any form. Of the logs the chosen account is read; the chosen symbol is that of quanta that name none."""
     data = reading.read_bytes(name)
     if b"\0" not in data:
-        return text_list(name, reading.decoded(data, name), options, log_names)
+        return text_list(name, reading.decoded(data, name), options, log_names, chosen)
     if log_names:
         raise reading.failed("messages are put into a text, which says when each quantum starts, and these are bytes", name)
     found = inputs.calls_of(name, data, options)
-    listed = Listed(name, [Sent(placed.block, f"call {at}") for at, placed in enumerate(found.blocks, start=1)])
+    made = Listed(name, [Sent(placed.block, f"call {at}") for at, placed in enumerate(found.blocks, start=1)])
     if found.stop:
-        listed.left.append(f"{name}: stopped at word {found.stop}: no call stands there, and nothing behind it is read")
-    return listed
+        made.left.append(f"{name}: stopped at word {found.stop}: no call is there, and nothing after it is read")
+    return made
 
 
 # ---------------------------------------------------------------- a folder of sessions

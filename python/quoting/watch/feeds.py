@@ -17,6 +17,7 @@ from typing import Iterator, Optional, Protocol, Union
 from quoting import calls as c
 from quoting import reading, texts
 from quoting.reading import STANDARD, Options, TextError
+from quoting.reports import Omission
 from quoting.statement.sources import PLACED_BEFORE, Sent, start_of
 
 PIECE = 65_536  # bytes that are read at once
@@ -25,7 +26,6 @@ LONGEST_LINE = 1 << 20
 LONGEST_BLOCK = 4 * 65_536  # docs/FORMATS.md
 KINDS = {1, 13, 16, *c.FIXED}
 LINE_END = re.compile(rb"\r\n|\r|\n")
-RAW_END = re.compile(rb"\x0110=[0-9]{3}\x01")
 NO_CALL = "no call stands there, and nothing behind it is read"
 
 
@@ -35,6 +35,7 @@ class Trouble:
 
     place: str  # "line 12", "brent.log: line 7", "" where it is of the file as a whole
     text: str
+    omission: Optional[Omission] = None  # what the figures leave out, where that is all
 
 
 Item = Union[Sent, Trouble]
@@ -265,13 +266,6 @@ class Lines:
         """The line that stood unfinished, at its end; nothing is left of one that is too long."""
         yield self.number, bytes(self.rest)
         self.forget(self.number + 1)
-
-    def messages(self) -> Iterator[Line]:
-        """Of an unfinished line what ends with a raw message's checksum."""
-        ends = [found.end() for found in RAW_END.finditer(self.rest)]
-        if ends:
-            yield self.number, bytes(self.rest[: ends[-1]])
-            del self.rest[: ends[-1]]
 
     def forget(self, number: int) -> None:
         """What stood unfinished is dropped; the next line has this number."""

@@ -58,6 +58,7 @@ def sections(meter: Meter, now: int, status: Status) -> dict[str, Any]:
         "readings": dict(status.readings),
         "feed": {"kind": status.feed, "text": feed_text(meter.calls, status)},
         "alert": alert(meter, status),
+        "omitted": omitted(meter),
         "open": open_quantum(meter, shown, status),
         "stretches": stretches(meter, shown),
         "problems": problems(meter, status),
@@ -107,7 +108,9 @@ def band_of(meter: Meter, shown: Optional[Shown], status: Status) -> s.Band:
     if shown is None:
         return s.none_open(meter.closed, meter.cells().get(meter.closed) if meter.closed else None)
     found = moment_of(meter, shown)
-    return s.broken(s.band(found), found) if status.feed == "broken" else s.band(found)
+    if status.feed == "broken":
+        return s.broken(s.band(found), found)
+    return s.unsure(s.band(found), meter.reports_now.head()) if meter.reports_now.answers else s.band(found)
 
 
 def title(band: s.Band, name: str) -> str:
@@ -164,6 +167,13 @@ def alert(meter: Meter, status: Status) -> Optional[Section]:
     place = capital(place) if place.split()[0] in ("line", "call", "the") else place  # another is a file's name
     what = ": refused, the rest goes on." if newest.is_refused else ": not read, the rest goes on." if newest.place else ":"
     return {"head": place + what, "text": f"{capital(newest.sentence())}."}
+
+
+def omitted(meter: Meter) -> Optional[Section]:
+    """What the exchange answered and the figures leave out, for as long as the page runs."""
+    if not meter.reports:
+        return None
+    return {"head": f"Not in the figures: {meter.reports.head()}.", "text": meter.reports.sentence()}
 
 
 def capital(text: str) -> str:

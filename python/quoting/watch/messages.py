@@ -1,9 +1,10 @@
 """A log of FIX messages as it grows, with a list of opens and closes, as calls in the list's order.
 
-Each message goes to the quantum of its time (60) and symbol (55), as in a statement (quoting.statement.sources): the first of the list that
-takes it. An open comes when the time seen has reached its start; behind it come the messages of its quantum; the call behind them in the
-list comes when the time seen is past the quantum's end. Time is seen by the messages, and by the clock if it knows the date. A finished
-log is read whole first, so that its calls are those of the statement whatever the order of its messages.
+Each request goes to the quantum of its time (60) and symbol (55), as in a statement (quoting.statement.sources): the first of the list that
+takes it. An open comes when the time seen has reached its start; the messages of its quantum follow it; the call after them in the list
+comes when the time seen is past the quantum's end. Time is seen by the messages, and by the clock if it knows the date. A finished log is
+read whole first, so that its calls are those of the statement whatever the order of its messages. What the exchange answered goes to its
+quantum too, as a trouble that says what the figures leave out.
 """
 
 import os
@@ -15,11 +16,15 @@ from itertools import chain
 from typing import Iterator, Optional, Union
 
 from quoting import calls as c
-from quoting import fix, inputs, logs, reading
+from quoting import fix, inputs, logs, reading, scanning
 from quoting.reading import STANDARD, Options
-from quoting.statement.sources import SYMBOL, TIME, Sent, Span, span_of
+from quoting.reports import Omission
+from quoting.reports import time_of as answer_time
+from quoting.scanning import Rejected, Scanner
+from quoting.selection import NOBODY, Owner, owner_text
+from quoting.statement.sources import TIME, Sent, Span, span_of
 from quoting.watch.clocks import Clock
-from quoting.watch.feeds import Growing, Item, Line, Lines, ListLines, Pieces, Trouble, Turn, of_lines
+from quoting.watch.feeds import Growing, Item, Lines, ListLines, Pieces, Trouble, Turn, of_lines
 
 GRACE = timedelta(seconds=5)  # by which a log may be behind the clock at a quantum's end
 MOST_KEPT = 100_000  # messages in no quantum, kept for opens that are listed later
@@ -32,24 +37,51 @@ BYTES = "messages are put into a text, which says when each quantum starts, and 
 
 @dataclass(frozen=True)
 class Unplaced:
-    """A message of the log on its way to a quantum."""
+    """A request of the log, or an answer that the figures leave out, on its way to a quantum."""
 
-    line: int
-    data: bytes
+    place: str
+    sorted: logs.Sorted
     time: Optional[datetime]
-    symbol: Optional[bytes]
+
+    @classmethod
+    def of(cls, place: str, each: logs.Sorted) -> "Unplaced":
+        return cls(place, each, time_of(each.found.data) if each.found.is_request else answer_time(each.found))
+
+    @property
+    def is_request(self) -> bool:
+        return self.sorted.found.is_request
 
 
 @dataclass
 class Quantum:
-    """One of the list that takes messages; `past` when the list has gone on behind it."""
+    """One of the list that takes messages; `past` when the list has gone on after it."""
 
     span: Span
-    messages: deque[tuple[int, bytes]] = field(default_factory=deque)
+    messages: deque[Unplaced] = field(default_factory=deque)
     past: bool = False
+    owner: Owner = NOBODY  # of its requests so far
 
     def takes(self, message: Unplaced) -> bool:
-        return message.time is not None and self.span.takes(message.time, message.symbol)
+        symbol = message.sorted.owner.symbol
+        if not message.is_request:
+            return self.span.may_take(message.time, symbol)
+        return message.time is not None and self.span.takes(message.time, symbol)
+
+    def items(self, message: Unplaced) -> Iterator[Item]:
+        """The call that a message is, and what the figures leave out of it."""
+        each = message.sorted
+        if each.omission is not None:
+            yield Trouble(message.place, f"not in the figures: {each.omission.counted(1)}", each.omission)
+        if each.data is None:
+            return
+        is_refused = message.time is None  # by the month, whosever it is
+        if not is_refused and not self.owner.fits(each.owner):
+            text = f"this message of {owner_text(each.owner)} is left out: its quantum has messages of {owner_text(self.owner)}"
+            yield Trouble(message.place, text)
+            yield Trouble(message.place, text, Omission.OTHER)
+            return
+        self.owner = self.owner if is_refused else self.owner.or_else(each.owner)
+        yield Sent(c.block(c.Message(self.span.start.encode(), each.data)), message.place)
 
 
 # ---------------------------------------------------------------- the list
@@ -128,14 +160,17 @@ class ListFile:
 class MessagesFeed(Pieces):
     """The calls of a list with the messages of a log, as both grow."""
 
-    def __init__(self, log: str, calls_file: str, options: Options, start: Optional[str], clock: Clock, follow: bool) -> None:
+    def __init__(
+        self, log: str, calls_file: str, options: Options, start: Optional[str], clock: Clock, follow: bool, chosen: Owner = NOBODY,
+    ) -> None:
         if log == calls_file == STANDARD:
             raise inputs.WrongUse("the log and the list can't both be standard input")
         if start is not None:
             fix.moment(start)
         super().__init__(Growing(log, follow))
-        self.start, self.clock, self.follow = start, clock, follow
-        self.list, self.lines = ListFile(calls_file, options, follow), Lines()
+        self.start, self.clock, self.follow, self.chosen = start, clock, follow, chosen
+        self.list = ListFile(calls_file, options, follow)
+        self.scanner, self.sorter = Scanner(), logs.Sorter(chosen.account)
         self.queue: deque[tuple[Sent, Optional[Quantum]]] = deque()  # of the list, still to come
         self.days: dict[date, list[Quantum]] = defaultdict(list)  # the quanta of each day, in the list's order
         self.current: Optional[Quantum] = None
@@ -160,7 +195,7 @@ class MessagesFeed(Pieces):
         piece = self.growing.read()
         self.idle = piece is None
         if piece is not None:
-            return self.turned(piece) if isinstance(piece, Turn) else self.logged(self.lines.take(piece), early=True)
+            return self.turned(piece) if isinstance(piece, Turn) else self.logged(self.scanner.take(piece))
         due = self.due()
         first = next(due, None)
         return None if first is None else chain([first], due)
@@ -186,7 +221,7 @@ class MessagesFeed(Pieces):
         if start is None:
             self.queue.append((sent, None))
             return
-        quantum = Quantum(span_of(start, call.symbol, opened))
+        quantum = Quantum(span_of(start, call.symbol or self.chosen.symbol, opened))
         self.queue.append((Sent(sent.block, sent.place, start), quantum))
         begins, ends = quantum.span.begins.date(), quantum.span.ends.date()
         for day in range((ends - begins).days + 1):
@@ -194,7 +229,7 @@ class MessagesFeed(Pieces):
         waiting, self.unplaced = self.unplaced, deque(maxlen=MOST_KEPT)
         for message in waiting:
             if quantum.takes(message):
-                self.passed_over -= 1
+                self.passed_over -= message.is_request
                 self.place(message, quantum)
             else:
                 self.unplaced.append(message)
@@ -202,53 +237,66 @@ class MessagesFeed(Pieces):
     # ------------------------------------------------------------ the log
 
     def turned(self, turn: Turn) -> Iterator[Item]:
-        yield from self.logged(self.lines.turn(turn))
+        if turn.final or turn.kind == "cut":
+            yield from self.logged(self.scanner.end())
         if turn.text:
             yield Trouble(self.name, turn.text)
         if turn.fresh:
-            self.lines = Lines()
+            self.scanner = Scanner()
+        elif turn.kind == "cut":
+            self.scanner = Scanner(turn.line)
 
-    def logged(self, lines: Iterator[Union[Line, Trouble]], early: bool = False) -> Iterator[Item]:
-        """The messages of whole lines, and whole ones of a line without an end so far: raw messages may stand without any."""
-        for line in chain(lines, self.lines.messages() if early else ()):
-            if isinstance(line, Trouble):
-                yield Trouble(f"{self.name}: {line.place}", line.text)
-                continue
-            for found in logs.messages(line[1]):
-                if found.kind is None or found.kind in logs.TAKEN:
-                    yield from self.message(line[0], found.data)
+    def logged(self, found: Iterator[scanning.Item]) -> Iterator[Item]:
+        """What the messages of the log are."""
+        for item in found:
+            place, each = f"{self.name}: {item.place}", self.sorter.sort(item)
+            if isinstance(each, Rejected):
+                yield Trouble(place, each.why)
+            elif each is not None:
+                yield from self.message(Unplaced.of(place, each))
 
-    def message(self, line: int, data: bytes) -> Iterator[Item]:
-        symbol = SYMBOL.search(data)
-        message = Unplaced(line, data, time_of(data), symbol[1] if symbol else None)
-        quantum = self.before if message.time is None else self.quantum_of(message, message.time)
-        if message.time is not None and is_sound(data):
-            self.seen = max(message.time, self.seen or message.time)
+    def message(self, message: Unplaced) -> Iterator[Item]:
+        quantum = self.quantum_of(message)
+        if message.is_request:
+            self.before = quantum or self.before
+            self.seen = max(message.time, self.seen or message.time) if message.time else self.seen
         if quantum is None:
-            self.passed_over += 1
-            self.unplaced.append(message)
-            if not self.said:
-                self.said = True
-                yield Trouble(f"{self.name}: line {line}", IN_NONE)
+            yield from self.keep(message)
         elif quantum.past:
-            self.passed_over += 1
-            self.before = quantum
-            yield Trouble(f"{self.name}: line {line}", LATE)
+            yield from self.late(message)
         elif quantum is self.current:  # where nothing else can be due
-            self.before = quantum
-            yield self.sent_of(quantum, line, data)
+            yield from quantum.items(message)
             return
         else:
             self.place(message, quantum)
         yield from self.due()
 
-    def quantum_of(self, message: Unplaced, time: datetime) -> Optional[Quantum]:
-        """The first of the list that takes it."""
-        return next((each for each in self.days.get(time.date(), ()) if each.takes(message)), None)
+    def keep(self, message: Unplaced) -> Iterator[Item]:
+        """A message in no quantum, which may be in one that is listed later."""
+        self.unplaced.append(message)
+        self.passed_over += message.is_request
+        if message.is_request and not self.said:
+            self.said = True
+            yield Trouble(message.place, IN_NONE)
+
+    def late(self, message: Unplaced) -> Iterator[Item]:
+        """A message of a quantum that is past. What the exchange answered is counted all the same."""
+        self.passed_over += message.is_request
+        if message.is_request:
+            yield Trouble(message.place, LATE)
+        else:
+            yield Trouble(message.place, LATE, message.sorted.omission)
+
+    def quantum_of(self, message: Unplaced) -> Optional[Quantum]:
+        """The first of the list that takes it. One whose time can't be read goes where the last request went."""
+        if message.time is None:
+            return self.before
+        return next((each for each in self.days.get(message.time.date(), ()) if each.takes(message)), None)
 
     def place(self, message: Unplaced, quantum: Quantum) -> None:
-        quantum.messages.append((message.line, message.data))
-        self.before = quantum
+        quantum.messages.append(message)
+        if message.is_request:
+            self.before = quantum
 
     # ------------------------------------------------------------ in the list's order
 
@@ -257,7 +305,7 @@ class MessagesFeed(Pieces):
         while True:
             if self.current is not None:
                 while self.current.messages:
-                    yield self.sent_of(self.current, *self.current.messages.popleft())
+                    yield from self.current.items(self.current.messages.popleft())
                 if not self.queue or not self.is_past(self.current.span):
                     return
                 self.current.past, self.current = True, None
@@ -265,9 +313,6 @@ class MessagesFeed(Pieces):
                 return
             sent, self.current = self.queue.popleft()
             yield sent
-
-    def sent_of(self, quantum: Quantum, line: int, data: bytes) -> Sent:
-        return Sent(c.block(c.Message(quantum.span.start.encode(), data)), f"{self.name}: line {line}")
 
     def is_reached(self, quantum: Optional[Quantum]) -> bool:
         if not self.follow:
@@ -304,9 +349,3 @@ def time_of(data: bytes) -> Optional[datetime]:
     if day is None or hour > 23 or minute > 59 or second > 59:
         return None
     return day + timedelta(0, second, 0, int(text[18:]), minute, hour)
-
-
-def is_sound(data: bytes) -> bool:
-    """Whether its checksum is right: time is not moved by a damaged message."""
-    at = data.rfind(fix.END + b"10=") + 1
-    return at > 0 and data[at:] == b"10=%03d" % (sum(data[:at]) % 256) + fix.END

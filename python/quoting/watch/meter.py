@@ -18,6 +18,7 @@ from quoting.drawing import short
 from quoting.events import Amend
 from quoting.months import Month
 from quoting.native import Refused
+from quoting.reports import Reports
 from quoting.statement.course import CELLS, LOOKS, Place, call_text
 from quoting.statement.course import STATES as WORDS
 from quoting.statement.figures import thousands
@@ -104,6 +105,7 @@ class Meter:
         self.closed: Optional[Place] = None  # the cell that was filled last
         self.problems: deque[Problem] = deque(maxlen=LISTED)
         self.problem_count = 0
+        self.reports, self.reports_now = Reports(), Reports()  # what the figures leave out, in all and of the open quantum
         self.altered = 0  # calls that altered cells, or which quantum is open
         self.made: Optional[tuple[int, dict[str, Any]]] = None  # the month's section, and how much was altered when it was made
         self._cells: tuple[int, dict[Place, Cell]] = (-1, {})
@@ -125,8 +127,13 @@ class Meter:
         return answer
 
     def trouble(self, found: "Trouble", came: float) -> None:
-        """What the feed could not read."""
-        self._problem(Problem(came, found.place, found.text))
+        """What the feed could not read, or what the figures leave out, which is counted."""
+        if found.omission is None:
+            self._problem(Problem(came, found.place, found.text))
+            return
+        self.reports.counts[found.omission] += 1
+        if self.opened is not None:
+            self.reports_now.counts[found.omission] += 1
 
     def _problem(self, found: Problem) -> None:
         self.problems.appendleft(found)
@@ -146,7 +153,7 @@ class Meter:
         self.altered += 1
         call = c.call_of(sent.block)
         if isinstance(call, c.Open):
-            self.opens, self.came = self.opens + 1, came
+            self.opens, self.came, self.reports_now = self.opens + 1, came, Reports()
             self._open((call.day, call.words[0], call.words[1]), call.words[2], sent.start)
             self.course = Course(call.words[2])
         elif isinstance(call, (c.Close, c.Drop)) and self.opened is not None:

@@ -333,6 +333,16 @@ def broken(was: Band, m: Moment) -> Band:
     return Band("broken", "Feed broken off", since, joined(m, why))
 
 
+def unsure(was: Band, what: str) -> Band:
+    """The exchange answered in this quantum what the figures leave out: no figure of it may be relied on.
+
+    >>> unsure(Band("rest", "You may rest", "Met even if nothing more is kept."), "1 fill and 2 rejects")[1:3]
+    ('Do not rely on these figures', 'Not counted in this quantum: 1 fill and 2 rejects')
+    """
+    why = f"Keep quoting. By your requests alone it would be: {then_text(was)}."
+    return Band("hold", "Do not rely on these figures", f"Not counted in this quantum: {what}", why)
+
+
 def then_text(was: Band) -> str:
     return f"{lowered(was.head)}, {lowered(was.sub)}".rstrip(".")
 

@@ -120,3 +120,10 @@ export function paintAlert(alert) {
   say(figure("alert"), alert?.head);
   say(figure("alert-text"), alert?.text);
 }
+
+// What the exchange answered and the figures leave out: it stays for as long as the page runs.
+export function paintOmitted(omitted) {
+  show($("omitted"), Boolean(omitted));
+  say(figure("omitted"), omitted?.head);
+  say(figure("omitted-text"), omitted?.text);
+}

@@ -7,6 +7,7 @@ Every figure stands in an element of its own, found by document.querySelector('[
   state, since                               the state now; data-key of `state` is its key
   readings, readings-text, feed              both readings and the feed; data-kind of #readings and #feed is their kind
   alert, alert-text                          the newest problem
+  omitted, omitted-text                      what the exchange answered and the figures leave out
   share, required, required-time, full, full-time                        the bar
   kept, left, lapses, spread, weight         the five figures, each with NAME-unit and NAME-below; kept and left with thousandths
   bid, ask                                   best quotes now, as the chart is labelled; empty where absent
@@ -23,7 +24,7 @@ The form is #ask with the fields t, id, price, volume. */
 
 import { $ } from "./elements.js";
 import { drawWith, mark } from "./sections.js";
-import { paintAlert, paintBand, paintDiffers, paintFeed, paintHead, paintReadings, paintState } from "./band.js";
+import { paintAlert, paintBand, paintDiffers, paintFeed, paintHead, paintOmitted, paintReadings, paintState } from "./band.js";
 import { paintOpen, paintProblems, paintStretches } from "./quantum.js";
 import { paintAnswer, startForm } from "./asking.js";
 import { startChart } from "./chart.js";
@@ -33,7 +34,7 @@ import { connect, seenOrHidden } from "./connection.js";
 
 const PAINTERS = [
   ["differs", paintDiffers], ["head", paintHead], ["band", paintBand], ["state", paintState], ["readings", paintReadings],
-  ["feed", paintFeed], ["alert", paintAlert], ["open", paintOpen], ["stretches", paintStretches], ["day", paintDay],
+  ["feed", paintFeed], ["alert", paintAlert], ["omitted", paintOmitted], ["open", paintOpen], ["stretches", paintStretches], ["day", paintDay],
   ["problems", paintProblems], ["month", paintMonth], ["answer", paintAnswer],
 ];
 
