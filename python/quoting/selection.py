@@ -73,7 +73,7 @@ class Owners:
         """The owner with what the order of that id says."""
         known = {each for each in self.orders.get(id or b"", ()) if each.fits(owner)}
         if len(known) > 1:
-            raise ValueError(f"order {text_of(id)} may be one of several: {listed(Counter(map(owner_text, known)))}")
+            raise ValueError(f"order {text_of(id)} may be one of several: {', '.join(sorted(map(owner_text, known)))}")
         return owner.or_else(known.pop()) if known else owner
 
 
