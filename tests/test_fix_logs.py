@@ -183,6 +183,7 @@ def test_item_1_the_live_page_says_it(tmp_path):
     shown = frames.sections(meter, 0, status)
     assert shown["omitted"]["head"] == "Not in the figures: 1 fill and 1 reject." and "overstated" in shown["omitted"]["text"]
     assert shown["band"]["head"] == "Do not rely on these figures" and shown["band"]["kind"] == "hold", shown["band"]
+    assert shown["state"]["key"] == "unknown", shown["state"]
     assert shown["problems"]["count"] == 0, "hundreds of fills would hide the problems"
     closed, _ = watched(tmp_path, month_of() + month_of(at=f"{DATE}-19:00:00.000").replace("row 1 1", "row 1 2").rsplit("close", 1)[0],
                         log_of(*QUOTES, report("F", "2"), QUOTES[0].replace("10:00:05", "19:00:05")))

@@ -91,7 +91,7 @@ def listed(counts: "Counter[str]") -> str:
     >>> listed(Counter({"BR-1.27": 12, "none": 1}))
     'BR-1.27 (12 messages), none (1 message)'
     """
-    shown = [f"{name} ({count} message{'s' * (count != 1)})" for name, count in counts.most_common(MOST_LISTED)]
+    shown = [f"{name} ({count:,} message{'s' * (count != 1)})" for name, count in counts.most_common(MOST_LISTED)]
     more = len(counts) - len(shown)
     return ", ".join(shown) + (f" and {more} more" if more else "")
 
