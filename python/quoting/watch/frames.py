@@ -110,7 +110,7 @@ def band_of(meter: Meter, shown: Optional[Shown], status: Status) -> s.Band:
     found = moment_of(meter, shown)
     if status.feed == "broken":
         return s.broken(s.band(found), found)
-    return s.unsure(s.band(found), meter.reports_now.head()) if meter.reports_now.answers else s.band(found)
+    return s.unsure(s.band(found), meter.reports_now.answers_text()) if meter.reports_now.answers else s.band(found)
 
 
 def title(band: s.Band, name: str) -> str:
@@ -123,6 +123,8 @@ def state(meter: Meter, shown: Optional[Shown], status: Status) -> Optional[Sect
     word = SHORT.get(STATES[meter.course.state], STATES[meter.course.state])
     if status.feed == "broken":
         return {"key": "unknown", "word": "not known", "since": f"last {word}"}
+    if meter.reports_now.answers:
+        return {"key": "unknown", "word": "not known", "since": f"by your requests {word}"}
     since, now = meter.course.since, shown.report.time
     text = f"since {meter.opened.times.down(since)}, for {s.had(now - since)}"
     return {"key": STATE_KEYS[meter.course.state], "word": word, "since": text}
