@@ -1,12 +1,11 @@
 -- The side of an event that names a live order, and the key of the order that an event added or changed.
 use Prim.Native.Nat.{ℕ, zero, suc}
-use native.Mathlib.Omega.{arith}
 use native.Mathlib.Nat.{not-suc-le-zero, le-of-suc-le-suc}
 use mathlib.Core.Path.{_≡_, refl, sym, ap, _∙_}
 use mathlib.Core.List.{List, [], _∷_, _++_, List·Memᴰ, List·Memᴰ·head, List·Memᴰ·tail}
 use mathlib.Core.Bool.{Bool, true, false, not, true≢false}
 use borrow.Author.Tests.{eqb-true}
-use lib.ListN.{length, getD, set}
+use lib.ListN.{set}
 use Rattle.rules.specs.declared.Side.{Side}
 use Rattle.rules.specs.declared.Order.{Order}
 use Rattle.rules.specs.Lists.{if_then_else_, any, filter}

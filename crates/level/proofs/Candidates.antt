@@ -4,16 +4,15 @@ use Prim.Native.Nat.{ℕ, _≤_, _<_}
 use native.Mathlib.Omega.{arith}
 use mathlib.Core.Path.{_≡_, refl, sym, ap, _∙_, subst}
 use mathlib.Core.Logic.{_⊎_, inl, inr}
-use mathlib.Core.List.{List, [], _∷_, _++_, map, map-append, List·Memᴰ, List·Memᴰ·head, List·Memᴰ·tail, List·Memᴰ·not-nil, List·Memᴰ·append-cases, Memᴰ·cast, Memᴰ·of-map}
-use mathlib.Core.Bool.{Bool, true, false, true≢false}
+use mathlib.Core.List.{List, [], _∷_, _++_, map-append, List·Memᴰ, List·Memᴰ·head, List·Memᴰ·tail, List·Memᴰ·not-nil, List·Memᴰ·append-cases, Memᴰ·cast, Memᴰ·of-map}
+use mathlib.Core.Bool.{Bool, true, false}
 use borrow.Author.Tests.{ltb-true, leb-true, leb-false, eqb-true, eqb-false, lt-ltb, le-ltb, ne-eqb}
 use lib.Dec.{leb, ltb, eqb}
 use lib.ListN.{length, length-map}
 use Rattle.rules.specs.declared.Side.{Side}
 use Rattle.rules.specs.declared.Order.{Order}
 use Rattle.rules.specs.Lists.{if_then_else_, filter}
-use Rattle.rules.specs.Units.{goodPrice}
-use Rattle.rules.specs.Search.{sumsAfter, sumsFor}
+use Rattle.rules.specs.Search.{sumsFor}
 use Rattle.rules.proofs.Lists.{kept-in, in-kept}
 use Rattle.prices.specs.Keys.{keyIn}
 use Rattle.prices.proofs.Keys.{key-least, key-most}
@@ -25,7 +24,7 @@ use Rattle.quote.proofs.Levels.{held-some, held-none, nearest}
 use Rattle.quote.proofs.Finding.{after-sums}
 use Rattle.level.specs.Candidates.{least, keyAbove, keyBelow, nextKey, fallsShort, canBeBest, keysIn, volumesIn, levelAmong, firstAt, inserted, byPrice, fromChange, fromSecond, fromFirst, fromOld, candidates}
 use Rattle.level.specs.CandidateKeys.{changedKey, keyOnly, keysFromChange, keysFromSecond, keysFromFirst, keysFromOld, candidateKeys}
-use Rattle.level.proofs.Nexts.{least-under, least-over, where-enough, where-short}
+use Rattle.level.proofs.Nexts.{least-under, least-over}
 
 -- ---- the key next to a level is an order's, or that of none
 

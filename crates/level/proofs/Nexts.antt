@@ -19,7 +19,7 @@ use Rattle.quote.specs.declared.Level.{Level}
 use Rattle.quote.specs.Levels.{held, greatest, levelAt, isBest, Searchable}
 use Rattle.quote.proofs.Levels.{held-le-in, held-some, held-none, level-split, greatest-append, greatest-over, greatest-under}
 use Rattle.level.specs.Candidates.{least, keyAbove, keyBelow, nextKey}
-use Rattle.level.specs.Internal.{nextLevel, Open}
+use Rattle.level.specs.Internal.{nextLevel}
 
 -- ---- keys compared with a sign
 

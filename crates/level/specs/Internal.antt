@@ -4,7 +4,7 @@ use mathlib.Core.Path.{_≡_}
 use mathlib.Core.Logic.{_⊎_}
 use mathlib.Core.List.{List}
 use lib.Dec.{leb, ltb, eqb}
-use lib.ListN.{getD, set, take, drop}
+use lib.ListN.{getD, set}
 use Rattle.rules.specs.Lists.{if_then_else_}
 use Rattle.quote.specs.declared.Level.{Level}
 use Rattle.quote.specs.Levels.{held, enough, levelAt, levelOf}
@@ -19,7 +19,7 @@ use Rattle.level.specs.CandidateKeys.{keysFrom}
 
 -- ---- a level
 
--- the level that stands in a side's words, and the words with another
+-- the level in a side's words, and the words with another
 abbrev pub levelRead : List ℕ → Level
 levelRead words = record { key = getD words 193 0; before = getD words 194 0; at = getD words 195 0 }
 

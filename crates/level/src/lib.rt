@@ -9,7 +9,7 @@ ghost use lib.Dec.{ltb, eqb};
 ghost use lib.ListN.{length, getD, take, drop};
 ghost use Rattle.rules.specs.Lists.{if_then_else_};
 ghost use Rattle.quote.specs.Levels.{levelAt, isBest, Columns, Searchable};
-ghost use Rattle.side.specs.Slots.{Slot, levelIn, bestKeyIn, GoodSlots};
+ghost use Rattle.side.specs.Slots.{Slot, levelIn, GoodSlots};
 ghost use Rattle.side.specs.Internal.{StaleLevel, Changed, brings};
 ghost use Rattle.level.specs.Requotes.{Requotes};
 ghost use Rattle.level.specs.Candidates.{keyAbove, keyBelow, lackingAt, fallsShort, canBeBest};
@@ -219,7 +219,7 @@ fn lacking(level: Level, minimum: Contracts) -> u32
     less(minimum.0, level.before + level.at)
 }
 
-// Whether another step is vain: what stands at the level is less than an eighth of what it lacks, so that the best one is likely far.
+// Whether another step is vain: what is at the level is less than an eighth of what it lacks, so that the best one is likely far.
 fn falls_short(level: Level, minimum: Contracts) -> bool
     requires { ⌜ level .before + level .at ≤ 64000000 ⌝ }
     ensures { λ r. ⌜ r ≡ fallsShort level (minimum .0) ⌝ }

@@ -1,7 +1,6 @@
 -- The key of what the search finds is the best one, and the sums that it answers are those of its level (`found-level`).
 use native.Mathlib.Omega.{arith}
 use mathlib.Core.Path.{ap}
-use mathlib.Core.List.{List}
 use Prim.Native.Nat.{ℕ, _+_}
 use borrow.Author.Needs.{needs}
 use Rattle.quote.specs.Levels.{enough}

@@ -1,16 +1,15 @@
 -- Each level tried is a guess whose sums, with those for the candidates that are left, are W3's number (`first-counted`, `second-counted`,
 -- `change-counted`); the best one is taken, or searched for from what they found.
-use Prim.Native.Nat.{ℕ, _+_, _≤_}
+use Prim.Native.Nat.{ℕ, _≤_}
 use native.Mathlib.Omega.{arith}
 use mathlib.Core.Path.{_≡_, sym, ap, _∙_, subst}
 use mathlib.Core.Bool.{false}
 use mathlib.Core.List.{List}
-use lib.ListN.{getD}
 use borrow.Author.Needs.{needs}
 use Rattle.quote.specs.declared.Level.{Level}
 use Rattle.quote.specs.Levels.{Searchable, isBest, levelAt}
 use Rattle.level.specs.declared.Guess.{Guess}
-use Rattle.level.specs.Internal.{Open, nextLevel, withLevel, stepFarther, atChange}
+use Rattle.level.specs.Internal.{Open, nextLevel, withLevel}
 use Rattle.level.proofs.Depths.{own-level, level-small}
 use Rattle.level.proofs.Starts as S
 use Rattle.level.proofs.Starts.{Near, counted, known, firstKeys, secondKeys, lastKeys, allSums}
