@@ -73,6 +73,10 @@ module _ (e : Event) (minimum : ℕ) (live : List Order) (table : List ℕ) (rep
         answers = subst (Changed c (slotsIn (sideAt n) live)) (sym own) answers;
       })
 
+-- an accepted event is not refused: whatever holds of refusals
+pub not-refused : (A : Type 0) (n : ℕ) (c : Change) (r : Answer) → r ≡ answer 0 n c → 0 < r .refusal → A
+not-refused A n c r is h = absurd (omega (arith, h, ap (λ (x : Answer). x .refusal) is))
+
 -- two accepted events that leave the same orders
 pub same-turn : (d e : Event) (minimum : ℕ) (live : List Order) (exit : List ℕ) (r : Answer) → firstNumber (traderCauses live d) ≡ 0
     → firstNumber (traderCauses live e) ≡ 0 → ((side : Side) → OfSide side live d → OfSide side live e) → apply live d ≡ apply live e

@@ -1,6 +1,6 @@
 -- What an event promises: the trader's refusal and the table after it (`Sends`), whether the live orders then keep the quote, and the sums
--- that were made for the best quote of its side. All of it holds whatever the hints contain; the hints after it are the one thing that is
--- left free, 2,048 bytes.
+-- that were made for the best quote of its side. All of it holds whatever the hints contain. A refused event leaves the hints (the contract
+-- of `send` says so); what an accepted one leaves in these 2,048 bytes is free.
 use Prim.Native.Nat.{ℕ, _<_}
 use mathlib.Core.Path.{_≡_}
 use mathlib.Core.List.{List}

@@ -3,7 +3,7 @@
 ghost use mathlib.Core.Path.{_≡_};
 ghost use mathlib.Core.List.{List};
 ghost use mathlib.Core.Bool.{_&&_};
-ghost use Prim.Native.Nat.{ℕ};
+ghost use Prim.Native.Nat.{ℕ, _<_};
 ghost use lib.Dec.{eqb};
 ghost use lib.ListN.{length};
 ghost use Rattle.rules.specs.declared.Order.{Order};
@@ -72,7 +72,7 @@ fn in_range(price: Steps, volume: Contracts) -> bool
 // One more order, behind the others of its side: refused by 10, 12 or 13, in this order.
 fn add(table: &mut [u32], hints: &mut [u8], slot: usize, order: Order) -> Answer
     requires { ⌜ Located (now table) slot × (length (now hints) ≡ 2048) ⌝ }
-    ensures { λ r. ⌜ ((t : Millis) (minimum : ℕ) (live : List Order) → Represents (now (table .entry)) minimum live → slot ≡ slotIn (order .id) live → Applied (addOf t order) minimum live (now (table .exit)) r) ⌝ }
+    ensures { λ r. ⌜ ((t : Millis) (minimum : ℕ) (live : List Order) → Represents (now (table .entry)) minimum live → slot ≡ slotIn (order .id) live → Applied (addOf t order) minimum live (now (table .exit)) r) × (0 < r .refusal → now (hints .exit) ≡ now (hints .entry)) ⌝ }
 {
     let side = order.side;
     let price = order.price;
@@ -107,10 +107,18 @@ fn renewed(order: Order, price: Steps, volume: Contracts) -> Order
     }
 }
 
-// Another price and volume for the order in a slot, which keeps its id, its side and its place: refused by 11 or 12.
-fn amend(table: &mut [u32], slot: usize, price: Steps, volume: Contracts) -> Answer
-    requires { ⌜ Located (now table) slot ⌝ }
-    ensures { λ r. ⌜ ((t : Millis) (id minimum : ℕ) (live : List Order) → Represents (now (table .entry)) minimum live → slot ≡ slotIn id live → Applied (Amend t id price volume) minimum live (now (table .exit)) r) ⌝ }
+// Another price and volume for the order in a slot, which keeps its id, its side and its place: refused by 11 or 12. An accepted one notes
+// the slot, as a deal does that leaves something: the hints may know nothing of an order that was added before they were lent.
+fn amend(
+    table: &mut [u32],
+    hints: &mut [u8],
+    id: u32,
+    slot: usize,
+    price: Steps,
+    volume: Contracts,
+) -> Answer
+    requires { ⌜ Located (now table) slot × (length (now hints) ≡ 2048) ⌝ }
+    ensures { λ r. ⌜ ((t : Millis) (id minimum : ℕ) (live : List Order) → Represents (now (table .entry)) minimum live → slot ≡ slotIn id live → Applied (Amend t id price volume) minimum live (now (table .exit)) r) × (0 < r .refusal → now (hints .exit) ≡ now (hints .entry)) ⌝ }
 {
     if 128 <= slot {
         return refused(11);
@@ -118,6 +126,7 @@ fn amend(table: &mut [u32], slot: usize, price: Steps, volume: Contracts) -> Ans
     if in_range(price, volume) {
         let order = table::order_in(table, slot);
         let s = slot / 64;
+        table::note(hints, id, slot);
         return done(
             s,
             side::put(
@@ -133,7 +142,7 @@ fn amend(table: &mut [u32], slot: usize, price: Steps, volume: Contracts) -> Ans
 // The order in a slot goes: refused by 11 where there is none. The orders behind it move up, and the hints with them.
 fn cancel(table: &mut [u32], hints: &mut [u8], slot: usize) -> Answer
     requires { ⌜ Located (now table) slot × (length (now hints) ≡ 2048) ⌝ }
-    ensures { λ r. ⌜ ((t : Millis) (id minimum : ℕ) (live : List Order) → Represents (now (table .entry)) minimum live → slot ≡ slotIn id live → Applied (Cancel t id) minimum live (now (table .exit)) r) ⌝ }
+    ensures { λ r. ⌜ ((t : Millis) (id minimum : ℕ) (live : List Order) → Represents (now (table .entry)) minimum live → slot ≡ slotIn id live → Applied (Cancel t id) minimum live (now (table .exit)) r) × (0 < r .refusal → now (hints .exit) ≡ now (hints .entry)) ⌝ }
 {
     if 128 <= slot {
         return refused(11);
@@ -150,9 +159,9 @@ fn cancel(table: &mut [u32], hints: &mut [u8], slot: usize) -> Answer
 }
 
 // What is left of the order stands in its place, or the order goes where nothing is: refused by 11, 12 or 14.
-fn deal(table: &mut [u32], hints: &mut [u8], slot: usize, volume: Contracts) -> Answer
+fn deal(table: &mut [u32], hints: &mut [u8], id: u32, slot: usize, volume: Contracts) -> Answer
     requires { ⌜ Located (now table) slot × (length (now hints) ≡ 2048) ⌝ }
-    ensures { λ r. ⌜ ((t : Millis) (id minimum : ℕ) (live : List Order) → Represents (now (table .entry)) minimum live → slot ≡ slotIn id live → Applied (Deal t id volume) minimum live (now (table .exit)) r) ⌝ }
+    ensures { λ r. ⌜ ((t : Millis) (id minimum : ℕ) (live : List Order) → Represents (now (table .entry)) minimum live → slot ≡ slotIn id live → Applied (Deal t id volume) minimum live (now (table .exit)) r) × (0 < r .refusal → now (hints .exit) ≡ now (hints .entry)) ⌝ }
 {
     if 128 <= slot {
         return refused(11);
@@ -169,6 +178,7 @@ fn deal(table: &mut [u32], hints: &mut [u8], slot: usize, volume: Contracts) -> 
             return cancel(table, hints, slot);
         }
         let s = slot / 64;
+        table::note(hints, id, slot);
         return done(
             s,
             side::put(
@@ -217,7 +227,7 @@ fn order_of(f: Fields) -> Order
 // A cancel, a deal, or fields that say no event.
 fn lessened(table: &mut [u32], hints: &mut [u8], slot: usize, f: Fields) -> Answer
     requires { ⌜ Located (now table) slot × (length (now hints) ≡ 2048) × Lessens f ⌝ }
-    ensures { λ r. ⌜ ((minimum : ℕ) (live : List Order) → Represents (now (table .entry)) minimum live → slot ≡ slotIn (f .id) live → AppliedRead (readFields f) minimum live (now (table .entry)) (now (table .exit)) r) ⌝ }
+    ensures { λ r. ⌜ ((minimum : ℕ) (live : List Order) → Represents (now (table .entry)) minimum live → slot ≡ slotIn (f .id) live → AppliedRead (readFields f) minimum live (now (table .entry)) (now (table .exit)) r) × (0 < r .refusal → now (hints .exit) ≡ now (hints .entry)) ⌝ }
 {
     let kind = f.kind;
     let volume = f.volume;
@@ -225,7 +235,7 @@ fn lessened(table: &mut [u32], hints: &mut [u8], slot: usize, f: Fields) -> Answ
         if kind == 4 {
             return cancel(table, hints, slot);
         }
-        return deal(table, hints, slot, volume);
+        return deal(table, hints, f.id, slot, volume);
     }
     refused(15)
 }
@@ -234,14 +244,14 @@ fn lessened(table: &mut [u32], hints: &mut [u8], slot: usize, f: Fields) -> Answ
 // kind is looked at once: what 15 refuses is looked for only where it is neither an add's nor an amendment's.
 fn changed(table: &mut [u32], hints: &mut [u8], f: Fields) -> Answer
     requires { ⌜ Held (now table) × (length (now hints) ≡ 2048) × (f .kind ≡ 6 → ⊥) ⌝ }
-    ensures { λ r. ⌜ ((minimum : ℕ) (live : List Order) → Represents (now (table .entry)) minimum live → AppliedRead (readFields f) minimum live (now (table .entry)) (now (table .exit)) r) ⌝ }
+    ensures { λ r. ⌜ ((minimum : ℕ) (live : List Order) → Represents (now (table .entry)) minimum live → AppliedRead (readFields f) minimum live (now (table .entry)) (now (table .exit)) r) × (0 < r .refusal → now (hints .exit) ≡ now (hints .entry)) ⌝ }
 {
     let kind = f.kind;
     let price = f.price;
     let volume = f.volume;
     let slot = table::find(table, hints, f.id);
     if kind == 3 {
-        return amend(table, slot, price, volume);
+        return amend(table, hints, f.id, slot, price, volume);
     }
     if is_add(kind) {
         return add(table, hints, slot, order_of(f));
@@ -271,7 +281,7 @@ fn keeps_after(table: &[u32], widest: u32, keeping: u32, moves: bool) -> u32
 
 // An event that is no tick, by the fields of its record: refused, or the orders and the best level of its side are those after it; fields
 // that say no event are refused by 15. `keeping` is whether the orders before it keep the quote. Whatever the hints contain, the answer
-// and the table are the same.
+// and the table are the same; a refusal leaves the hints too.
 pub fn send(
     table: &mut [u32],
     hints: &mut [u8],
@@ -281,7 +291,7 @@ pub fn send(
     keeping: u32,
 ) -> Sent
     requires { ⌜ Holding (now table) (now hints) (minimum .0) × (f .kind ≡ 6 → ⊥) ⌝ }
-    ensures { λ r. ⌜ SendsRead (readFields f) (minimum .0) widest keeping (now (table .entry)) (now (table .exit)) r ⌝ }
+    ensures { λ r. ⌜ SendsRead (readFields f) (minimum .0) widest keeping (now (table .entry)) (now (table .exit)) r × (0 < r .refusal → now (hints .exit) ≡ now (hints .entry)) ⌝ }
 {
     let answer = changed(table, hints, f);
     let refusal = answer.refusal;

@@ -1,6 +1,7 @@
 // An event of an open quantum, by the fields of its record, on a lent table: its causes in the order of their numbers, the orders, the
 // clock.
 ghost use mathlib.Core.Path.{_≡_};
+ghost use Prim.Native.Nat.{_<_};
 ghost use Rattle.record.specs.Fields.{readFields};
 ghost use Rattle.clock.specs.Clocks.{Onward};
 ghost use Rattle.events.specs.Represents.{ReachedParts, Stepping, SteppingRead};
@@ -55,7 +56,7 @@ fn ticked(clock: Clock, f: Fields) -> Stepped
 // The orders and the best quotes after an event in time that is no tick, then the clock.
 fn taken(duty: Duty, clock: Clock, table: &mut [u32], hints: &mut [u8], f: Fields) -> Stepped
     requires { ⌜ ReachedParts duty clock (now table) (now hints) × InTime duty clock (f .t) × (f .kind ≡ 6 → ⊥) ⌝ }
-    ensures { λ r. ⌜ SteppingRead duty clock (readFields f) (now (table .entry)) (now (table .exit)) r ⌝ }
+    ensures { λ r. ⌜ SteppingRead duty clock (readFields f) (now (table .entry)) (now (table .exit)) r × (0 < r .refusal → now (hints .exit) ≡ now (hints .entry)) ⌝ }
 {
     let minimum = duty.minimum;
     let sent = book::send(table, hints, f, minimum, duty.widest, clock.keeps);
@@ -80,7 +81,7 @@ pub fn step_fields(
     f: Fields,
 ) -> Stepped
     requires { ⌜ ReachedParts duty clock (now table) (now hints) ⌝ }
-    ensures { λ r. ⌜ SteppingRead duty clock (readFields f) (now (table .entry)) (now (table .exit)) r ⌝ }
+    ensures { λ r. ⌜ SteppingRead duty clock (readFields f) (now (table .entry)) (now (table .exit)) r × (0 < r .refusal → now (hints .exit) ≡ now (hints .entry)) ⌝ }
 {
     let kind = f.kind;
     let t = f.t;
@@ -96,7 +97,7 @@ pub fn step_fields(
 // An event, by its fields.
 pub fn step(duty: Duty, clock: Clock, table: &mut [u32], hints: &mut [u8], e: Event) -> Stepped
     requires { ⌜ ReachedParts duty clock (now table) (now hints) ⌝ }
-    ensures { λ r. ⌜ Stepping duty clock e (now (table .entry)) (now (table .exit)) r ⌝ }
+    ensures { λ r. ⌜ Stepping duty clock e (now (table .entry)) (now (table .exit)) r × (0 < r .refusal → now (hints .exit) ≡ now (hints .entry)) ⌝ }
 {
     step_fields(duty, clock, table, hints, record::event_fields(e))
 }

@@ -127,12 +127,3 @@ module _ (live : List Order) (good : GoodOrders live) (id : ℕ) where
       let side : n ≡ slotIn id live / 64 = omega (arith, is, l, p .inside, few-side (sideAt n) live good) in
       let place : k ≡ slotIn id live % 64 = omega (arith, is, l, p .inside, few-side (sideAt n) live good) in
       (omega arith, subst (λ (n : ℕ). Has id (ofSide (sideAt n) live) (slotIn id live % 64)) side (subst (Has id (ofSide (sideAt n) live)) place p))
-
-  pub slot-most : slotIn id live ≤ 128
-  slot-most = go (isLive id live) refl
-    where
-      go : (b : Bool) → isLive id live ≡ b → slotIn id live ≤ 128
-      go true e =
-          let (n, k, l, p) = represents e in
-          omega (arith, slot-there n k l p, p .inside, few-side (sideAt n) live good)
-      go false e = omega (arith, slot-none e)

@@ -94,8 +94,9 @@ pub fn note(hints: &mut [u8], id: u32, slot: usize)
     hints[(id % HINTS) as usize] = slot as u8;
 }
 
-// The slot of the order with the id, or 128: the one that was last found for an id like this, where it stands there.
-pub fn find(table: &[u32], hints: &mut [u8], id: u32) -> usize
+// The slot of the order with the id, or 128: the one that was last found for an id like this, if the order is there. Nothing is noted here:
+// an event that is refused leaves the hints.
+pub fn find(table: &[u32], hints: &[u8], id: u32) -> usize
     requires { ⌜ Held (now table) × (length (now hints) ≡ 2048) ⌝ }
     ensures { λ r. ⌜ ((minimum : ℕ) (live : List Order) → Represents (now (table .entry)) minimum live → r ≡ slotIn id live) ⌝ }
 {
@@ -104,12 +105,10 @@ pub fn find(table: &[u32], hints: &mut [u8], id: u32) -> usize
     if names(word, id) {
         return hint;
     }
-    let slot = slot_of(
+    slot_of(
         side::located(&table[0..WORDS], id),
         side::located(&table[WORDS..TABLE], id),
-    );
-    note(hints, id, slot);
-    slot
+    )
 }
 
 // The orders from a place on are where they now stand.

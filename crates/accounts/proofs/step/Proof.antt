@@ -20,7 +20,7 @@ returns c =
     let g = c .before .before .before .before .before .before in
     let f = g .before .before .before .fields-of in
     let s = c .before .before .before .before .before .before .before .before .before .before .before .before .before .before .before .before .before .before in
-    advanced-refused (s .args .progress) (s .args .duty) (s .args .table .now) (g .step-fields .last .1 .1 .0) (g .step-fields .result) (f .result) (g .step-fields .ensures)
+    advanced-refused (s .args .progress) (s .args .duty) (s .args .table .now) (g .step-fields .last .1 .1 .0) (g .step-fields .result) (f .result) (g .step-fields .ensures .0)
     (readRecord (s .args .bytes .now)) (f .ensures .1) (s .args .buffer .now) _ (c .if1 .taken)
 
 grow-requires : tie.Need-grow-requires
@@ -29,7 +29,7 @@ grow-requires c κs =
     let f = g .before .before .before .fields-of in
     let t = g .before .before .before .before in
     let s = c .before .before .before .before .before .before .before .before .before .before .before .before .before .before .before .before .before .before .before .before .before in
-    bounds-taken (s .args .progress) (s .args .duty) (s .args .table .now) (g .step-fields .last .1 .1 .0) (g .step-fields .result) (f .result) (g .step-fields .ensures)
+    bounds-taken (s .args .progress) (s .args .duty) (s .args .table .now) (g .step-fields .last .1 .1 .0) (g .step-fields .result) (f .result) (g .step-fields .ensures .0)
     (c .before .before .before .if1 .left) (t .state .result) (t .state .ensures) (s .pre .0 .reached)
 
 returns-2 : tie.Need-returns-2
@@ -39,7 +39,7 @@ returns-2 c =
     let f = g .before .before .before .fields-of in
     let t = g .before .before .before .before in
     let s = c .before .before .before .before .before .before .before .before .before .before .before .before .before .before .before .before .before .before .before .before .before .before .before .before in
-    advanced-taken (s .args .progress) (s .args .duty) (s .args .table .now) (g .step-fields .last .1 .1 .0) (g .step-fields .result) (f .result) (g .step-fields .ensures)
+    advanced-taken (s .args .progress) (s .args .duty) (s .args .table .now) (g .step-fields .last .1 .1 .0) (g .step-fields .result) (f .result) (g .step-fields .ensures .0)
     (readRecord (s .args .bytes .now)) (f .ensures .1) (s .args .buffer .now) _ (c .before .before .before .before .before .before .if1 .left) (t .state .result) (t .state .ensures) (w .grow .result) (w .grow .ensures)
 
 pub step-spec : {M : Type 1} → statement M

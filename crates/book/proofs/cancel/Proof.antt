@@ -1,17 +1,21 @@
 -- An unknown id by `refuses`; an accepted cancel by `applied-cancel`, and what the hints need by `placed`. Assumes nothing.
+use mathlib.Core.Path.{refl}
 use borrow.Author.Needs.{needs}
 use Rattle.rules.specs.declared.Event.the-variants.{Cancel}
 use Rattle.rules.specs.Units.{millis}
 use Rattle.book.proofs.Causes.{cancel-unknown, cancel-passes}
-use Rattle.book.proofs.Applied.{refuses, applied-cancel, placed, lent-removable}
+use Rattle.book.proofs.Applied.{refuses, not-refused, applied-cancel, placed, lent-removable}
 use Rattle.book.proofs.cancel.Statement.{statement}
 use Rattle.book.proofs.cancel.Tie as tie
 
 returns : tie.Need-returns
-returns c = λ t id minimum live represents at.
-    let a = c .before .before .before .before .args in
-    refuses (Cancel t id) minimum live (a .table .now) represents 10 (c .refused .result) (c .refused .ensures)
-    (cancel-unknown live (represents .good) id (a .slot) at t (c .before .if1 .taken))
+returns c =
+    let a = c .before .before .before .before .args in (
+      λ t id minimum live represents at.
+          refuses (Cancel t id) minimum live (a .table .now) represents 10 (c .refused .result) (c .refused .ensures)
+          (cancel-unknown live (represents .good) id (a .slot) at t (c .before .if1 .taken)),
+      λ h. refl,
+    )
 
 remove-requires : tie.Need-remove-requires
 remove-requires c κs =
@@ -30,12 +34,15 @@ rehint-requires c κs =
     (removed .result) (start .pre .1) (removed .ensures)
 
 returns-2 : tie.Need-returns-2
-returns-2 c = λ t id minimum live represents at.
+returns-2 c =
     let a = c .before .before .before .before .before .before .before .before .before .before .before .before .before .before .args in
     let there = c .before .before .before .before .before .before .before .before .before .before .before .if1 .left in
-    let removed = c .before .before .before .before .before .before .before .before .remove in
-    applied-cancel t minimum live (a .table .now) represents id (a .slot) at there (removed .last .0) (removed .result)
-    (c .done .result) (cancel-passes live (represents .good) id (a .slot) at t there) (removed .ensures) (c .done .ensures)
+    let removed = c .before .before .before .before .before .before .before .before .remove in (
+      λ t id minimum live represents at.
+          applied-cancel t minimum live (a .table .now) represents id (a .slot) at there (removed .last .0) (removed .result)
+          (c .done .result) (cancel-passes live (represents .good) id (a .slot) at t there) (removed .ensures) (c .done .ensures),
+      not-refused _ _ _ (c .done .result) (c .done .ensures),
+    )
 
 pub cancel-spec : {M : Type 1} → statement M
 cancel-spec =

@@ -18,7 +18,7 @@ use Rattle.book.proofs.send.Tie as tie
 turn : (c : tie.After-changed) → AppliedRead (readFields (c .before .before .before .before .before .args .f)) (c .before .before .before .before .before .args .minimum .0) (c .before .before .before .before .before .pre .0 .live) (c .before .before .before .before .before .args .table .now) (c .changed .last .0) (c .changed .result)
 turn c =
     let h = c .before .before .before .before .before .pre .0 in
-    c .changed .ensures (c .before .before .before .before .before .args .minimum .0) (h .live) (record { good = h .good; is = h .is })
+    c .changed .ensures .0 (c .before .before .before .before .before .args .minimum .0) (h .live) (record { good = h .good; is = h .is })
 
 small : (c : tie.After-changed) → c .changed .result .s < 2
 small c =
@@ -36,9 +36,11 @@ returns c =
     let start = c .before .before .before .before .before .before .before .before .before .before in
     let a = start .args in
     let h = start .pre .0 in
-    let t = c .before .before .before .before .before .changed in
-    refused-sends (readFields (a .f)) (a .minimum .0) (a .widest) (a .keeping) (a .table .now) (t .last .0) (t .result)
-    (λ live good is. t .ensures (a .minimum .0) live (record { good = good; is = is })) (h .live) (h .good) (h .is) (c .if1 .taken)
+    let t = c .before .before .before .before .before .changed in (
+      refused-sends (readFields (a .f)) (a .minimum .0) (a .widest) (a .keeping) (a .table .now) (t .last .0) (t .result)
+          (λ live good is. t .ensures .0 (a .minimum .0) live (record { good = good; is = is })) (h .live) (h .good) (h .is) (c .if1 .taken),
+      t .ensures .1,
+    )
 
 mul-requote : tie.Need-mul-requote
 mul-requote c = record { fits = omega (arith, small (c .before .before .before .before .before .before)) }
@@ -80,10 +82,12 @@ returns-2 c =
     let t = c .before .before .before .before .before .before .before .before .before .before .before .before .changed in
     let q = c .before .before .before .before .requote in
     let s = c .before .before .before .before .before .before .side-at in
-    let none : t .result .refusal ≡ 0 = omega (arith, c .before .before .before .before .before .before .before .if1 .left) in
-    taken-sends (readFields (a .f)) (a .minimum .0) (a .widest) (a .keeping) (a .table .now) (t .last .0) (t .result)
-    (λ live good is. t .ensures (a .minimum .0) live (record { good = good; is = is })) (only-fifteen (a .f)) (h .live) (h .good) (h .is) none (h .some)
-    (s .result) (s .ensures) (q .last .0) (q .result) (q .ensures) (c .keeps-after .result) (c .keeps-after .ensures)
+    let none : t .result .refusal ≡ 0 = omega (arith, c .before .before .before .before .before .before .before .if1 .left) in (
+      taken-sends (readFields (a .f)) (a .minimum .0) (a .widest) (a .keeping) (a .table .now) (t .last .0) (t .result)
+          (λ live good is. t .ensures .0 (a .minimum .0) live (record { good = good; is = is })) (only-fifteen (a .f)) (h .live) (h .good) (h .is) none (h .some)
+          (s .result) (s .ensures) (q .last .0) (q .result) (q .ensures) (c .keeps-after .result) (c .keeps-after .ensures),
+      λ refused. absurd (omega (arith, refused)),
+    )
 
 pub send-spec : {M : Type 1} → statement M
 send-spec =

@@ -1,6 +1,6 @@
 -- A time out of range, a tick (`tick-read`), or an event of the orders. Assumes nothing.
 use borrow.Author.Needs.{needs}
-use mathlib.Core.Path.{sym, _∙_}
+use mathlib.Core.Path.{refl, sym, _∙_}
 use Rattle.clock.proofs.Clocks.{onward}
 use Rattle.events.proofs.Steps.{timely, tick-read, untimely-read}
 use Rattle.events.proofs.step_fields.Statement.{statement}
@@ -15,9 +15,11 @@ ticked-requires c κs =
 
 returns : tie.Need-returns
 returns c =
-    let s = c .before .before .before .before .before .before .before in
-    tick-read (s .args .duty) (s .args .clock) (s .args .f) (s .args .table .now) (c .before .if2 .taken)
-    (timely (s .args .duty) (s .args .clock) (s .args .f .t) (sym (c .before .before .before .in-time .ensures) ∙ c .before .before .if1 .taken)) (c .ticked .result) (c .ticked .ensures)
+    let s = c .before .before .before .before .before .before .before in (
+      tick-read (s .args .duty) (s .args .clock) (s .args .f) (s .args .table .now) (c .before .if2 .taken)
+          (timely (s .args .duty) (s .args .clock) (s .args .f .t) (sym (c .before .before .before .in-time .ensures) ∙ c .before .before .if1 .taken)) (c .ticked .result) (c .ticked .ensures),
+      λ refused. refl,
+    )
 
 taken-requires : tie.Need-taken-requires
 taken-requires c κs =
@@ -29,9 +31,11 @@ returns-2 c = search needs
 
 returns-3 : tie.Need-returns-3
 returns-3 c =
-    let s = c .before .before .before .before .before .before .before in
-    untimely-read (s .args .duty) (s .args .clock) (s .args .f) (s .args .table .now) (sym (c .before .before .before .in-time .ensures) ∙ c .before .before .if1 .left) (c .refused .result)
-    (c .refused .ensures .0, c .refused .ensures .1 ∙ c .before .untimely .ensures)
+    let s = c .before .before .before .before .before .before .before in (
+      untimely-read (s .args .duty) (s .args .clock) (s .args .f) (s .args .table .now) (sym (c .before .before .before .in-time .ensures) ∙ c .before .before .if1 .left) (c .refused .result)
+          (c .refused .ensures .0, c .refused .ensures .1 ∙ c .before .untimely .ensures),
+      λ refused. refl,
+    )
 
 pub step-fields-spec : {M : Type 1} → statement M
 step-fields-spec =

@@ -1,4 +1,5 @@
 -- The trader's causes and the orders by the book, then the clock. Assumes nothing.
+use native.Mathlib.Omega.{arith}
 use borrow.Author.Needs.{needs}
 use Rattle.record.specs.Fields.{readFields}
 use Rattle.record.proofs.Reading.{timed, only-fifteen}
@@ -15,9 +16,11 @@ send-requires c κs =
 returns : tie.Need-returns
 returns c =
     let g = c .before .before .before .before .before .before in
-    let s = g .before .before .before .before .before .before in
-    refused-read (s .args .duty) (s .args .clock) (s .args .f .t) (s .args .table .now) (g .send .last .0) (g .send .result) (s .pre .1) (readFields (s .args .f))
-    (timed (s .args .f)) (g .send .ensures) (c .refused .result) (c .before .if1 .taken) (c .refused .ensures)
+    let s = g .before .before .before .before .before .before in (
+      refused-read (s .args .duty) (s .args .clock) (s .args .f .t) (s .args .table .now) (g .send .last .0) (g .send .result) (s .pre .1) (readFields (s .args .f))
+          (timed (s .args .f)) (g .send .ensures .0) (c .refused .result) (c .before .if1 .taken) (c .refused .ensures),
+      λ refused. g .send .ensures .1 (c .before .if1 .taken),
+    )
 
 onward-requires : tie.Need-onward-requires
 onward-requires c κs =
@@ -29,9 +32,11 @@ returns-2 : tie.Need-returns-2
 returns-2 c =
     let f = c .before .before in
     let g = f .before .before .before .before .before in
-    let s = g .before .before .before .before .before .before in
-    taken-read (s .args .duty) (s .args .clock) (s .args .f .t) (s .args .table .now) (g .send .last .0) (g .send .result) (s .pre .1) (f .if1 .left)
-    (readFields (s .args .f)) (timed (s .args .f)) (only-fifteen (s .args .f)) (g .send .ensures) (c .onward .result) (c .onward .ensures)
+    let s = g .before .before .before .before .before .before in (
+      taken-read (s .args .duty) (s .args .clock) (s .args .f .t) (s .args .table .now) (g .send .last .0) (g .send .result) (s .pre .1) (f .if1 .left)
+          (readFields (s .args .f)) (timed (s .args .f)) (only-fifteen (s .args .f)) (g .send .ensures .0) (c .onward .result) (c .onward .ensures),
+      λ refused. absurd (omega (arith, refused)),
+    )
 
 pub taken-spec : {M : Type 1} → statement M
 taken-spec =

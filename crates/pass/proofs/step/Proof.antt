@@ -16,7 +16,7 @@ returns c =
     let g = c .before .before .before .before .before .before in
     let f = g .before .before .before .fields-of in
     let s = c .before .before .before .before .before .before .before .before .before .before .before .before .before .before .before .before in
-    advanced-refused (s .args .progress) (s .args .duty) (s .args .table .now) (g .step-fields .last .1 .1 .0) (g .step-fields .result) (f .result) (g .step-fields .ensures)
+    advanced-refused (s .args .progress) (s .args .duty) (s .args .table .now) (g .step-fields .last .1 .1 .0) (g .step-fields .result) (f .result) (g .step-fields .ensures .0)
     (readRecord (s .args .bytes .now)) (f .ensures .1) (s .args .buffer .now) _ (c .if1 .taken)
 
 grow-requires : tie.Need-grow-requires
@@ -24,7 +24,7 @@ grow-requires c κs =
     let g = c .before .before .before .before .before .before .before .before .before .before .before in
     let f = g .before .before .before .fields-of in
     let s = c .before .before .before .before .before .before .before .before .before .before .before .before .before .before .before .before .before .before .before .before .before in
-    bounds-taken (s .args .progress) (s .args .duty) (s .args .table .now) (g .step-fields .last .1 .1 .0) (g .step-fields .result) (f .result) (g .step-fields .ensures)
+    bounds-taken (s .args .progress) (s .args .duty) (s .args .table .now) (g .step-fields .last .1 .1 .0) (g .step-fields .result) (f .result) (g .step-fields .ensures .0)
     (c .before .before .before .before .before .if1 .left) (s .args .hints .now) (s .pre .0)
 
 returns-2 : tie.Need-returns-2
@@ -33,7 +33,7 @@ returns-2 c =
     let g = c .before .before .before .before .before .before .before .before .before .before .before .before .before .before in
     let f = g .before .before .before .fields-of in
     let s = c .before .before .before .before .before .before .before .before .before .before .before .before .before .before .before .before .before .before .before .before .before .before .before .before in
-    advanced-taken (s .args .progress) (s .args .duty) (s .args .table .now) (g .step-fields .last .1 .1 .0) (g .step-fields .result) (f .result) (g .step-fields .ensures)
+    advanced-taken (s .args .progress) (s .args .duty) (s .args .table .now) (g .step-fields .last .1 .1 .0) (g .step-fields .result) (f .result) (g .step-fields .ensures .0)
     (readRecord (s .args .bytes .now)) (f .ensures .1) (s .args .buffer .now) _ (c .before .before .before .before .before .before .before .before .if1 .left) _ (w .grow .result) refl (w .grow .ensures)
 
 pub step-spec : {M : Type 1} → statement M

@@ -19,7 +19,7 @@ refusal-of-requires c κs =
     let s = g .before .before .before in
     let p = s .pre in
     let q : Quantum = record { duty = s .args .duty; clock = s .args .clock; table = s .args .table; notes = s .args .notes } in
-    let n = g .step .ensures .number (p .row) (p .sp) (p .events) (represents-all (p .row) (p .sp) (p .events) q (p .is) (p .bounds)) in
+    let n = g .step .ensures .0 .number (p .row) (p .sp) (p .events) (represents-all (p .row) (p .sp) (p .events) q (p .is) (p .bounds)) in
     let b = event-numbered (p .row) (p .events) (s .args .e) (omega (arith, n, c .if1 .taken)) in
     (omega (arith, n, b .0), omega (arith, n, b .1))
 
@@ -27,21 +27,21 @@ returns : tie.Need-returns
 returns c =
     let g = c .before .before .before .before .before in
     let s = g .before .before .before in
-    sent-refused (record { duty = s .args .duty; clock = s .args .clock; table = s .args .table; notes = s .args .notes }) (s .args .e) _ (g .step .result) (g .step .ensures)
+    sent-refused (record { duty = s .args .duty; clock = s .args .clock; table = s .args .table; notes = s .args .notes }) (s .args .e) _ (g .step .result) (g .step .ensures .0)
     (c .refusal-of .result) (c .before .if1 .taken) (c .refusal-of .ensures)
 
 noted-requires : tie.Need-noted-requires
 noted-requires c κs =
     let g = c .before .before .before .before in
     let s = g .before .before .before in
-    may-note (record { duty = s .args .duty; clock = s .args .clock; table = s .args .table; notes = s .args .notes }) (s .args .e) _ (g .step .result) (g .step .ensures)
+    may-note (record { duty = s .args .duty; clock = s .args .clock; table = s .args .table; notes = s .args .notes }) (s .args .e) _ (g .step .result) (g .step .ensures .0)
     (c .if1 .left) (s .pre)
 
 returns-2 : tie.Need-returns-2
 returns-2 c =
     let g = c .before .before .before .before .before in
     let s = g .before .before .before in
-    sent-accepted (record { duty = s .args .duty; clock = s .args .clock; table = s .args .table; notes = s .args .notes }) (s .args .e) _ (g .step .result) (g .step .ensures)
+    sent-accepted (record { duty = s .args .duty; clock = s .args .clock; table = s .args .table; notes = s .args .notes }) (s .args .e) _ (g .step .result) (g .step .ensures .0)
     (c .before .if1 .left) (c .noted .result) (c .noted .ensures)
 
 pub stepped-on-spec : {M : Type 1} → statement M

@@ -1,15 +1,9 @@
--- `book::find` meets its contract: what is hinted is looked at, and both sides are asked where it is not the id. Assumes nothing.
-use Prim.Native.Nat.{ℕ, _%_}
+-- What is hinted is looked at, and both sides are asked where it is not the id.
+use Prim.Native.Nat.{_%_}
 use native.Mathlib.Omega.{arith}
-use mathlib.Core.Path.{_≡_}
-use mathlib.Core.List.{List}
 use lib.ListN.{getD}
 use borrow.Author.Needs.{needs}
-use Rattle.rules.specs.declared.Order.{Order}
-use Rattle.table.specs.Table.{slotIn}
-use Rattle.table.specs.Internal.{Represents}
-use Rattle.table.proofs.Slots.{slot-most}
-use Rattle.table.proofs.Table.{held-length, held-represents, held-sized, word-is, asked-is}
+use Rattle.table.proofs.Table.{held-length, held-sized, word-is, asked-is}
 use Rattle.table.proofs.find.Statement.{statement}
 use Rattle.table.proofs.find.Tie as tie
 
@@ -45,22 +39,11 @@ located-requires-2 c κs =
     held-sized (start .args .table .now) (start .pre .0) 1 (omega arith)
 
 -- what both sides answered
-asked : (c : tie.After-slot-of) (minimum : ℕ) (live : List Order)
-    → Represents (c .before .before .before .before .before .before .before .before .before .before .before .args .table .now) minimum live
-    → c .slot-of .result ≡ slotIn (c .before .before .before .before .before .before .before .before .before .before .before .args .id) live
-asked c minimum live represents =
+returns-2 : tie.Need-returns-2
+returns-2 c = λ minimum live represents.
     let start = c .before .before .before .before .before .before .before .before .before .before .before in
     asked-is (start .args .table .now) minimum live represents (start .args .id) (c .before .before .before .located .result) (c .before .located2 .result)
     (c .slot-of .result) (c .before .before .before .located .ensures) (c .before .located2 .ensures) (c .slot-of .ensures)
-
-note-requires : tie.Need-note-requires
-note-requires c κs =
-    let start = c .before .before .before .before .before .before .before .before .before .before .before .before in
-    let held = start .pre .0 in
-    (start .pre .1, omega (arith, asked (c .before) (held .minimum) (held .live) (held-represents (start .args .table .now) held), slot-most (held .live) (held .good) (start .args .id)))
-
-returns-2 : tie.Need-returns-2
-returns-2 c = asked (c .before .before .before .before)
 
 pub find-spec : {M : Type 1} → statement M
 find-spec =
@@ -84,6 +67,4 @@ find-spec =
     part-located-end-2
     located-requires-2
     (λ c κs. search needs)
-    note-requires
-    (λ c. search needs)
     returns-2)
