@@ -29,6 +29,22 @@ use rules::Refusal;
 use rules::Side;
 use rules::Ticket;
 
+// More orders than a month has.
+fn too_many(buys: u32, sells: u32) -> bool {
+    64 < numbers::wide(buys) + numbers::wide(sells)
+}
+
+// Whether words can be a month's, by what is indexed and divided with: the place of the open cell, L, and the numbers of buys and sells.
+pub fn may_be_month(words: &[u32]) -> bool {
+    if too_many(words[208], words[464]) {
+        return false;
+    }
+    if 186 <= words[1] {
+        return false;
+    }
+    0 < words[6]
+}
+
 // One more accepted call, in the count's two words.
 fn count_on(words: &mut [u32])
     requires { ⌜ length (now words) ≡ 2 ⌝ }
@@ -82,7 +98,7 @@ pub fn look(words: &[u32], day: u32, expiry: u32, quantum: u32) -> Looked
         return Looked::Refused(Refusal::ArgumentOutOfRange);
     }
     let cell = cell_named(&words[604..2464], day, expiry, quantum);
-    if cell.filled {
+    if verdict::is_filled(cell) {
         return Looked::Found(verdict::view(cell));
     }
     Looked::Refused(Refusal::CellBlank)

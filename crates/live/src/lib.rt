@@ -43,6 +43,7 @@ pub const ANSWER: usize = 20;
 pub enum Called {
     Done,
     WordsShort,
+    NoMonth,
     HintsShort,
     AnswerShort,
     NoCall,
@@ -291,6 +292,9 @@ pub fn call(words: &mut [u32], hints: &mut [u8], bytes: &[u8], answer: &mut [u32
 {
     if words.len() < MONTH {
         return Called::WordsShort;
+    }
+    if !in_place::may_be_month(words) {
+        return Called::NoMonth;
     }
     if hints.len() < HINTS {
         return Called::HintsShort;

@@ -34,12 +34,21 @@ fn short_at(place: u32, call: &[u8]) -> u64
     buffers::refused(3)
 }
 
+// Words that are no month's, unless the bytes are no call.
+fn no_month(call: &[u8]) -> u64 {
+    if live::is_call(call) {
+        return buffers::refused(3) + 1;
+    }
+    buffers::refused(3)
+}
+
 fn called_number(called: Called, call: &[u8]) -> u64
     ensures { λ r. ⌜ r ≡ calledNumber called (isCall (now (call .entry))) ⌝ }
 {
     match called {
         Called::Done => 20,
         Called::WordsShort => short_at(1, call),
+        Called::NoMonth => no_month(call),
         Called::HintsShort => short_at(2, call),
         Called::AnswerShort => short_at(3, call),
         Called::NoCall => buffers::refused(3),
@@ -60,6 +69,7 @@ fn viewed_number(viewed: Viewed) -> u64
 {
     match viewed {
         Viewed::WordsShort => buffers::refused(16) + 1,
+        Viewed::NoMonth => buffers::refused(3) + 1,
         Viewed::BufferShort => buffers::refused(16) + 2,
         Viewed::Written(n) => n as u64,
     }

@@ -23,6 +23,7 @@ use rules::Side;
 // none open.
 pub enum Viewed {
     WordsShort,
+    NoMonth,
     BufferShort,
     Written(usize),
 }
@@ -55,6 +56,11 @@ fn put_order(order: Order, into: &mut [u32])
     lent::copy(&four, into);
 }
 
+// The place of what a scan found.
+fn place_of(found: u32) -> usize {
+    (numbers::one_less(found) % 64) as usize
+}
+
 // The live order with an id: a buy, or else a sell.
 fn order_with(table: &[u32], id: u32) -> Order
     requires { ⌜ Placed (now table) id ⌝ }
@@ -62,10 +68,10 @@ fn order_with(table: &[u32], id: u32) -> Order
 {
     let buys = side::located(&table[0..256], id);
     if 0 < buys {
-        return side::order_at(&table[0..256], Side::Buy, (buys - 1) as usize);
+        return side::order_at(&table[0..256], Side::Buy, place_of(buys));
     }
     let sells = side::located(&table[256..512], id);
-    side::order_at(&table[256..512], Side::Sell, (sells - 1) as usize)
+    side::order_at(&table[256..512], Side::Sell, place_of(sells))
 }
 
 // The live orders, by their ids as they were added: the table has them by side.
@@ -125,6 +131,9 @@ pub fn view(words: &[u32], buffer: &mut [u32]) -> Viewed
 {
     if words.len() < 2464 {
         return Viewed::WordsShort;
+    }
+    if !in_place::may_be_month(words) {
+        return Viewed::NoMonth;
     }
     if words[0] == 0 {
         return Viewed::Written(0);
