@@ -279,12 +279,14 @@ uint64_t quoting_month_fresh(uint32_t *words, size_t words_length);
 
 /*
  * Takes one call on a month, leaves the words of the month after it, and writes its answer. A call that the month refuses leaves the words
- * as they were and is answered like any other: this number says only whether a call was made, and the answer's kind says the rest.
+ * and the hints as they were and is answered like any other: this number says only whether a call was made, and the answer's kind says the
+ * rest.
  *
  * words    the words of a month, as quoting_month_fresh or this call left them; those behind QUOTING_MONTH_WORDS are not looked at.
  * hints    at least QUOTING_HINT_BYTES bytes, in which the call may leave where an order was found. They may hold anything, at the first
- *          call and later, and change nothing that is answered or left in the words; kept from call to call they save time. What a call
- *          that was made leaves in them is not said; one that is refused leaves them as they were.
+ *          call and later, and change nothing that is answered or left in the words; kept from call to call they save time. A refused
+ *          call leaves them as they were, and so does a call that is neither an event (kinds 2 to 6) nor an ask. What an accepted event or
+ *          ask leaves in the first QUOTING_HINT_BYTES is not specified; bytes after these never change.
  * call     one block of a list of calls (docs/FORMATS.md, "A list of calls"), and nothing more: words of four bytes, low byte first, of
  *          which the first is the kind (1 open, 2 add, 3 amend, 4 cancel, 5 deal, 6 tick, 7 close .. 17 outlook). call_length is the number of bytes.
  * answer   answer_length words, of which QUOTING_ANSWER_WORDS are written; those that the kind doesn't take are 0:

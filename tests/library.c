@@ -62,21 +62,37 @@ static size_t element(const struct item *it) {
     return it->call == 6 ? 1 : 4;
 }
 
-/* A list of calls one by one on a month of its own, each answer behind the one before. The second string has each call's length. */
+/* Whether a call of this kind may note in the hints: events and asks. */
+static int may_note(uint32_t kind) {
+    return (2 <= kind && kind <= 6) || kind == 14;
+}
+
+/* A list of calls one by one on a month of its own, each answer behind the one before. The second string has each call's length. Of the
+   hints, which are longer than they need be, a refused call and one that is neither an event nor an ask must leave every byte; no call may
+   change one after the first QUOTING_HINT_BYTES. */
 static uint64_t run_month(const struct item *it, uint32_t *answers) {
+    enum { LENT = QUOTING_HINT_BYTES + 100 };
     uint32_t *words = room(QUOTING_MONTH_WORDS * sizeof *words);
-    uint8_t *hints = room(QUOTING_HINT_BYTES);
+    uint8_t *hints = room(LENT), *before = room(LENT);
     const uint32_t *lengths = (const uint32_t *) (const void *) it->parts[1];
     const uint8_t *call = it->parts[0];
-    memset(hints, (int) it->fill, QUOTING_HINT_BYTES);
+    memset(hints, (int) it->fill, LENT);
     uint64_t answer = quoting_month_fresh(words, QUOTING_MONTH_WORDS);
     for (size_t k = 0; answer < 4294967296 && k < it->sizes[1] / 4; k++) {
-        uint32_t *out = answers + QUOTING_ANSWER_WORDS * k;
-        answer = quoting_month_call(words, QUOTING_MONTH_WORDS, hints, QUOTING_HINT_BYTES, call, lengths[k], out, QUOTING_ANSWER_WORDS);
+        uint32_t *out = answers + QUOTING_ANSWER_WORDS * k, kind;
+        memcpy(&kind, call, 4);
+        memcpy(before, hints, LENT);
+        answer = quoting_month_call(words, QUOTING_MONTH_WORDS, hints, LENT, call, lengths[k], out, QUOTING_ANSWER_WORDS);
+        size_t free_bytes = may_note(kind) && out[0] != QUOTING_ANSWER_REFUSED ? QUOTING_HINT_BYTES : 0;
+        if (memcmp(hints + free_bytes, before + free_bytes, LENT - free_bytes) != 0) {
+            fprintf(stderr, "library: call %zu of a list, kind %" PRIu32 ", answer's kind %" PRIu32 "\n", k + 1, kind, out[0]);
+            stop("hints were changed that must stay");
+        }
         call += lengths[k];
     }
     free(words);
     free(hints);
+    free(before);
     return answer;
 }
 

@@ -5,9 +5,10 @@
 
 What `make library` has built in target/library is taken. tests/library.c runs the cases twice: linked with the archive, its own side
 compiled with the address and undefined-behaviour sanitizers, and with the shared library; each time once in turn and once on four threads.
-A month's calls run one by one on words of the caller's, and as a whole list. Then the header as C and as C++, the C++ example, the C example
-that holds a month (with the sanitizers, and under valgrind) against `replay`, what the shared library shows, and an installed copy through
-pkg-config. It fails where an answer or a buffer differs, and where a refusal that a call can give never came.
+A month's calls run one by one on words of the caller's, and as a whole list; refused ones must leave the hints, byte for byte. Then the header
+as C and as C++, the C++ example, the C example that holds a month (with the sanitizers, and under valgrind) against `replay`, what the shared
+library shows, and an installed copy through pkg-config. It fails where an answer or a buffer differs, and where a refusal that a call can give
+never came.
 """
 
 import argparse
@@ -25,7 +26,10 @@ sys.path.insert(0, str(ROOT))
 from recount import account as accounts
 from recount import fix, game, programs, standing, strikes, volatile
 from recount import session as run
-from recount.book import BUY, NO_LIMIT, Accepted, Asked, Book, CellView, Message, Open, Refused, Report, Strike, choose, narrow, weight
+from recount.book import (
+    BUY, NO_LIMIT, PRICE_LIMIT, Accepted, Add, Amend, Ask, Asked, Book, Cancel, CellView, Close, Commit, Deal, Look, Message, Open, Outlook, Refused,
+    Report, Row, Strike, Tick, Ticket, Withdraw, choose, narrow, weight,
+)
 from recount.outlook import OutlookView
 from tests import generate, known, message_lists, messages, months
 from tests import standing as standing_cases
@@ -49,6 +53,13 @@ NAMES = {
     17: ("account", [1, 2, 3, *range(8, 17), 18]), 18: ("month_view", [16]), 19: ("sigma", [16]),
 }
 MONTH_WORDS, HINT_BYTES, ANSWER_WORDS = 2464, 2048, 20
+
+# The kinds of a month's calls that name orders (add, amend, cancel, deal, tick, ask, commit, message), each with the refusals that its lists
+# must show.
+REFUSED_IN_LISTS = {
+    2: {7, 8, 9, 10, 12, 13}, 3: {7, 8, 9, 11, 12}, 4: {7, 8, 9, 11}, 5: {7, 8, 9, 11, 12, 14}, 6: {7, 8, 9},
+    14: {7, 8, 9, 11, 12}, 15: {7, 8, 9, 11, 12, 19}, 16: {7, 8, 9, 10, 11, 12, 13, 20, 21},
+}
 
 # A case: which call, the buffer's elements and the byte that fills them, numbers, two byte strings.
 Case = namedtuple("Case", "call count fill numbers first second", defaults=[0, 0, (), b"", b""])
@@ -379,9 +390,41 @@ def other_cases(rng, count):
         yield Case(10, numbers=tuple(rng.choice([*(rng.randrange(61) for _ in range(8)), 61, 2**32 - 1]) for _ in range(3)))
 
 
+def message(kind, t, id, price=100, volume=500, other=None):
+    """An order's message of a time of the quantum; `other` is the id that a G gives it."""
+    old, new = {"D": {}, "F": {41: id}, "G": {41: id}}[kind], {11: id if other is None else other}
+    rest = {} if kind == "F" else {54: BUY, 38: volume, 44: price}
+    return Message(SIXTY, fix.write(fix.Order(kind, {**new, **old, **rest}, messages.shifted(SIXTY, t))))
+
+
+def refused_calls():
+    """Calls that name orders, each refused by every number that it can be; ids 1 and 2,049 have the same hint."""
+    row, known_id, like_it, volume, high = list(Row(1, 1, 10_000, 500, 100, 1, 600)), 1, 2_049, 500, PRICE_LIMIT + 1
+
+    def changes(t, id, price=100, volume=500):
+        named = t, id, price, volume
+        return [Amend(*named), Ask(*named), Commit(*named, Ticket(*named, 0)), message("G", *named)]
+
+    def every(t, id):
+        new = [Add(t, id + 100, BUY, 100, volume), message("D", t, id + 100)]
+        return [*new, *changes(t, id), Cancel(t, id), message("F", t, id), Deal(t, id, volume), Tick(t)]
+
+    calls = [*every(5, known_id), Open(row, 1, 2_000), *(Add(5, id, 1 + id % 2, 100, volume) for id in range(1, 9))]
+    calls += every(4, known_id) + every(10_001, known_id)
+    calls += [Add(5, 1, BUY, 100, volume), message("D", 5, 1), message("G", 5, 2, other=1)]
+    calls += [*changes(5, like_it), Cancel(5, like_it), message("F", 5, like_it), Deal(5, like_it, volume)]
+    calls += [Add(5, like_it, BUY, high, volume), message("D", 5, like_it, high), *changes(5, known_id, high), *changes(5, known_id, 100, 0)]
+    calls += [Deal(5, known_id, 0), Deal(5, known_id, volume + 1), Commit(5, 1, 100, volume, Ticket(5, 1, 100, volume, 0))]
+    whole = message("F", 5, known_id)
+    calls += [whole._replace(bytes=whole.bytes[:-1]), whole._replace(start=b"")]
+    calls += [Amend(5, id, 101, volume) for id in range(1, 9)] + [Deal(5, 1, volume), Cancel(5, 2)]
+    calls += [Add(6, like_it + id, 1 + id % 2, 100, volume) for id in range(58)]
+    return [*calls, Add(6, 1, BUY, 100, volume), message("D", 6, 1), Report(), Outlook(), Look(1, 1, 1), Close(1, 1), Withdraw(1, 1, 1)]
+
+
 def some_lists(rng, count):
     """Lists of calls as bytes: known ones, random ones, and such that stop being calls."""
-    calls = [known.paper_calls(), known.greatest_charges(), known.every_refusal(), known.lapse_calls(), known.strike_calls(), known.ask_calls()]
+    calls = [known.paper_calls(), known.greatest_charges(), known.every_refusal(), known.lapse_calls(), known.strike_calls(), known.ask_calls(), refused_calls()]
     calls += [months.any_calls(rng)[1] for _ in range(count)] + [message_lists.any_calls(rng)[1] for _ in range(count)]
     lists = [calls_text.calls_bytes(some) for some in calls]
     yield from lists
@@ -531,6 +574,20 @@ def check_calls(cases):
     for call, (name, refusals) in NAMES.items():
         missing = {0, *refusals} - seen[call]
         assert not missing, f"no case of {name} was answered by {sorted(missing)}"
+    check_refused_kinds(cases)
+
+
+def check_refused_kinds(cases):
+    """The lists of `run_month` have refused calls of every kind that may be refused: the hints were compared after each of them."""
+    met = {kind: set() for kind in REFUSED_IN_LISTS}
+    for case in (case for case in cases if case.call == 14):
+        answers = list_words(case.first)[0]
+        for at, block in enumerate(blocks_of(case.first)):
+            kind, number = programs.to_words(block)[0], answers[ANSWER_WORDS * at + 1]
+            if answers[ANSWER_WORDS * at] == 1 and kind in met:
+                met[kind].add(number)
+    missing = {kind: numbers - met[kind] for kind, numbers in REFUSED_IN_LISTS.items() if numbers - met[kind]}
+    assert not missing, f"no call of these kinds was refused by these numbers: {missing}"
 
 
 # ---------------------------------------------------------------- header, example, symbols, installation

@@ -4,6 +4,7 @@ use accounts::Times;
 use console::field;
 use console::field_line;
 use console::text;
+use rules::Millis;
 use rules::SpreadRule;
 
 fn refused(cause: u32, place: u32) {
@@ -42,10 +43,10 @@ fn stretches(words: &[u32]) {
     }
 }
 
-fn total(word: u32, time: u32) {
+fn total(word: u32, time: Millis) {
     text(b"total");
     state(word);
-    field_line(b" ", time);
+    field_line(b" ", time.0);
 }
 
 fn totals(times: Times) {

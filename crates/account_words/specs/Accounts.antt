@@ -56,7 +56,8 @@ ranAccount (reckoned times n) = 7 + 3 * n
 ranAccount (stoppedAt number place) = refusedNumber number + place
 
 abbrev pub headedBy : List ℕ → Times → ℕ → List ℕ
-headedBy b t n = set (set (set (set (set (set (set b 0 (t .kept)) 1 (t .«no_bid»)) 2 (t .«no_ask»)) 3 (t .neither)) 4 (t .crossed)) 5 (t .wide)) 6 n
+headedBy b t n =
+    set (set (set (set (set (set (set b 0 (t .kept .0)) 1 (t .«no_bid» .0)) 2 (t .«no_ask» .0)) 3 (t .neither .0)) 4 (t .crossed .0)) 5 (t .wide .0)) 6 n
 
 abbrev pub headedAccount : List ℕ → AccountAnswer → List ℕ
 headedAccount b (Finished t n) = headedBy b t n

@@ -44,12 +44,12 @@ fn head_account(answer: AccountAnswer, buffer: &mut [u32]) -> u64
 {
     match answer {
         AccountAnswer::Finished { times, stretches } => {
-            buffer[0] = times.kept;
-            buffer[1] = times.no_bid;
-            buffer[2] = times.no_ask;
-            buffer[3] = times.neither;
-            buffer[4] = times.crossed;
-            buffer[5] = times.wide;
+            buffer[0] = times.kept.0;
+            buffer[1] = times.no_bid.0;
+            buffer[2] = times.no_ask.0;
+            buffer[3] = times.neither.0;
+            buffer[4] = times.crossed.0;
+            buffer[5] = times.wide.0;
             buffer[6] = stretches;
             7 + 3 * (stretches as u64)
         }

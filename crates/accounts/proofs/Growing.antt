@@ -9,6 +9,7 @@ use lib.Dec.{eqb}
 use lib.ListN.{length, set, length-append}
 use borrow.Author.Tests.{eqb-true, eq-eqb, ne-eqb}
 use Rattle.rules.specs.Lists.{if_then_else_}
+use Rattle.rules.specs.Units.{millis}
 use Rattle.rules.specs.States.{State, kept, noBid, noAsk, neither, crossed, wide, stateWord}
 use Rattle.rules.specs.Accounts.{Part, part, sameState, grownBy, parts, partWords, Tiles}
 use Rattle.runs.specs.Internal.{Front, putWords}
@@ -75,8 +76,10 @@ grown-new s a d (p ∷ q ∷ ps) e = ap {B = List Part} (λ l. p ∷ l) (grown-n
 -- ---- the milliseconds of each state
 
 pub times-path : {a b c d e f a′ b′ c′ d′ e′ f′ : ℕ} → a ≡ a′ → b ≡ b′ → c ≡ c′ → d ≡ d′ → e ≡ e′ → f ≡ f′
-    → _≡_ {A = Times} (record { kept = a; «no_bid» = b; «no_ask» = c; neither = d; crossed = e; wide = f }) (record { kept = a′; «no_bid» = b′; «no_ask» = c′; neither = d′; crossed = e′; wide = f′ })
-times-path a b c d e f = λ i. record { kept = a i; «no_bid» = b i; «no_ask» = c i; neither = d i; crossed = e i; wide = f i }
+    → _≡_ {A = Times} (record { kept = millis a; «no_bid» = millis b; «no_ask» = millis c; neither = millis d; crossed = millis e; wide = millis f })
+    (record { kept = millis a′; «no_bid» = millis b′; «no_ask» = millis c′; neither = millis d′; crossed = millis e′; wide = millis f′ })
+times-path a b c d e f = λ i.
+    record { kept = millis (a i); «no_bid» = millis (b i); «no_ask» = millis (c i); neither = millis (d i); crossed = millis (e i); wide = millis (f i) }
 
 times-run : (f : ℕ → State) (a d : ℕ) (s : State) → ((m : ℕ) → a ≤ m → m < a + d → f m ≡ s) → addedTo (timesAt f a) (stateWord s) d ≡ timesAt f (a + d)
 unfolding timesAt

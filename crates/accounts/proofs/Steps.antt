@@ -12,6 +12,7 @@ use Rattle.rules.specs.declared.SpreadRule.{SpreadRule}
 use Rattle.rules.specs.declared.Event.{Event}
 use Rattle.rules.specs.Lists.{count}
 use Rattle.rules.specs.Terms.{paper}
+use Rattle.rules.specs.Units.{millis}
 use Rattle.rules.specs.Rows.{goodRowFor}
 use Rattle.rules.specs.Orders.{live, present, timeFrom, timeOf}
 use Rattle.rules.specs.States.{State, stateWord, ordersState, stateAt}
@@ -125,10 +126,10 @@ module _ (row : Row) (sp : SpreadRule) (es : List Event) (w : Progress) (is : w 
 -- ---- opening
 
 pub begins : (row : Row) (sp : SpreadRule) (clock : Clock) → clock ≡ clockOf row sp []
-    → _≡_ {A = Progress} (record { clock = clock; marks = record { stretches = 0; start = 0; state = 6; times = record { kept = 0; «no_bid» = 0; «no_ask» = 0; neither = 0; crossed = 0; wide = 0 } } }) (progressAt row sp [])
+    → _≡_ {A = Progress} (record { clock = clock; marks = record { stretches = 0; start = 0; state = 6; times = record { kept = millis 0; «no_bid» = millis 0; «no_ask» = millis 0; neither = millis 0; crossed = millis 0; wide = millis 0 } } }) (progressAt row sp [])
 unfolding progressAt marksAt present timeFrom parts lastStart lastWord timesAt timeIn count
 begins row sp clock is =
-    ap (λ (x : Clock). record { clock = x; marks = record { stretches = 0; start = 0; state = 6; times = record { kept = 0; «no_bid» = 0; «no_ask» = 0; neither = 0; crossed = 0; wide = 0 } } }) is
+    ap (λ (x : Clock). record { clock = x; marks = record { stretches = 0; start = 0; state = 6; times = record { kept = millis 0; «no_bid» = millis 0; «no_ask» = millis 0; neither = millis 0; crossed = millis 0; wide = millis 0 } } }) is
 
 -- ---- what the functions promise
 

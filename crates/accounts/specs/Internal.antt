@@ -3,7 +3,7 @@
 use Prim.Native.Nat.{ℕ, _+_, _*_, _≤_, _<_}
 use mathlib.Core.Path.{_≡_}
 use mathlib.Core.List.{List, [], _∷_, _++_}
-use mathlib.Core.Bool.{true}
+use mathlib.Core.Bool.{Bool, true}
 use lib.Dec.{eqb}
 use lib.ListN.{length, drop}
 use Rattle.rules.specs.declared.Millis.{Millis}
@@ -12,6 +12,7 @@ use Rattle.rules.specs.declared.SpreadRule.{SpreadRule}
 use Rattle.rules.specs.declared.Event.{Event}
 use Rattle.rules.specs.Lists.{if_then_else_}
 use Rattle.rules.specs.Terms.{paper}
+use Rattle.rules.specs.Units.{millis}
 use Rattle.rules.specs.Rows.{goodRowFor}
 use Rattle.rules.specs.Orders.{present}
 use Rattle.rules.specs.States.{State, kept, noBid, noAsk, neither, crossed, wide, stateWord, stateAt}
@@ -47,12 +48,12 @@ lastWord (p ∷ q ∷ ps) = lastWord (q ∷ ps)
 unfoldable pub timesAt : (ℕ → State) → ℕ → Times
 timesAt f n =
     record {
-      kept = timeIn f n kept;
-      «no_bid» = timeIn f n noBid;
-      «no_ask» = timeIn f n noAsk;
-      neither = timeIn f n neither;
-      crossed = timeIn f n crossed;
-      wide = timeIn f n wide;
+      kept = millis (timeIn f n kept);
+      «no_bid» = millis (timeIn f n noBid);
+      «no_ask» = millis (timeIn f n noAsk);
+      neither = millis (timeIn f n neither);
+      crossed = millis (timeIn f n crossed);
+      wide = millis (timeIn f n wide);
     }
 
 -- the marks of the numbers below n
@@ -66,26 +67,30 @@ Holds base ps buffer = Front base (partWords ps) buffer
 abbrev pub putPart : List ℕ → ℕ → ℕ → ℕ → ℕ → List ℕ
 putPart buffer n x y z = putWords buffer (3 * n) (x ∷ y ∷ z ∷ [])
 
+-- time that is more where it counts
+abbrev pub longerBy : Millis → Bool → ℕ → Millis
+longerBy time counts more = millis (time .0 + (if counts then more else 0))
+
 -- the milliseconds of a state are more
 abbrev pub addedTo : Times → ℕ → ℕ → Times
 addedTo t s d =
     record {
-      kept = t .kept + (if eqb s 0 then d else 0);
-      «no_bid» = t .«no_bid» + (if eqb s 1 then d else 0);
-      «no_ask» = t .«no_ask» + (if eqb s 2 then d else 0);
-      neither = t .neither + (if eqb s 3 then d else 0);
-      crossed = t .crossed + (if eqb s 4 then d else 0);
-      wide = t .wide + (if eqb s 5 then d else 0);
+      kept = longerBy (t .kept) (eqb s 0) d;
+      «no_bid» = longerBy (t .«no_bid») (eqb s 1) d;
+      «no_ask» = longerBy (t .«no_ask») (eqb s 2) d;
+      neither = longerBy (t .neither) (eqb s 3) d;
+      crossed = longerBy (t .crossed) (eqb s 4) d;
+      wide = longerBy (t .wide) (eqb s 5) d;
     }
 
 -- each with d more fits in a word
 pub record Addable (t : Times) (d : ℕ) : Type 0 where
-  pub kept : t .kept + d ≤ 86400000
-  pub «no_bid» : t .«no_bid» + d ≤ 86400000
-  pub «no_ask» : t .«no_ask» + d ≤ 86400000
-  pub neither : t .neither + d ≤ 86400000
-  pub crossed : t .crossed + d ≤ 86400000
-  pub wide : t .wide + d ≤ 86400000
+  pub kept : t .kept .0 + d ≤ 86400000
+  pub «no_bid» : t .«no_bid» .0 + d ≤ 86400000
+  pub «no_ask» : t .«no_ask» .0 + d ≤ 86400000
+  pub neither : t .neither .0 + d ≤ 86400000
+  pub crossed : t .crossed .0 + d ≤ 86400000
+  pub wide : t .wide .0 + d ≤ 86400000
 
 -- the marks when a state holds from a on
 unfoldable pub begunAt : Marks → ℕ → ℕ → Marks

@@ -9,7 +9,7 @@ use Rattle.accounts.specs.declared.AccountAnswer.the-variants.{Finished,
 
 -- in the order of the states' words
 abbrev pub timesShown : Times → List ℕ
-timesShown t = t .kept ∷ t .«no_bid» ∷ t .«no_ask» ∷ t .neither ∷ t .crossed ∷ t .wide ∷ []
+timesShown t = t .kept .0 ∷ t .«no_bid» .0 ∷ t .«no_ask» .0 ∷ t .neither .0 ∷ t .crossed .0 ∷ t .wide .0 ∷ []
 
 abbrev pub shownAccount : AccountAnswer → AccountRan
 shownAccount (Finished times stretches) = reckoned (timesShown times) stretches

@@ -1,7 +1,7 @@
 // The account run: where the time of a session went, as stretches of one state and the milliseconds of each state. Records go through one
 // open quantum, twice where stretches are written, as in a session run.
 ghost use mathlib.Core.Path.{_≡_};
-ghost use Prim.Native.Nat.{ℕ, _≤_};
+ghost use Prim.Native.Nat.{ℕ, _+_, _≤_};
 ghost use mathlib.Core.Bool.{true};
 ghost use mathlib.Core.List.{[]};
 ghost use lib.ListN.{length};
@@ -16,7 +16,7 @@ ghost use Rattle.rules.specs.Session.{mostRecords, recordsOf};
 ghost use Rattle.rules.specs.Accounts.{accountRecords, account, accountRan, accountBuffer};
 ghost use Rattle.runs.specs.Internal.{bookOf};
 ghost use Rattle.accounts.specs.Shown.{shownAccount, filledBy};
-ghost use Rattle.accounts.specs.Internal.{putPart, begunAt, addedTo, Addable, MarksBounds, MarksAfter, ReachedRun, Advanced, ReachedEnd, FinalAnswer, progressAt, Passed};
+ghost use Rattle.accounts.specs.Internal.{putPart, longerBy, begunAt, addedTo, Addable, MarksBounds, MarksAfter, ReachedRun, Advanced, ReachedEnd, FinalAnswer, progressAt, Passed};
 use clock::Clock;
 use clock::Duty;
 use rules::Millis;
@@ -27,12 +27,12 @@ use rules::SpreadRule;
 
 // The milliseconds of each state.
 pub struct Times {
-    pub kept: u32,
-    pub no_bid: u32,
-    pub no_ask: u32,
-    pub neither: u32,
-    pub crossed: u32,
-    pub wide: u32,
+    pub kept: Millis,
+    pub no_bid: Millis,
+    pub no_ask: Millis,
+    pub neither: Millis,
+    pub crossed: Millis,
+    pub wide: Millis,
 }
 
 // The answer of an account run: the milliseconds of each state and the number of stretches, or a refusal and its place.
@@ -74,11 +74,12 @@ fn put(buffer: &mut [u32], n: usize, start: u32, length: u32, state: u32)
     }
 }
 
-// Time that counts, or none.
-fn time_where(counts: bool, more: u32) -> u32
-    ensures { λ r. ⌜ r ≡ (if counts then more else 0) ⌝ }
+// Time that is more where it counts.
+fn longer(time: Millis, counts: bool, more: u32) -> Millis
+    requires { ⌜ time .0 + more ≤ 86400000 ⌝ }
+    ensures { λ r. ⌜ r ≡ longerBy time counts more ⌝ }
 {
-    (counts as u32) * more
+    Millis(time.0 + (counts as u32) * more)
 }
 
 // The milliseconds of a state are more.
@@ -87,12 +88,12 @@ fn added(times: Times, state: u32, more: u32) -> Times
     ensures { λ r. ⌜ r ≡ addedTo times state more ⌝ }
 {
     Times {
-        kept: times.kept + time_where(state == 0, more),
-        no_bid: times.no_bid + time_where(state == 1, more),
-        no_ask: times.no_ask + time_where(state == 2, more),
-        neither: times.neither + time_where(state == 3, more),
-        crossed: times.crossed + time_where(state == 4, more),
-        wide: times.wide + time_where(state == 5, more),
+        kept: longer(times.kept, state == 0, more),
+        no_bid: longer(times.no_bid, state == 1, more),
+        no_ask: longer(times.no_ask, state == 2, more),
+        neither: longer(times.neither, state == 3, more),
+        crossed: longer(times.crossed, state == 4, more),
+        wide: longer(times.wide, state == 5, more),
     }
 }
 
@@ -197,12 +198,12 @@ fn begin() -> Progress
             start: 0,
             state: 6,
             times: Times {
-                kept: 0,
-                no_bid: 0,
-                no_ask: 0,
-                neither: 0,
-                crossed: 0,
-                wide: 0,
+                kept: Millis(0),
+                no_bid: Millis(0),
+                no_ask: Millis(0),
+                neither: Millis(0),
+                crossed: Millis(0),
+                wide: Millis(0),
             },
         },
     }

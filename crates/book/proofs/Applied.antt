@@ -13,7 +13,8 @@ use Rattle.rules.specs.declared.Steps.{Steps}
 use Rattle.rules.specs.declared.Contracts.{Contracts}
 use Rattle.rules.specs.declared.Event.{Event}
 use Rattle.rules.specs.declared.Event.the-variants.{Amend, Cancel, Deal}
-use Rattle.rules.specs.Orders.{isLive, left, apply}
+use Rattle.rules.specs.Lists.{filter}
+use Rattle.rules.specs.Orders.{hasId, isLive, left, apply}
 use Rattle.rules.specs.Units.{goodPrice, contracts}
 use Rattle.rules.specs.Quotes.{same}
 use Rattle.rules.specs.Causes.{firstNumber, traderCauses}
@@ -21,7 +22,9 @@ use Rattle.rules.proofs.Members.{length-filter}
 use Rattle.rules.proofs.Orders.{cancel-at, deal-all}
 use Rattle.rules.proofs.Bounds.{volume-bounds}
 use Rattle.rules.proofs.Refusals.{trader-passes}
+use Rattle.prices.specs.Keys.{keyIn}
 use Rattle.prices.proofs.Keys.{key-least, key-most}
+use Rattle.level.specs.CandidateKeys.{changedKey}
 use Rattle.side.specs.declared.Change.{Change}
 use Rattle.side.specs.Slots.{Slot, blankSlot, slotOf, sideOf, keptIn, GoodSlots}
 use Rattle.side.specs.Internal.{Changed, Sized, HasOrder, Added, Put, Removed, Grows}
@@ -29,7 +32,7 @@ use Rattle.side.proofs.Words.{words-length, count-is}
 use Rattle.side.proofs.Changes.{changed-added, changed-amended, changed-removed, GoodSlot, good-added, good-amended, good-removed, grows-none, grows-added, grows-amended, grows-removed}
 use Rattle.book.specs.declared.Answer.{Answer}
 use Rattle.table.specs.Table.{ofSide, slotsIn, sideIn, tableOf, slotIn, GoodOrders}
-use Rattle.book.specs.Events.{OfSide, sentTo}
+use Rattle.book.specs.Events.{idOf, sideFor, changedBy, sentTo}
 use Rattle.table.specs.Internal.{sideAt, other, Numbers, blankOrder, orderIn, joined, Represents, Placed}
 use Rattle.book.specs.Internal.{orderWith, addOf, appliedTo, answer, noChange, Applied}
 use Rattle.book.proofs.Sides.{names}
@@ -37,29 +40,32 @@ use Rattle.table.proofs.Slots.{Has, position}
 use Rattle.table.proofs.Table.{joined-length, joined-at, half-length, part-is, put-is, part-sized, part-count}
 use Rattle.table.proofs.Orders as O
 use Rattle.table.proofs.Orders.{good-slots, its-side, its-price, its-volume, lent, putBack}
-use Rattle.book.proofs.Events.{added, added-other, named, others-stay, amended, cancelled, dealt-some}
+use Rattle.book.proofs.Events.{added, added-changes, added-other, others-stay, amended, cancelled, dealt-some, slots-set, changed-key, cancelled-key}
+use Rattle.book.proofs.Changes.{side-with}
 
 module _ (e : Event) (minimum : ℕ) (live : List Order) (table : List ℕ) (represents : Represents table minimum live) where
   pub refuses : (n : ℕ) (r : Answer) → r ≡ answer (suc n) 0 noChange → firstNumber (traderCauses live e) ≡ suc n → Applied e minimum live table r
   unfolding tableOf appliedTo
   refuses n r is h =
       subst (Applied e minimum live table) (sym is)
-      (record { number = omega arith; refusal = sym h; side = λ z. absurd (omega (arith, z)); table = represents .is; others = refl; good = good-slots Buy live (represents .good); grown = grows-none (slotsIn Buy live); answers = λ t. refl })
+      (record { number = omega arith; refusal = sym h; side = λ z. absurd (omega (arith, z)); key = λ z. absurd (omega (arith, z)); table = represents .is; others = refl; good = good-slots Buy live (represents .good); grown = grows-none (slotsIn Buy live); answers = λ t. refl })
 
   -- the side's slots are these, the other's those of before, and the words of the side are put into the table
   pub accepts : (n : ℕ) → n < 2 → (after : List Slot) (c : Change) (half : List ℕ) (r : Answer) → r ≡ answer 0 n c
-      → firstNumber (traderCauses live e) ≡ 0 → OfSide (sideAt n) live e → slotsIn (sideAt n) (apply live e) ≡ after
+      → firstNumber (traderCauses live e) ≡ 0 → sideFor live e ≡ sideAt n
+      → c .key ≡ changedKey (sideAt n) (changedBy e (ofSide (sideAt n) (apply live e))) → slotsIn (sideAt n) (apply live e) ≡ after
       → slotsIn (other (sideAt n)) (apply live e) ≡ slotsIn (other (sideAt n)) live → GoodSlots after → Grows c (slotsIn (sideAt n) live) after
       → Changed c (slotsIn (sideAt n) live) after
       → half ≡ sideOf after (keptIn minimum (slotsIn (sideAt n) live))
       → Applied e minimum live (take (256 * n) table ++ (half ++ drop (256 * n + 256 - 256 * n) (drop (256 * n) table))) r
   unfolding appliedTo
-  accepts n l after c half r is h side own others good grown answers words =
+  accepts n l after c half r is h side key own others good grown answers words =
       subst (Applied e minimum live (take (256 * n) table ++ (half ++ drop (256 * n + 256 - 256 * n) (drop (256 * n) table)))) (sym is)
       (record {
         number = l;
         refusal = sym h;
         side = λ z. side;
+        key = λ z. key;
         table =
             put-is table minimum live represents n l half
             ∙ ap (λ (w : List ℕ). joined n w (sideIn minimum (other (sideAt n)) live)) words
@@ -79,13 +85,15 @@ not-refused A n c r is h = absurd (omega (arith, h, ap (λ (x : Answer). x .refu
 
 -- two accepted events that leave the same orders
 pub same-turn : (d e : Event) (minimum : ℕ) (live : List Order) (exit : List ℕ) (r : Answer) → firstNumber (traderCauses live d) ≡ 0
-    → firstNumber (traderCauses live e) ≡ 0 → ((side : Side) → OfSide side live d → OfSide side live e) → apply live d ≡ apply live e
+    → firstNumber (traderCauses live e) ≡ 0 → sideFor live d ≡ sideFor live e → idOf d ≡ idOf e → apply live d ≡ apply live e
     → Applied d minimum live exit r → Applied e minimum live exit r
-same-turn d e minimum live exit r h k own same t =
+same-turn d e minimum live exit r h k own its same t =
     record {
       number = t .number;
       refusal = t .refusal ∙ h ∙ sym k;
-      side = λ z. own (sideAt (r .s)) (t .side z);
+      side = λ z. sym own ∙ t .side z;
+      key = λ z.
+          t .key z ∙ (λ i. changedKey (sideAt (r .s)) (filter (hasId (its i)) (ofSide (sideAt (r .s)) (same i))));
       table = t .table ∙ ap (appliedTo (r .s) minimum live) sent;
       others = ap (slotsIn (other (sideAt (r .s)))) (sym sent) ∙ t .others;
       good = subst (λ (l : List Order). GoodSlots (slotsIn (sideAt (r .s)) l)) sent (t .good);
@@ -136,7 +144,11 @@ module _ (t : Millis) (minimum : ℕ) (live : List Order) (table : List ℕ) (re
       subst (λ (s : Side). slotsIn (other s) (apply live e) ≡ slotsIn (other s) live) (sym (number .is))
       (added-other live t (o .id) (o .side) (o .price) (o .volume)) in
       let fine = stored-good o (p .price-good) (volume-bounds (o .volume .0) (p .volume-good) .1) in
-      accepts e minimum live table represents n (number .small) (slots ++ (x ∷ [])) c half r is h (sym (number .is)) own others
+      let key : c .key ≡ changedKey (sideAt n) (changedBy e (ofSide (sideAt n) (apply live e))) =
+      ap (λ (c : Change). c .key) (made .answers)
+      ∙ added-changes live t (o .id) (o .side) (o .price) (o .volume) (p .fresh)
+      ∙ ap (λ (s : Side). changedKey s (changedBy e (ofSide s (apply live e)))) (sym (number .is)) in
+      accepts e minimum live table represents n (number .small) (slots ++ (x ∷ [])) c half r is h (sym (number .is)) key own others
       (good-added slots x (good-before n) few fine)
       (subst (λ (c : Change). Grows c slots (slots ++ (x ∷ []))) (sym (made .answers)) (grows-added slots (x .id) (x .key) (x .volume) (fine .key-least)))
       (subst (λ (c : Change). Changed c slots (slots ++ (x ∷ []))) (sym (made .answers)) (changed-added slots (x .id) (x .key) (x .volume)))
@@ -166,15 +178,19 @@ module _ (t : Millis) (minimum : ℕ) (live : List Order) (table : List ℕ) (re
     old-good = O.old-good minimum live table represents id at is-slot there
 
     -- another order in its place
-    set-turn : (e : Event) → firstNumber (traderCauses live e) ≡ 0 → names id e → OfSide (sideAt n) live e → (new : Order) (half : List ℕ) (c : Change) (r : Answer)
-        → new .side ≡ sideAt n → goodPrice (new .price .0) ≡ true → new .volume .0 ≤ 1000000
-        → slotsIn (sideAt n) (apply live e) ≡ set slots k (slotOf (sideAt n) new) → Put k new (lent n table) half c → r ≡ answer 0 n c
+    set-turn : (e : Event) → firstNumber (traderCauses live e) ≡ 0 → names id e → idOf e ≡ id → sideFor live e ≡ sideAt n
+        → (new : Order) (half : List ℕ) (c : Change) (r : Answer)
+        → hasId id new ≡ true → new .side ≡ sideAt n → goodPrice (new .price .0) ≡ true → new .volume .0 ≤ 1000000
+        → ofSide (sideAt n) (apply live e) ≡ set (ofSide (sideAt n) live) k new → Put k new (lent n table) half c → r ≡ answer 0 n c
         → Applied e minimum live (putBack n table half) r
-    set-turn e h named side new half c r its good most own made is =
+    set-turn e h named same-id side new half c r has its good most own made is =
         let x : Slot = slotOf (new .side) new in
         let answers = made .answers slots (keptIn minimum slots) (good-before n .few) within (part-is table minimum live represents n small) in
-        accepts e minimum live table represents n small (set slots k x) c half r is h side
-        (own ∙ ap (λ (s : Side). set slots k (slotOf s new)) (sym its))
+        let key : c .key ≡ changedKey (sideAt n) (changedBy e (ofSide (sideAt n) (apply live e))) =
+        ap (λ (c : Change). c .key) answers ∙ ap (λ (s : Side). keyIn s new) its
+        ∙ changed-key live (represents .good) (sideAt n) k id has-slot e new same-id own has in
+        accepts e minimum live table represents n small (set slots k x) c half r is h side key
+        (slots-set live (represents .good) (sideAt n) k id has-slot e new own ∙ ap (λ (s : Side). set slots k (slotOf s new)) (sym its))
         (others-stay live (represents .good) (sideAt n) k id has-slot e named)
         (good-amended slots k x (good-before n) (stored-good new good most))
         (subst (λ (c : Change). Grows c slots (set slots k x)) (sym answers) (grows-amended slots k (x .id) (x .key) (x .volume) (old-good .key-least)))
@@ -188,11 +204,12 @@ module _ (t : Millis) (minimum : ℕ) (live : List Order) (table : List ℕ) (re
         → Applied (Amend t id price volume) minimum live (putBack n table half) r
     applied-amend price volume new half c r h q made is =
         let p = trader-passes live (Amend t id price volume) h in
-        set-turn (Amend t id price volume) h refl (named live (represents .good) (sideAt n) k id has-slot) new half c r
+        set-turn (Amend t id price volume) h refl refl (side-with id live (represents .good) (sideAt n) k has-slot) new half c r
+        (ap (hasId id) q ∙ has-slot .has)
         (ap (λ (x : Order). x .side) q ∙ its-side live (represents .good) (sideAt n) k id has-slot)
         (ap (λ (x : Order). goodPrice (x .price .0)) q ∙ p .price-good)
         (subst (λ (x : Order). x .volume .0 ≤ 1000000) (sym q) (volume-bounds (volume .0) (p .volume-good) .1))
-        (amended live (represents .good) (sideAt n) k id has-slot t price volume ∙ ap (λ (x : Order). set slots k (slotOf (sideAt n) x)) (sym q))
+        (amended live (represents .good) (sideAt n) k id has-slot t price volume ∙ ap (λ (x : Order). set (ofSide (sideAt n) live) k x) (sym q))
         made is
 
     -- with what is left
@@ -204,11 +221,12 @@ module _ (t : Millis) (minimum : ℕ) (live : List Order) (table : List ℕ) (re
         let o = orderIn at live in
         let most = its-volume live (represents .good) (sideAt n) k id has-slot in
         let less : o .volume .0 - volume .0 ≤ 1000000 = omega (arith, most) in
-        set-turn (Deal t id volume) h refl (named live (represents .good) (sideAt n) k id has-slot) new half c r
+        set-turn (Deal t id volume) h refl refl (side-with id live (represents .good) (sideAt n) k has-slot) new half c r
+        (ap (hasId id) q ∙ has-slot .has)
         (ap (λ (x : Order). x .side) q ∙ its-side live (represents .good) (sideAt n) k id has-slot)
         (ap (λ (x : Order). goodPrice (x .price .0)) q ∙ its-price live (represents .good) (sideAt n) k id has-slot)
         (subst (λ (x : Order). x .volume .0 ≤ 1000000) (sym q) less)
-        (dealt-some live (represents .good) (sideAt n) k id has-slot t volume some ∙ ap (λ (x : Order). set slots k (slotOf (sideAt n) x)) (sym q))
+        (dealt-some live (represents .good) (sideAt n) k id has-slot t volume some ∙ ap (λ (x : Order). set (ofSide (sideAt n) live) k x) (sym q))
         made is
 
     -- without it
@@ -216,7 +234,9 @@ module _ (t : Millis) (minimum : ℕ) (live : List Order) (table : List ℕ) (re
         → r ≡ answer 0 n c → Applied (Cancel t id) minimum live (putBack n table half) r
     applied-cancel half c r h made is =
         accepts (Cancel t id) minimum live table represents n small (take k slots ++ drop (suc k) slots) c half r is h
-        (named live (represents .good) (sideAt n) k id has-slot)
+        (side-with id live (represents .good) (sideAt n) k has-slot)
+        (ap (λ (c : Change). c .key) (made .answers slots (keptIn minimum slots) (good-before n .few) within (part-is table minimum live represents n small))
+        ∙ cancelled-key live (represents .good) (sideAt n) k id has-slot t)
         (cancelled live (represents .good) (sideAt n) k id has-slot t)
         (others-stay live (represents .good) (sideAt n) k id has-slot (Cancel t id) refl)
         (good-removed slots k (good-before n))

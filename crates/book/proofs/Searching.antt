@@ -1,28 +1,22 @@
--- The count of the search, for every list of accepted events: they keep their bounds, so `send`'s promise holds of their live orders.
--- Assumes nothing.
+-- W3's count, for every list of accepted events: they keep their bounds, so `send`'s promise holds of their live orders.
 use Prim.Native.Nat.{ℕ}
-use mathlib.Core.Path.{_≡_, refl, sym, _∙_, subst}
+use mathlib.Core.Path.{_≡_, refl, sym, ap, _∙_, subst}
 use mathlib.Core.List.{List, [], _∷_, _++_, append-assoc, append-nil}
-use Rattle.rules.specs.declared.Order.{Order}
 use Rattle.rules.specs.declared.Row.{Row}
 use Rattle.rules.specs.declared.Event.{Event}
-use Rattle.rules.specs.Lists.{if_then_else_}
 use Rattle.rules.specs.Orders.{apply, live}
 use Rattle.rules.specs.Answers.{Outcome, accepted}
 use Rattle.rules.specs.Causes.{firstNumber, traderCauses, eventCauses, eventRefusal}
-use Rattle.rules.specs.Search.{sumsOf}
 use Rattle.rules.specs.Bounds.{EventBounds}
 use Rattle.rules.proofs.Orders.{live-snoc}
 use Rattle.rules.proofs.Bounds.{event-bounds-none, event-bounds-more}
 use Rattle.rules.proofs.Refusals.{passed}
 use Rattle.record.specs.declared.Fields.{Fields}
 use Rattle.record.specs.Fields.{readFields}
-use Rattle.prices.specs.Keys.{quoteAt}
-use Rattle.quote.specs.Searches.{MayStart}
 use Rattle.book.specs.declared.Sent.{Sent}
-use Rattle.table.specs.Table.{ofSide, tableOf, GoodOrders}
-use Rattle.book.specs.Sending.{Works, Sending, SendsRead}
-use Rattle.book.specs.Searching.{AcceptedAfter, Accepted, NextSearch}
+use Rattle.table.specs.Table.{tableOf, GoodOrders}
+use Rattle.book.specs.Sending.{sumsBetween, Sending, SendsRead}
+use Rattle.book.specs.Searching.{AcceptedAfter, Accepted, nextSums}
 
 bounds-after : (row : Row) (before events : List Event) → EventBounds row before → AcceptedAfter row before events → EventBounds row (before ++ events)
 bounds-after row before [] b a = subst (EventBounds row) (sym (append-nil before)) b
@@ -40,39 +34,20 @@ trader-accepts : (row : Row) (events : List Event) (e : Event) → eventRefusal 
 unfolding eventRefusal eventCauses
 trader-accepts row events e h = passed 8 _ _ (passed 7 _ _ h .1) .1
 
--- what `send` promises of the live orders, said of the events
-of-events : (row : Row) (events : List Event) (e : Event) (guesses sums : ℕ) → Works e (row .minimum .0) (live events) guesses sums
-    → NextSearch row events e sums
-of-events row events e guesses sums w =
-    let is : apply (live events) e ≡ live (events ++ (e ∷ [])) = sym (live-snoc events e) in
-    record {
-      side = w .side;
-      its-side = w .its-side;
-      start = quoteAt (w .side) (w .work .start);
-      found =
-          subst (λ (l : List Order). MayStart (w .side) (row .minimum .0) (ofSide (w .side) l) (quoteAt (w .side) (w .work .start))) is (w .found);
-      searched = w .work .searched;
-      count =
-          subst
-          (λ (l : List Order).
-          sums ≡ (if w .work .searched then sumsOf (w .side) (row .minimum .0) (quoteAt (w .side) (w .work .start)) (ofSide (w .side) l) else 0))
-          is (w .searched);
-    }
-
 next-event : (row : Row) (events : List Event) (e : Event) → Accepted row events → eventRefusal row events e ≡ 0
     → (widest keeping : ℕ) (exit : List ℕ) (r : Sent) → Sending e (row .minimum .0) widest keeping (tableOf (row .minimum .0) (live events)) exit r
-    → NextSearch row events e (r .sums)
+    → r .sums ≡ nextSums row events e
 next-event row events e a h widest keeping exit r sending =
     let bounds = accepted-bounds row events a in
     let good = good-live row events bounds in
     let after : GoodOrders (apply (live events) e) =
     subst GoodOrders (live-snoc events e) (good-live row (events ++ (e ∷ [])) (event-bounds-more row events e bounds h)) in
     let none : r .refusal ≡ 0 = sending .sends .refusal (live events) good refl ∙ trader-accepts row events e h in
-    of-events row events e (r .guesses) (r .sums) (sending .work (live events) good after refl none)
+    sending .sums (live events) good after refl none ∙ ap (sumsBetween (row .minimum .0) e (live events)) (sym (live-snoc events e))
 
 pub next-search : (row : Row) (events : List Event) (e : Event) → Accepted row events → eventRefusal row events e ≡ 0
     → (f : Fields) → readFields f ≡ accepted e → (widest keeping : ℕ) (exit : List ℕ) (r : Sent)
-    → SendsRead (readFields f) (row .minimum .0) widest keeping (tableOf (row .minimum .0) (live events)) exit r → NextSearch row events e (r .sums)
+    → SendsRead (readFields f) (row .minimum .0) widest keeping (tableOf (row .minimum .0) (live events)) exit r → r .sums ≡ nextSums row events e
 next-search row events e a h f is widest keeping exit r sends =
     next-event row events e a h widest keeping exit r
     (subst (λ (o : Outcome Event). SendsRead o (row .minimum .0) widest keeping (tableOf (row .minimum .0) (live events)) exit r) is sends)

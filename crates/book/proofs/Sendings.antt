@@ -2,34 +2,36 @@
 use Prim.Native.Nat.{ℕ, zero, suc, _≤_, _<_}
 use native.Mathlib.Omega.{arith}
 use mathlib.Core.Path.{_≡_, refl, sym, ap, _∙_, subst}
-use mathlib.Core.Logic.{inl, inr}
 use mathlib.Core.Bool.{Bool, true, false}
-use mathlib.Core.List.{List, Memᴰ·of-map}
-use borrow.Author.Tests.{leb-true}
-use lib.Dec.{leb}
+use mathlib.Core.List.{List, map, map-map}
 use lib.ListN.{length}
 use Rattle.rules.specs.declared.Order.{Order}
 use Rattle.rules.specs.declared.Event.{Event}
 use Rattle.rules.specs.declared.Row.{Row}
 use Rattle.rules.specs.declared.SpreadRule.{SpreadRule}
 use Rattle.rules.specs.Lists.{if_then_else_}
-use Rattle.rules.specs.Orders.{apply}
+use Rattle.rules.specs.Orders.{hasId, apply}
 use Rattle.rules.specs.Answers.{Outcome, accepted, refused}
 use Rattle.rules.specs.Kept.{ordersKeep}
 use Rattle.prices.specs.Widest.{WidestFor}
 use Rattle.rules.specs.declared.Side.{Side}
 use Rattle.rules.specs.declared.Side.the-variants.{Buy, Sell}
-use Rattle.quote.proofs.Levels.{held-some, held-none}
-use Rattle.quote.proofs.Finding.{may-start}
-use Rattle.side.specs.Slots.{Slot, sideOf, keysOf, volumesOf, bestKeyIn, keptIn, GoodSlots}
+use Rattle.rules.specs.Search.{sumsFor}
+use Rattle.rules.proofs.Lists.{kept-in}
+use Rattle.quote.specs.Levels.{enough}
+use Rattle.quote.specs.Sums.{keySums}
+use Rattle.side.specs.Slots.{Slot, slotOf, sideOf, keysOf, volumesOf, bestKeyIn, keptIn}
 use Rattle.level.specs.declared.Requoted.{Requoted}
-use Rattle.level.specs.Requotes.{Qualifies, Work, Requotes}
+use Rattle.level.specs.Candidates.{keysIn, volumesIn, candidates}
+use Rattle.level.specs.CandidateKeys.{changedKey, candidateKeys}
+use Rattle.level.specs.Requotes.{sumsIn, Requotes}
+use Rattle.level.proofs.Candidates.{candidate-sums}
 use Rattle.side.specs.Internal.{StaleLevel}
 use Rattle.side.proofs.Words.{words-length}
 use Rattle.book.specs.declared.Answer.{Answer}
 use Rattle.table.specs.Table.{ofSide, slotsIn, sideIn, tableOf, GoodOrders}
-use Rattle.book.specs.Events.{OfSide, sentTo}
-use Rattle.book.specs.Sending.{Works, SendsRead}
+use Rattle.book.specs.Events.{idOf, changedBy, sentTo}
+use Rattle.book.specs.Sending.{sumsBetween, SendsRead}
 use Rattle.table.specs.Internal.{sideAt, other, joined}
 use Rattle.book.specs.Internal.{appliedTo, answer, noChange, Applied, AppliedRead, keepsBy}
 use Rattle.table.proofs.Table.{joined-part, joined-put}
@@ -43,16 +45,6 @@ unfolding tableOf
 both-halves zero minimum live h = refl
 both-halves (suc zero) minimum live h = refl
 both-halves (suc (suc n)) minimum live h = absurd (omega arith)
-
--- a price that qualifies is in its range: an order stands at it or better
-start-most : (minimum : ℕ) (slots : List Slot) → GoodSlots slots → (start : ℕ) → 1 ≤ minimum → Qualifies minimum (keysOf slots) (volumesOf slots) start
-    → start ≤ 2000000001
-start-most minimum slots good start some (inl e) = omega (arith, e)
-start-most minimum slots good start some (inr h) =
-    let (k, m, pass, fail) =
-    held-some (λ (k : ℕ). false) (leb start) (keysOf slots) (volumesOf slots) (omega (arith, h, some, held-none (keysOf slots) (volumesOf slots))) in
-    let (s, i, e) = Memᴰ·of-map (λ (s : Slot). s .key) slots m in
-    omega (arith, leb-true start k pass, e, good .key-most s i)
 
 module _ (e : Event) (minimum : ℕ) (live : List Order) (good : GoodOrders live) (mid : List ℕ) (r : Answer) (t : Applied e minimum live mid r) where
   few-others : length (slotsIn (other (sideAt (r .s))) (sentTo (r .refusal) live e)) ≤ 64
@@ -92,10 +84,10 @@ module _ (e : Event) (minimum : ℕ) (live : List Order) (good : GoodOrders live
         is = ap (lent (r .s)) mid-is ∙ joined-part own others size-own size-others (r .s) (t .number);
       }
 
-  pub sent-is : (side : Side) (half : List ℕ) (q : Requoted) → ((m : StaleLevel (lent (r .s) mid) (r .change) minimum) → Requotes side minimum (m .before) (m .after) half q)
+  pub sent-is : (half : List ℕ) (q : Requoted) → ((m : StaleLevel (lent (r .s) mid) (r .change) minimum) → Requotes minimum (m .before) (m .after) (r .change) half q)
       → putBack (r .s) mid half ≡ tableOf minimum (sentTo (r .refusal) live e)
   unfolding moving others
-  sent-is side half q moved =
+  sent-is half q moved =
       ap (λ (w : List ℕ). putBack (r .s) w half) mid-is
       ∙ joined-put own others size-own size-others (r .s) half (t .number)
       ∙ ap (λ (w : List ℕ). joined (r .s) w others) (moved moving .words)
@@ -113,8 +105,8 @@ module _ (e : Event) (minimum : ℕ) (live : List Order) (good : GoodOrders live
       go zero h = absurd (omega arith)
       go (suc n) h = both-halves (r .s) minimum live (t .number)
 
-  module _ (side : Side) (is-side : side ≡ sideAt (r .s)) (half : List ℕ) (q : Requoted)
-      (moved : (m : StaleLevel (lent (r .s) mid) (r .change) minimum) → Requotes side minimum (m .before) (m .after) half q) where
+  module _ (half : List ℕ) (q : Requoted)
+      (moved : (m : StaleLevel (lent (r .s) mid) (r .change) minimum) → Requotes minimum (m .before) (m .after) (r .change) half q) where
     -- where the best key of its side stays, both stay
     pub keys-stay : q .moves ≡ false → (s : Side) → bestKeyIn minimum (slotsIn s (sentTo (r .refusal) live e)) ≡ bestKeyIn minimum (slotsIn s live)
     unfolding moving
@@ -134,25 +126,29 @@ module _ (e : Event) (minimum : ℕ) (live : List Order) (good : GoodOrders live
       after-is : sentTo (r .refusal) live e ≡ apply live e
       after-is = ap (λ (n : ℕ). sentTo n live e) none
 
-      -- the sums made for it
-      pub taken-work : 1 ≤ minimum → Works e minimum live (q .guesses) (q .sums)
-      unfolding moving
-      taken-work some =
-          let after = apply live e in
-          let columns = slots-orders side after good-after in
-          let work : Work side minimum (keysOf (slotsIn side after)) (volumesOf (slotsIn side after)) (q .guesses) (q .sums) =
-          subst (λ (l : List Order). Work side minimum (keysOf (slotsIn side l)) (volumesOf (slotsIn side l)) (q .guesses) (q .sums)) after-is
-          (subst (λ (s : Side). Work side minimum (keysOf (slotsIn s (sentTo (r .refusal) live e))) (volumesOf (slotsIn s (sentTo (r .refusal) live e))) (q .guesses) (q .sums))
-          (sym is-side) (moved moving .work)) in
-          record {
-            side = side;
-            its-side = subst (λ (s : Side). OfSide s live e) (sym is-side) (t .side none);
-            work = work;
-            found =
-                may-start side minimum (ofSide side after) (keysOf (slotsIn side after)) (volumesOf (slotsIn side after)) columns (work .start)
-                (start-most minimum (slotsIn side after) (good-slots side after good-after) (work .start) some (work .start-qualifies)) (work .start-qualifies);
-            searched = work .search (ofSide side after) columns;
-          }
+      -- W3's number, in keys and in orders
+      pub taken-sums : 1 ≤ minimum → q .sums ≡ sumsBetween minimum e live (apply live e)
+      unfolding moving sumsBetween
+      taken-sums some =
+          let side = sideAt (r .s) in
+          let before = ofSide side live in
+          let after = ofSide side (apply live e) in
+          let own : slotsIn side (sentTo (r .refusal) live e) ≡ slotsIn side (apply live e) = ap (slotsIn side) after-is in
+          let keys : (l : List Order) → keysOf (map (slotOf side) l) ≡ keysIn side l = λ l. map-map (λ (x : Slot). x .key) (slotOf side) l in
+          let volumes : (l : List Order) → volumesOf (map (slotOf side) l) ≡ volumesIn l = λ l. map-map (λ (x : Slot). x .volume) (slotOf side) l in
+          let columns = slots-orders side (apply live e) good-after in
+          moved moving .sums
+          ∙ (λ i. sumsIn minimum (slotsIn side live) (own i) (t .key none i))
+          ∙ (λ i.
+          keySums (enough minimum (keysOf (slotsIn side (apply live e))) (volumesOf (slotsIn side (apply live e)))) 0
+          (candidateKeys minimum (keys before i) (volumes before i) (keys after i) (volumes after i) (changedKey side (changedBy e after))))
+          ∙ sym
+          (candidate-sums side minimum before after (changedBy e after) some (record { sided = columns .sided; prices = columns .prices })
+          (λ o m. kept-in (hasId (idOf e)) after m .0) (keysOf (slotsIn side (apply live e))) (volumesOf (slotsIn side (apply live e))) columns)
+          ∙ ap
+          (λ (s : Side).
+          sumsFor s minimum (ofSide s (apply live e)) (candidates s minimum (ofSide s live) (ofSide s (apply live e)) (changedBy e (ofSide s (apply live e)))))
+          (sym (t .side none))
 
       -- whether the quote is kept after it: by the keys, or as before where they stay
       pub taken-keeps : (row : Row) (spread : SpreadRule) (widest keeping keeps : ℕ) → minimum ≡ row .minimum .0 → WidestFor row spread widest
@@ -162,7 +158,7 @@ module _ (e : Event) (minimum : ℕ) (live : List Order) (good : GoodOrders live
         where
           exit-is : putBack (r .s) mid half ≡ tableOf (row .minimum .0) (apply live e)
           exit-is =
-              sent-is side half q moved ∙ ap (tableOf minimum) after-is ∙ ap (λ (n : ℕ). tableOf n (apply live e)) least
+              sent-is half q moved ∙ ap (tableOf minimum) after-is ∙ ap (λ (n : ℕ). tableOf n (apply live e)) least
 
           go : (b : Bool) → q .moves ≡ b → keeps ≡ (if b then keepsBy widest (putBack (r .s) mid half) else keeping)
               → keeps ≡ (if ordersKeep row spread (apply live e) then 1 else 0)
@@ -202,7 +198,7 @@ refused-stays (suc n) live e h = refl
 
 pub refused-sends : (o : Outcome Event) (minimum widest keeping : ℕ) (entry mid : List ℕ) (r : Answer) → Told o minimum entry mid r
     → (live : List Order) → GoodOrders live → entry ≡ tableOf minimum live → 0 < r .refusal
-    → SendsRead o minimum widest keeping entry mid (record { refusal = r .refusal; keeps = keeping; guesses = 0; sums = 0 })
+    → SendsRead o minimum widest keeping entry mid (record { refusal = r .refusal; keeps = keeping; sums = 0 })
 refused-sends (accepted e) minimum widest keeping entry mid r told live good is h =
     record {
       sends =
@@ -212,31 +208,31 @@ refused-sends (accepted e) minimum widest keeping entry mid r told live good is 
           };
       keeps = λ row spread live good after is least law was.
           was ∙ ap (λ (l : List Order). if ordersKeep row spread l then 1 else 0) (sym (refused-stays (r .refusal) live e h));
-      work = λ live good after is none. absurd (omega (arith, none, h));
-      none = λ l. (refl, refl);
+      sums = λ live good after is none. absurd (omega (arith, none, h));
+      none = λ l. refl;
     }
 refused-sends (refused n) minimum widest keeping entry mid r told live good is h =
     let t = told live good is in
-    ((λ i. record { refusal = t .0 i .refusal; keeps = keeping; guesses = 0; sums = 0 }), t .1)
+    ((λ i. record { refusal = t .0 i .refusal; keeps = keeping; sums = 0 }), t .1)
 
 pub taken-sends : (o : Outcome Event) (minimum widest keeping : ℕ) (entry mid : List ℕ) (r : Answer) → Told o minimum entry mid r
     → ((n : ℕ) → o ≡ refused n → n ≡ 15) → (live : List Order) → GoodOrders live → entry ≡ tableOf minimum live → r .refusal ≡ 0 → 1 ≤ minimum
-    → (side : Side) → side ≡ sideAt (r .s) → (half : List ℕ) (q : Requoted)
-    → ((m : StaleLevel (lent (r .s) mid) (r .change) minimum) → Requotes side minimum (m .before) (m .after) half q)
+    → (half : List ℕ) (q : Requoted)
+    → ((m : StaleLevel (lent (r .s) mid) (r .change) minimum) → Requotes minimum (m .before) (m .after) (r .change) half q)
     → (keeps : ℕ) → keeps ≡ (if q .moves then keepsBy widest (putBack (r .s) mid half) else keeping)
-    → SendsRead o minimum widest keeping entry (putBack (r .s) mid half) (record { refusal = 0; keeps = keeps; guesses = q .guesses; sums = q .sums })
-taken-sends (accepted e) minimum widest keeping entry mid r told fifteen live good is none some side is-side half q moved keeps k =
+    → SendsRead o minimum widest keeping entry (putBack (r .s) mid half) (record { refusal = 0; keeps = keeps; sums = q .sums })
+taken-sends (accepted e) minimum widest keeping entry mid r told fifteen live good is none some half q moved keeps k =
     record {
       sends =
           record {
             refusal = λ live good is. sym none ∙ told live good is .refusal;
             table = λ live good is.
-                sent-is e minimum live good mid r (told live good is) side half q moved ∙ ap (λ (n : ℕ). tableOf minimum (sentTo n live e)) none;
+                sent-is e minimum live good mid r (told live good is) half q moved ∙ ap (λ (n : ℕ). tableOf minimum (sentTo n live e)) none;
           };
       keeps = λ row spread live good after is least law was.
-          taken-keeps e minimum live good mid r (told live good is) side is-side half q moved none after row spread widest keeping keeps least law was k;
-      work = λ live good after is zero. taken-work e minimum live good mid r (told live good is) side is-side half q moved none after some;
+          taken-keeps e minimum live good mid r (told live good is) half q moved none after row spread widest keeping keeps least law was k;
+      sums = λ live good after is zero. taken-sums e minimum live good mid r (told live good is) half q moved none after some;
       none = λ h. absurd (omega (arith, h));
     }
-taken-sends (refused n) minimum widest keeping entry mid r told fifteen live good is none some side is-side half q moved keeps k =
+taken-sends (refused n) minimum widest keeping entry mid r told fifteen live good is none some half q moved keeps k =
     absurd (not-refused n r (told live good is .0) (fifteen n refl) none)

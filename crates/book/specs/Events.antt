@@ -1,27 +1,41 @@
 -- What an event does to the live orders, and to the table that stands for them.
 use Prim.Native.Nat.{ℕ, zero, suc}
 use mathlib.Core.Path.{_≡_}
-use mathlib.Core.List.{List, List·Memᴰ}
-use mathlib.Core.Bool.{true}
+use mathlib.Core.List.{List, [], _∷_}
 use Rattle.rules.specs.declared.Side.{Side}
+use Rattle.rules.specs.declared.Side.the-variants.{Buy}
 use Rattle.rules.specs.declared.Order.{Order}
 use Rattle.rules.specs.declared.Event.{Event}
 use Rattle.rules.specs.declared.Event.the-variants.{Add, Amend, Cancel, Deal, Tick}
+use Rattle.rules.specs.Lists.{if_then_else_, filter}
 use Rattle.rules.specs.Orders.{hasId, apply}
 use Rattle.rules.specs.Causes.{firstNumber, traderCauses}
 use Rattle.table.specs.Table.{tableOf, GoodOrders}
 
--- the side of the order that an event names: an add's own, else that of the live order with the id. A tick names none, and the table is
--- not asked
-abbrev pub Named : Side → List Order → ℕ → Type 0
-Named side live id = (o : Order) × List·Memᴰ o live × (hasId id o ≡ true) × (o .side ≡ side)
+-- the id of the order that an event adds or names; a tick names none, and the table is not asked
+abbrev pub idOf : Event → ℕ
+idOf (Add t id side price volume) = id
+idOf (Amend t id price volume) = id
+idOf (Cancel t id) = id
+idOf (Deal t id volume) = id
+idOf (Tick t) = 0
 
-abbrev pub OfSide : Side → List Order → Event → Type 0
-OfSide side live (Add t id own price volume) = own ≡ side
-OfSide side live (Amend t id price volume) = Named side live id
-OfSide side live (Cancel t id) = Named side live id
-OfSide side live (Deal t id volume) = Named side live id
-OfSide side live (Tick t) = ⊥
+-- the side of the order with an id; where there is none, an event that names it is refused
+unfoldable pub sideWith : ℕ → List Order → Side
+sideWith id [] = Buy
+sideWith id (o ∷ os) = let rest = sideWith id os in if hasId id o then o .side else rest
+
+-- the side of an event: an add's own, else that of the live order that it names
+abbrev pub sideFor : List Order → Event → Side
+sideFor live (Add t id side price volume) = side
+sideFor live (Amend t id price volume) = sideWith id live
+sideFor live (Cancel t id) = sideWith id live
+sideFor live (Deal t id volume) = sideWith id live
+sideFor live (Tick t) = Buy
+
+-- of the orders after an event, the one that it added or changed; none where it removed one
+abbrev pub changedBy : Event → List Order → List Order
+changedBy e after = filter (hasId (idOf e)) after
 
 -- the live orders after an event that the number refuses, or none where it is 0
 abbrev pub sentTo : ℕ → List Order → Event → List Order

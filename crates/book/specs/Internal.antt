@@ -12,6 +12,7 @@ use Rattle.rules.specs.declared.Contracts.{Contracts}
 use Rattle.rules.specs.declared.Order.{Order}
 use Rattle.rules.specs.declared.Event.{Event}
 use Rattle.rules.specs.declared.Event.the-variants.{Add}
+use Rattle.rules.specs.Orders.{apply}
 use Rattle.rules.specs.Causes.{firstNumber, traderCauses}
 use Rattle.rules.specs.Lists.{if_then_else_, within}
 use Rattle.rules.specs.Answers.{Outcome, accepted, refused}
@@ -20,10 +21,11 @@ use Rattle.prices.specs.Widest.{keysKeep}
 use Rattle.side.specs.Slots.{sideOf, keptIn, GoodSlots}
 use Rattle.side.specs.declared.Change.{Change}
 use Rattle.side.specs.Internal.{change, Changed, Grows}
-use Rattle.table.specs.Table.{slotsIn, sideIn}
+use Rattle.level.specs.CandidateKeys.{changedKey}
+use Rattle.table.specs.Table.{ofSide, slotsIn, sideIn}
 use Rattle.table.specs.Internal.{sideAt, other, joined}
 use Rattle.book.specs.declared.Answer.{Answer}
-use Rattle.book.specs.Events.{OfSide, sentTo}
+use Rattle.book.specs.Events.{sideFor, changedBy, sentTo}
 
 -- ---- orders
 
@@ -66,7 +68,8 @@ noChange = change 0 0 0 0
 pub record Applied (e : Event) (minimum : ℕ) (live : List Order) (exit : List ℕ) (r : Answer) : Type 0 where
   pub number : r .s < 2
   pub refusal : r .refusal ≡ firstNumber (traderCauses live e)
-  pub side : r .refusal ≡ 0 → OfSide (sideAt (r .s)) live e
+  pub side : r .refusal ≡ 0 → sideFor live e ≡ sideAt (r .s)
+  pub key : r .refusal ≡ 0 → r .change .key ≡ changedKey (sideAt (r .s)) (changedBy e (ofSide (sideAt (r .s)) (apply live e)))
   pub table : exit ≡ appliedTo (r .s) minimum live (sentTo (r .refusal) live e)
   pub others : slotsIn (other (sideAt (r .s))) (sentTo (r .refusal) live e) ≡ slotsIn (other (sideAt (r .s))) live
   pub good : GoodSlots (slotsIn (sideAt (r .s)) (sentTo (r .refusal) live e))

@@ -260,11 +260,10 @@ fn changed(table: &mut [u32], hints: &mut [u8], f: Fields) -> Answer
 }
 
 // What an event comes to: the number of the trader's refusal, or 0; whether the live orders then keep the quote, 1 or 0; for how many
-// prices volumes were added up before a search, and for how many orders in it.
+// orders volumes were added up for the best quote of its side.
 pub struct Sent {
     pub refusal: u32,
     pub keeps: u32,
-    pub guesses: u32,
     pub sums: u32,
 }
 
@@ -299,7 +298,6 @@ pub fn send(
         return Sent {
             refusal,
             keeps: keeping,
-            guesses: 0,
             sums: 0,
         };
     }
@@ -314,7 +312,6 @@ pub fn send(
     Sent {
         refusal: 0,
         keeps: keeps_after(table, widest, keeping, requoted.moves),
-        guesses: requoted.guesses,
         sums: requoted.sums,
     }
 }

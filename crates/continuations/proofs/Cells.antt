@@ -1,22 +1,25 @@
 -- Cells of milliseconds that are kept or not, whatever the reason: the best that may follow is that all is kept, and how many are needed.
 -- Assumes nothing.
-use Prim.Native.Nat.{ℕ, zero, suc, _+_, _*_, _≤_, _<_}
+use Prim.Native.Nat.{ℕ, zero, suc, _+_, _-_, _*_, _≤_, _<_}
+use native.Mathlib.Nat.{lt-irrefl, lt-of-lt-of-le, lt-of-not-le}
 use native.Mathlib.Omega.{arith}
 use mathlib.Core.Path.{_≡_, refl, sym, ap, _∙_}
-use mathlib.Core.Bool.{Bool, true, false, not, false≢true, _||_}
-use lib.Dec.{leb, ltb, eqb}
+use mathlib.Core.Bool.{Bool, true, false, not, false≢true, _&&_, _||_}
+use lib.Dec.{leb, eqb}
 use lib.ListN.{length}
-use borrow.Author.Tests.{leb-true, leb-false, le-leb, lt-ltb, le-ltb, ltb-true, ltb-false}
+use borrow.Author.Tests.{leb-true, leb-false, le-leb, lt-leb, lt-ltb, le-ltb}
 use Rattle.rules.specs.declared.Row.{Row}
 use Rattle.rules.specs.declared.Opening.{Opening}
+use Rattle.rules.specs.declared.LapsesLeft.the-variants.{Unlimited, Over, Left}
 use Rattle.rules.specs.Lists.{if_then_else_, count}
 use Rattle.rules.specs.Terms.{paper}
 use Rattle.rules.specs.Units.{millis, kopecks}
 use Rattle.rules.specs.Runs.{before}
 use Rattle.rules.specs.Lapses.{missing, lapses, begins, lapseStarts, noLapseLimit, withinLapseLimit}
 use Rattle.rules.specs.Pay.{met, cellMet}
-use Rattle.rules.specs.Outlook.{needOf, restingTill, cellOf}
-use Rattle.rules.proofs.Counting.{count-ext, count-more}
+use Rattle.rules.specs.Outlook.{needOf, restingTill, cellOf, lapsesLeft}
+use Rattle.continuations.specs.Continuations.{mayLapse}
+use Rattle.rules.proofs.Counting.{count-ext, count-more, count-stretch}
 use Rattle.rules.proofs.Stretches.{stretches-ext}
 use Rattle.rules.proofs.Lapses.{lapses-counted}
 use Rattle.rules.proofs.Lists.{both, and}
@@ -68,44 +71,53 @@ met-more : (a b length share : ℕ) → a ≤ b → met paper a length share ≡
 unfolding met
 met-more a b length share h m = let k = leb-true (share * length) (1000 * a) m in le-leb (share * length) (1000 * b) (omega arith)
 
-module _ (row : Row) (opening : Opening) (p q : ℕ → Bool) (t : ℕ) (same : (m : ℕ) → m < t → q m ≡ p m) where
-  -- what is kept then is kept if all from t on is
-  kept-then : (m : ℕ) → q m ≡ true → restingTill p t t m ≡ true
-  kept-then m h = go (ltb m t) refl
+-- q is as p below t and keeps nothing from t to s: it is no better than keeping all from s on
+module _ (row : Row) (opening : Opening) (p q : ℕ → Bool) (t s : ℕ) (onward : t ≤ s) (same : (m : ℕ) → m < t → q m ≡ p m)
+    (rests : (m : ℕ) → t ≤ m → m < s → q m ≡ false) where
+  agree : (m : ℕ) → m < s → q m ≡ restingTill p t s m
+  agree m l = go (leb t m) refl
     where
-      go : (b : Bool) → ltb m t ≡ b → (if b then p m else leb t m) ≡ true
-      go true e = sym (same m (ltb-true m t e)) ∙ h
-      go false e = le-leb t m (ltb-false m t e)
+      go : (b : Bool) → leb t m ≡ b → q m ≡ restingTill p t s m
+      go true e = let late = leb-true t m e in rests m late l ∙ sym (resting-from p t s m late ∙ lt-leb s m l)
+      go false e = let early = leb-false t m e in same m early ∙ sym (resting-below p t s m early)
+
+  kept-from : (m : ℕ) → s ≤ m → restingTill p t s m ≡ true
+  kept-from m l = resting-from p t s m (omega arith) ∙ le-leb s m l
+
+  -- what is kept then is kept if all from s on is
+  kept-then : (m : ℕ) → q m ≡ true → restingTill p t s m ≡ true
+  kept-then m h = go (leb s m) refl
+    where
+      go : (b : Bool) → leb s m ≡ b → restingTill p t s m ≡ true
+      go true e = kept-from m (leb-true s m e)
+      go false e = sym (agree m (leb-false s m e)) ∙ h
+
+  pub kept-more : (n : ℕ) → count q n ≤ count (restingTill p t s) n
+  kept-more n = count-more q (restingTill p t s) n (λ m l. kept-then m)
 
   -- a lapse that begins there, begins then too
-  begins-then : (m : ℕ) → lapseStarts (restingTill p t t) m ≡ true → lapseStarts q m ≡ true
-  begins-then m h = go (leb t m) refl
+  begins-then : (m : ℕ) → lapseStarts (restingTill p t s) m ≡ true → lapseStarts q m ≡ true
+  begins-then m h = go (leb s m) refl
     where
-      go : (b : Bool) → leb t m ≡ b → lapseStarts q m ≡ true
+      go : (b : Bool) → leb s m ≡ b → lapseStarts q m ≡ true
       go true e =
-          let late = leb-true t m e in
-          let kept : restingTill p t t m ≡ true = resting-from p t t m late ∙ e in
-          let first = both (missing (restingTill p t t) m) (begins (restingTill p t t) m) h .0 in
-          absurd (false≢true (sym (ap not kept) ∙ first))
+          let first = both (missing (restingTill p t s) m) (begins (restingTill p t s) m) h .0 in
+          absurd (false≢true (sym (ap not (kept-from m (leb-true s m e))) ∙ first))
       go false e =
-          let early = leb-false t m e in
-          let (a, b) = both (missing (restingTill p t t) m) (begins (restingTill p t t) m) h in
-          let here = same m early ∙ sym (resting-below p t t m early) in
-          let there = before-same (restingTill p t t) q t m (λ k l. same k l ∙ sym (resting-below p t t k l)) (omega arith) in
-          and (ap not here ∙ a) (ap (λ (x : Bool). eqb m 0 || x) there ∙ b)
+          let early = leb-false s m e in
+          let (a, b) = both (missing (restingTill p t s) m) (begins (restingTill p t s) m) h in
+          let there = before-same (restingTill p t s) q s m agree (omega arith) in
+          and (ap not (agree m early) ∙ a) (ap (λ (x : Bool). eqb m 0 || x) there ∙ b)
 
-  pub best-is-keeping : cellMet paper (cellOf row opening q) ≡ true → cellMet paper (cellOf row opening (restingTill p t t)) ≡ true
+  pub best-is-keeping : cellMet paper (cellOf row opening q) ≡ true → cellMet paper (cellOf row opening (restingTill p t s)) ≡ true
   best-is-keeping h =
       let n = row .length .0 in
       let (share, few) = both (met paper (count q n) n (row .share)) (withinLapseLimit (opening .allowed) (length (lapses q n))) h in
-      let more = count-more q (restingTill p t t) n (λ m l. kept-then m) in
-      let starts = count-more (lapseStarts (restingTill p t t)) (lapseStarts q) n (λ m l. begins-then m) in
-      let a = lapses-counted (restingTill p t t) n in
+      let starts = count-more (lapseStarts (restingTill p t s)) (lapseStarts q) n (λ m l. begins-then m) in
+      let a = lapses-counted (restingTill p t s) n in
       let b = lapses-counted q n in
-      and (met-more (count q n) (count (restingTill p t t) n) n (row .share) more share)
-      (within-fewer (opening .allowed) (length (lapses (restingTill p t t) n)) (length (lapses q n)) (omega arith) few)
-
--- ---- how many are needed
+      and (met-more (count q n) (count (restingTill p t s) n) n (row .share) (kept-more n) share)
+      (within-fewer (opening .allowed) (length (lapses (restingTill p t s) n)) (length (lapses q n)) (omega arith) few)
 
 -- the milliseconds from t on, counted apart
 pub count-from : (q : ℕ → Bool) (t d : ℕ) → count q (t + d) ≡ count q t + count (λ (i : ℕ). q (t + i)) d
@@ -115,6 +127,57 @@ count-from q t (suc d) =
     let e : t + suc d ≡ suc (t + d) = omega arith in
     let ih = count-from q t d in
     ap (count q) e ∙ omega (arith, ih)
+
+-- all of them, where each passes
+pub count-all : (q : ℕ → Bool) (n : ℕ) → ((m : ℕ) → m < n → q m ≡ true) → count q n ≡ n
+unfolding count
+count-all q zero h = refl
+count-all q (suc n) h = rw (h n (omega arith)) (let ih = count-all q n (λ m l. h m (omega arith)) in omega arith)
+
+-- tests of numbers that follow from each other
+same-test : (a b c d : ℕ) → (a ≤ b → c ≤ d) → (c ≤ d → a ≤ b) → leb a b ≡ leb c d
+same-test a b c d f g = go (leb c d) refl
+  where
+    go : (x : Bool) → leb c d ≡ x → leb a b ≡ x
+    go true e = le-leb a b (g (leb-true c d e))
+    go false e = lt-leb a b (lt-of-not-le (λ l. absurd (lt-irrefl d (lt-of-lt-of-le (leb-false c d e) (f l)))))
+
+-- ---- lapses begun by t
+
+module _ (p q : ℕ → Bool) (t : ℕ) (same : (m : ℕ) → m < t → q m ≡ p m) where
+  starts-same : count (lapseStarts q) t ≡ count (lapseStarts p) t
+  starts-same =
+      count-ext (lapseStarts q) (lapseStarts p) t
+      (λ m l i. not (same m l i) && (eqb m 0 || before-same p q t m same (omega arith) i))
+
+  -- they stay, and those that begin later are added
+  pub lapses-added : (d : ℕ) → length (lapses q (t + d)) ≡ length (lapses p t) + count (λ (i : ℕ). lapseStarts q (t + i)) d
+  lapses-added d =
+      lapses-counted q (t + d)
+      ∙ count-from (lapseStarts q) t d
+      ∙ ap (λ (n : ℕ). n + count (λ (i : ℕ). lapseStarts q (t + i)) d) (starts-same ∙ sym (lapses-counted p t))
+
+  -- and are all, where everything from t on is kept
+  pub lapses-kept : (d : ℕ) → ((m : ℕ) → t ≤ m → m < t + d → q m ≡ true) → length (lapses q (t + d)) ≡ length (lapses p t)
+  lapses-kept d h =
+      lapses-counted q (t + d)
+      ∙ count-stretch (lapseStarts q) t d false (λ m l u. ap (λ (b : Bool). not b && begins q m) (h m l u))
+      ∙ (let e : count (lapseStarts q) t + 0 ≡ count (lapseStarts q) t = omega arith in e)
+      ∙ starts-same
+      ∙ sym (lapses-counted p t)
+
+-- how many more may begin
+pub may-lapse : (allowed so-far more : ℕ) → withinLapseLimit allowed (so-far + more) ≡ mayLapse (lapsesLeft allowed so-far) more
+unfolding withinLapseLimit
+may-lapse allowed so-far more = go (eqb allowed noLapseLimit) (leb so-far allowed) refl
+  where
+    go : (none few : Bool) → leb so-far allowed ≡ few
+        → (none || leb (so-far + more) allowed) ≡ mayLapse (if none then Unlimited else (if few then Left (allowed - so-far) else Over)) more
+    go true few e = refl
+    go false false e = let over = leb-false so-far allowed e in lt-leb (so-far + more) allowed (omega arith)
+    go false true e = let fits = leb-true so-far allowed e in same-test (so-far + more) allowed more (allowed - so-far) (λ l. omega arith) (λ l. omega arith)
+
+-- ---- how many are needed
 
 -- enough is what rounding up says
 pub enough-met : (kept more length share : ℕ) → needOf paper kept length share ≤ more → met paper (kept + more) length share ≡ true

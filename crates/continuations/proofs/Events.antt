@@ -27,14 +27,14 @@ use Rattle.rules.specs.Strikes.{squareOf, halfBelow, strikeWithin}
 use Rattle.rules.specs.Kept.{gap, spreadWithin, spreadKeeps, bestBid, bestAsk, quotesKeep, ordersKeep, keptAt}
 use Rattle.rules.specs.Bounds.{Distinct, EventBounds}
 use Rattle.rules.specs.Outlook.{canKeep}
-use Rattle.rules.proofs.Kept.{keptAt-snoc}
+use Rattle.rules.proofs.Kept.{keptAt-now, keptAt-snoc}
 use Rattle.rules.proofs.Orders.{live-snoc, present-snoc}
 use Rattle.rules.proofs.Lists.{and}
 use Rattle.rules.proofs.Members.{filter-all, none-any, or-second}
 use Rattle.rules.proofs.Refusals.{EventPasses, InTurn, passes-event}
 use Rattle.rules.proofs.Bounds.{event-bounds-more}
 use Rattle.strike.proofs.Squares.{square-le}
-use Rattle.continuations.specs.Continuations.{cancelAll, quoteAgain}
+use Rattle.continuations.specs.Continuations.{cancelAll, backAt}
 
 -- ---- events in turn
 
@@ -123,10 +123,12 @@ pair-keeps row spread =
     ap (λ (q : Quote). quotesKeep row spread q (bestAsk row (buyAgain row ∷ sellAgain row ∷ []))) (bid-again row)
     ∙ ap (quotesKeep row spread (At (steps (pos 0)))) (ask-again row)
 
-pub record QuotedAgain (row : Row) (spread : SpreadRule) (events more : List Event) : Type 0 where
+-- nothing kept from the present to s, and from s on what the pair keeps
+pub record Back (row : Row) (spread : SpreadRule) (events more : List Event) (s : ℕ) : Type 0 where
   pub passes : InTurn row events more
+  pub silent : (m : ℕ) → present events ≤ m → m < s → keptAt row spread (events ++ more) m ≡ false
   pub keeps : ordersKeep row spread (live (events ++ more)) ≡ canKeep row spread
-  pub time : present (events ++ more) ≡ present events
+  pub time : present (events ++ more) ≡ s
 
 -- events that pass in turn, then more that do
 turn-append : (row : Row) (events first second : List Event) → InTurn row events first → InTurn row (events ++ first) second
@@ -137,34 +139,41 @@ turn-append row events (e ∷ es) second p q = (
   turn-append row (events ++ (e ∷ [])) es second (p .1) (subst (λ (l : List Event). InTurn row l second) (sym (append-assoc events (e ∷ []) es)) q),
 )
 
-pub quoted-again : (row : Row) (spread : SpreadRule) (events : List Event) → EventBounds row events → 1 ≤ row .minimum .0 → row .minimum .0 ≤ 100000
-    → QuotedAgain row spread events (quoteAgain row events)
+pub back-at : (row : Row) (spread : SpreadRule) (events : List Event) → EventBounds row events → 1 ≤ row .minimum .0 → row .minimum .0 ≤ 100000
+    → (s : ℕ) → present events ≤ s → s ≤ row .length .0 → Back row spread events (backAt row events s) s
 unfolding apply isLive any goodPrice goodVolume
-quoted-again row spread events g least most =
-    let t = present events in
+back-at row spread events g least most s late inside =
     let c = all-cancelled row events g in
     let es = events ++ cancelAll events in
-    let buy = Add (millis t) 1 Buy (steps (pos 0)) (row .minimum) in
-    let sell = Add (millis t) 2 Sell (steps (pos 1)) (row .minimum) in
+    let buy = Add (millis s) 1 Buy (steps (pos 0)) (row .minimum) in
+    let sell = Add (millis s) 2 Sell (steps (pos 1)) (row .minimum) in
     let volume : goodVolume (row .minimum .0) ≡ true = and (le-leb 1 (row .minimum .0) least) (le-leb (row .minimum .0) 1000000 (omega arith)) in
     let none = c .none in
     let one = live-snoc es buy ∙ ap (λ (xs : List Order). apply xs buy) none in
     let two = live-snoc (es ++ (buy ∷ [])) sell ∙ ap (λ (xs : List Order). apply xs sell) one in
     let first : EventPasses row es buy =
     record {
-      onward = omega (arith, c .time);
-      inside = g .ends;
+      onward = omega (arith, c .time, late);
+      inside = inside;
       trader = record { fresh = ap (isLive 1) none; price-good = refl; volume-good = volume; room = omega (arith, ap length none) };
     } in
     let second : EventPasses row (es ++ (buy ∷ [])) sell =
     record {
       onward = omega (arith, present-snoc es buy);
-      inside = g .ends;
+      inside = inside;
       trader = record { fresh = ap (isLive 2) one; price-good = refl; volume-good = volume; room = omega (arith, ap length one) };
     } in
     let whole = sym (append-assoc events (cancelAll events) (buy ∷ sell ∷ [])) ∙ sym (append-assoc es (buy ∷ []) (sell ∷ [])) in
+    let ordered = turn-bounds row events (cancelAll events) g (c .passes) .ordered in
     record {
       passes = turn-append row events (cancelAll events) (buy ∷ sell ∷ []) (c .passes) (first, (second, tt));
+      silent = λ m l u.
+          ap (λ (list : List Event). keptAt row spread list m) whole
+          ∙ keptAt-snoc row spread (es ++ (buy ∷ [])) sell m u
+          ∙ keptAt-snoc row spread es buy m u
+          ∙ keptAt-now row spread es ordered m (omega (arith, c .time, l))
+          ∙ ap (ordersKeep row spread) none
+          ∙ none-keep row spread;
       keeps = ap (λ (l : List Event). ordersKeep row spread (live l)) whole ∙ ap (ordersKeep row spread) two ∙ pair-keeps row spread;
       time = ap present whole ∙ present-snoc (es ++ (buy ∷ [])) sell;
     }

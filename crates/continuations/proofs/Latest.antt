@@ -41,28 +41,34 @@ latest-at p t (suc n) s l u e h =
         let last : s < t + suc n = omega (arith, other) in
         rw (h (t + suc n) last (omega arith)) (ih (omega arith))
 
--- what is found passes, and where nothing is found none does
+-- what is found passes and none after it does, and where nothing is found none does
 abbrev pub Found : (ℕ → Bool) → ℕ → ℕ → Possible → Type 0
 Found p t n Never = (s : ℕ) → t ≤ s → s ≤ t + n → p s ≡ false
-Found p t n (At s) = (t ≤ s .0) × (s .0 ≤ t + n) × (p (s .0) ≡ true)
+Found p t n (At s) = (t ≤ s .0) × (s .0 ≤ t + n) × (p (s .0) ≡ true) × ((m : ℕ) → s .0 < m → m ≤ t + n → p m ≡ false)
 
-found-more : (p : ℕ → Bool) (t n : ℕ) (o : Possible) → Found p t n o → p (t + suc n) ≡ false → Found p t (suc n) o
-found-more p t n Never h e = λ s l u. go s l u (eqb s (t + suc n)) refl
+-- the next does not pass either
+one-later : (p : ℕ → Bool) (n s : ℕ) → p (suc n) ≡ false → s ≤ suc n → (s ≤ n → p s ≡ false) → p s ≡ false
+one-later p n s e u h = go (eqb s (suc n)) refl
   where
-    go : (s : ℕ) → t ≤ s → s ≤ t + suc n → (b : Bool) → eqb s (t + suc n) ≡ b → p s ≡ false
-    go s l u true f = ap p (eqb-true s (t + suc n) f) ∙ e
-    go s l u false f =
-        let other : (s ≡ t + suc n → ⊥) = eqb-false s (t + suc n) f in
-        h s l (omega (arith, other))
-found-more p t n (At s) h e = (h .0, omega (arith, h .1), h .2)
+    go : (b : Bool) → eqb s (suc n) ≡ b → p s ≡ false
+    go true f = ap p (eqb-true s (suc n) f) ∙ e
+    go false f =
+        let other : (s ≡ suc n → ⊥) = eqb-false s (suc n) f in
+        h (omega (arith, other))
+
+found-more : (p : ℕ → Bool) (t n : ℕ) (o : Possible) → Found p t n o → p (suc (t + n)) ≡ false → Found p t (suc n) o
+found-more p t n Never h e = λ s l u. one-later p (t + n) s e (omega (arith, u)) (λ k. h s l k)
+found-more p t n (At s) h e = (h .0, omega (arith, h .1), h .2, λ m l u. one-later p (t + n) m e (omega (arith, u)) (λ k. h .3 m l k))
 
 found-last : (p : ℕ → Bool) (t n : ℕ) (b : Bool) → p (t + suc n) ≡ b → Found p t n (latest p t n)
     → Found p t (suc n) (if b then At (millis (t + suc n)) else latest p t n)
-found-last p t n true e h = (omega arith, omega arith, e)
-found-last p t n false e h = found-more p t n (latest p t n) h e
+found-last p t n true e h = (omega arith, omega arith, e, λ m l u. absurd (omega (arith, l, u)))
+found-last p t n false e h =
+    let next : t + suc n ≡ suc (t + n) = omega arith in
+    found-more p t n (latest p t n) h (ap p (sym next) ∙ e)
 
 found-first : (p : ℕ → Bool) (t : ℕ) (b : Bool) → p t ≡ b → Found p t zero (if b then At (millis t) else Never)
-found-first p t true e = (omega arith, omega arith, e)
+found-first p t true e = (omega arith, omega arith, e, λ m l u. absurd (omega (arith, l, u)))
 found-first p t false e = λ s l u.
     let same : s ≡ t = omega arith in
     ap p same ∙ e

@@ -3,12 +3,12 @@
 ghost use mathlib.Core.Path.{_≡_};
 ghost use mathlib.Core.Bool.{true};
 ghost use mathlib.Core.List.{List, [], _∷_};
-ghost use Prim.Native.Nat.{_+_, _*_, _≤_};
+ghost use Prim.Native.Nat.{ℕ, _+_, _*_, _≤_, _<_};
 ghost use lib.ListN.{length, getD};
 ghost use Rattle.rules.specs.declared.Event.{Event};
 ghost use Rattle.rules.specs.declared.Cell.{Cell};
 ghost use Rattle.rules.specs.Cells.{goodCell, placeOf, cellAt};
-ghost use Rattle.rules.specs.Answers.{shownLooked, shownAsked};
+ghost use Rattle.rules.specs.Answers.{refused, shownLooked, shownAsked};
 ghost use Rattle.rules.specs.Calls.{Look, Ask, amendOf};
 ghost use Rattle.rules.specs.Changes.{following};
 ghost use Rattle.lent.specs.Words.{low, high, cellsWords};
@@ -55,10 +55,10 @@ fn count_on(words: &mut [u32])
     words[1] = lent::high(count);
 }
 
-// An event, by its fields, on the words of a month: the refusal's number, or 0.
+// An event, by its fields, on the words of a month: the refusal's number, or 0. A refusal leaves the hints.
 pub fn send(words: &mut [u32], hints: &mut [u8], f: Fields) -> u32
     requires { ⌜ HoldsMonth (now words) × (2464 ≤ length (now words)) × (length (now hints) ≡ 2048) × SaysEvent f ⌝ }
-    ensures { λ r. ⌜ ((e : Event) → f ≡ fieldsFor e → Sends (now (words .entry)) e (now (words .exit)) r) ⌝ }
+    ensures { λ r. ⌜ ((e : Event) → f ≡ fieldsFor e → Sends (now (words .entry)) e (now (words .exit)) r) × (0 < r → now (hints .exit) ≡ now (hints .entry)) ⌝ }
 {
     if words[0] == 0 {
         return 7;
@@ -137,10 +137,11 @@ fn preview(words: &[u32], a: Amendment, count: u64) -> Preview
     }
 }
 
-// An ask: the amendment is tried on a copy of the quantum's words. The month's words are as they were.
+// An ask: the amendment is tried on a copy of the quantum's words. The month's words are as they were, and where it is refused the hints
+// too.
 pub fn ask(words: &[u32], hints: &mut [u8], a: Amendment) -> Asked
     requires { ⌜ HoldsMonth (now words) × (2464 ≤ length (now words)) × (length (now hints) ≡ 2048) ⌝ }
-    ensures { λ r. ⌜ Shows (now (words .entry)) (Ask a) (shownAsked r) ⌝ }
+    ensures { λ r. ⌜ Shows (now (words .entry)) (Ask a) (shownAsked r) × ((n : ℕ) → shownAsked r ≡ refused n → now (hints .exit) ≡ now (hints .entry)) ⌝ }
 {
     if words[0] == 0 {
         return Asked::Refused(Refusal::NoQuantumOpen);

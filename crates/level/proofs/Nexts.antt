@@ -1,12 +1,11 @@
--- The keys next to one: no order stands between it and the next, so that what stands before one stands at the other or before it.
--- Assumes nothing.
+-- The keys next to one: there is no order between it and the next, so that what is before one is at the other or before it.
 use Prim.Native.Nat.{ℕ, suc, _+_, _-_, _≤_, _<_, min, max}
 use native.Mathlib.Omega.{arith}
 use native.Mathlib.Numerals.{add-one}
 use mathlib.Core.Path.{_≡_, refl, sym, ap, _∙_}
 use mathlib.Core.List.{List, [], _∷_, _++_, List·Memᴰ, List·Memᴰ·head, List·Memᴰ·tail}
 use mathlib.Core.Bool.{Bool, true, false, _||_, true≢false}
-use borrow.Author.Tests.{ltb-true, ltb-false, leb-true, leb-false, eqb-false, lt-ltb, le-leb}
+use borrow.Author.Tests.{ltb-true, ltb-false, leb-true, leb-false, eqb-false, lt-ltb, le-leb, lt-leb}
 use lib.Dec.{leb, ltb, eqb}
 use lib.IntN.{pos}
 use lib.Signed.{ltZ}
@@ -19,7 +18,8 @@ use Rattle.rules.proofs.Lists.{filter-append, filter-one, kept-in, in-kept}
 use Rattle.quote.specs.declared.Level.{Level}
 use Rattle.quote.specs.Levels.{held, greatest, levelAt, isBest, Searchable}
 use Rattle.quote.proofs.Levels.{held-le-in, held-some, held-none, level-split, greatest-append, greatest-over, greatest-under}
-use Rattle.level.specs.Internal.{least, keyAbove, keyBelow, Steps}
+use Rattle.level.specs.Candidates.{least, keyAbove, keyBelow, nextKey}
+use Rattle.level.specs.Internal.{nextLevel, Open}
 
 -- ---- keys compared with a sign
 
@@ -82,12 +82,12 @@ module _ (key : ℕ) (ks : List ℕ) (i n : ℕ) (more : i < length ks) where
 
 -- ---- nothing between
 
-least-under : {k : ℕ} {ks : List ℕ} → List·Memᴰ k ks → least ks ≤ k
+pub least-under : {k : ℕ} {ks : List ℕ} → List·Memᴰ k ks → least ks ≤ k
 unfolding least
 least-under {k} (List·Memᴰ·head {x = x} {xs = xs} e) = omega (arith, e)
 least-under {k} (List·Memᴰ·tail {x = x} {xs = xs} m) = omega (arith, least-under m)
 
-least-over : (b : ℕ) (ks : List ℕ) → b ≤ 2000000001 → ((k : ℕ) → List·Memᴰ k ks → b ≤ k) → b ≤ least ks
+pub least-over : (b : ℕ) (ks : List ℕ) → b ≤ 2000000001 → ((k : ℕ) → List·Memᴰ k ks → b ≤ k) → b ≤ least ks
 unfolding least
 least-over b [] most h = most
 least-over b (k ∷ ks) most h = omega (arith, h k (List·Memᴰ·head refl), least-over b ks most (λ x m. h x (List·Memᴰ·tail m)))
@@ -154,6 +154,21 @@ not-best l minimum h few = go (eqb (l .key) 0) (leb minimum (l .before + l .at))
     go false true e f g = absurd (true≢false g)
     go false false e f g = (omega (arith, eqb-false (l .key) 0 e), leb-false minimum (l .before + l .at) f)
 
+-- a choice by whether enough are before
+pub where-enough : {A : Type 0} (minimum n : ℕ) (x y : A) → minimum ≤ n → (if leb minimum n then x else y) ≡ x
+where-enough minimum n x y h = ap (λ (b : Bool). if b then x else y) (le-leb minimum n h)
+
+pub where-short : {A : Type 0} (minimum n : ℕ) (x y : A) → n < minimum → (if leb minimum n then x else y) ≡ y
+where-short minimum n x y h = ap (λ (b : Bool). if b then x else y) (lt-leb minimum n h)
+
+-- a level next to another: with enough before the other, the key is above it, and what was before it is at the new one or before it; else
+-- the key is below it, and what was at it or before it is before the new one
+pub record Steps (minimum : ℕ) (ks vs : List ℕ) (l r : Level) : Type 0 where
+  pub is : r ≡ levelAt ks vs (r .key)
+  pub most : r .key ≤ 2000000001
+  pub up : minimum ≤ l .before → (l .key < r .key) × (r .before + r .at ≡ l .before)
+  pub down : l .before < minimum → r .before ≡ l .before + l .at
+
 module _ (minimum : ℕ) (ks vs : List ℕ) (l : Level) (s : Searchable ks vs (l .key)) (is : l ≡ levelAt ks vs (l .key)) (some : 1 ≤ minimum) where
   before-held : l .before ≡ held (ltb (l .key)) ks vs
   unfolding levelAt
@@ -169,9 +184,13 @@ module _ (minimum : ℕ) (ks vs : List ℕ) (l : Level) (s : Searchable ks vs (l
         let (x, m, e, f) = held-some (λ y. false) (ltb (l .key)) ks vs (omega (arith, some, h, before-held, held-none ks vs)) in
         omega (arith, ltb-true (l .key) x e, member-most 2000000001 ks (s .keys) x m)
 
-    -- what stands before it stands at the key above it or better
+    -- what is before it is at the key above it or better
     above-depth : l .before ≡ held (ltb (keyAbove (l .key) ks)) ks vs + held (eqb (keyAbove (l .key) ks)) ks vs
     above-depth = before-held ∙ above-held ks vs (l .key) some-above ∙ level-split (keyAbove (l .key) ks) ks vs
+
+    next-above : nextKey minimum ks l ≡ keyAbove (l .key) ks
+    unfolding nextKey
+    next-above = where-enough minimum (l .before) (keyAbove (l .key) ks) (keyBelow (l .key) ks) h
 
     module _ (up there : ℕ) (u : up ≡ keyAbove (l .key) ks) (t : there ≡ held (eqb up) ks vs) where
       there-is : there ≡ held (eqb (keyAbove (l .key) ks)) ks vs
@@ -180,31 +199,62 @@ module _ (minimum : ℕ) (ks vs : List ℕ) (l : Level) (s : Searchable ks vs (l
       pub there-less : there ≤ l .before
       there-less = omega (arith, there-is, above-depth)
 
-      pub steps-up : Steps minimum ks vs l (record { key = up; before = l .before - there; at = there })
+      pub next-up : record { key = up; before = l .before - there; at = there } ≡ nextLevel minimum ks vs l
       unfolding levelAt
-      steps-up =
+      next-up =
           let b : l .before - there ≡ held (ltb up) ks vs =
           let same = ap (λ (k : ℕ). held (ltb k) ks vs) u in
           omega (arith, there-is, above-depth, same) in
-          record {
-            is = λ i. record { key = up; before = b i; at = t i };
-            most = omega (arith, u, above-most ks vs (l .key));
-            up = λ k. (omega (arith, u, above-over ks vs (l .key) some-above), omega (arith, there-less));
-            down = λ k. absurd (omega (arith, h, k));
-          }
+          (λ i. record { key = up; before = b i; at = t i }) ∙ ap (levelAt ks vs) (u ∙ sym next-above)
+
+    steps-up : Steps minimum ks vs l (nextLevel minimum ks vs l)
+    unfolding levelAt
+    steps-up =
+        let before : held (ltb (nextKey minimum ks l)) ks vs ≡ held (ltb (keyAbove (l .key) ks)) ks vs = ap (λ (k : ℕ). held (ltb k) ks vs) next-above in
+        let at : held (eqb (nextKey minimum ks l)) ks vs ≡ held (eqb (keyAbove (l .key) ks)) ks vs = ap (λ (k : ℕ). held (eqb k) ks vs) next-above in
+        record {
+          is = refl;
+          most = omega (arith, next-above, above-most ks vs (l .key));
+          up = λ k. (omega (arith, next-above, above-over ks vs (l .key) some-above), omega (arith, before, at, above-depth));
+          down = λ k. absurd (omega (arith, h, k));
+        }
 
   module _ (few : l .before < minimum) (not-yet : isBest l minimum ≡ false) where
+    next-below : nextKey minimum ks l ≡ keyBelow (l .key) ks
+    unfolding nextKey
+    next-below = where-short minimum (l .before) (keyAbove (l .key) ks) (keyBelow (l .key) ks) few
+
+    below-depth : l .before + l .at ≡ held (ltb (keyBelow (l .key) ks)) ks vs
+    below-depth =
+        omega (arith, before-held, at-held, level-split (l .key) ks vs, below-held ks vs (l .key) (not-best l minimum not-yet few .0))
+
     module _ (down there : ℕ) (d : down ≡ keyBelow (l .key) ks) (t : there ≡ held (eqb down) ks vs) where
-      pub steps-down : Steps minimum ks vs l (record { key = down; before = l .before + l .at; at = there })
+      pub next-down : record { key = down; before = l .before + l .at; at = there } ≡ nextLevel minimum ks vs l
       unfolding levelAt
-      steps-down =
-          let key = not-best l minimum not-yet few .0 in
+      next-down =
           let same = ap (λ (k : ℕ). held (ltb k) ks vs) d in
-          let b : l .before + l .at ≡ held (ltb down) ks vs =
-          omega (arith, before-held, at-held, level-split (l .key) ks vs, below-held ks vs (l .key) key, same) in
-          record {
-            is = λ i. record { key = down; before = b i; at = t i };
-            most = omega (arith, d, below-under ks vs (l .key) key, s .start-most);
-            up = λ k. absurd (omega (arith, few, k));
-            down = λ k. refl;
-          }
+          let b : l .before + l .at ≡ held (ltb down) ks vs = omega (arith, below-depth, same) in
+          (λ i. record { key = down; before = b i; at = t i }) ∙ ap (levelAt ks vs) (d ∙ sym next-below)
+
+    -- no order has the key of none
+    pub next-none : (down : ℕ) → down ≡ keyBelow (l .key) ks → down ≡ 0 → held (eqb 0) ks vs ≡ 0
+        → record { key = 0; before = l .before + l .at; at = 0 } ≡ nextLevel minimum ks vs l
+    next-none down d z none = next-down 0 0 (sym z ∙ d) (sym none)
+
+    steps-down : Steps minimum ks vs l (nextLevel minimum ks vs l)
+    unfolding levelAt
+    steps-down =
+        let before : held (ltb (nextKey minimum ks l)) ks vs ≡ held (ltb (keyBelow (l .key) ks)) ks vs = ap (λ (k : ℕ). held (ltb k) ks vs) next-below in
+        record {
+          is = refl;
+          most = omega (arith, next-below, below-under ks vs (l .key) (not-best l minimum not-yet few .0), s .start-most);
+          up = λ k. absurd (omega (arith, few, k));
+          down = λ k. omega (arith, before, below-depth);
+        }
+
+  pub steps-next : isBest l minimum ≡ false → Steps minimum ks vs l (nextLevel minimum ks vs l)
+  steps-next not-yet = go (leb minimum (l .before)) refl
+    where
+      go : (b : Bool) → leb minimum (l .before) ≡ b → Steps minimum ks vs l (nextLevel minimum ks vs l)
+      go true e = steps-up (leb-true minimum (l .before) e)
+      go false e = steps-down (leb-false minimum (l .before) e) not-yet

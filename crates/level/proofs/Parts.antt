@@ -1,30 +1,27 @@
--- The words of a side whose orders have changed: the level that stands in them, and the front of their columns of keys and volumes, from
--- the last order on. Assumes nothing.
+-- The words of a side whose orders have changed: the level in them, and the front of their columns of keys and volumes.
 use Prim.Native.Nat.{ℕ, zero, suc, _+_, _-_, _≤_}
 use native.Mathlib.Omega.{arith}
 use mathlib.Core.Path.{_≡_, refl, ap, _∙_}
-use mathlib.Core.List.{List, [], _∷_, _++_, map, append-assoc, List·Memᴰ, List·Memᴰ·head, List·Memᴰ·tail}
+use mathlib.Core.List.{List, [], _∷_, _++_, List·Memᴰ, List·Memᴰ·head, List·Memᴰ·tail}
 use mathlib.Core.Bool.{Bool, false}
 use lib.Dec.{leb, eqb}
 use borrow.Author.Tests.{ne-eqb}
-use lib.ListN.{length, getD, take, drop, replicate, length-append, length-map, length-replicate, replicate-append-replicate}
+use lib.ListN.{length, getD, take, drop, replicate, length-append, length-map, length-replicate}
 use Rattle.rules.specs.Lists.{if_then_else_, sum}
 use Rattle.rules.proofs.Lists.{sum-append}
 use Rattle.quote.specs.declared.Level.{Level}
-use Rattle.rules.specs.declared.Side.{Side}
-use Rattle.rules.specs.declared.Order.{Order}
-use Rattle.rules.specs.Quotes.{volumeOf}
-use Rattle.prices.specs.Keys.{keyIn}
-use Rattle.quote.specs.Searches.{ColumnsOf}
-use Rattle.quote.specs.Levels.{held, levelAt, levelOf, bestKey, Columns, Searchable}
+use Rattle.quote.specs.Levels.{held, enough, levelAt, levelOf, bestKey, Columns, Searchable}
+use Rattle.quote.specs.Sums.{keySums, downward}
 use Rattle.quote.proofs.Levels.{held-blanks, levelAt-blanks, levelOf-blanks, bestKey-blanks}
 use Rattle.side.specs.declared.Change.{Change}
 use Rattle.side.specs.Slots.{Slot, keysOf, volumesOf, heldIn, levelIn, bestIn, bestKeyIn, keptIn, GoodSlots}
 use Rattle.side.specs.Internal.{StaleLevel}
 use Rattle.side.proofs.Columns.{padded-at}
 use Rattle.side.proofs.Words.{kept-key, kept-large, words-length, count-is, key-is, before-is, at-is, keys-taken, volumes-taken}
+use Rattle.level.specs.CandidateKeys.{keysFrom}
 use Rattle.level.specs.Internal.{levelRead, IsLevel}
 use Rattle.level.proofs.Depths.{own-level, slots-columns}
+use Rattle.level.proofs.Blanks.{small-blanks, search-blanks, from-blanks}
 
 -- ---- the columns of the orders, with blanks behind them
 
@@ -56,9 +53,6 @@ module _ (slots : List Slot) (g : GoodSlots slots) (n : ℕ) where
         keys = λ i. omega (arith, padded-at (keysOf slots) n i, keys-most slots (g .key-most) i);
         start-most = s;
       }
-
-blanks-more : (xs : List ℕ) (a b : ℕ) → (xs ++ replicate a 0) ++ replicate b 0 ≡ xs ++ replicate (a + b) 0
-blanks-more xs a b = append-assoc xs (replicate a 0) (replicate b 0) ∙ ap (λ (l : List ℕ). xs ++ l) (replicate-append-replicate a b 0)
 
 zero-held : (slots : List Slot) → ((s : Slot) → List·Memᴰ s slots → 1 ≤ s .key) → heldIn (eqb 0) slots ≡ 0
 unfolding held
@@ -131,19 +125,6 @@ module _ (words : List ℕ) (c : Change) (minimum : ℕ) (m : StaleLevel words c
     pub part-none : held (eqb 0) (take n (drop 64 words)) (take k (drop 128 words)) ≡ 0
     part-none = part-held (eqb 0) ∙ zero-held (m .after) (m .good .key-least)
 
-    -- orders whose columns are those of the side have these, with more blanks
-    pub part-orders : (side : Side) (orders : List Order) → ColumnsOf side orders (keysOf (m .after)) (volumesOf (m .after))
-        → ColumnsOf side orders (take n (drop 64 words)) (take k (drop 128 words))
-    part-orders side orders c =
-        let more-blanks = to - length (m .after) in
-        record {
-          blanks = c .blanks + more-blanks;
-          keys = keys-part ∙ ap (λ (l : List ℕ). l ++ replicate more-blanks 0) (c .keys) ∙ blanks-more (map (keyIn side) orders) (c .blanks) more-blanks;
-          volumes = volumes-part ∙ ap (λ (l : List ℕ). l ++ replicate more-blanks 0) (c .volumes) ∙ blanks-more (map volumeOf orders) (c .blanks) more-blanks;
-          sided = c .sided;
-          prices = c .prices;
-        }
-
     pub part-level : (key : ℕ) → levelAt (take n (drop 64 words)) (take k (drop 128 words)) key ≡ levelIn (m .after) key
     part-level key =
         rw (keys-part, volumes-part) (levelAt-blanks (keysOf (m .after)) (volumesOf (m .after)) even (to - length (m .after)) key)
@@ -155,3 +136,20 @@ module _ (words : List ℕ) (c : Change) (minimum : ℕ) (m : StaleLevel words c
     pub part-best : levelOf minimum (take n (drop 64 words)) (take k (drop 128 words)) ≡ bestIn minimum (m .after)
     part-best =
         rw (keys-part, volumes-part) (levelOf-blanks (keysOf (m .after)) (volumesOf (m .after)) even (to - length (m .after)) minimum)
+
+    -- W3's number: of all orders sorted by price, of all orders, and of the candidates from an old level on
+    pub part-small : keySums (enough minimum (take n (drop 64 words)) (take k (drop 128 words))) 0 (downward (take n (drop 64 words)))
+        ≡ keySums (enough minimum (keysOf (m .after)) (volumesOf (m .after))) 0 (downward (keysOf (m .after)))
+    part-small =
+        rw (keys-part, volumes-part) (small-blanks (keysOf (m .after)) (volumesOf (m .after)) even (to - length (m .after)) minimum)
+
+    pub part-search : keySums (enough minimum (take n (drop 64 words)) (take k (drop 128 words))) 0 (take n (drop 64 words))
+        ≡ keySums (enough minimum (keysOf (m .after)) (volumesOf (m .after))) 0 (keysOf (m .after))
+    part-search =
+        rw (keys-part, volumes-part) (search-blanks (keysOf (m .after)) (volumesOf (m .after)) even (to - length (m .after)) minimum)
+
+    pub part-from : (key : ℕ) (old : Level)
+        → keySums (enough minimum (take n (drop 64 words)) (take k (drop 128 words))) 0 (keysFrom minimum (take n (drop 64 words)) (take k (drop 128 words)) key old)
+        ≡ keySums (enough minimum (keysOf (m .after)) (volumesOf (m .after))) 0 (keysFrom minimum (keysOf (m .after)) (volumesOf (m .after)) key old)
+    part-from key old =
+        rw (keys-part, volumes-part) (from-blanks (keysOf (m .after)) (volumesOf (m .after)) even (to - length (m .after)) minimum key old)

@@ -1,44 +1,78 @@
--- The words after a requote, and the sums made for it. Assumes nothing.
+-- The words after a requote, and W3's number of the sums made for it.
 use Prim.Native.Nat.{ℕ, _+_, _≤_}
 use native.Mathlib.Omega.{arith}
-use mathlib.Core.Path.{_≡_, refl, sym, ap, _∙_, subst}
-use mathlib.Core.Logic.{inl}
-use mathlib.Core.List.{List}
+use mathlib.Core.Path.{_≡_, refl, sym, ap, _∙_}
+use mathlib.Core.List.{List, [], _++_}
 use mathlib.Core.Bool.{Bool, true, false, true≢false}
-use borrow.Author.Tests.{lt-leb}
+use borrow.Author.Tests.{le-leb, lt-leb}
 use lib.Dec.{leb}
-use lib.ListN.{length, getD, take, drop}
-use Rattle.rules.specs.declared.Side.{Side}
-use Rattle.rules.specs.declared.Order.{Order}
-use Rattle.rules.specs.Search.{sumsOf}
-use Rattle.prices.specs.Keys.{quoteAt}
-use Rattle.quote.specs.Searches.{ColumnsOf}
+use lib.ListN.{length, getD, take, drop, length-map}
 use Rattle.rules.specs.Lists.{if_then_else_}
 use Rattle.quote.specs.declared.Level.{Level}
-use Rattle.quote.specs.Levels.{held, levelAt, isBest}
-use Rattle.quote.specs.Tries.{made, foundWith, Tried}
+use Rattle.quote.specs.Levels.{enough, levelAt, bestKey, isBest}
+use Rattle.quote.specs.Sums.{keySums, downward}
 use Rattle.quote.proofs.Levels.{level-best, best-level}
 use Rattle.small.specs.declared.Found.{Found as Small}
 use Rattle.small.specs.Small.{Finds as SmallFinds}
 use Rattle.side.specs.declared.Change.{Change}
-use Rattle.side.specs.Slots.{keysOf, volumesOf, sideOf, levelIn, bestIn, bestKeyIn, keptIn}
+use Rattle.side.specs.Slots.{Slot, keysOf, volumesOf, sideOf, levelIn, bestIn, bestKeyIn, keptIn}
 use Rattle.side.specs.Internal.{StaleLevel}
 use Rattle.side.proofs.Words.{kept-small, kept-large}
 use Rattle.side.proofs.Stores.{level-stored}
 use Rattle.level.specs.declared.Found.{Found}
-use Rattle.level.specs.Requotes.{Qualifies, Work, Requotes}
-use Rattle.level.specs.Internal.{putLevel, Sought}
-use Rattle.level.proofs.Starts.{depth-held}
-use Rattle.level.proofs.Tries.{tried-none, tried-first, tried-same, tried-qualifies, with-qualifies}
-use Rattle.level.proofs.Depths.{own-level}
-use Rattle.level.proofs.Parts.{moving-count, part-held, part-best-key, part-best, part-orders}
+use Rattle.level.specs.Candidates.{nextKey}
+use Rattle.level.specs.CandidateKeys.{keyOnly, keysFromFirst, keysFromOld, keysFrom, candidateKeys}
+use Rattle.level.specs.Requotes.{sumsIn, Requotes}
+use Rattle.level.specs.Internal.{putLevel, Searches, Sought}
+use Rattle.level.proofs.Parts.{moving-count, part-best-key, part-best, part-small, part-search, part-from}
 
-module _ (side : Side) (words : List ℕ) (c : Change) (minimum : ℕ) (m : StaleLevel words c minimum) where
+-- ---- which candidates
+
+module _ (minimum : ℕ) (before after : List Slot) (key : ℕ) where
+  abbrev ls : List ℕ
+  ls = keysOf before
+
   abbrev ks : List ℕ
-  ks = keysOf (m .after)
+  ks = keysOf after
 
   abbrev vs : List ℕ
-  vs = volumesOf (m .after)
+  vs = volumesOf after
+
+  long-after : length ks ≡ length after
+  long-after = length-map after (λ (s : Slot). s .key)
+
+  long-before : length ls ≡ length before
+  long-before = length-map before (λ (s : Slot). s .key)
+
+  abbrev chosen : Bool → Bool → List ℕ
+  chosen few fifth =
+      if few then downward ks else if fifth then ks else keysFrom minimum ks vs key (levelAt ks vs (bestKey minimum ls (volumesOf before)))
+
+  keys-chosen : (a b : Bool) → leb (length after) 4 ≡ a → leb (length before) 4 ≡ b
+      → candidateKeys minimum ls (volumesOf before) ks vs key ≡ chosen a b
+  unfolding candidateKeys
+  keys-chosen a b e f =
+      λ i. chosen ((ap (λ (n : ℕ). leb n 4) long-after ∙ e) i) ((ap (λ (n : ℕ). leb n 4) long-before ∙ f) i)
+
+  sums-chosen : (a b : Bool) → leb (length after) 4 ≡ a → leb (length before) 4 ≡ b
+      → sumsIn minimum before after key ≡ keySums (enough minimum ks vs) 0 (chosen a b)
+  sums-chosen a b e f = ap (keySums (enough minimum ks vs) 0) (keys-chosen a b e f)
+
+-- none from a level that is still the best
+from-best : (minimum : ℕ) (ks vs : List ℕ) (key : ℕ) (l : Level) → isBest l minimum ≡ true → keysFrom minimum ks vs key l ≡ []
+unfolding keysFromOld
+from-best minimum ks vs key l best =
+    ap
+    (λ (b : Bool).
+    if b then [] else keyOnly (nextKey minimum ks l) ++ keysFromFirst minimum (levelAt ks vs) (nextKey minimum ks) ks key (levelAt ks vs (nextKey minimum ks l)))
+    best
+
+module _ (words : List ℕ) (c : Change) (minimum : ℕ) (m : StaleLevel words c minimum) where
+  abbrev keys : List ℕ
+  keys = keysOf (m .after)
+
+  abbrev volumes : List ℕ
+  volumes = volumesOf (m .after)
 
   -- the words with a level put into them
   put-is : (l : Level) → l ≡ keptIn minimum (m .after) → (exit : List ℕ) → exit ≡ putLevel l words → exit ≡ sideOf (m .after) (keptIn minimum (m .after))
@@ -49,104 +83,73 @@ module _ (side : Side) (words : List ℕ) (c : Change) (minimum : ℕ) (m : Stal
 
   pub small-requotes : getD words 192 0 ≤ 4 → (r : Small) → SmallFinds (take 4 (drop 64 words)) (take 4 (drop 128 words)) minimum r
       → (exit : List ℕ) → exit ≡ putLevel (record { key = r .key; before = 0; at = 0 }) words
-      → Requotes side minimum (m .before) (m .after) exit (record { moves = true; guesses = r .sums; sums = 0 })
+      → Requotes minimum (m .before) (m .after) c exit (record { moves = true; sums = r .sums })
   small-requotes few r f exit p =
       let key : r .key ≡ bestKeyIn minimum (m .after) = f .key ∙ part-best-key words c minimum m 4 4 4 refl refl few (omega arith) in
       let small : length (m .after) ≤ 4 = omega (arith, few, moving-count words c minimum m) in
-      let tried : Tried minimum ks vs 0 (r .sums) (r .key) =
-      tried-same minimum ks vs (take 4 (drop 64 words)) (take 4 (drop 128 words)) (part-held words c minimum m 4 4 4 refl refl few (omega arith)) 0 (r .sums) (r .key) (f .sums) in
       record {
         words =
             put-is (record { key = r .key; before = 0; at = 0 })
             ((λ i. record { key = key i; before = 0; at = 0 }) ∙ sym (kept-small minimum (m .after) small)) exit p;
         stays = λ e. absurd (true≢false e);
-        work =
-            record {
-              known = 0;
-              known-qualifies = inl refl;
-              start = r .key;
-              start-qualifies = tried-qualifies minimum ks vs 0 (r .sums) (r .key) tried (inl refl);
-              tried = tried;
-              searched = false;
-              search = λ orders o. refl;
-            };
+        sums =
+            f .sums ∙ part-small words c minimum m 4 4 4 refl refl few (omega arith)
+            ∙ sym (sums-chosen minimum (m .before) (m .after) (c .key) true (leb (length (m .before)) 4) (le-leb (length (m .after)) 4 small) refl);
       }
 
-  -- ---- more orders: the old best key's level after the change, measured where it was not kept
+  -- ---- more orders
 
-  module _ (many : 5 ≤ length (m .after)) (old : Level) (is-old : old ≡ levelIn (m .after) (bestKeyIn minimum (m .before))) where
+  module _ (many : 5 ≤ length (m .after)) where
+    grown : leb (length (m .after)) 4 ≡ false
+    grown = lt-leb (length (m .after)) 4 (omega (arith, many))
+
     large : keptIn minimum (m .after) ≡ bestIn minimum (m .after)
-    large = kept-large minimum (m .after) (lt-leb (length (m .after)) 4 (omega (arith, many)))
+    large = kept-large minimum (m .after) grown
 
-    own : old ≡ levelAt ks vs (old .key)
-    own = own-level ks vs (bestKeyIn minimum (m .before)) old is-old
-
-    abbrev known : ℕ
-    known = foundWith minimum 0 (made (old .key) (old .before + old .at))
-
-    sound : old .before + old .at ≤ held (leb (old .key)) ks vs
-    sound = omega (arith, depth-held ks vs old own)
-
-    known-qualifies : Qualifies minimum ks vs known
-    known-qualifies = with-qualifies minimum ks vs 0 (made (old .key) (old .before + old .at)) sound (inl refl)
-
-    -- the sums that follow, with the one that measured it or without
-    worked : (fifth : Bool) (first guesses sums start : ℕ) (searched : Bool) → first ≡ (if fifth then 1 else 0) → Tried minimum ks vs known guesses start
-        → ((orders : List Order) → ColumnsOf side orders ks vs → sums ≡ (if searched then sumsOf side minimum (quoteAt side start) orders else 0))
-        → Work side minimum ks vs (first + guesses) sums
-    worked true first guesses sums start searched e t s =
-        let all = tried-first minimum ks vs guesses start (old .key) (old .before + old .at) t sound in
-        record {
-          known = 0;
-          known-qualifies = inl refl;
-          start = start;
-          start-qualifies = tried-qualifies minimum ks vs known guesses start t known-qualifies;
-          tried = subst (λ (n : ℕ). Tried minimum ks vs 0 (n + guesses) start) (sym e) all;
-          searched = searched;
-          search = s;
-        }
-    worked false first guesses sums start searched e t s =
-        let none : guesses ≡ first + guesses = omega (arith, e) in
-        record {
-          known = known;
-          known-qualifies = known-qualifies;
-          start = start;
-          start-qualifies = tried-qualifies minimum ks vs known guesses start t known-qualifies;
-          tried = subst (λ (n : ℕ). Tried minimum ks vs known n start) none t;
-          searched = searched;
-          search = s;
-        }
-
-    -- it is still the best
-    pub same-requotes : (fifth : Bool) (first : ℕ) → first ≡ (if fifth then 1 else 0) → isBest old minimum ≡ true
-        → (exit : List ℕ) → exit ≡ putLevel old words
-        → Requotes side minimum (m .before) (m .after) exit (record { moves = false; guesses = first; sums = 0 })
-    same-requotes fifth first e best exit p =
-        let k = bestKeyIn minimum (m .before) in
-        let b : isBest (levelAt ks vs k) minimum ≡ true = ap (λ (l : Level). isBest l minimum) (sym is-old) ∙ best in
-        let all : first + 0 ≡ first = omega arith in
-        record {
-          words = put-is old (is-old ∙ level-best minimum ks vs k b ∙ sym large) exit p;
-          stays = λ n. best-level minimum ks vs k b;
-          work =
-              subst (λ (n : ℕ). Work side minimum ks vs n 0) all
-              (worked fifth first 0 0 known false e (tried-none minimum ks vs known) (λ orders o. refl));
-        }
-
-    -- or another is found
-    pub sought-requotes : (fifth : Bool) (first : ℕ) → first ≡ (if fifth then 1 else 0)
-        → (to n k : ℕ) (en : n ≡ to) (ek : k ≡ to) (more : getD words 192 0 ≤ to) (most : to ≤ 64)
-        → (r : Found) → Sought side minimum (take n (drop 64 words)) (take k (drop 128 words)) old r
+    -- the fifth order came
+    pub fifth-requotes : leb (length (m .before)) 4 ≡ true → getD words 192 0 ≤ 8
+        → (r : Found) → Searches minimum (take 8 (drop 64 words)) (take 8 (drop 128 words)) 0 0 r
         → (exit : List ℕ) → exit ≡ putLevel (r .level) words
-        → Requotes side minimum (m .before) (m .after) exit (record { moves = true; guesses = first + r .guesses; sums = r .sums })
-    sought-requotes fifth first e to n k en ek more most r f exit p =
-        let ls = take n (drop 64 words) in
-        let ws = take k (drop 128 words) in
+        → Requotes minimum (m .before) (m .after) c exit (record { moves = true; sums = r .sums })
+    fifth-requotes first few r f exit p =
+        let all : r .sums ≡ keySums (enough minimum (take 8 (drop 64 words)) (take 8 (drop 128 words))) 0 (take 8 (drop 64 words)) =
+        omega (arith, f .sums) in
         record {
-          words = put-is (r .level) (f .level ∙ part-best words c minimum m to n k en ek more most ∙ sym large) exit p;
+          words = put-is (r .level) (f .level ∙ part-best words c minimum m 8 8 8 refl refl few (omega arith) ∙ sym large) exit p;
           stays = λ n. absurd (true≢false n);
-          work =
-              worked fifth first (r .guesses) (r .sums) (f .start) (f .searched) e
-              (tried-same minimum ks vs ls ws (part-held words c minimum m to n k en ek more most) known (r .guesses) (f .start) (f .tried))
-              (λ orders o. f .search orders (part-orders words c minimum m to n k en ek more most side orders o));
+          sums =
+              all ∙ part-search words c minimum m 8 8 8 refl refl few (omega arith)
+              ∙ sym (sums-chosen minimum (m .before) (m .after) (c .key) false true grown first);
         }
+
+    -- from the old best key's level after the change
+    module _ (no-first : leb (length (m .before)) 4 ≡ false) (old : Level) (is-old : old ≡ levelIn (m .after) (bestKeyIn minimum (m .before))) where
+      sums-from : sumsIn minimum (m .before) (m .after) (c .key) ≡ keySums (enough minimum keys volumes) 0 (keysFrom minimum keys volumes (c .key) old)
+      sums-from =
+          sums-chosen minimum (m .before) (m .after) (c .key) false false grown no-first
+          ∙ ap (λ (l : Level). keySums (enough minimum keys volumes) 0 (keysFrom minimum keys volumes (c .key) l)) (sym is-old)
+
+      -- it is still the best
+      pub same-requotes : isBest old minimum ≡ true → (exit : List ℕ) → exit ≡ putLevel old words
+          → Requotes minimum (m .before) (m .after) c exit (record { moves = false; sums = 0 })
+      unfolding keySums
+      same-requotes best exit p =
+          let k = bestKeyIn minimum (m .before) in
+          let b : isBest (levelAt keys volumes k) minimum ≡ true = ap (λ (l : Level). isBest l minimum) (sym is-old) ∙ best in
+          record {
+            words = put-is old (is-old ∙ level-best minimum keys volumes k b ∙ sym large) exit p;
+            stays = λ n. best-level minimum keys volumes k b;
+            sums = sym (sums-from ∙ ap (keySums (enough minimum keys volumes) 0) (from-best minimum keys volumes (c .key) old best));
+          }
+
+      -- or another is found
+      pub sought-requotes : (to n k : ℕ) (en : n ≡ to) (ek : k ≡ to) (more : getD words 192 0 ≤ to) (most : to ≤ 64)
+          → (r : Found) → Sought minimum (take n (drop 64 words)) (take k (drop 128 words)) old (c .key) r
+          → (exit : List ℕ) → exit ≡ putLevel (r .level) words
+          → Requotes minimum (m .before) (m .after) c exit (record { moves = true; sums = r .sums })
+      sought-requotes to n k en ek more most r f exit p =
+          record {
+            words = put-is (r .level) (f .level ∙ part-best words c minimum m to n k en ek more most ∙ sym large) exit p;
+            stays = λ n. absurd (true≢false n);
+            sums = f .sums ∙ part-from words c minimum m to n k en ek more most (c .key) old ∙ sym sums-from;
+          }

@@ -1,25 +1,21 @@
 -- What the functions on the best level promise to each other.
-use Prim.Native.Nat.{ℕ, _+_, _-_, _*_, _≤_, _<_, min}
+use Prim.Native.Nat.{ℕ, _+_, _≤_}
 use mathlib.Core.Path.{_≡_}
 use mathlib.Core.Logic.{_⊎_}
-use mathlib.Core.List.{List, [], _∷_}
-use mathlib.Core.Bool.{Bool, true, false, _&&_}
+use mathlib.Core.List.{List}
 use lib.Dec.{leb, ltb, eqb}
-use lib.ListN.{length, getD, set}
-use Rattle.rules.specs.declared.Side.{Side}
-use Rattle.rules.specs.declared.Order.{Order}
-use Rattle.rules.specs.Lists.{if_then_else_, filter}
-use Rattle.rules.specs.Search.{sumsOf}
+use lib.ListN.{getD, set, take, drop}
+use Rattle.rules.specs.Lists.{if_then_else_}
 use Rattle.quote.specs.declared.Level.{Level}
-use Rattle.prices.specs.Keys.{quoteAt}
-use Rattle.quote.specs.Levels.{held, greatest, levelAt, levelOf}
-use Rattle.quote.specs.Searches.{ColumnsOf}
-use Rattle.quote.specs.Tries.{made, foundWith, Tried}
+use Rattle.quote.specs.Levels.{held, enough, levelAt, levelOf}
+use Rattle.quote.specs.Sums.{keySums}
 use Rattle.side.specs.declared.Change.{Change}
 use Rattle.side.specs.Slots.{Slot, levelIn, GoodSlots}
 use Rattle.side.specs.Internal.{Changed, StaleLevel}
 use Rattle.level.specs.declared.Guess.{Guess}
 use Rattle.level.specs.declared.Found.{Found}
+use Rattle.level.specs.Candidates.{nextKey, fallsShort, canBeBest}
+use Rattle.level.specs.CandidateKeys.{keysFrom}
 
 -- ---- a level
 
@@ -48,54 +44,24 @@ pub record SumFits (sum gained lost : ℕ) : Type 0 where
   pub enough : lost ≤ sum + gained
   pub small : sum + gained ≤ lost + 64000000
 
--- a side of more than four orders after a change
-pub record Grown (words : List ℕ) (c : Change) : Type 0 where
-  pub minimum : ℕ
-  pub stale : StaleLevel words c minimum
-  pub many : 5 ≤ length (stale .after)
-
--- ---- the keys next to one
-
-unfoldable pub least : List ℕ → ℕ
-least [] = 2000000001
-least (k ∷ ks) = min k (least ks)
-
--- the least of the keys above, and the greatest of those below
-unfoldable pub keyAbove : ℕ → List ℕ → ℕ
-keyAbove key ks = least (filter (ltb key) ks)
-
-unfoldable pub keyBelow : ℕ → List ℕ → ℕ
-keyBelow key ks = greatest (filter (λ (k : ℕ). ltb k key) ks)
-
--- the level next to one: where enough stand before it above it, and with it what stood before it; else below it, and before it what
--- stood at the other or better
-pub record Steps (minimum : ℕ) (ks vs : List ℕ) (l r : Level) : Type 0 where
-  pub is : r ≡ levelAt ks vs (r .key)
-  pub most : r .key ≤ 2000000001
-  pub up : minimum ≤ l .before → (l .key < r .key) × (r .before + r .at ≡ l .before)
-  pub down : l .before < minimum → r .before ≡ l .before + l .at
-
 -- ---- guesses
 
+-- the best key found to qualify, after one level more
+abbrev pub foundAt : ℕ → ℕ → Level → ℕ
+foundAt minimum start l = if leb minimum (l .before + l .at) then l .key else start
+
+-- a sum is made for each key but that of none
 abbrev pub withLevel : Guess → Level → ℕ → Guess
 withLevel g l minimum =
-    record { level = l; start = foundWith minimum (g .start) (made (l .key) (l .before + l .at)); sums = g .sums + 1 }
+    record { level = l; start = foundAt minimum (g .start) l; sums = g .sums + (if ltb 0 (l .key) then 1 else 0) }
 
--- what stands too much before a level, or is missing at it or better
-abbrev pub lackingAt : Level → ℕ → ℕ
-lackingAt l minimum = if leb minimum (l .before) then l .before - minimum else minimum - (l .before + l .at)
-
-abbrev pub fallsShort : Level → ℕ → Bool
-fallsShort l minimum = ltb (8 * l .at) (lackingAt l minimum)
+-- the level next to one
+abbrev pub nextLevel : ℕ → List ℕ → List ℕ → Level → Level
+nextLevel minimum ks vs l = levelAt ks vs (nextKey minimum ks l)
 
 -- one step more, or none where it is vain
-pub record Farther (minimum : ℕ) (ks vs : List ℕ) (g r : Guess) : Type 0 where
-  pub stays : fallsShort (g .level) minimum ≡ true → r ≡ g
-  pub steps : fallsShort (g .level) minimum ≡ false → Steps minimum ks vs (g .level) (r .level) × (r ≡ withLevel g (r .level) minimum)
-
--- the side of a level on which the best one is
-abbrev pub canBeBest : Level → ℕ → ℕ → Bool
-canBeBest l key minimum = if leb minimum (l .before) then ltb (l .key) key else ltb 0 key && ltb key (l .key)
+abbrev pub stepFarther : ℕ → List ℕ → List ℕ → Guess → Guess
+stepFarther minimum ks vs g = if fallsShort (g .level) minimum then g else withLevel g (nextLevel minimum ks vs (g .level)) minimum
 
 -- a key is tried where the best level can be there
 abbrev pub atChange : ℕ → List ℕ → List ℕ → Guess → ℕ → Guess
@@ -107,17 +73,20 @@ pub record Open (minimum : ℕ) (ks vs : List ℕ) (start : ℕ) : Type 0 where
   pub below : (start ≡ 0) ⊎ (minimum ≤ held (ltb start) ks vs)
 
 -- what the search finds from a start, after so many sums
-pub record Searches (side : Side) (minimum : ℕ) (ks vs : List ℕ) (start guesses : ℕ) (r : Found) : Type 0 where
+pub record Searches (minimum : ℕ) (ks vs : List ℕ) (start before : ℕ) (r : Found) : Type 0 where
   pub level : r .level ≡ levelOf minimum ks vs
-  pub number : r .guesses ≡ guesses
-  pub sums : (orders : List Order) → ColumnsOf side orders ks vs → r .sums ≡ sumsOf side minimum (quoteAt side start) orders
+  pub sums : r .sums ≡ before + keySums (enough minimum ks vs) start ks
 
--- the best level from one that is not, with the sums that were made for it
-pub record Sought (side : Side) (minimum : ℕ) (ks vs : List ℕ) (old : Level) (r : Found) : Type 0 where
+-- the best level from one that is not, and W3's number for the candidates from there
+pub record Sought (minimum : ℕ) (ks vs : List ℕ) (old : Level) (key : ℕ) (r : Found) : Type 0 where
   pub level : r .level ≡ levelOf minimum ks vs
-  pub few : r .guesses ≤ 8
-  pub start : ℕ
-  pub tried : Tried minimum ks vs (foundWith minimum 0 (made (old .key) (old .before + old .at))) (r .guesses) start
-  pub searched : Bool
-  pub search : (orders : List Order) → ColumnsOf side orders ks vs
-      → r .sums ≡ (if searched then sumsOf side minimum (quoteAt side start) orders else 0)
+  pub sums : r .sums ≡ keySums (enough minimum ks vs) 0 (keysFrom minimum ks vs key old)
+
+-- ---- the fifth order
+
+-- a side of five orders after a change
+pub record FifthSide (words : List ℕ) (minimum : ℕ) : Type 0 where
+  pub change : Change
+  pub stale : StaleLevel words change minimum
+  pub five : getD words 192 0 ≡ 5
+  pub some : 1 ≤ minimum

@@ -1,4 +1,6 @@
--- What a requote promises.
+-- The candidates for a best quote after an event, and what a requote promises.
+pub mod Candidates
+pub mod CandidateKeys
 pub mod Requotes
 -- What the functions on the best level promise to each other.
 pub mod Internal

@@ -2,7 +2,6 @@
 use Prim.Native.Nat.{ℕ, _≤_}
 use mathlib.Core.List.{List}
 use lib.ListN.{getD}
-use Rattle.rules.specs.declared.Side.{Side}
 use Rattle.side.specs.declared.Change.{Change}
 use Rattle.side.specs.Internal.{StaleLevel}
 use Rattle.level.specs.declared.Requoted.{Requoted}
@@ -14,6 +13,6 @@ pub record SmallSide (words : List ℕ) (minimum : ℕ) : Type 0 where
   pub few : getD words 192 0 ≤ 4
   pub some : 1 ≤ minimum
 
--- its best level moved, whichever the side and the change
+-- its best level moved, whichever the change
 abbrev pub SmallMoved : List ℕ → ℕ → List ℕ → Requoted → Type 0
-SmallMoved words minimum exit r = (side : Side) (change : Change) (m : StaleLevel words change minimum) → Requotes side minimum (m .before) (m .after) exit r
+SmallMoved words minimum exit r = (change : Change) (m : StaleLevel words change minimum) → Requotes minimum (m .before) (m .after) change exit r

@@ -1,19 +1,19 @@
 // The best level of a side after one of its orders changed: carried where it still holds, else guessed (next to the old one, or where the
-// order went), else searched; of a small side found afresh. Document 02, W3, holds at every sum: it is made only for a price that is
-// better than every one already found to qualify.
+// order went), else searched; that of a small side by its own search. Document 02, W3: volumes are added up only for a live order whose
+// price is better than every one already found to qualify, and their number is answered (specs/Candidates).
 ghost use mathlib.Core.Path.{_≡_};
-ghost use mathlib.Core.Bool.{_&&_, false};
+ghost use mathlib.Core.Bool.{_&&_, true, false};
 ghost use mathlib.Core.List.{List};
 ghost use Prim.Native.Nat.{ℕ, _+_, _-_, _≤_, min, max};
 ghost use lib.Dec.{ltb, eqb};
-ghost use lib.ListN.{length, getD};
+ghost use lib.ListN.{length, getD, take, drop};
 ghost use Rattle.rules.specs.Lists.{if_then_else_};
 ghost use Rattle.quote.specs.Levels.{levelAt, isBest, Columns, Searchable};
-ghost use Rattle.quote.specs.Tries.{made, foundWith};
 ghost use Rattle.side.specs.Slots.{Slot, levelIn, bestKeyIn, GoodSlots};
 ghost use Rattle.side.specs.Internal.{StaleLevel, Changed, brings};
 ghost use Rattle.level.specs.Requotes.{Requotes};
-ghost use Rattle.level.specs.Internal.{IsLevel, SumFits, LevelBefore, Grown, levelRead, keyAbove, keyBelow, Steps, lackingAt, fallsShort, Farther, canBeBest, atChange, Sought, Open, Searches, withLevel, putLevel};
+ghost use Rattle.level.specs.Candidates.{keyAbove, keyBelow, lackingAt, fallsShort, canBeBest};
+ghost use Rattle.level.specs.Internal.{IsLevel, SumFits, LevelBefore, levelRead, foundAt, nextLevel, stepFarther, atChange, Sought, Open, Searches, FifthSide, withLevel, putLevel};
 ghost use Rattle.level.specs.Small.{SmallSide, SmallMoved};
 use quote::Level;
 use rules::Contracts;
@@ -26,11 +26,9 @@ use side::Change;
 use side::KEYS;
 use side::VOLUMES;
 
-// What a requote did: whether the best key may have moved, for how many prices volumes were added up before a search, and for how many
-// orders in the search.
+// What a requote did: whether the best key may have moved, and for how many orders volumes were added up.
 pub struct Requoted {
     pub moves: bool,
-    pub guesses: u32,
     pub sums: u32,
 }
 
@@ -160,7 +158,7 @@ struct Guess {
 // The best price found to qualify, with one more level.
 fn qualified(level: Level, start: u32, minimum: Contracts) -> u32
     requires { ⌜ level .before + level .at ≤ 64000000 ⌝ }
-    ensures { λ r. ⌜ r ≡ foundWith (minimum .0) start (made (level .key) (level .before + level .at)) ⌝ }
+    ensures { λ r. ⌜ r ≡ foundAt (minimum .0) start level ⌝ }
 {
     if minimum.0 <= level.before + level.at {
         return level.key;
@@ -168,7 +166,7 @@ fn qualified(level: Level, start: u32, minimum: Contracts) -> u32
     start
 }
 
-// A level is tried after a guess, by one sum.
+// A level is tried after a guess: by one sum, or by none where no order has its key, that of no price.
 fn tried(guess: Guess, level: Level, minimum: Contracts) -> Guess
     requires { ⌜ (level .before + level .at ≤ 64000000) × (guess .sums ≤ 8) ⌝ }
     ensures { λ r. ⌜ r ≡ withLevel guess level (minimum .0) ⌝ }
@@ -176,15 +174,15 @@ fn tried(guess: Guess, level: Level, minimum: Contracts) -> Guess
     Guess {
         level,
         start: qualified(level, guess.start, minimum),
-        sums: guess.sums + 1,
+        sums: guess.sums + quote::volume_where(0 < level.key, 1),
     }
 }
 
-// The level next to one that is not the best, on the side where the best one is: only what stands at it is added up, since no order
-// stands between the two.
+// The level next to one that is not the best, in the direction of the best one: only the orders at it are added up, since there is none
+// between the two. Where no key is left below, nothing is added up.
 fn stepped(keys: &[u32], volumes: &[u32], level: Level, minimum: Contracts) -> Level
-    requires { ⌜ Searchable (now keys) (now volumes) (level .key) × (level ≡ levelAt (now keys) (now volumes) (level .key)) × (isBest level (minimum .0) ≡ false) × (1 ≤ minimum .0) ⌝ }
-    ensures { λ r. ⌜ Steps (minimum .0) (now (keys .entry)) (now (volumes .entry)) level r ⌝ }
+    requires { ⌜ Searchable (now keys) (now volumes) (level .key) × (level ≡ levelAt (now keys) (now volumes) (level .key)) × (isBest level (minimum .0) ≡ false) × (1 ≤ minimum .0) × Open (minimum .0) (now keys) (now volumes) 0 ⌝ }
+    ensures { λ r. ⌜ r ≡ nextLevel (minimum .0) (now (keys .entry)) (now (volumes .entry)) level ⌝ }
 {
     if minimum.0 <= level.before {
         let up = above(keys, level.key);
@@ -196,6 +194,13 @@ fn stepped(keys: &[u32], volumes: &[u32], level: Level, minimum: Contracts) -> L
         };
     }
     let down = below(keys, level.key);
+    if down == 0 {
+        return Level {
+            key: 0,
+            before: level.before + level.at,
+            at: 0,
+        };
+    }
     Level {
         key: down,
         before: level.before + level.at,
@@ -224,8 +229,8 @@ fn falls_short(level: Level, minimum: Contracts) -> bool
 
 // One step more from a guess that is not the best, where it is not vain.
 fn farther(keys: &[u32], volumes: &[u32], guess: Guess, minimum: Contracts) -> Guess
-    requires { ⌜ Searchable (now keys) (now volumes) (guess .level .key) × (guess .level ≡ levelAt (now keys) (now volumes) (guess .level .key)) × (isBest (guess .level) (minimum .0) ≡ false) × (1 ≤ minimum .0) × (guess .sums ≤ 8) ⌝ }
-    ensures { λ r. ⌜ Farther (minimum .0) (now (keys .entry)) (now (volumes .entry)) guess r ⌝ }
+    requires { ⌜ Searchable (now keys) (now volumes) (guess .level .key) × (guess .level ≡ levelAt (now keys) (now volumes) (guess .level .key)) × (isBest (guess .level) (minimum .0) ≡ false) × (1 ≤ minimum .0) × Open (minimum .0) (now keys) (now volumes) 0 × (guess .sums ≤ 8) ⌝ }
+    ensures { λ r. ⌜ r ≡ stepFarther (minimum .0) (now (keys .entry)) (now (volumes .entry)) guess ⌝ }
 {
     let level = guess.level;
     if falls_short(level, minimum) {
@@ -258,10 +263,10 @@ fn at_change(keys: &[u32], volumes: &[u32], guess: Guess, key: u32, minimum: Con
 // ---- the search
 
 // The level by the search, from the best price found to qualify, or from none. Where it finds nothing better, that is from none, and all
-// the contracts of the side stand before no quote.
+// the contracts of the side are before no quote.
 fn by_search(side: Side, keys: &[u32], volumes: &[u32], guess: Guess, minimum: Contracts) -> Found
-    requires { ⌜ Searchable (now keys) (now volumes) (guess .start) × Open (minimum .0) (now keys) (now volumes) (guess .start) × (1 ≤ minimum .0) ⌝ }
-    ensures { λ r. ⌜ Searches side (minimum .0) (now (keys .entry)) (now (volumes .entry)) (guess .start) (guess .sums) r ⌝ }
+    requires { ⌜ Searchable (now keys) (now volumes) (guess .start) × Open (minimum .0) (now keys) (now volumes) (guess .start) × (1 ≤ minimum .0) × (guess .sums ≤ 8) ⌝ }
+    ensures { λ r. ⌜ Searches (minimum .0) (now (keys .entry)) (now (volumes .entry)) (guess .start) (guess .sums) r ⌝ }
 {
     let found = quote::search(side, keys, volumes, guess.start, minimum);
     let quote = found.quote;
@@ -271,26 +276,23 @@ fn by_search(side: Side, keys: &[u32], volumes: &[u32], guess: Guess, minimum: C
             before: found.before,
             at: less(found.depth, found.before),
         },
-        guesses: guess.sums,
-        sums: found.sums,
+        sums: guess.sums + found.sums,
     }
 }
 
-// A best level, and the sums that were made for it.
+// A best level, and for how many orders volumes were added up for it.
 struct Found {
     level: Level,
-    guesses: u32,
     sums: u32,
 }
 
 fn taken(guess: Guess) -> Found
-    ensures { λ r. ⌜ r ≡ record { level = guess .level; guesses = guess .sums; sums = 0 } ⌝ }
+    ensures { λ r. ⌜ r ≡ record { level = guess .level; sums = guess .sums } ⌝ }
 {
     let level = guess.level;
     Found {
         level,
-        guesses: guess.sums,
-        sums: 0,
+        sums: guess.sums,
     }
 }
 
@@ -304,11 +306,11 @@ fn sought(
     minimum: Contracts,
 ) -> Found
     requires { ⌜ Searchable (now keys) (now volumes) (old .key) × (old ≡ levelAt (now keys) (now volumes) (old .key)) × (isBest old (minimum .0) ≡ false) × (1 ≤ minimum .0) × Open (minimum .0) (now keys) (now volumes) 0 ⌝ }
-    ensures { λ r. ⌜ Sought side (minimum .0) (now (keys .entry)) (now (volumes .entry)) old r ⌝ }
+    ensures { λ r. ⌜ Sought (minimum .0) (now (keys .entry)) (now (volumes .entry)) old key r ⌝ }
 {
     let known = Guess {
         level: old,
-        start: qualified(old, 0, minimum),
+        start: 0,
         sums: 0,
     };
     let first = tried(known, stepped(keys, volumes, old, minimum), minimum);
@@ -350,21 +352,6 @@ fn is_fifth(count: u32, change: Change) -> bool
     (count == 5) & ((change.old == 0) & (0 < change.key))
 }
 
-// The level of the old best key after a change: carried, or measured where the fifth order came.
-fn carried(words: &[u32], change: Change) -> Level
-    requires { ⌜ Grown (now words) change ⌝ }
-    ensures { λ r. ⌜ ((minimum : ℕ) (m : StaleLevel (now (words .entry)) change minimum) → r ≡ levelIn (m .after) (bestKeyIn minimum (m .before))) ⌝ }
-{
-    if is_fifth(words[COUNT], change) {
-        return quote::measured(
-            &words[KEYS..KEYS + 8],
-            &words[VOLUMES..VOLUMES + 8],
-            words[BEST],
-        );
-    }
-    moved(level_of(words), change)
-}
-
 // The best level is written into the side's words.
 fn put(words: &mut [u32], level: Level)
     requires { ⌜ length (now words) ≡ 256 ⌝ }
@@ -395,32 +382,69 @@ fn by_small(words: &mut [u32], minimum: Contracts) -> Requoted
     );
     Requoted {
         moves: true,
-        guesses: found.sums,
-        sums: 0,
+        sums: found.sums,
     }
+}
+
+// The best level that was found is put.
+fn settled(words: &mut [u32], found: Found) -> Requoted
+    requires { ⌜ length (now words) ≡ 256 ⌝ }
+    ensures { λ r. ⌜ (now (words .exit) ≡ putLevel (found .level) (now (words .entry))) × (r ≡ record { moves = true; sums = found .sums }) ⌝ }
+{
+    let level = found.level;
+    put(words, level);
+    Requoted {
+        moves: true,
+        sums: found.sums,
+    }
+}
+
+// The best level of a side to which the fifth order came, by the search from none: a small side keeps no level that could be carried.
+fn by_fifth(words: &[u32], side: Side, minimum: Contracts) -> Found
+    requires { ⌜ FifthSide (now words) (minimum .0) ⌝ }
+    ensures { λ r. ⌜ Searches (minimum .0) (take 8 (drop 64 (now (words .entry)))) (take 8 (drop 128 (now (words .entry)))) 0 0 r ⌝ }
+{
+    let none = Guess {
+        level: Level {
+            key: 0,
+            before: 0,
+            at: 0,
+        },
+        start: 0,
+        sums: 0,
+    };
+    by_search(
+        side,
+        &words[KEYS..KEYS + 8],
+        &words[VOLUMES..VOLUMES + 8],
+        none,
+        minimum,
+    )
 }
 
 // The best level moves to where it belongs after a change.
 pub fn requote(words: &mut [u32], side: Side, change: Change, minimum: Contracts) -> Requoted
     requires { ⌜ StaleLevel (now words) change (minimum .0) × (1 ≤ minimum .0) ⌝ }
-    ensures { λ r. ⌜ ((m : StaleLevel (now (words .entry)) change (minimum .0)) → Requotes side (minimum .0) (m .before) (m .after) (now (words .exit)) r) ⌝ }
+    ensures { λ r. ⌜ ((m : StaleLevel (now (words .entry)) change (minimum .0)) → Requotes (minimum .0) (m .before) (m .after) change (now (words .exit)) r) ⌝ }
 {
     let count = words[COUNT];
     if count <= 4 {
         return by_small(words, minimum);
     }
-    let old = carried(words, change);
-    let measured = quote::volume_where(is_fifth(count, change), 1);
+    if is_fifth(count, change) {
+        let fifth = by_fifth(words, side, minimum);
+        return settled(words, fifth);
+    }
+    let old = moved(level_of(words), change);
     if quote::is_best(old, minimum) {
         put(words, old);
         return Requoted {
             moves: false,
-            guesses: measured,
             sums: 0,
         };
     }
     let to = side::room(count);
-    let found = sought(
+    let best = sought(
         side,
         &words[KEYS..KEYS + to],
         &words[VOLUMES..VOLUMES + to],
@@ -428,11 +452,5 @@ pub fn requote(words: &mut [u32], side: Side, change: Change, minimum: Contracts
         change.key,
         minimum,
     );
-    let level = found.level;
-    put(words, level);
-    Requoted {
-        moves: true,
-        guesses: measured + found.guesses,
-        sums: found.sums,
-    }
+    settled(words, best)
 }

@@ -31,7 +31,7 @@ use Rattle.lists.specs.Listing.{listWords, answersOf, ListAnswered}
 
 -- ---- the answers' words
 
-answer-length : (o : Outcome Reply) → length (answerWords o) ≡ 20
+pub answer-length : (o : Outcome Reply) → length (answerWords o) ≡ 20
 unfolding answerWords cellWords
 answer-length (accepted done) = refl
 answer-length (refused n) = refl

@@ -1,2 +1,3 @@
--- What is promised of a whole list of calls.
+-- What is promised of a whole list of calls, and demand 3 as a claim about every list.
 pub mod Listing
+pub mod Demand

@@ -27,6 +27,7 @@ use Rattle.answers.specs.Words.{answerWords}
 use Rattle.live.specs.declared.Called.{Called}
 use Rattle.live.specs.declared.Called.the-variants.{Done, WordsShort, HintsShort, AnswerShort, NoCall}
 use Rattle.live.specs.Calling.{isCall, calledBy, Performs, Calling, wordsShown}
+use Rattle.live.proofs.Hints.{all-untouched}
 
 -- ---- what became of it
 
@@ -61,7 +62,13 @@ no-call-not-done e = let z : _≡_ {A = ℕ} 0 1 = cc in omega arith
 pub unchanged : (words hints out bytes : List ℕ) (r : Called) → (r ≡ Done → ⊥)
     → r ≡ calledBy (leb 2464 (length words)) (leb 2048 (length hints)) (leb 20 (length out)) (isCall bytes)
     → Calling words hints out bytes words hints out r
-unchanged words hints out bytes r never e = record { called = e; done = λ d. absurd (never d); kept = λ d. (refl, refl, refl) }
+unchanged words hints out bytes r never e =
+    record {
+      called = e;
+      done = λ d. absurd (never d);
+      kept = λ d. (refl, refl, refl);
+      leaves = all-untouched words hints bytes;
+    }
 
 -- ---- the call
 

@@ -2,3 +2,5 @@
 pub mod Calling
 -- Blocks that are events.
 pub mod Events
+-- What a call leaves in the hints.
+pub mod Hints

@@ -1,7 +1,7 @@
 -- What a call promises on a month whose words are lent.
 use Prim.Native.Nat.{ℕ, _%_}
 use mathlib.Core.Path.{_≡_}
-use mathlib.Core.Bool.{Bool, not, _&&_}
+use mathlib.Core.Bool.{Bool, true, false, not, _&&_}
 use mathlib.Core.List.{List, [], _∷_, _++_}
 use lib.Dec.{eqb, leb}
 use lib.ListN.{length, take, drop}
@@ -9,6 +9,7 @@ use Rattle.rules.specs.declared.Report.{Report}
 use Rattle.rules.specs.Lists.{if_then_else_}
 use Rattle.rules.specs.Terms.{paper}
 use Rattle.rules.specs.Answers.{accepted, refused, done, cell, asked, report, outlook}
+use Rattle.rules.specs.Calls as C
 use Rattle.rules.specs.Calls.{Call}
 use Rattle.rules.specs.Book.{after, answerOf}
 use Rattle.words.specs.Bytes.{wordsIn}
@@ -39,13 +40,38 @@ pub record Performs (words out bytes words′ out′ : List ℕ) : Type 0 where
   pub answer : (calls : List Call) → take 2464 words ≡ wordsAfter calls
       → out′ ≡ answerWords (answerOf paper (after paper calls) (callOf (wordsIn bytes))) ++ drop 20 out
 
+-- the calls that may note in the hints where an order is
+abbrev pub notes : Call → Bool
+notes (C.Open row day opening) = false
+notes (C.Send e) = true
+notes (C.Message start message) = false
+notes (C.Ask a) = true
+notes (C.Commit a ticket) = false
+notes (C.Close a p) = false
+notes C.Drop = false
+notes (C.Charge day expiry quantum a p) = false
+notes (C.Withdraw day expiry quantum) = false
+notes (C.Look day expiry quantum) = false
+notes C.Report = false
+notes C.Outlook = false
+
+-- Demand 1 of the hints, "A refused call leaves the month and each lent buffer with the contents it had": for every list of calls whose
+-- month these words are, where the plain book refuses the call, the hints are as they were. A call that is neither an event nor an ask
+-- leaves them in any case, and no call changes a byte after the first 2,048.
+pub record LeavesHints (words hints bytes hints′ : List ℕ) : Type 0 where
+  pub refusal : (calls : List Call) → take 2464 words ≡ wordsAfter calls → (n : ℕ)
+      → answerOf paper (after paper calls) (callOf (wordsIn bytes)) ≡ refused n → hints′ ≡ hints
+  pub others : notes (callOf (wordsIn bytes)) ≡ false → hints′ ≡ hints
+  pub rest : drop 2048 hints′ ≡ drop 2048 hints
+
 -- Too few words for a month, too few hints, too few words for an answer, and bytes that are no call, are answered as such, and then
--- nothing is changed, nor are the hints. These are no function of the month: of what they hold nothing else stands here, only their number,
--- so what is answered and left is the same whatever they hold.
+-- nothing is changed, nor are the hints. The hints are no function of the month, and what is answered and left in the words is the same
+-- whatever they contain. What an accepted event or ask leaves in the first 2,048 bytes is free.
 pub record Calling (words hints out bytes words′ hints′ out′ : List ℕ) (r : Called) : Type 0 where
   pub called : r ≡ calledBy (leb 2464 (length words)) (leb 2048 (length hints)) (leb 20 (length out)) (isCall bytes)
   pub done : r ≡ Done → Performs words out bytes words′ out′
   pub kept : (r ≡ Done → ⊥) → (words′ ≡ words) × (hints′ ≡ hints) × (out′ ≡ out)
+  pub leaves : LeavesHints words hints bytes hints′
 
 -- what an answer's words are, as the struct shows it
 abbrev pub wordsShown : Outcome → Report → List ℕ

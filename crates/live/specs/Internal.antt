@@ -1,13 +1,14 @@
 -- What the functions of a call in lent words promise to each other.
 use Prim.Native.Nat.{ℕ}
 use mathlib.Core.Path.{_≡_}
-use mathlib.Core.Bool.{true}
+use mathlib.Core.Bool.{true, false}
 use mathlib.Core.List.{List, [], _∷_, _++_}
 use lib.ListN.{take, drop}
 use Rattle.rules.specs.declared.Event.{Event}
 use Rattle.rules.specs.declared.Event.the-variants.{Add, Amend, Cancel, Deal, Tick}
 use Rattle.rules.specs.Terms.{paper}
 use Rattle.rules.specs.Units.{millis, contracts}
+use Rattle.rules.specs.Answers.{refused}
 use Rattle.rules.specs.Calls.{Call, Send}
 use Rattle.rules.specs.Book.{after, answerOf}
 use Rattle.record.specs.declared.Fields.{Fields}
@@ -16,7 +17,7 @@ use Rattle.words.specs.Bytes.{wordsIn}
 use Rattle.blocks.specs.Kinds.{word, addDue, stepsAt, sideOf, callOf}
 use Rattle.answers.specs.Words.{answerWords}
 use Rattle.month.specs.Words.{wordsAfter}
-use Rattle.live.specs.Calling.{isCall}
+use Rattle.live.specs.Calling.{isCall, notes}
 
 -- ---- the event of a block of kind 2 to 6
 
@@ -56,3 +57,8 @@ pub record SendsShown (words : List ℕ) (e : Event) (words′ out : List ℕ) :
 pub record ShowsWords (words : List ℕ) (c : Call) (out : List ℕ) : Type 0 where
   pub month : (calls : List Call) → take 2464 words ≡ wordsAfter calls → words ≡ wordsAfter (calls ++ (c ∷ [])) ++ drop 2464 words
   pub answer : (calls : List Call) → take 2464 words ≡ wordsAfter calls → out ≡ answerWords (answerOf paper (after paper calls) c)
+
+-- what a call leaves in the 2,048 hints that are lent to it
+pub record LeavesLent (words : List ℕ) (c : Call) (hints hints′ : List ℕ) : Type 0 where
+  pub refusal : (calls : List Call) → take 2464 words ≡ wordsAfter calls → (n : ℕ) → answerOf paper (after paper calls) c ≡ refused n → hints′ ≡ hints
+  pub others : notes c ≡ false → hints′ ≡ hints

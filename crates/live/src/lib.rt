@@ -9,16 +9,16 @@ ghost use lib.ListN.{length, drop, getD};
 ghost use Rattle.rules.specs.declared.Event.{Event};
 ghost use Rattle.rules.specs.Lists.{if_then_else_};
 ghost use Rattle.rules.specs.Terms.{paper};
-ghost use Rattle.rules.specs.Calls.{Look, Ask};
+ghost use Rattle.rules.specs.Calls.{Send, Look, Ask};
 ghost use Rattle.rules.specs.Book.{after};
 ghost use Rattle.month.specs.Represents.{monthOf};
 ghost use Rattle.month.specs.Words.{monthWords, HoldsMonth};
 ghost use Rattle.record.specs.Fields.{fieldsFor};
 ghost use Rattle.words.specs.Bytes.{wordsIn};
-ghost use Rattle.blocks.specs.Kinds.{stepsAt};
+ghost use Rattle.blocks.specs.Kinds.{stepsAt, callOf};
 ghost use Rattle.quantum_in_place.specs.Events.{SaysEvent};
 ghost use Rattle.live.specs.Calling.{isCall, wordsShown, Calling, Performs};
-ghost use Rattle.live.specs.Internal.{amendIn, cancelIn, dealIn, tickIn, SaysAdd, SaysBlock, SendsShown, ShowsWords};
+ghost use Rattle.live.specs.Internal.{amendIn, cancelIn, dealIn, tickIn, SaysAdd, SaysBlock, SendsShown, ShowsWords, LeavesLent};
 use blocks::Decoded;
 use month::Month;
 use record::Fields;
@@ -228,7 +228,7 @@ fn event_in(bytes: &[u8]) -> Fields
 // An event, in place.
 fn send(words: &mut [u32], hints: &mut [u8], f: Fields, answer: &mut [u32])
     requires { ⌜ HoldsMonth (now words) × (2464 ≤ length (now words)) × (length (now hints) ≡ 2048) × SaysEvent f × (length (now answer) ≡ 20) ⌝ }
-    ensures { λ _. ⌜ ((e : Event) → f ≡ fieldsFor e → SendsShown (now (words .entry)) e (now (words .exit)) (now (answer .exit))) ⌝ }
+    ensures { λ _. ⌜ ((e : Event) → f ≡ fieldsFor e → SendsShown (now (words .entry)) e (now (words .exit)) (now (answer .exit)) × LeavesLent (now (words .entry)) (Send e) (now (hints .entry)) (now (hints .exit))) ⌝ }
 {
     let n = in_place::send(words, hints, f);
     if 0 < n {
@@ -255,7 +255,7 @@ fn look(words: &[u32], day: u32, expiry: u32, quantum: u32, answer: &mut [u32])
 // An ask, on a copy of the quantum's words.
 fn ask(words: &[u32], hints: &mut [u8], a: Amendment, answer: &mut [u32])
     requires { ⌜ HoldsMonth (now words) × (2464 ≤ length (now words)) × (length (now hints) ≡ 2048) × (length (now answer) ≡ 20) ⌝ }
-    ensures { λ _. ⌜ ShowsWords (now (words .entry)) (Ask a) (now (answer .exit)) ⌝ }
+    ensures { λ _. ⌜ ShowsWords (now (words .entry)) (Ask a) (now (answer .exit)) × LeavesLent (now (words .entry)) (Ask a) (now (hints .entry)) (now (hints .exit)) ⌝ }
 {
     let asked = in_place::ask(words, hints, a);
     match asked {
@@ -267,7 +267,7 @@ fn ask(words: &[u32], hints: &mut [u8], a: Amendment, answer: &mut [u32])
 // A look, an ask, or by value.
 fn other(words: &mut [u32], hints: &mut [u8], bytes: &[u8], answer: &mut [u32])
     requires { ⌜ HoldsMonth (now words) × (2464 ≤ length (now words)) × (length (now hints) ≡ 2048) × (20 ≤ length (now answer)) × (isCall (now bytes) ≡ true) ⌝ }
-    ensures { λ _. ⌜ Performs (now (words .entry)) (now (answer .entry)) (now (bytes .entry)) (now (words .exit)) (now (answer .exit)) ⌝ }
+    ensures { λ _. ⌜ Performs (now (words .entry)) (now (answer .entry)) (now (bytes .entry)) (now (words .exit)) (now (answer .exit)) × LeavesLent (now (words .entry)) (callOf (wordsIn (now (bytes .entry)))) (now (hints .entry)) (now (hints .exit)) ⌝ }
 {
     let said = blocks::decode(bytes);
     match said {
@@ -283,9 +283,9 @@ fn other(words: &mut [u32], hints: &mut [u8], bytes: &[u8], answer: &mut [u32])
 
 // ---- a call
 
-// One call, on the month whose words these are. The hints only say where an id was last found: they may hold anything, and nothing that
-// is answered or left in the words depends on what they hold, so the contract reads their number alone. What they hold after a call that
-// was made is left free.
+// One call, on the month whose words these are. The hints only say where an id was last found: they may contain anything, and nothing that
+// is answered or left in the words depends on it. A refused call leaves them; what an accepted event or ask leaves in the first 2,048 bytes
+// is free, and the bytes after these never change.
 pub fn call(words: &mut [u32], hints: &mut [u8], bytes: &[u8], answer: &mut [u32]) -> Called
     requires { ⌜ (2464 ≤ length (now words) → HoldsMonth (now words)) ⌝ }
     ensures { λ r. ⌜ Calling (now (words .entry)) (now (hints .entry)) (now (answer .entry)) (now (bytes .entry)) (now (words .exit)) (now (hints .exit)) (now (answer .exit)) r ⌝ }

@@ -6,3 +6,4 @@ pub mod Judging
 pub mod Shifting
 pub mod Working
 pub mod Claim
+pub mod Lowest

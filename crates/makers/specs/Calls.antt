@@ -8,6 +8,7 @@ use lib.ListN.{length, take, drop}
 use Rattle.rules.specs.Lists.{if_then_else_, filter}
 use Rattle.rules.specs.Answers.{Outcome, outcomeBy}
 use Rattle.rules.specs.Causes.{Cause, cause, firstNumber}
+use Rattle.rules.specs.Lowest.{FirstIsLowest}
 use Rattle.makers.specs.declared.Maker.{Maker}
 use Rattle.makers.specs.declared.Asked.{Asked}
 use Rattle.makers.specs.declared.Answer.{Answer}
@@ -56,6 +57,10 @@ causes s (Leave n) = cause 23 (wrong s) ∷ cause 24 (not (present n (used s))) 
 -- "The lowest number is answered." 0 where the call is accepted
 unfoldable pub refusalOf : Standing → Call → ℕ
 refusalOf s call = firstNumber (causes s call)
+
+-- the first that applies is the lowest: the numbers of each list ascend (proofs/Lowest)
+abbrev pub LowestAnswered : Type 0
+LowestAnswered = (s : Standing) (call : Call) → FirstIsLowest 22 (causes s call) (refusalOf s call)
 
 -- ---- accepted
 

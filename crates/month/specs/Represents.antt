@@ -39,7 +39,8 @@ pub record Reached (m : Month) : Type 0 where
   pub is : m ≡ monthOf (after paper calls)
 
 -- What a call promises: for every list of calls that led to the month m, the month that it hands back is the month of the longer list,
--- and what its answer shows is what the plain book answers to this call after that list.
+-- and what its answer shows is what the plain book answers to this call after that list. It speaks of each such list, not of one that
+-- the proof picks, and there is one, since every call asks that m is `Reached`: so month and answer are fixed.
 pub record Answered (m : Month) (c : Call) (next : Month) (shown : Outcome Reply) : Type 0 where
   pub month : (calls : List Call) → m ≡ monthOf (after paper calls) → next ≡ monthOf (after paper (calls ++ (c ∷ [])))
   pub answer : (calls : List Call) → m ≡ monthOf (after paper calls) → shown ≡ answerOf paper (after paper calls) c

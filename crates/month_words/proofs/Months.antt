@@ -76,6 +76,7 @@ month-called words hints out bytes words′ hints′ out′ d r g e =
           ∙ by-called (leb 2464 (length words)) (leb 2048 (length hints)) (leb 20 (length out)) (isCall bytes);
       done = λ t. g .done (twenty-done d (isCall bytes) (sym e ∙ t));
       kept = λ never. g .kept (λ is. never (e ∙ ap (λ (x : Called). calledNumber x (isCall bytes)) is));
+      leaves = g .leaves;
     }
 
 pub called-as : (d said : Called) (c : Bool) (r : ℕ) → d ≡ said → r ≡ calledNumber said c → r ≡ calledNumber d c

@@ -6,7 +6,7 @@ use mathlib.Core.List.{List}
 use lib.Dec.{leb}
 use lib.ListN.{length}
 use Rattle.rules.specs.Lists.{if_then_else_}
-use Rattle.live.specs.Calling.{isCall, Performs}
+use Rattle.live.specs.Calling.{isCall, Performs, LeavesHints}
 use Rattle.buffers.specs.Answers.{refusedNumber}
 
 -- 16 at the place of the first lent buffer that is too short: 1 the month's words, 2 the hints, 3 the answer; 3, the bytes are no call,
@@ -18,9 +18,11 @@ callNumber words hints answer call =
     else refusedNumber 3
 
 -- The month's words, the hints, the answer's words and the call's bytes before; the words, the hints and the answer after; and the number.
--- For every list of calls whose month the words are, `Performs` says what they and the answer become. Of the hints only the number counts,
--- and what they hold after a call that was made is left free; a refused call leaves them, as it leaves the rest.
+-- For every list of calls whose month the words are, `Performs` says what they and the answer become, whatever the hints contain, and
+-- `LeavesHints` that a refused call leaves the hints, as it leaves the rest. What an accepted event or ask leaves in the first 2,048 bytes
+-- is free.
 pub record CallsMonth (words hints out bytes words′ hints′ out′ : List ℕ) (r : ℕ) : Type 0 where
   pub number : r ≡ callNumber (leb 2464 (length words)) (leb 2048 (length hints)) (leb 20 (length out)) (isCall bytes)
   pub done : r ≡ 20 → Performs words out bytes words′ out′
   pub kept : (r ≡ 20 → ⊥) → (words′ ≡ words) × (hints′ ≡ hints) × (out′ ≡ out)
+  pub leaves : LeavesHints words hints bytes hints′

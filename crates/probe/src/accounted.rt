@@ -18,12 +18,12 @@ fn lent(fill: u32) -> [u32; 4096]
 }
 
 fn times_line(times: Times) {
-    field(b" ", times.kept);
-    field(b" ", times.no_bid);
-    field(b" ", times.no_ask);
-    field(b" ", times.neither);
-    field(b" ", times.crossed);
-    field_line(b" ", times.wide);
+    field(b" ", times.kept.0);
+    field(b" ", times.no_bid.0);
+    field(b" ", times.no_ask.0);
+    field(b" ", times.neither.0);
+    field(b" ", times.crossed.0);
+    field_line(b" ", times.wide.0);
 }
 
 fn account_line(answer: AccountAnswer) {

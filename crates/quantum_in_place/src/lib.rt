@@ -1,6 +1,7 @@
 // An event on the words of an open quantum, in place (quantum/specs/Words has their layout): the table is changed where it stands, and the
 // clock's words are put back. A tick reads no order, and an amendment leaves the notes.
 ghost use mathlib.Core.Path.{_≡_};
+ghost use Prim.Native.Nat.{_<_};
 ghost use lib.ListN.{length};
 ghost use Rattle.rules.specs.declared.Event.{Event};
 ghost use Rattle.rules.specs.declared.Event.the-variants.{Tick};
@@ -13,7 +14,7 @@ use rules::Millis;
 // or not. Answers the refusal's number, or 0.
 fn step_front(words: &mut [u32], hints: &mut [u8], f: Fields) -> u32
     requires { ⌜ HoldsFront (now words) × (length (now words) ≡ 522) × (length (now hints) ≡ 2048) × SaysEvent f ⌝ }
-    ensures { λ r. ⌜ ((e : Event) → f ≡ fieldsFor e → StepsFront (now (words .entry)) e (now (words .exit)) r) ⌝ }
+    ensures { λ r. ⌜ ((e : Event) → f ≡ fieldsFor e → StepsFront (now (words .entry)) e (now (words .exit)) r) × (0 < r → now (hints .exit) ≡ now (hints .entry)) ⌝ }
 {
     let duty = clock::duty_in(&words[0..3]);
     let clock = clock::clock_in(&words[3..8]);
@@ -47,7 +48,7 @@ fn tick(words: &mut [u32], t: Millis) -> u32
 // An amendment, on all 598 words: no order comes or goes, so the notes stay.
 pub fn amend(words: &mut [u32], hints: &mut [u8], f: Fields) -> u32
     requires { ⌜ HoldsQuantum (now words) × (length (now words) ≡ 598) × (length (now hints) ≡ 2048) × SaysEvent f × (f .kind ≡ 3) ⌝ }
-    ensures { λ r. ⌜ ((e : Event) → f ≡ fieldsFor e → StepsWords (now (words .entry)) e (now (words .exit)) r) ⌝ }
+    ensures { λ r. ⌜ ((e : Event) → f ≡ fieldsFor e → StepsWords (now (words .entry)) e (now (words .exit)) r) × (0 < r → now (hints .exit) ≡ now (hints .entry)) ⌝ }
 {
     step_front(&mut words[0..522], hints, f)
 }
@@ -55,7 +56,7 @@ pub fn amend(words: &mut [u32], hints: &mut [u8], f: Fields) -> u32
 // Any event, on all 598 words: the notes follow one that is taken.
 fn step_noted(words: &mut [u32], hints: &mut [u8], f: Fields) -> u32
     requires { ⌜ HoldsQuantum (now words) × (length (now words) ≡ 598) × (length (now hints) ≡ 2048) × SaysEvent f ⌝ }
-    ensures { λ r. ⌜ ((e : Event) → f ≡ fieldsFor e → StepsWords (now (words .entry)) e (now (words .exit)) r) ⌝ }
+    ensures { λ r. ⌜ ((e : Event) → f ≡ fieldsFor e → StepsWords (now (words .entry)) e (now (words .exit)) r) × (0 < r → now (hints .exit) ≡ now (hints .entry)) ⌝ }
 {
     let had = table::count(&words[10..522]);
     let refusal = step_front(&mut words[0..522], hints, f);
@@ -70,7 +71,7 @@ fn step_noted(words: &mut [u32], hints: &mut [u8], f: Fields) -> u32
 // An event, by its kind: ticks and amendments need not look at the notes.
 pub fn step(words: &mut [u32], hints: &mut [u8], f: Fields) -> u32
     requires { ⌜ HoldsQuantum (now words) × (length (now words) ≡ 598) × (length (now hints) ≡ 2048) × SaysEvent f ⌝ }
-    ensures { λ r. ⌜ ((e : Event) → f ≡ fieldsFor e → StepsWords (now (words .entry)) e (now (words .exit)) r) ⌝ }
+    ensures { λ r. ⌜ ((e : Event) → f ≡ fieldsFor e → StepsWords (now (words .entry)) e (now (words .exit)) r) × (0 < r → now (hints .exit) ≡ now (hints .entry)) ⌝ }
 {
     let kind = f.kind;
     let t = f.t;

@@ -1,35 +1,35 @@
 -- The best quote of some orders is that of the best key in their columns, and what the search finds and counts in the columns is what
 -- document 02 says of the orders. Assumes nothing.
-use Prim.Native.Nat.{ℕ, zero, suc, _+_, _≤_, _<_, max}
+use Prim.Native.Nat.{ℕ, _+_, _≤_, max}
 use native.Mathlib.Omega.{arith}
-use mathlib.Core.Path.{_≡_, refl, sym, ap, _∙_, subst}
+use mathlib.Core.Path.{_≡_, refl, sym, ap, _∙_}
 use mathlib.Core.Logic.{_⊎_, inl, inr}
-use mathlib.Core.List.{List, [], _∷_, _++_, map, map-append, append-assoc, List·Memᴰ, List·Memᴰ·head, List·Memᴰ·tail, Memᴰ·append-left, Memᴰ·append-right}
-use mathlib.Core.Bool.{Bool, true, false, not, _&&_}
-use borrow.Author.Tests.{ltb-true, ltb-false, leb-true, leb-false, lt-ltb, le-ltb, lt-leb}
+use mathlib.Core.List.{List, [], _∷_, _++_, map, map-append, List·Memᴰ, List·Memᴰ·head, List·Memᴰ·tail, List·Memᴰ·append-cases, Memᴰ·append-left}
+use mathlib.Core.Bool.{Bool, true, false, not}
+use borrow.Author.Tests.{leb-true, leb-false, lt-ltb, le-ltb, lt-leb}
 use lib.Dec.{leb, ltb}
 use lib.IntN.{ℤ}
-use lib.ListN.{length, getD, take, replicate, length-append, length-map, length-replicate}
-use lib.Seq.{take-length, take-at, getD-at, append-snoc}
+use lib.ListN.{length, replicate, length-map}
+use lib.Seq.{take-length}
 use Rattle.rules.specs.declared.Side.{Side}
-use Rattle.rules.specs.declared.Quote.{Quote}
 use Rattle.rules.specs.declared.Quote.the-variants.{At}
 use Rattle.rules.specs.declared.Order.{Order}
-use Rattle.rules.specs.Lists.{if_then_else_, filter, any, count}
+use Rattle.rules.specs.Lists.{if_then_else_, filter, any}
 use Rattle.rules.specs.Units.{goodPrice}
 use Rattle.rules.specs.Quotes.{same, inDepth, volumeOf, depth, qualifies, better, lead, best}
-use Rattle.rules.specs.Search.{beats, matched, addsUp, sumsAfter, sumsOf}
+use Rattle.rules.specs.Search.{matched, addsUp, sumsAfter}
 use Rattle.rules.proofs.Lists.{filter-filter, kept-in}
 use Rattle.rules.proofs.Best.{depth-append, depth-one, sided, one-side}
-use Rattle.rules.proofs.Counting.{count-stretch}
 use Rattle.numbers.proofs.Greatest.{leb-max}
 use Rattle.quote.specs.declared.Searched.{Searched}
-use Rattle.prices.specs.Keys.{keyOf, priceAt, keyIn, quoteKey, quoteAt}
-use Rattle.quote.specs.Levels.{held, enough, greatest, bestKey, foundBy, triedBy, shortBy, depthFrom}
-use Rattle.quote.specs.Searches.{ColumnsOf, MayStart, Finds}
-use Rattle.prices.proofs.Keys.{key-least, key-most, key-order, key-price, good-price, key-quote, quote-key, better-at}
-use Rattle.quote.proofs.Levels.{held-blanks, enough-blanks, bestKey-blanks}
+use Rattle.prices.specs.Keys.{keyOf, keyIn, quoteKey, quoteAt}
+use Rattle.quote.specs.Levels.{held, enough, greatest, bestKey, foundBy, shortBy, depthFrom}
+use Rattle.quote.specs.Sums.{foundWith, foundIn, keySums}
+use Rattle.quote.specs.Searches.{ColumnsOf, OrdersOf, Finds}
+use Rattle.prices.proofs.Keys.{key-least, key-most, key-order, key-quote, quote-key, better-at}
+use Rattle.quote.proofs.Levels.{enough-blanks, bestKey-blanks}
 use Rattle.quote.proofs.Short.{short-all}
+use Rattle.quote.proofs.Sums.{found-is, found-append, sums-blanks}
 
 -- orders of prices in their range, and all of one side
 abbrev pub Good : List Order → Type 0
@@ -67,10 +67,10 @@ depth-held s p g (x ∷ xs) h k =
     let rest = depth-held s p g xs (λ o m. h o (List·Memᴰ·tail m)) (λ o m. k o (List·Memᴰ·tail m)) in
     depth-append s p (x ∷ []) xs ∙ rw (depth-one s p x, one, rest) refl
 
-qualifies-key : (s : Side) (m : ℕ) (xs : List Order) → Good xs → Sided s xs → (o : Order) → List·Memᴰ o xs
-    → qualifies s m xs o ≡ enough m (map (keyIn s) xs) (map volumeOf xs) (keyIn s o)
+qualifies-key : (s : Side) (m : ℕ) (xs : List Order) → Good xs → Sided s xs → (o : Order) → same s (o .side) ≡ true
+    → goodPrice (o .price .0) ≡ true → qualifies s m xs o ≡ enough m (map (keyIn s) xs) (map volumeOf xs) (keyIn s o)
 unfolding qualifies enough
-qualifies-key s m xs h k o i = rw (k o i, depth-held s (o .price .0) (h o i) xs h k) refl
+qualifies-key s m xs h k o i g = rw (i, depth-held s (o .price .0) g xs h k) refl
 
 pub greatest-most : (s : Side) (xs : List Order) → Good xs → greatest (map (keyIn s) xs) ≤ 2000000001
 unfolding greatest
@@ -94,7 +94,8 @@ bestOf s m xs = bestKey m (map (keyIn s) xs) (map volumeOf xs)
 
 module _ (s : Side) (m : ℕ) (xs : List Order) (good : Good xs) (one : Sided s xs) where
   kept : map (keyIn s) (filter (qualifies s m xs) xs) ≡ filter (enough m (map (keyIn s) xs) (map volumeOf xs)) (map (keyIn s) xs)
-  kept = filter-map (keyIn s) (qualifies s m xs) (enough m (map (keyIn s) xs) (map volumeOf xs)) xs (qualifies-key s m xs good one)
+  kept = filter-map (keyIn s) (qualifies s m xs) (enough m (map (keyIn s) xs) (map volumeOf xs)) xs
+      (λ o i. qualifies-key s m xs good one o (one o i) (good o i))
 
   kept-good : Good (filter (qualifies s m xs) xs)
   kept-good o i = good o (kept-in (qualifies s m xs) xs i .0)
@@ -132,21 +133,6 @@ opposite a b = go (leb b a) refl
     go true e = sym (le-ltb a b (leb-true b a e))
     go false e = sym (lt-ltb a b (leb-false b a e))
 
-ltb-max : (a b k : ℕ) → ltb a k && not (leb k b) ≡ ltb (max a b) k
-ltb-max a b k = go (ltb a k) (leb k b) refl refl
-  where
-    go : (t u : Bool) → ltb a k ≡ t → leb k b ≡ u → t && not u ≡ ltb (max a b) k
-    go true true e f = sym (le-ltb (max a b) k (omega (arith, leb-true k b f)))
-    go true false e f = sym (lt-ltb (max a b) k (omega (arith, ltb-true a k e, leb-false k b f)))
-    go false u e f = sym (le-ltb (max a b) k (omega (arith, ltb-false a k e)))
-
--- a price is better than a quote: its key is greater
-beats-key : (s : Side) (p : ℤ) → goodPrice p ≡ true → (a : ℕ) → a ≤ 2000000001 → beats s p (quoteAt s a) ≡ ltb a (keyOf s p)
-beats-key s p g zero h = sym (lt-ltb 0 (keyOf s p) (key-least s p g))
-beats-key s p g (suc a) h =
-    rw (key-order s (priceAt s (suc a)) p (good-price s (suc a) (omega arith) h) g, key-price s (suc a) (omega arith) h)
-    (opposite (suc a) (keyOf s p))
-
 -- one of the prices is as good: the greatest key is as great
 any-key : (s : Side) (o : Order) → goodPrice (o .price .0) ≡ true → (xs : List Order) → Good xs
     → any (matched s o) xs ≡ leb (keyIn s o) (greatest (map (keyIn s) xs))
@@ -156,65 +142,61 @@ any-key s o g (x ∷ xs) h =
     rw (key-order s (x .price .0) (o .price .0) (h x (List·Memᴰ·head refl)) g, any-key s o g xs (λ y m. h y (List·Memᴰ·tail m)))
     (sym (leb-max (keyIn s o) (keyIn s x) (greatest (map (keyIn s) xs))))
 
--- an order adds up: its key is greater than what was found before it
-adds-key : (s : Side) (m a : ℕ) → a ≤ 2000000001 → (all before : List Order) (o : Order) → Good all → Sided s all
-    → ((x : Order) → List·Memᴰ x before → List·Memᴰ x all) → List·Memᴰ o all
-    → addsUp s m (quoteAt s a) all before o
-    ≡ ltb (max a (greatest (filter (enough m (map (keyIn s) all) (map volumeOf all)) (map (keyIn s) before)))) (keyIn s o)
-unfolding addsUp
-adds-key s m a h all before o good one of i =
-    let ok = qualifies s m all in
-    let t = enough m (map (keyIn s) all) (map volumeOf all) in
-    let there : map (keyIn s) (filter ok before) ≡ filter t (map (keyIn s) before) =
-    filter-map (keyIn s) ok t before (λ x k. qualifies-key s m all good one x (of x k)) in
-    rw (
-      one o i,
-      beats-key s (o .price .0) (good o i) a h,
-      any-key s o (good o i) (filter ok before) (λ x k. good x (of x (kept-in ok before k .0))),
-      there,
-    )
-    (ltb-max a (greatest (filter t (map (keyIn s) before))) (keyIn s o))
+-- orders of the side, in lists that follow one another
+pub orders-append : (s : Side) (xs ys : List Order) → OrdersOf s xs → OrdersOf s ys → OrdersOf s (xs ++ ys)
+orders-append s xs ys left right =
+    record {
+      sided = λ o m. sided-of o (List·Memᴰ·append-cases xs m);
+      prices = λ o m. price-of o (List·Memᴰ·append-cases xs m);
+    }
+  where
+    sided-of : (o : Order) → List·Memᴰ o xs ⊎ List·Memᴰ o ys → same s (o .side) ≡ true
+    sided-of o (inl m) = left .sided o m
+    sided-of o (inr m) = right .sided o m
 
--- a count that goes through the orders one by one
-module _ (s : Side) (m : ℕ) (start : Quote) (all : List Order) (test : ℕ → Bool)
-    (told : (before : List Order) (o : Order) (rest : List Order) → before ++ o ∷ rest ≡ all → test (length before) ≡ addsUp s m start all before o) where
-  sums-count : (before rest : List Order) → before ++ rest ≡ all
-      → count test (length before) + sumsAfter s m start all before rest ≡ count test (length before + length rest)
-  unfolding sumsAfter count
-  sums-count before [] e =
-      let to : length before + 0 ≡ length before = omega arith in
-      rw to (omega arith)
-  sums-count before (o ∷ rest) e =
-      let longer : length (before ++ (o ∷ [])) ≡ suc (length before) = omega (arith, length-append before (o ∷ [])) in
-      let next = sums-count (before ++ (o ∷ [])) rest (append-snoc before o rest ∙ e) in
-      let to : length before + suc (length rest) ≡ suc (length before) + length rest = omega arith in
-      rw (to, ← told before o rest e) (step (length (before ++ (o ∷ []))) longer next)
-    where
-      step : (n : ℕ) → n ≡ suc (length before)
-          → count test n + sumsAfter s m start all (before ++ (o ∷ [])) rest ≡ count test (n + length rest)
-          → count test (length before) + ((if test (length before) then 1 else 0) + sumsAfter s m start all (before ++ (o ∷ [])) rest)
-          ≡ count test (suc (length before) + length rest)
-      step n l r = omega (arith, rw l at r)
+    price-of : (o : Order) → List·Memᴰ o xs ⊎ List·Memᴰ o ys → goodPrice (o .price .0) ≡ true
+    price-of o (inl m) = left .prices o m
+    price-of o (inr m) = right .prices o m
 
-  -- all of them
-  counted : sumsOf s m start all ≡ count test (length all)
-  unfolding sumsOf count
-  counted =
-      let to : 0 + length all ≡ length all = omega arith in
-      let r : count test 0 + sumsAfter s m start all [] all ≡ count test (0 + length all) = sums-count [] all refl in
-      omega (arith, rw to at r)
+pub orders-part : (s : Side) (xs ys : List Order) → OrdersOf s xs → ((o : Order) → List·Memᴰ o ys → List·Memᴰ o xs) → OrdersOf s ys
+orders-part s xs ys of there = record { sided = λ o m. of .sided o (there o m); prices = λ o m. of .prices o (there o m) }
 
--- ---- the columns of orders, blanks behind them
+first-of : (x : Order) (xs : List Order) (o : Order) → List·Memᴰ o (x ∷ []) → List·Memᴰ o (x ∷ xs)
+first-of x xs o m = Memᴰ·append-left xs m
 
-zeros : (n j : ℕ) → _≡_ {A = ℕ} (getD (replicate n 0) j 0) 0
-zeros zero j = refl
-zeros (suc n) zero = refl
-zeros (suc n) (suc j) = zeros n j
+-- W3's number of some candidates, by all orders of the side, is that of their keys
+module _ (s : Side) (m : ℕ) (all : List Order) (good : Good all) (one : Sided s all) where
+  abbrev enoughOf : ℕ → Bool
+  enoughOf = enough m (map (keyIn s) all) (map volumeOf all)
 
-getD-blank : (xs : List ℕ) (n j : ℕ) → length xs ≤ j → getD (xs ++ replicate n 0) j 0 ≡ 0
-getD-blank [] n j h = zeros n j
-getD-blank (x ∷ xs) n zero h = absurd (omega (arith, h))
-getD-blank (x ∷ xs) n (suc j) h = getD-blank xs n j (omega (arith, h))
+  -- an order adds up: its key is better than what was found before it
+  adds-key : (before : List Order) (o : Order) → OrdersOf s before → same s (o .side) ≡ true → goodPrice (o .price .0) ≡ true
+      → addsUp s m all before o ≡ ltb (foundIn enoughOf 0 (map (keyIn s) before)) (keyIn s o)
+  unfolding addsUp
+  adds-key before o of i g =
+      let ok = qualifies s m all in
+      let there : map (keyIn s) (filter ok before) ≡ filter enoughOf (map (keyIn s) before) =
+      filter-map (keyIn s) ok enoughOf before (λ x k. qualifies-key s m all good one x (of .sided x k) (of .prices x k)) in
+      let found : foundIn enoughOf 0 (map (keyIn s) before) ≡ greatest (filter enoughOf (map (keyIn s) before)) =
+      omega (arith, found-is enoughOf 0 (map (keyIn s) before)) in
+      rw (i, any-key s o g (filter ok before) (λ x k. of .prices x (kept-in ok before k .0)), there, found)
+      (opposite (greatest (filter enoughOf (map (keyIn s) before))) (keyIn s o))
+
+  sums-keys : (before candidates : List Order) → OrdersOf s before → OrdersOf s candidates
+      → sumsAfter s m all before candidates ≡ keySums enoughOf (foundIn enoughOf 0 (map (keyIn s) before)) (map (keyIn s) candidates)
+  unfolding sumsAfter foundIn keySums
+  sums-keys before [] of those = refl
+  sums-keys before (o ∷ os) of those =
+      let head = List·Memᴰ·head refl in
+      let t : addsUp s m all before o ≡ ltb (foundIn enoughOf 0 (map (keyIn s) before)) (keyIn s o) =
+      adds-key before o of (those .sided o head) (those .prices o head) in
+      let rest = sums-keys (before ++ (o ∷ [])) os (orders-append s before (o ∷ []) of (orders-part s (o ∷ os) (o ∷ []) those (first-of o os)))
+      (orders-part s (o ∷ os) os those (λ x m. List·Memᴰ·tail m)) in
+      let onward : foundIn enoughOf 0 (map (keyIn s) (before ++ (o ∷ []))) ≡ foundWith enoughOf (foundIn enoughOf 0 (map (keyIn s) before)) (keyIn s o) =
+      ap (foundIn enoughOf 0) (map-append (keyIn s) before (o ∷ [])) ∙ found-append enoughOf 0 (map (keyIn s) before) (keyIn s o ∷ []) in
+      λ i. (if t i then 1 else 0) + (rest ∙ ap (λ (f : ℕ). keySums enoughOf f (map (keyIn s) os)) onward) i
+
+-- ---- the columns of orders, blanks after them
 
 module _ (s : Side) (orders : List Order) (good : Good orders) (one : Sided s orders) (n m a : ℕ) (most : a ≤ 2000000001) where
   abbrev columnK : List ℕ
@@ -233,36 +215,32 @@ module _ (s : Side) (orders : List Order) (good : Good orders) (one : Sided s or
       (ap (λ (k : ℕ). quoteAt s (max a k)) (bestKey-blanks (map (keyIn s) orders) (map volumeOf orders) even n m)
       ∙ sym (better-at s a (bestOf s m orders) most (side-most s m orders good one)))
 
-  told : (before : List Order) (o : Order) (rest : List Order) → before ++ o ∷ rest ≡ orders
-      → ltb (foundBy a m columnK columnV (length before)) (getD columnK (length before) 0) ≡ addsUp s m (quoteAt s a) orders before o
-  told before o rest e =
-      let front = map (keyIn s) before in
-      let behind = map (keyIn s) rest ++ replicate n 0 in
-      let shape : columnK ≡ front ++ keyIn s o ∷ behind =
-      ap (λ (l : List Order). map (keyIn s) l ++ replicate n 0) (sym e)
-      ∙ rw (map-append (keyIn s) before (o ∷ rest)) (append-assoc front (keyIn s o ∷ map (keyIn s) rest) (replicate n 0)) in
-      let long = length-map before (keyIn s) in
-      let first : take (length before) columnK ≡ front = ap (take (length before)) shape ∙ take-at front (keyIn s o ∷ behind) (length before) long in
-      let at : getD columnK (length before) 0 ≡ keyIn s o =
-      ap (λ (l : List ℕ). getD l (length before) 0) shape ∙ getD-at front (keyIn s o) behind 0 (length before) long in
-      let of : (x : Order) → List·Memᴰ x before → List·Memᴰ x orders = λ x k. subst (List·Memᴰ x) e (Memᴰ·append-left (o ∷ rest) k) in
-      let i : List·Memᴰ o orders = subst (List·Memᴰ o) e (Memᴰ·append-right before (List·Memᴰ·head refl)) in
-      rw (first, at, enough-blanks (map (keyIn s) orders) (map volumeOf orders) even n m)
-      (sym (adds-key s m a most orders before o good one of i))
+-- W3's number of some candidates in a side's columns
+module _ (side : Side) (minimum : ℕ) (orders : List Order) (ks vs : List ℕ) (c : ColumnsOf side orders ks vs) where
+  -- whether a key has enough, in the orders' own columns
+  enough-columns : enough minimum ks vs ≡ enough minimum (map (keyIn side) orders) (map volumeOf orders)
+  enough-columns =
+      (λ i. enough minimum (c .keys i) (c .volumes i))
+      ∙ enough-blanks (map (keyIn side) orders) (map volumeOf orders) (length-map orders (keyIn side) ∙ sym (length-map orders volumeOf)) (c .blanks) minimum
 
-  sums : triedBy a m columnK columnV (length columnK) ≡ sumsOf s m (quoteAt s a) orders
-  unfolding triedBy
-  sums =
-      let test : ℕ → Bool = λ (j : ℕ). ltb (foundBy a m columnK columnV j) (getD columnK j 0) in
-      let long : length columnK ≡ length orders + n =
-      omega (arith, length-append (map (keyIn s) orders) (replicate n 0), length-map orders (keyIn s), length-replicate {A = ℕ} n 0) in
-      let none : (j : ℕ) → length orders ≤ j → j < length orders + n → test j ≡ false = λ j l u.
-      rw (getD-blank (map (keyIn s) orders) n j (omega (arith, l, length-map orders (keyIn s)))) (le-ltb (foundBy a m columnK columnV j) 0 (omega arith)) in
-      let stops : count test (length orders + n) ≡ count test (length orders) + 0 = count-stretch test (length orders) n false none in
-      ap (count test) long ∙ omega (arith, stops, counted s m (quoteAt s a) orders test told)
+  pub after-sums : (before candidates : List Order) → OrdersOf side before → OrdersOf side candidates
+      → sumsAfter side minimum orders before candidates
+      ≡ keySums (enough minimum ks vs) (foundIn (enough minimum ks vs) 0 (map (keyIn side) before)) (map (keyIn side) candidates)
+  after-sums before candidates of those =
+      sums-keys side minimum orders (c .prices) (c .sided) before candidates of those
+      ∙ ap (λ (q : ℕ → Bool). keySums q (foundIn q 0 (map (keyIn side) before)) (map (keyIn side) candidates)) (sym enough-columns)
+
+  -- .. and where they are all orders: the keys of the columns, from what was found before
+  pub column-sums : (before : List Order) → OrdersOf side before
+      → sumsAfter side minimum orders before orders ≡ keySums (enough minimum ks vs) (foundIn (enough minimum ks vs) 0 (map (keyIn side) before)) ks
+  column-sums before of =
+      let q = enough minimum ks vs in
+      let start = foundIn q 0 (map (keyIn side) before) in
+      after-sums before orders of (record { sided = c .sided; prices = c .prices })
+      ∙ sym (ap (keySums q start) (c .keys) ∙ sums-blanks q start (map (keyIn side) orders) (c .blanks))
 
 pub finds : (side : Side) (ks vs : List ℕ) (start minimum : ℕ) (r : Searched) → start ≤ 2000000001
-    → r .quote ≡ quoteAt side (foundBy start minimum ks vs (length ks)) → r .sums ≡ triedBy start minimum ks vs (length ks)
+    → r .quote ≡ quoteAt side (foundBy start minimum ks vs (length ks)) → r .sums ≡ keySums (enough minimum ks vs) start ks
     → r .before ≡ shortBy start minimum ks vs (length ks)
     → r .depth ≡ depthFrom start (foundBy start minimum ks vs (length ks)) ks vs
     → Finds side ks vs start minimum r
@@ -271,21 +249,8 @@ finds side ks vs start minimum r most e f b d =
       found = e;
       before = b ∙ short-all start minimum ks vs;
       depth = d;
+      sums = f;
       quote = λ orders c. e ∙ rw (c .keys, c .volumes) (found side orders (c .prices) (c .sided) (c .blanks) minimum start most);
-      sums = λ orders c q. f ∙ rw (c .keys, c .volumes) (sums side orders (c .prices) (c .sided) (c .blanks) minimum start most);
+      sums-of =
+          λ orders before c of g. f ∙ ap (λ (n : ℕ). keySums (enough minimum ks vs) n ks) g ∙ sym (column-sums side minimum orders ks vs c before of);
     }
-
--- a price with enough at it or better may be started from, as its quote
-pub may-start : (side : Side) (minimum : ℕ) (orders : List Order) (ks vs : List ℕ) → ColumnsOf side orders ks vs → (start : ℕ) → start ≤ 2000000001
-    → (start ≡ 0) ⊎ (minimum ≤ held (leb start) ks vs) → MayStart side minimum orders (quoteAt side start)
-may-start side minimum orders ks vs c zero h q = tt
-may-start side minimum orders ks vs c (suc k) h (inl e) = absurd (omega (arith, e))
-may-start side minimum orders ks vs c (suc k) h (inr l) =
-    let p = priceAt side (suc k) in
-    let good = good-price side (suc k) (omega arith) h in
-    let same : depth side p orders ≡ held (leb (suc k)) ks vs =
-    depth-held side p good orders (c .prices) (c .sided)
-    ∙ ap (λ (n : ℕ). held (leb n) (map (keyIn side) orders) (map volumeOf orders)) (key-price side (suc k) (omega arith) h)
-    ∙ sym (held-blanks (map (keyIn side) orders) (map volumeOf orders) (length-map orders (keyIn side) ∙ sym (length-map orders volumeOf)) (c .blanks) (leb (suc k)))
-    ∙ (λ i. held (leb (suc k)) (sym (c .keys) i) (sym (c .volumes) i)) in
-    omega (arith, same, l)

@@ -112,7 +112,7 @@ greatest-append [] ys = omega arith
 greatest-append (x ∷ xs) ys = omega (arith, greatest-append xs ys)
 
 -- keys of 0 add nothing to the greatest
-greatest-zeros : (t : ℕ → Bool) (n : ℕ) → greatest (filter t (replicate n 0)) ≡ 0
+pub greatest-zeros : (t : ℕ → Bool) (n : ℕ) → greatest (filter t (replicate n 0)) ≡ 0
 unfolding greatest filter
 greatest-zeros t zero = refl
 greatest-zeros t (suc n) = go (t 0) (greatest-zeros t n)

@@ -1,5 +1,5 @@
--- A loop over columns, one step further: what the contracts at the keys that pass come to, the best key found, and the number of keys
--- tried. Assumes nothing.
+-- A loop over columns, one step further: what the contracts at the keys that pass come to, the best key found, and for how many keys
+-- volumes were added up. Assumes nothing.
 use Prim.Native.Nat.{ℕ, zero, suc, _+_, _≤_, _<_, max}
 use native.Mathlib.Omega.{arith}
 use native.Mathlib.Numerals.{add-one}
@@ -10,10 +10,12 @@ use borrow.Author.Tests.{lt-ltb, le-ltb}
 use lib.Dec.{ltb}
 use lib.ListN.{length, getD, take}
 use lib.Seq.{take-suc, take-length}
-use Rattle.rules.specs.Lists.{if_then_else_, sum, filter, count}
+use Rattle.rules.specs.Lists.{if_then_else_, sum, filter}
 use Rattle.rules.proofs.Lists.{filter-append, filter-one}
-use Rattle.quote.specs.Levels.{held, enough, greatest, foundBy, triedBy}
+use Rattle.quote.specs.Levels.{held, enough, greatest, foundBy}
+use Rattle.quote.specs.Sums.{keySums}
 use Rattle.quote.proofs.Levels.{held-most, greatest-append}
+use Rattle.quote.proofs.Sums.{sums-next}
 
 -- ---- the contracts at the keys that pass
 
@@ -96,24 +98,20 @@ module _ (start minimum : ℕ) (ks vs : List ℕ) (i f : ℕ) (more : i < length
           let next : foundBy start minimum ks vs (suc i) ≡ max (foundBy start minimum ks vs i) 0 = found-suc start minimum ks vs i false more e in
           omega arith
 
--- ---- the keys tried
+-- ---- the keys that were added up
 
-tried-suc : (start minimum : ℕ) (ks vs : List ℕ) (i : ℕ) (b : Bool) → ltb (foundBy start minimum ks vs i) (getD ks i 0) ≡ b
-    → triedBy start minimum ks vs (suc i) ≡ triedBy start minimum ks vs i + (if b then 1 else 0)
-unfolding triedBy count
-tried-suc start minimum ks vs i b e = ap (λ (c : Bool). triedBy start minimum ks vs i + (if c then 1 else 0)) e
+module _ (start minimum : ℕ) (ks vs : List ℕ) (i f n : ℕ) (more : i < length ks) (before : f ≡ foundBy start minimum ks vs i)
+    (sums : n ≡ keySums (enough minimum ks vs) start (take i ks)) where
+  sums-by : (b : Bool) → ltb f (getD ks i 0) ≡ b → keySums (enough minimum ks vs) start (take (suc i) ks) ≡ n + (if b then 1 else 0)
+  sums-by b e =
+      sums-next (enough minimum ks vs) start ks i more
+      ∙ (λ j. sym sums j + (if (ap (λ (g : ℕ). ltb g (getD ks i 0)) (sym before) ∙ e) j then 1 else 0))
 
-module _ (start minimum : ℕ) (ks vs : List ℕ) (i f n : ℕ) (before : f ≡ foundBy start minimum ks vs i) (tried : n ≡ triedBy start minimum ks vs i) where
-  pub tried-one : f < getD ks i 0 → n + 1 ≡ triedBy start minimum ks vs (i + 1)
-  tried-one h =
+  pub sums-better : f < getD ks i 0 → n + 1 ≡ keySums (enough minimum ks vs) start (take (i + 1) ks)
+  sums-better h = rw (add-one i) (sym (sums-by true (lt-ltb f (getD ks i 0) h)))
+
+  pub sums-worse : getD ks i 0 ≤ f → n ≡ keySums (enough minimum ks vs) start (take (i + 1) ks)
+  sums-worse h =
       rw (add-one i)
-      (let next : triedBy start minimum ks vs (suc i) ≡ triedBy start minimum ks vs i + 1 =
-      tried-suc start minimum ks vs i true (ap (λ (g : ℕ). ltb g (getD ks i 0)) (sym before) ∙ lt-ltb f (getD ks i 0) h) in
-      omega arith)
-
-  pub tried-none : getD ks i 0 ≤ f → n ≡ triedBy start minimum ks vs (i + 1)
-  tried-none h =
-      rw add-one
-      (let next : triedBy start minimum ks vs (suc i) ≡ triedBy start minimum ks vs i + 0 =
-      tried-suc start minimum ks vs i false (ap (λ (g : ℕ). ltb g (getD ks i 0)) (sym before) ∙ le-ltb f (getD ks i 0) h) in
-      omega arith)
+      (let next : keySums (enough minimum ks vs) start (take (suc i) ks) ≡ n + 0 = sums-by false (le-ltb f (getD ks i 0) h) in
+      omega (arith, next))

@@ -6,7 +6,7 @@ use mathlib.Core.List.{List, [], _∷_, map}
 use mathlib.Core.Bool.{Bool, not, _&&_, _||_}
 use lib.Dec.{leb, ltb, eqb}
 use lib.ListN.{length, getD, take}
-use Rattle.rules.specs.Lists.{if_then_else_, sum, filter, count}
+use Rattle.rules.specs.Lists.{if_then_else_, sum, filter}
 use Rattle.quote.specs.declared.Level.{Level}
 
 -- the contracts at the keys that pass
@@ -56,10 +56,6 @@ pub record Searchable (ks vs : List ℕ) (start : ℕ) : Type 0 where
 -- the best key found among the first i, from a start
 abbrev pub foundBy : ℕ → ℕ → List ℕ → List ℕ → ℕ → ℕ
 foundBy start minimum ks vs i = max start (greatest (filter (enough minimum ks vs) (take i ks)))
-
--- how many of the first i were better than what was found before them
-unfoldable pub triedBy : ℕ → ℕ → List ℕ → List ℕ → ℕ → ℕ
-triedBy start minimum ks vs i = count (λ (j : ℕ). ltb (foundBy start minimum ks vs j) (getD ks j 0)) i
 
 -- what a key better than the start holds with those better than it, where it is not enough
 unfoldable pub shortAt : ℕ → ℕ → List ℕ → List ℕ → ℕ → ℕ

@@ -1,4 +1,5 @@
 -- A side's depth in columns of keys.
 pub mod Levels
 pub mod Searches
-pub mod Tries
+-- W3's number in keys.
+pub mod Sums

@@ -3,3 +3,4 @@ pub mod OldMonths
 pub mod OldCharges
 pub mod DayOrder
 pub mod AsCalls
+pub mod Outlooks

@@ -8,3 +8,5 @@ pub mod OldCharges
 pub mod DayOrder
 -- document 02, W11: messages stand in a list as their calls
 pub mod AsCalls
+-- our own call, outlook, is none of the papers'
+pub mod Outlooks

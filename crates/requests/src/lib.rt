@@ -1,3 +1,3 @@
 // What the requests of document 02 claim of the plain book: old months in tenths of a percent (W6), larger charges (W8), days filled in
-// another order (W9), messages as the calls that they stand for (W11). The claims are in specs/, their proofs in proofs/; there is nothing
-// here to run.
+// another order (W9), messages as the calls that they stand for (W11); and that our own call, outlook, changes nothing. The claims are in
+// specs/, their proofs in proofs/; there is nothing here to run.

@@ -1,4 +1,4 @@
--- The claims of the requests about what the month answers.
+-- The claims of the requests about what the list runner writes.
 -- document 02, W6: half percents, old months
 pub mod OldMonths
 -- document 02, W8: larger charges

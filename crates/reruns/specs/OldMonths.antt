@@ -1,35 +1,33 @@
--- Document 02, W6, of what the month answers: "In old months whose rows all have p at most 79, p is multiplied by ten first, and they must give the
--- verdicts and fee that the meter gave for the same calls just before this ticket".
-use Prim.Native.Nat.{ℕ}
+-- Document 02, W6, of what the list runner writes: "In old months whose rows all have p at most 79, p is multiplied by ten first, and they must give
+-- the verdicts and fee that the meter gave for the same calls just before this ticket".
+use Prim.Native.Nat.{ℕ, _*_}
 use mathlib.Core.Path.{_≡_}
-use mathlib.Core.List.{List, _++_}
+use mathlib.Core.List.{List, [], _∷_, _++_, map}
 use lib.ListN.{length, drop}
-use Rattle.rules.specs.Answers.{Outcome, Reply, shownLooked, shownReport}
+use Rattle.rules.specs.Answers.{shownReport}
 use Rattle.rules.specs.Calls.{Call, freshBook}
 use Rattle.rules.specs.Replies.{reportOf}
 use Rattle.rules.specs.Book.{answerOf, after}
 use Rattle.rules.specs.Calls as B
-use Rattle.rules.specs.Histories.{refusalsFrom}
+use Rattle.rules.specs.Histories.{refusalsFrom, answersFrom}
 use Rattle.requests.specs.Before.{chargeBefore, percents}
 use Rattle.requests.specs.OldMonths.{AtMost79, tenfold, tenfoldAnswer}
 use Rattle.requests.specs.OldCharges.{NotPast}
-use Rattle.month.specs.declared.Month.{Month}
-use Rattle.month.specs.declared.LookedAt.{LookedAt}
-use Rattle.month.specs.declared.Reported.{Reported}
-use Rattle.month.specs.Represents.{Answered}
-use Rattle.script.specs.declared.Ran.{Ran}
+use Rattle.answers.specs.Words.{answerWords}
+use Rattle.lists.specs.declared.Listed.{Listed}
+use Rattle.lists.specs.Listing.{listWords}
+use Rattle.lists.specs.Demand.{answerAt, refusalsIn, CallsRan}
 
--- The old list's calls, p multiplied by ten, have run from a fresh month: the outcomes and later answers are those of the book by the
--- terms of before, fed the old list; a cell looked at has ten times that p.
-pub record AsInPercents (old : List Call) (before behind : List ℕ) (ran : Ran) : Type 0 where
-  pub outcomes : behind ≡ refusalsFrom (percents chargeBefore) freshBook old ++ drop (length old) before
-  -- both quotes, kept time, failure counts and fee
-  pub report : (r : Reported) → Answered (ran .month) B.Report (r .month) (shownReport (r .answer))
-      → r .answer ≡ reportOf (percents chargeBefore) (after (percents chargeBefore) old)
-  -- any cell's verdict and weight, or the refusal's number
-  pub look : (day expiry quantum : ℕ) (r : LookedAt)
-      → Answered (ran .month) (B.Look day expiry quantum) (r .month) (shownLooked (r .answer))
-      → shownLooked (r .answer) ≡ tenfoldAnswer (answerOf (percents chargeBefore) (after (percents chargeBefore) old) (B.Look day expiry quantum))
-  -- any call with no A or P past the limit of before (W8)
-  pub answer : (c : Call) → AtMost79 c → NotPast chargeBefore c → (next : Month) (shown : Outcome Reply) → Answered (ran .month) (tenfold c) next shown
-      → shown ≡ tenfoldAnswer (answerOf (percents chargeBefore) (after (percents chargeBefore) old) c)
+-- The old list's calls, p multiplied by ten, have run from a fresh month: their answers, and what a further call is answered, are those of
+-- the book by the terms of before, fed the old list; a cell looked at has ten times that p.
+pub record AsInPercents (old : List Call) (before written : List ℕ) : Type 0 where
+  pub answers : written ≡ listWords (map tenfoldAnswer (answersFrom (percents chargeBefore) freshBook old)) ++ drop (20 * length old) before
+  pub refusals : refusalsIn (length old) written ≡ refusalsFrom (percents chargeBefore) freshBook old
+  -- any further call, a look at any cell among them, with no A or P past the limit of before (W8): what is written last where it follows
+  -- the list
+  pub next : (c : Call) → AtMost79 c → NotPast chargeBefore c → (bytes buffer longer : List ℕ) (r : Listed)
+      → CallsRan (map tenfold old ++ (tenfold c ∷ [])) bytes buffer longer r
+      → answerAt longer (length old) ≡ answerWords (tenfoldAnswer (answerOf (percents chargeBefore) (after (percents chargeBefore) old) c))
+  -- so a report: both quotes, kept time, failure counts and fee
+  pub report : (bytes buffer longer : List ℕ) (r : Listed) → CallsRan (map tenfold old ++ (B.Report ∷ [])) bytes buffer longer r
+      → answerAt longer (length old) ≡ answerWords (shownReport (reportOf (percents chargeBefore) (after (percents chargeBefore) old)))

@@ -1,5 +1,5 @@
 -- The plain book keeps its bounds after every list of calls, and an open quantum's events keep theirs. Assumes nothing.
-use Prim.Native.Nat.{ℕ, zero, suc, _%_, _≤_, _<_}
+use Prim.Native.Nat.{ℕ, zero, suc, _%_, _≤_}
 use native.Mathlib.Omega.{arith}
 use mathlib.Core.Path.{_≡_, refl, sym, ap, _∙_, subst}
 use mathlib.Core.Logic.{⊎-elim}
@@ -35,6 +35,7 @@ use Rattle.rules.proofs.Lists.{both, and}
 use Rattle.rules.proofs.Members.{getD-in, in-set, in-replicate}
 use Rattle.rules.proofs.Orders.{live-snoc, present-snoc, amended-price, amended-volume, lessened-price, lessened-volume, length-add, distinct-add, all-add, length-amend, distinct-amend, all-amend, length-cancel, distinct-cancel, in-cancel, length-deal, distinct-deal, all-deal}
 use Rattle.rules.proofs.Kept.{ordered-snoc, kept-le}
+pub use Rattle.rules.proofs.Places.{place-small, cell-small}
 use Rattle.rules.proofs.Refusals.{within-parts, TraderPasses, EventPasses, event-passes, SendPasses, InTurn, TurnPasses, message-turns, CallPasses, call-passes}
 
 -- ---- tests as numbers
@@ -128,16 +129,6 @@ pub read-bounds : (terms : Terms) (spread : SpreadRule) (row : Row) → goodRowF
 unfolding goodRowFor
 read-bounds terms (Settled sp) row e = read-part terms row (row .a) (row .b) (row-bounds terms row e)
 read-bounds terms (OfStrike s) row e = read-part terms row 0 0 (row-bounds terms (asRead (OfStrike s) row) e)
-
--- the cells' places
-pub place-small : (day expiry quantum : ℕ) → day ≤ 31 → expiry ≤ 2 → quantum ≤ 2 → placeOf day expiry quantum < 186
-place-small day expiry quantum d e q = omega arith
-
-pub cell-small : (day expiry quantum : ℕ) → goodCell day expiry quantum ≡ true → placeOf day expiry quantum < 186
-cell-small day expiry quantum h =
-    let h1 = both _ (goodQuantum quantum) h in
-    let h2 = both (within 1 31 day) (goodExpiry expiry) (h1 .0) in
-    place-small day expiry quantum (within-parts 1 31 day (h2 .0) .1) (within-parts 1 2 expiry (h2 .1) .1) (leb-true quantum 2 (h1 .1))
 
 -- ---- the live orders after an event that has passed
 

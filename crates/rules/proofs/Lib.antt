@@ -13,7 +13,9 @@ pub mod Kept
 pub mod States
 pub mod Lapses
 pub mod Weights
+pub mod Lowest
 pub mod Refusals
+pub mod Places
 pub mod Histories
 pub mod MessageCalls
 pub mod Bounds

@@ -28,7 +28,7 @@ from-digits : (w q r s a b c d : ℕ) → w ≡ 256 * q + a → q ≡ 256 * r + 
     → a + 256 * b + 65536 * c + 16777216 * d ≡ w
 from-digits w q r s a b c d h k l m = omega arith
 
-word-of-bytes : (w : ℕ) → Word w → w % 256 + 256 * (w / 256 % 256) + 65536 * (w / 65536 % 256) + 16777216 * (w / 16777216 % 256) ≡ w
+pub word-of-bytes : (w : ℕ) → Word w → w % 256 + 256 * (w / 256 % 256) + 65536 * (w / 65536 % 256) + 16777216 * (w / 16777216 % 256) ≡ w
 word-of-bytes w h =
     let p : w / 65536 ≡ w / 256 / 256 = omega arith in
     let q : w / 16777216 ≡ w / 65536 / 256 = omega arith in

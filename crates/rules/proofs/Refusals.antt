@@ -31,10 +31,12 @@ use Rattle.rules.specs.Messages as M
 use Rattle.rules.specs.MessageCalls.{messageIn, eventsAt, eventsBy, eventsIn}
 use Rattle.rules.specs.Calls.{Call, Open, Send, Message, Ask, Commit, Close, Drop, Charge, Withdraw, Look, Report, Outlook, Running, Idle, Quoting, Book, isOpen, amendOf}
 use Rattle.rules.specs.Causes.{Cause, cause, firstNumber, traderCauses, eventCauses, eventRefusal, sendCauses, otherSideIn, causesInTurn, callCauses, messageCauses, goodTicket, goodSettlement, goodSpreadRule, goodCharges, causes, refusalOf}
+use Rattle.rules.specs.Lowest.{Ascend}
 use Rattle.rules.specs.Changes.{changed}
 use Rattle.rules.specs.Replies.{replyOf}
 use Rattle.rules.specs.Book.{answerOf, stepBy, step}
 use Rattle.rules.proofs.Lists.{both, and}
+use Rattle.rules.proofs.Lowest.{event-ascends, send-ascends}
 
 -- ---- the lowest number
 
@@ -71,6 +73,10 @@ first-stops (c ∷ cs) ds j e = go (c .applies) e (first-stops cs ds j)
 -- no cause has the number 0
 abbrev pub Numbered : List Cause → Type 0
 Numbered cs = All (λ (c : Cause). c .number ≡ 0 → ⊥) cs
+
+numbered : (n : ℕ) (cs : List Cause) → Ascend n cs → Numbered cs
+numbered n [] a = tt
+numbered n (c ∷ cs) a = (λ e. omega (arith, a .0, e), numbered (c .number) cs (a .1))
 
 pub first-passes : (cs ds : List Cause) → firstNumber cs ≡ 0 → Numbered cs → firstNumber (cs ++ ds) ≡ firstNumber ds
 unfolding firstNumber
@@ -165,13 +171,6 @@ passes-trader orders (Deal t id volume) p =
     skip _ _ (ap not (p .known)) (skip _ _ (ap not (p .volume-good)) (skip _ _ (le-ltb (left id orders) (volume .0) (p .enough)) clear))
 passes-trader orders (Tick t) p = clear
 
-trader-numbered : (orders : List Order) (e : Event) → Numbered (traderCauses orders e)
-trader-numbered orders (Add t id side price volume) = (λ e. omega (arith, e), (λ e. omega (arith, e), (λ e. omega (arith, e), tt)))
-trader-numbered orders (Amend t id price volume) = (λ e. omega (arith, e), (λ e. omega (arith, e), tt))
-trader-numbered orders (Cancel t id) = (λ e. omega (arith, e), tt)
-trader-numbered orders (Deal t id volume) = (λ e. omega (arith, e), (λ e. omega (arith, e), (λ e. omega (arith, e), tt)))
-trader-numbered orders (Tick t) = tt
-
 pub record EventPasses (row : Row) (events : List Event) (e : Event) : Type 0 where
   pub onward : present events ≤ timeOf e
   pub inside : timeOf e ≤ row .length .0
@@ -211,9 +210,7 @@ passes-send Idle e p = absurd p
 passes-send (Quoting place row opening events) e p = passes-event row events e p
 
 pub send-numbered : (r : Running) (e : Event) → Numbered (sendCauses r e)
-unfolding eventCauses
-send-numbered Idle e = (λ z. omega (arith, z), tt)
-send-numbered (Quoting place row opening events) e = (λ z. omega (arith, z), (λ z. omega (arith, z), trader-numbered (live events) e))
+send-numbered r e = numbered 0 (sendCauses r e) (send-ascends r e)
 
 -- ---- events in turn, and a message's
 
@@ -223,8 +220,7 @@ InTurn row events [] = Unit
 InTurn row events (e ∷ es) = EventPasses row events e × InTurn row (events ++ (e ∷ [])) es
 
 event-numbered : (row : Row) (events : List Event) (e : Event) → Numbered (eventCauses row events e)
-unfolding eventCauses
-event-numbered row events e = (λ z. omega (arith, z), (λ z. omega (arith, z), trader-numbered (live events) e))
+event-numbered row events e = numbered 7 (eventCauses row events e) (event-ascends row events e)
 
 pub in-turn : (row : Row) (events es : List Event) → firstNumber (causesInTurn row events es) ≡ 0 → InTurn row events es
 unfolding causesInTurn eventRefusal

@@ -37,8 +37,8 @@ pub record Cause : Type 0 where
 abbrev pub cause : ℕ → Bool → Cause
 cause n b = record { number = n; applies = b }
 
--- "If any applies, the call is refused by the lowest number": the number of the first that applies, 0 where none does. Causes stand in the
--- order of their numbers; a message's (document 02, W11) in the order in which it is judged, 20 and 21 before 7
+-- "If any applies, the call is refused by the lowest number": the number of the first that applies, 0 where none does. The numbers of each list
+-- ascend (Lowest); a message's causes (document 02, W11) are in the order in which it is checked, 20 and 21 before 7
 unfoldable pub firstNumber : List Cause → ℕ
 firstNumber [] = 0
 firstNumber (c ∷ cs) = let rest = firstNumber cs in if c .applies then c .number else rest

@@ -6,6 +6,7 @@ pub mod Units
 -- "A row and a month"
 pub mod Rows
 pub mod Cells
+pub mod Places
 pub mod Orders
 -- "Best quote and kept time"
 pub mod Quotes
@@ -35,6 +36,7 @@ pub mod Messages
 pub mod MessageCalls
 pub mod Calls
 pub mod Causes
+pub mod Lowest
 pub mod Changes
 pub mod Replies
 pub mod Book

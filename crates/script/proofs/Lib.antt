@@ -1,7 +1,4 @@
--- Laws about lists of calls that run, by subject.
-pub mod Outcomes
+-- Laws about the calls of a list, by subject.
 pub mod Rows
 pub mod Performing
-pub mod Running
-pub mod Demand
 pub mod Playing

@@ -5,7 +5,7 @@ use native.Mathlib.Omega.{arith}
 use mathlib.Core.Path.{_≡_, refl, sym, ap, subst, _∙_}
 use mathlib.Core.List.{List, [], _∷_, _++_, append-assoc, append-nil}
 use lib.ListN.{length, take, drop}
-use lib.Seq.{take-length}
+use lib.Seq.{take-length, take-add}
 use Rattle.rules.specs.Terms.{paper}
 use Rattle.rules.specs.Calls.{Call}
 use Rattle.rules.specs.Book.{after}
@@ -16,7 +16,10 @@ use Rattle.blocks.specs.Kinds.{blockSize, callOf}
 use Rattle.blocks.specs.Reading.{callsOf, wordsRead}
 use Rattle.script.specs.Blocks.{Stepped}
 use Rattle.blocks.proofs.Loops.{Passed, at-start, next-call, one-more, all-calls, all-words}
-use Rattle.script.proofs.Running.{take-more}
+
+-- one more of a list, where it goes on with that element
+take-more : {A : Type 0} (l : List A) (k : ℕ) (a : A) (rest : List A) → drop k l ≡ a ∷ rest → take (k + 1) l ≡ take k l ++ (a ∷ [])
+take-more l k a rest e = take-add k 1 l ∙ ap (λ t. take k l ++ take 1 t) e
 
 -- so many calls are done on the month that was given
 pub record Underway (ws : List ℕ) (from month : Month) (at : ℕ) : Type 0 where

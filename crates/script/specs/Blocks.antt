@@ -48,15 +48,6 @@ shownOf (accepted (report r)) = record { outcome = O.Reported; report = r }
 shownOf (accepted (outlook o)) = showing (O.Outlook o)
 shownOf (refused n) = showing (O.Refused n)
 
--- 0 for an accepted call, else the refusal's number
-abbrev pub outcomeNumber : Outcome → ℕ
-outcomeNumber O.Accepted = 0
-outcomeNumber (O.Refused n) = n
-outcomeNumber (O.Found v) = 0
-outcomeNumber (O.Asked p) = 0
-outcomeNumber O.Reported = 0
-outcomeNumber (O.Outlook o) = 0
-
 -- A call ran on the month m: for every list of calls that led to m, the month after it is the month of the longer list, and what is
 -- shown is what the plain book answers to the call after that list.
 pub record Performed (m : Month) (c : Call) (next : Month) (s : Shown) : Type 0 where

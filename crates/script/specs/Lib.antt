@@ -1,4 +1,3 @@
-pub mod Outcomes
+-- What a block shows and promises.
 pub mod Blocks
 pub mod Internal
-pub mod Demand

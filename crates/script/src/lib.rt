@@ -1,5 +1,5 @@
-// A list of calls run from a fresh month: the call that a block says, on the month (`block`), and the whole list (`run`). What a block
-// says is the codec's (`blocks`).
+// One step of a list of calls: the call that a block says, on the month by value (`block`). What a block says is the codec's (`blocks`); a
+// whole list runs by `lists::run`, and a list that comes in pieces by the program `replay`.
 ghost use mathlib.Core.Path.{_≡_};
 ghost use Prim.Native.Nat.{_≤_};
 ghost use lib.Dec.{eqb};
@@ -11,9 +11,8 @@ ghost use Rattle.words.specs.Bytes.{wordsIn};
 ghost use Rattle.blocks.specs.Kinds.{rowAt, startAt, messageAt};
 ghost use Rattle.blocks.specs.Decoded.{callWith};
 ghost use Rattle.script.specs.declared.Outcome.the-variants as O;
-ghost use Rattle.script.specs.Blocks.{blankReport, showing, shownOf, outcomeNumber, Performed, Stepped};
+ghost use Rattle.script.specs.Blocks.{blankReport, showing, shownOf, Performed, Stepped};
 ghost use Rattle.script.specs.Internal.{Tells};
-ghost use Rattle.script.specs.Demand.{ListAnswers};
 use blocks::Decoded;
 use month::AfterCall;
 use month::AfterOutlook;
@@ -55,14 +54,6 @@ pub struct Done {
     pub month: Month,
     pub next: usize,
     pub shown: Shown,
-}
-
-// What a list of calls hands back: the month, how many calls and words were read, and whether the outcomes fit the lent buffer.
-pub struct Ran {
-    pub month: Month,
-    pub calls: usize,
-    pub words: usize,
-    pub fits: bool,
 }
 
 // ---- what a call shows
@@ -124,20 +115,6 @@ fn outlook_shown(answer: OutlookAnswer) -> Outcome
     match answer {
         OutlookAnswer::Shown(outlook) => Outcome::Outlook(outlook),
         OutlookAnswer::Refused(r) => Outcome::Refused(rules::number(r)),
-    }
-}
-
-// 0 accepted, else the refusal's number.
-fn number(outcome: Outcome) -> u32
-    ensures { λ r. ⌜ r ≡ outcomeNumber outcome ⌝ }
-{
-    match outcome {
-        Outcome::Accepted => 0,
-        Outcome::Refused(n) => n,
-        Outcome::Found(_) => 0,
-        Outcome::Asked(_) => 0,
-        Outcome::Reported => 0,
-        Outcome::Outlook(_) => 0,
     }
 }
 
@@ -287,40 +264,5 @@ pub fn block(month: Month, bytes: &[u8], at: usize) -> Done
         Decoded::Send(e) => tell(month.send(e), next),
         Decoded::Message => tell(message(month, rest), next),
         _ => call(month, said, rest, next),
-    }
-}
-
-// A list of calls, each on the month that the one before handed back, from a fresh one; each call's outcome goes to the lent buffer.
-pub fn run(bytes: &[u8], outcomes: &mut [u32]) -> Ran
-    ensures { λ r. ⌜ ListAnswers (wordsIn (now (bytes .entry))) (now (outcomes .entry)) (now (outcomes .exit)) r ⌝ }
-{
-    let list = blocks::measure(bytes);
-    let calls = list.calls;
-    let read = list.words;
-    let mut month = Month::fresh();
-    if outcomes.len() < calls {
-        return Ran {
-            month,
-            calls,
-            words: read,
-            fits: false,
-        };
-    }
-    let mut at: usize = 0;
-    let mut k: usize = 0;
-    while k < calls {
-        let done = block(month, bytes, at);
-        let shown = done.shown;
-        let outcome = shown.outcome;
-        outcomes[k] = number(outcome);
-        month = done.month;
-        at = done.next;
-        k += 1;
-    }
-    Ran {
-        month,
-        calls,
-        words: read,
-        fits: true,
     }
 }

@@ -1,21 +1,19 @@
--- Sums made from the best order down, one order after the other, until they are enough: where they stop is the best key, and each keeps
--- W3's rule. Assumes nothing.
-use Prim.Native.Nat.{ℕ, zero, suc, _+_, _≤_, _<_}
+-- Volumes added up from the best order down until they are enough: where that stops is the best key. And W3's number of four orders.
+use Prim.Native.Nat.{ℕ, _+_, _≤_, _<_}
 use native.Mathlib.Omega.{arith}
-use mathlib.Core.Path.{_≡_, refl, sym, ap, _∙_, subst, fun-ext}
-use mathlib.Core.Bool.{Bool, true, false, _&&_, _||_}
+use mathlib.Core.Path.{_≡_, refl, sym, ap, _∙_, subst}
+use mathlib.Core.Bool.{Bool, true, false, _||_}
 use mathlib.Core.Logic.{_⊎_, inl, inr}
 use mathlib.Core.List.{List, [], _∷_}
 use borrow.Author.Tests.{leb-true, leb-false, ltb-true, ltb-false, eqb-true, eqb-false, le-leb, lt-leb, le-ltb, lt-ltb, eq-eqb}
 use lib.Dec.{leb, ltb, eqb}
-use lib.ListN.{length}
-use Rattle.rules.specs.Lists.{if_then_else_}
+use lib.ListN.{length, getD}
+use Rattle.rules.specs.Lists.{if_then_else_, howMany}
 use Rattle.quote.specs.declared.Level.{Level}
-use Rattle.quote.specs.Levels.{held, levelAt, isBest}
+use Rattle.quote.specs.Levels.{held, enough, bestKey, levelAt, isBest}
 use Rattle.quote.proofs.Levels.{best-level}
-use Rattle.quote.specs.Tries.{Try, made, Sound, inTurn, foundWith, foundAfter}
-use Rattle.small.specs.Internal.{keyIn, volumeIn, heldOne, heldAll, levelIn, four, Descending, Down}
-use Rattle.small.specs.declared.Found.{Found}
+use Rattle.quote.proofs.Sums.{countAt, downward-sums}
+use Rattle.small.specs.Internal.{keyIn, volumeIn, heldOne, heldAll, levelIn, four, Descending}
 use Rattle.small.specs.Small.{Finds}
 use Rattle.small.proofs.Orders.{one-most, one-all, one-none}
 
@@ -23,36 +21,10 @@ use Rattle.small.proofs.Orders.{one-most, one-all, one-none}
 abbrev pub next : ℕ → ℕ → ℕ → ℕ
 next minimum depth x = if ltb depth minimum then depth + volumeIn x else depth
 
--- whether the order is added up
-abbrev pub adds : ℕ → ℕ → ℕ → Bool
-adds minimum depth x = ltb depth minimum && ltb 0 x
-
 -- the order at which the depth is first enough, 0 where it never is
 abbrev pub stop : ℕ → ℕ → List ℕ → ℕ
 stop minimum depth [] = 0
 stop minimum depth (x ∷ xs) = if leb minimum (next minimum depth x) then x else stop minimum (next minimum depth x) xs
-
--- the sums
-abbrev pub sums : ℕ → ℕ → List ℕ → List Try
-sums minimum depth [] = []
-sums minimum depth (x ∷ xs) =
-    if adds minimum depth x then made (keyIn x) (next minimum depth x) ∷ sums minimum (next minimum depth x) xs
-    else sums minimum (next minimum depth x) xs
-
-sums-number : (minimum depth x : ℕ) (xs : List ℕ)
-    → length (sums minimum depth (x ∷ xs)) ≡ (if adds minimum depth x then 1 else 0) + length (sums minimum (next minimum depth x) xs)
-sums-number minimum depth x xs = go (adds minimum depth x)
-  where
-    go : (b : Bool)
-        → length (if b then made (keyIn x) (next minimum depth x) ∷ sums minimum (next minimum depth x) xs else sums minimum (next minimum depth x) xs)
-        ≡ (if b then 1 else 0) + length (sums minimum (next minimum depth x) xs)
-    go true = omega arith
-    go false = omega arith
-
--- where the depth is enough, nothing more is added up
-sums-none : (minimum depth : ℕ) (xs : List ℕ) → minimum ≤ depth → sums minimum depth xs ≡ []
-sums-none minimum depth [] h = refl
-sums-none minimum depth (x ∷ xs) h = rw (le-ltb depth minimum h) (sums-none minimum depth xs h)
 
 -- orders that follow one of this key, the best one first
 abbrev pub Behind : ℕ → List ℕ → Type 0
@@ -64,11 +36,6 @@ unfolding heldAll
 none-better k bound [] h b = refl
 none-better k bound (x ∷ xs) h b =
     omega (arith, one-none (ltb k) x (le-ltb k (keyIn x) (omega (arith, h, b .0))), none-better k (keyIn x) xs (omega (arith, h, b .0)) (b .1))
-
--- an order with some volume is no blank
-positive : (x : ℕ) → 1 ≤ volumeIn x → 0 < x
-positive zero h = absurd (omega (arith, h))
-positive (suc x) h = omega arith
 
 -- what was passed of all the orders: `passed t` of it passes a test, and all of it at keys up to the bound
 module _ (minimum : ℕ) (all : (ℕ → Bool) → ℕ) where
@@ -82,9 +49,6 @@ module _ (minimum : ℕ) (all : (ℕ → Bool) → ℕ) where
   pub record Ends (depth : ℕ) (xs : List ℕ) : Type 0 where
     pub few : all (ltb (keyIn (stop minimum depth xs))) < minimum
     pub enough : (keyIn (stop minimum depth xs) ≡ 0) ⊎ (minimum ≤ all (leb (keyIn (stop minimum depth xs))))
-    pub counts : Sound all (sums minimum depth xs)
-    pub in-turn : inTurn minimum 0 (sums minimum depth xs) ≡ true
-    pub found : keyIn (stop minimum depth xs) ≡ foundAfter minimum 0 (sums minimum depth xs)
 
   module _ (passed : (ℕ → Bool) → ℕ) (depth bound x : ℕ) (xs : List ℕ) (p : Passed passed depth bound (x ∷ xs)) where
     abbrev deep : ℕ
@@ -133,27 +97,13 @@ module _ (minimum : ℕ) (all : (ℕ → Bool) → ℕ) where
         ap (λ (n : ℕ). if leb minimum n then x else stop minimum n xs) (next-is passed depth bound x xs p)
         ∙ ap (λ (b : Bool). if b then x else stop minimum (depth + volumeIn x) xs) (le-leb minimum (depth + volumeIn x) h)
 
-    there : adds minimum depth x ≡ true
-    there = rw (lt-ltb depth minimum (p .few)) (lt-ltb 0 x (positive x (omega (arith, h, p .few))))
-
-    one-sum : sums minimum depth (x ∷ xs) ≡ made (keyIn x) (depth + volumeIn x) ∷ []
-    one-sum =
-        ap (λ (b : Bool). if b then made (keyIn x) (next minimum depth x) ∷ sums minimum (next minimum depth x) xs else sums minimum (next minimum depth x) xs) there
-        ∙ ap (λ (n : ℕ). made (keyIn x) n ∷ sums minimum n xs) (next-is passed depth bound x xs p)
-        ∙ ap (λ (l : List Try). made (keyIn x) (depth + volumeIn x) ∷ l) (sums-none minimum (depth + volumeIn x) xs h)
-
     ends-here : Ends depth (x ∷ xs)
-    unfolding inTurn foundAfter
     ends-here =
         record {
           few = subst (λ (y : ℕ). all (ltb (keyIn y)) < minimum) (sym stops) (before-few passed depth bound x xs p);
           enough =
               inr
               (subst (λ (y : ℕ). minimum ≤ all (leb (keyIn y))) (sym stops) (omega (arith, h, at-least passed depth bound x xs p)));
-          counts = subst (Sound all) (sym one-sum) (at-least passed depth bound x xs p, tt);
-          in-turn = ap (inTurn minimum 0) one-sum;
-          found =
-              ap keyIn stops ∙ sym (ap (foundAfter minimum 0) one-sum ∙ ap (λ (b : Bool). if b then keyIn x else 0) (le-leb minimum (depth + volumeIn x) h));
         }
 
   -- before it
@@ -164,50 +114,19 @@ module _ (minimum : ℕ) (all : (ℕ → Bool) → ℕ) where
         ap (λ (n : ℕ). if leb minimum n then x else stop minimum n xs) (next-is passed depth bound x xs p)
         ∙ ap (λ (b : Bool). if b then x else stop minimum (depth + volumeIn x) xs) (lt-leb minimum (depth + volumeIn x) h)
 
-    abbrev more-sums : Bool → List Try
-    more-sums b =
-        if b then made (keyIn x) (depth + volumeIn x) ∷ sums minimum (depth + volumeIn x) xs else sums minimum (depth + volumeIn x) xs
-
-    its-sums : sums minimum depth (x ∷ xs) ≡ more-sums (adds minimum depth x)
-    its-sums =
-        ap (λ (n : ℕ). if adds minimum depth x then made (keyIn x) n ∷ sums minimum n xs else sums minimum n xs) (next-is passed depth bound x xs p)
-
-    short : foundWith minimum 0 (made (keyIn x) (depth + volumeIn x)) ≡ 0
-    short = ap (λ (b : Bool). if b then keyIn x else 0) (lt-leb minimum (depth + volumeIn x) h)
-
-    counted : (b : Bool) → Sound all (more-sums b)
-    counted true = (at-least passed depth bound x xs p, rest .counts)
-    counted false = rest .counts
-
-    turned : (b : Bool) → inTurn minimum 0 (more-sums b) ≡ true
-    unfolding inTurn
-    turned true = ap (λ (f : ℕ). inTurn minimum f (sums minimum (depth + volumeIn x) xs)) short ∙ rest .in-turn
-    turned false = rest .in-turn
-
-    leads : (b : Bool) → foundAfter minimum 0 (more-sums b) ≡ foundAfter minimum 0 (sums minimum (depth + volumeIn x) xs)
-    unfolding foundAfter
-    leads true = ap (λ (f : ℕ). foundAfter minimum f (sums minimum (depth + volumeIn x) xs)) short
-    leads false = refl
-
     ends-later : Ends depth (x ∷ xs)
     ends-later =
         record {
           few = subst (λ (y : ℕ). all (ltb (keyIn y)) < minimum) (sym goes-on) (rest .few);
           enough = subst (λ (y : ℕ). (keyIn y ≡ 0) ⊎ (minimum ≤ all (leb (keyIn y)))) (sym goes-on) (rest .enough);
-          counts = subst (Sound all) (sym its-sums) (counted (adds minimum depth x));
-          in-turn = ap (inTurn minimum 0) its-sums ∙ turned (adds minimum depth x);
-          found = ap keyIn goes-on ∙ rest .found ∙ sym (ap (foundAfter minimum 0) its-sums ∙ leads (adds minimum depth x));
         }
 
   pub ends : (passed : (ℕ → Bool) → ℕ) (depth bound : ℕ) (xs : List ℕ) → Passed passed depth bound xs → Ends depth xs
-  unfolding heldAll inTurn foundAfter
+  unfolding heldAll
   ends passed depth bound [] p =
       record {
         few = omega (arith, p .whole (ltb 0), p .most (ltb 0), p .few);
         enough = inl refl;
-        counts = tt;
-        in-turn = refl;
-        found = refl;
       }
   ends passed depth bound (x ∷ xs) p =
       go (leb minimum (depth + volumeIn x)) refl (λ h. ends (with-it passed depth bound x xs p) (depth + volumeIn x) (keyIn x) xs (onward passed depth bound x xs p h))
@@ -250,18 +169,13 @@ ends-all minimum bound xs some b =
 
 -- ---- four orders
 
-add-up : (n1 n2 n3 n4 all later two one : ℕ) → all ≡ n1 + later → later ≡ n2 + two → two ≡ n3 + one → one ≡ n4 + 0 → n1 + n2 + n3 + n4 ≡ all
-add-up n1 n2 n3 n4 all later two one p q r s = omega (arith, p, q, r, s)
-
 lower : (x y : ℕ) → y ≤ x → keyIn y ≤ keyIn x
 lower x y h = omega (arith, h)
 
-module _ (m a b c d one two three deep in4 in3 in2 in1 n1 n2 n3 n4 : ℕ) (some : 1 ≤ m) (sorted : Descending a b c d)
+module _ (m a b c d one two three deep in4 in3 in2 in1 : ℕ) (some : 1 ≤ m) (sorted : Descending a b c d)
     (d1 : one ≡ next m 0 a) (d2 : two ≡ next m one b) (d3 : three ≡ next m two c) (d4 : deep ≡ next m three d)
     (i4 : in4 ≡ (if leb m deep then d else 0)) (i3 : in3 ≡ (if leb m three then c else in4)) (i2 : in2 ≡ (if leb m two then b else in3))
-    (i1 : in1 ≡ (if leb m one then a else in2))
-    (s1 : n1 ≡ (if adds m 0 a then 1 else 0)) (s2 : n2 ≡ (if adds m one b then 1 else 0)) (s3 : n3 ≡ (if adds m two c then 1 else 0))
-    (s4 : n4 ≡ (if adds m three d then 1 else 0)) where
+    (i1 : in1 ≡ (if leb m one then a else in2)) where
   deep-two : two ≡ next m (next m 0 a) b
   deep-two = d2 ∙ ap (λ (x : ℕ). next m x b) d1
 
@@ -279,48 +193,39 @@ module _ (m a b c d one two three deep in4 in3 in2 in1 n1 n2 n3 n4 : ℕ) (some 
       ∙ (λ j. if leb m (deep-two j) then b
       else (i3 ∙ (λ k. if leb m (deep-three k) then c else (i4 ∙ (λ l. if leb m (deep-four l) then d else 0)) k)) j)) i)
 
-  number : n1 + n2 + n3 + n4 ≡ length (sums m 0 (four a b c d))
-  number =
-      let t2 : n2 ≡ (if adds m (next m 0 a) b then 1 else 0) = s2 ∙ ap (λ (x : ℕ). if adds m x b then 1 else 0) d1 in
-      let t3 : n3 ≡ (if adds m (next m (next m 0 a) b) c then 1 else 0) = s3 ∙ ap (λ (x : ℕ). if adds m x c then 1 else 0) deep-two in
-      let t4 : n4 ≡ (if adds m (next m (next m (next m 0 a) b) c) d then 1 else 0) = s4 ∙ ap (λ (x : ℕ). if adds m x d then 1 else 0) deep-three in
-      add-up n1 n2 n3 n4 (length (sums m 0 (four a b c d))) (length (sums m (next m 0 a) (b ∷ c ∷ d ∷ [])))
-      (length (sums m (next m (next m 0 a) b) (c ∷ d ∷ []))) (length (sums m (next m (next m (next m 0 a) b) c) (d ∷ [])))
-      (sums-number m 0 a (b ∷ c ∷ d ∷ []) ∙ ap (λ (n : ℕ). n + length (sums m (next m 0 a) (b ∷ c ∷ d ∷ []))) (sym s1))
-      (sums-number m (next m 0 a) b (c ∷ d ∷ []) ∙ ap (λ (n : ℕ). n + length (sums m (next m (next m 0 a) b) (c ∷ d ∷ []))) (sym t2))
-      (sums-number m (next m (next m 0 a) b) c (d ∷ []) ∙ ap (λ (n : ℕ). n + length (sums m (next m (next m (next m 0 a) b) c) (d ∷ []))) (sym t3))
-      (sums-number m (next m (next m (next m 0 a) b) c) d [] ∙ ap (λ (n : ℕ). n + 0) (sym t4))
-
-  pub down-is : Down (four a b c d) m (record { key = keyIn in1; sums = n1 + n2 + n3 + n4 })
+  pub down-is : isBest (levelIn (four a b c d) (keyIn in1)) m ≡ true
   down-is =
       let xs = four a b c d in
       let behind : Behind (keyIn a) xs = (omega arith, (lower a b (sorted .first), (lower b c (sorted .second), (lower c d (sorted .third), tt)))) in
       let e = ends-all m (keyIn a) xs some behind in
-      let key : keyIn in1 ≡ keyIn (stop m 0 xs) = ap keyIn stopped in
-      record {
-        best = ap (λ (k : ℕ). isBest (levelIn xs k) m) key ∙ is-best m (keyIn (stop m 0 xs)) xs (e .few) (e .enough);
-        tries = sums m 0 xs;
-        number = number;
-        sound = e .counts;
-        in-turn = e .in-turn;
-        found = key ∙ e .found;
-      }
+      ap (λ (y : ℕ). isBest (levelIn xs (keyIn y)) m) stopped ∙ is-best m (keyIn (stop m 0 xs)) xs (e .few) (e .enough)
 
 -- ---- the columns
 
-pub finds : (ks vs xs : List ℕ) (m : ℕ) (r : Found) → ((t : ℕ → Bool) → heldAll t xs ≡ held t ks vs) → Down xs m r → Finds ks vs m r
-unfolding levelAt
-finds ks vs xs m r same d =
-    let level : levelIn xs (r .key) ≡ levelAt ks vs (r .key) =
-    λ i. record { key = r .key; before = same (ltb (r .key)) i; at = same (eqb (r .key)) i } in
-    record {
-      key = sym (best-level m ks vs (r .key) (ap (λ (l : Level). isBest l m) (sym level) ∙ d .best));
-      sums =
-          record {
-            tries = d .tries;
-            number = d .number;
-            sound = subst (λ (all : (ℕ → Bool) → ℕ). Sound all (d .tries)) (fun-ext same) (d .sound);
-            in-turn = d .in-turn;
-            found-is = d .found;
-          };
-    }
+pub finds : (ks vs xs : List ℕ) (m key sums : ℕ) → ((t : ℕ → Bool) → heldAll t xs ≡ held t ks vs) → isBest (levelIn xs key) m ≡ true
+    → sums ≡ countAt key ks → Finds ks vs m (record { key = key; sums = sums })
+unfolding levelAt bestKey
+finds ks vs xs m key sums same best number =
+    let level : levelIn xs key ≡ levelAt ks vs key = λ i. record { key = key; before = same (ltb key) i; at = same (eqb key) i } in
+    let is = best-level m ks vs key (ap (λ (l : Level). isBest l m) (sym level) ∙ best) in
+    record { key = sym is; sums = number ∙ sym (downward-sums (enough m ks vs) ks ∙ ap (λ (k : ℕ). countAt k ks) is) }
+
+-- ---- the count
+
+many-four : (t : ℕ → Bool) (ks : List ℕ) → length ks ≡ 4
+    → howMany t ks
+    ≡ (if t (getD ks 0 0) then 1 else 0)
+    + ((if t (getD ks 1 0) then 1 else 0) + ((if t (getD ks 2 0) then 1 else 0) + ((if t (getD ks 3 0) then 1 else 0) + 0)))
+unfolding howMany
+many-four t (a ∷ b ∷ c ∷ d ∷ []) h = refl
+many-four t [] h = absurd (omega (arith, h))
+many-four t (a ∷ []) h = absurd (omega (arith, h))
+many-four t (a ∷ b ∷ []) h = absurd (omega (arith, h))
+many-four t (a ∷ b ∷ c ∷ []) h = absurd (omega (arith, h))
+many-four t (a ∷ b ∷ c ∷ d ∷ e ∷ ks) h = absurd (omega (arith, h))
+
+pub count-four : (best : ℕ) (ks : List ℕ) (n1 n2 n3 n4 n5 : ℕ) → length ks ≡ 4
+    → n1 ≡ (if ltb best (getD ks 0 0) then 1 else 0) → n2 ≡ (if ltb best (getD ks 1 0) then 1 else 0)
+    → n3 ≡ (if ltb best (getD ks 2 0) then 1 else 0) → n4 ≡ (if ltb best (getD ks 3 0) then 1 else 0) → n5 ≡ (if ltb 0 best then 1 else 0)
+    → n1 + n2 + n3 + n4 + n5 ≡ countAt best ks
+count-four best ks n1 n2 n3 n4 n5 long e1 e2 e3 e4 e5 = omega (arith, many-four (ltb best) ks long, e1, e2, e3, e4, e5)

@@ -1,15 +1,11 @@
 -- What the functions on a small side promise to each other.
 use Prim.Native.Nat.{ℕ, _+_, _≤_, _/_, _%_}
 use mathlib.Core.Path.{_≡_}
-use mathlib.Core.Bool.{Bool, true}
+use mathlib.Core.Bool.{Bool}
 use mathlib.Core.List.{List, [], _∷_}
 use lib.Dec.{ltb, eqb}
-use lib.ListN.{length}
 use Rattle.rules.specs.Lists.{if_then_else_}
-use Rattle.quote.specs.Levels.{isBest}
 use Rattle.quote.specs.declared.Level.{Level}
-use Rattle.quote.specs.Tries.{Try, Sound, inTurn, foundAfter}
-use Rattle.small.specs.declared.Found.{Found}
 
 -- the key and the volume of an order that is one number
 abbrev pub keyIn : ℕ → ℕ
@@ -38,12 +34,3 @@ four a b c d = a ∷ b ∷ c ∷ d ∷ []
 -- the level of a key among orders
 abbrev pub levelIn : List ℕ → ℕ → Level
 levelIn xs k = record { key = k; before = heldAll (ltb k) xs; at = heldAll (eqb k) xs }
-
--- the key's level is the best one, and the sums were made as W3 asks
-pub record Down (xs : List ℕ) (minimum : ℕ) (r : Found) : Type 0 where
-  pub best : isBest (levelIn xs (r .key)) minimum ≡ true
-  pub tries : List Try
-  pub number : r .sums ≡ length tries
-  pub sound : Sound (λ (t : ℕ → Bool). heldAll t xs) tries
-  pub in-turn : inTurn minimum 0 tries ≡ true
-  pub found : r .key ≡ foundAfter minimum 0 tries

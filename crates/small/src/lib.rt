@@ -1,14 +1,14 @@
 // The best key of a side of at most four orders, without its level: the orders are sorted by five exchanges, and their volumes added up
-// from the best one down until they are enough. So nothing is added up twice, and for no order behind the first price that qualifies.
+// from the best one down until they are enough. So nothing is added up twice, and for no price after the first that qualifies.
 ghost use mathlib.Core.Path.{_≡_};
-ghost use mathlib.Core.Bool.{_&&_};
+ghost use mathlib.Core.Bool.{true};
 ghost use Prim.Native.Nat.{_+_, _*_, _≤_, _%_, min, max};
 ghost use lib.Dec.{ltb};
 ghost use lib.ListN.{length};
-ghost use Rattle.rules.specs.Lists.{if_then_else_};
-ghost use Rattle.quote.specs.Levels.{Columns};
+ghost use Rattle.rules.specs.Lists.{if_then_else_, howMany};
+ghost use Rattle.quote.specs.Levels.{isBest, Columns};
 ghost use Rattle.small.specs.Small.{Finds};
-ghost use Rattle.small.specs.Internal.{Descending, four, Down};
+ghost use Rattle.small.specs.Internal.{Descending, four, levelIn};
 use rules::Contracts;
 
 // The best key, 0 where no price qualifies, and for how many orders volumes were added up.
@@ -52,13 +52,6 @@ fn deeper(depth: u64, order: u64, minimum: Contracts) -> u64
     depth
 }
 
-// 1 where an order's volume is added up, else 0.
-fn added(depth: u64, order: u64, minimum: Contracts) -> u32
-    ensures { λ r. ⌜ r ≡ (if (ltb depth (minimum .0) && ltb 0 order) then 1 else 0) ⌝ }
-{
-    ((depth < minimum.0 as u64) & (0 < order)) as u32
-}
-
 fn order_where(counts: bool, order: u64, other: u64) -> u64
     ensures { λ r. ⌜ r ≡ (if counts then order else other) ⌝ }
 {
@@ -69,9 +62,9 @@ fn order_where(counts: bool, order: u64, other: u64) -> u64
 }
 
 // The key at which the depth of four orders, from the best one down, is first enough; 0 where it never is.
-fn down(first: u64, second: u64, third: u64, last: u64, minimum: Contracts) -> Found
+fn down(first: u64, second: u64, third: u64, last: u64, minimum: Contracts) -> u32
     requires { ⌜ Descending first second third last × (1 ≤ minimum .0) ⌝ }
-    ensures { λ r. ⌜ Down (four first second third last) (minimum .0) r ⌝ }
+    ensures { λ r. ⌜ isBest (levelIn (four first second third last) r) (minimum .0) ≡ true ⌝ }
 {
     let m = minimum.0 as u64;
     let one = deeper(0, first, minimum);
@@ -82,13 +75,26 @@ fn down(first: u64, second: u64, third: u64, last: u64, minimum: Contracts) -> F
     let in_three = order_where(m <= three, third, in_four);
     let in_two = order_where(m <= two, second, in_three);
     let in_one = order_where(m <= one, first, in_two);
-    Found {
-        key: (in_one / 4294967296) as u32,
-        sums: added(0, first, minimum)
-            + added(one, second, minimum)
-            + added(two, third, minimum)
-            + added(three, last, minimum),
-    }
+    (in_one / 4294967296) as u32
+}
+
+// 1 where a key is better than another, else 0.
+fn above(key: u32, other: u32) -> u32
+    ensures { λ r. ⌜ (r ≡ (if ltb other key then 1 else 0)) × (r ≤ 1) ⌝ }
+{
+    (other < key) as u32
+}
+
+// For how many orders volumes are added up, from the best one down: for each at a better key than the best one, and for the first at it.
+fn counted(keys: &[u32], best: u32) -> u32
+    requires { ⌜ length (now keys) ≡ 4 ⌝ }
+    ensures { λ r. ⌜ r ≡ howMany (ltb best) (now (keys .entry)) + (if ltb 0 best then 1 else 0) ⌝ }
+{
+    above(keys[0], best)
+        + above(keys[1], best)
+        + above(keys[2], best)
+        + above(keys[3], best)
+        + above(best, 0)
 }
 
 // The best key of four slots, orders or blanks.
@@ -106,11 +112,15 @@ pub fn best(keys: &[u32], volumes: &[u32], minimum: Contracts) -> Found
     let s = worse(c, d);
     let u = worse(p, r);
     let v = better(q, s);
-    down(
+    let key = down(
         better(p, r),
         better(u, v),
         worse(u, v),
         worse(q, s),
         minimum,
-    )
+    );
+    Found {
+        key,
+        sums: counted(keys, key),
+    }
 }

@@ -1,5 +1,5 @@
 -- The view of an open quantum, from its words, and of a month, from its own. Assumes nothing.
-use Prim.Native.Nat.{ℕ, _+_, _*_, _-_, _/_, _≤_, _<_}
+use Prim.Native.Nat.{ℕ, _+_, _*_, _-_, _≤_, _<_}
 use native.Mathlib.Omega.{arith}
 use native.Mathlib.Nat.{le-refl}
 use mathlib.Core.Path.{_≡_, refl, sym, ap, subst, _∙_}
@@ -18,7 +18,7 @@ use Rattle.rules.specs.declared.SpreadRule.the-variants.{Settled, OfStrike}
 use Rattle.rules.specs.declared.Event.{Event}
 use Rattle.rules.specs.Lists.{if_then_else_}
 use Rattle.rules.specs.Terms.{paper}
-use Rattle.rules.specs.Cells.{goodCell, placeOf}
+use Rattle.rules.specs.Places.{dayAt}
 use Rattle.rules.specs.Orders.{live, present}
 use Rattle.rules.specs.States.{stateWord, ordersState, stateAt}
 use Rattle.rules.specs.Bounds.{EventBounds}
@@ -40,7 +40,6 @@ use Rattle.quantum.specs.Words.{quantumWords, Sized}
 use Rattle.events.proofs.Represents.{good-orders, widest-is}
 use Rattle.quantum.proofs.Words.{of-sized, table-part, notes-behind}
 use Rattle.month.specs.Represents.{monthOf}
-use Rattle.cells.proofs.Ranges.{in-range}
 use Rattle.month.proofs.Fields.{place-inside, closed-is, opened}
 use Rattle.month.proofs.Words.{month-fits, month-length, word-in, quantum-in}
 use Rattle.in_place.proofs.Months.{flag-off, flag-on, flag-is}
@@ -177,10 +176,6 @@ orders-room head before count k h room e =
 
 -- ---- the words of a month
 
--- the day of a named cell's place
-pub day-back : (day expiry quantum : ℕ) → goodCell day expiry quantum ≡ true → placeOf day expiry quantum / 6 + 1 ≡ day
-day-back day expiry quantum h = omega (arith, in-range day expiry quantum h)
-
 idle-is : (r : Running) → isOpen r ≡ false → r ≡ Idle
 idle-is Idle h = refl
 idle-is (Quoting place row opening events) h = absurd (true≢false h)
@@ -212,7 +207,7 @@ module _ (ws : List ℕ) where
 
     pub views-open : 2464 ≤ length ws → (getD ws 0 0 ≡ 0 → ⊥) → (behind : List ℕ) (r : Viewed)
         → ((row : Row) (spread : SpreadRule) (events : List Event) → EventBounds row events → take 598 (drop 6 ws) ≡ quantumWords (quantumOf row spread events)
-        → Shown (quotingWords (getD ws 1 0 / 6 + 1) (getD ws 3 0) row spread events) before behind r)
+        → Shown (quotingWords (dayAt (getD ws 1 0)) (getD ws 3 0) row spread events) before behind r)
         → Views ws before behind r
     views-open h z behind r shows = record { short = λ l. absurd (omega (arith, h, l)); shown = shown }
       where
@@ -225,5 +220,5 @@ module _ (ws : List ℕ) where
             let place : getD ws 1 0 ≡ o .place = word-in ws m f is 1 (omega arith) ∙ o .at in
             let allowed : getD ws 3 0 ≡ o .opening .allowed = word-in ws m f is 3 (omega arith) ∙ o .allowed in
             subst (λ (x : Running). Shown (viewWords x) before behind r) (sym (o .running))
-            (subst (λ (l : List ℕ). Shown l before behind r) (λ i. quotingWords (place i / 6 + 1) (allowed i) (o .row) (o .opening .spread) (o .events))
+            (subst (λ (l : List ℕ). Shown l before behind r) (λ i. quotingWords (dayAt (place i)) (allowed i) (o .row) (o .opening .spread) (o .events))
             (shows (o .row) (o .opening .spread) (o .events) (o .bounds .events-good) (quantum-in ws m f is ∙ ap quantumWords (o .quantum))))

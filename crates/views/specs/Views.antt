@@ -1,5 +1,5 @@
 -- What stands now: the open quantum in words, by the plain book, for whoever shows it. It is no call of the papers and alters nothing.
-use Prim.Native.Nat.{ℕ, _+_, _/_, _<_}
+use Prim.Native.Nat.{ℕ, _<_}
 use mathlib.Core.Path.{_≡_}
 use mathlib.Core.List.{List, [], _∷_, _++_}
 use lib.Dec.{leb}
@@ -10,6 +10,7 @@ use Rattle.rules.specs.declared.SpreadRule.{SpreadRule}
 use Rattle.rules.specs.declared.Event.{Event}
 use Rattle.rules.specs.Lists.{if_then_else_}
 use Rattle.rules.specs.Terms.{paper}
+use Rattle.rules.specs.Places.{dayAt}
 use Rattle.rules.specs.Orders.{live, present}
 use Rattle.rules.specs.States.{stateWord, stateAt}
 use Rattle.rules.specs.Records.{addKind, unsignedOf}
@@ -41,10 +42,10 @@ headWords day allowed row spread events =
 unfoldable pub quotingWords : ℕ → ℕ → Row → SpreadRule → List Event → List ℕ
 quotingWords day allowed row spread events = headWords day allowed row spread events ++ ordersWords (live events)
 
--- the view of a book: no words with none open. A day has six cells (`day-back` in proofs/Shows)
+-- the view of a book: no words with none open. The day is that of the quantum's cell (`OnePlaceEach` in rules/specs/Places)
 abbrev pub viewWords : Running → List ℕ
 viewWords Idle = []
-viewWords (Quoting place row opening events) = quotingWords (place / 6 + 1) (opening .allowed) row (opening .spread) events
+viewWords (Quoting place row opening events) = quotingWords (dayAt place) (opening .allowed) row (opening .spread) events
 
 -- a view in a lent buffer: its words at the front, with what stands behind them kept, and their number; a short buffer is answered as such
 -- and nothing is written

@@ -1,5 +1,6 @@
--- The bytes of the words in some bytes are those bytes, as far as there are whole words. Assumes nothing.
-use Prim.Native.Nat.{ℕ, zero, suc, _+_, _*_, _/_, _≤_}
+-- The bytes of the words in some bytes are those bytes, as far as there are whole words; and the words in the bytes of some words are
+-- those words.
+use Prim.Native.Nat.{ℕ, zero, suc, _+_, _*_, _/_, _%_, _≤_, _<_}
 use native.Mathlib.Omega.{arith}
 use mathlib.Core.Path.{_≡_, refl, sym, ap, _∙_}
 use mathlib.Core.List.{List, [], _∷_, _++_, map, append-assoc, append-nil}
@@ -7,14 +8,14 @@ use mathlib.Core.Bool.{Bool, true, false}
 use borrow.Author.Tests.{ltb-true, ltb-false}
 use lib.Dec.{ltb}
 use lib.ListN.{length, getD, take, drop, length-drop, List·getD-eq-default}
-use lib.Seq.{take-add, getD-drop}
+use lib.Seq.{take-add, getD-drop, drop-cons}
 use Rattle.rules.specs.Lists.{below}
 use Rattle.rules.specs.Records.{wordAt, wordBytes}
 use Rattle.rules.specs.Widths.{Word, Bytes}
-use Rattle.rules.proofs.Records.{word-fits, bytes-of-word}
+use Rattle.rules.proofs.Records.{word-of-bytes, word-fits, bytes-of-word}
 use Rattle.words.specs.Bytes.{wordsIn, bytesOf}
 use Rattle.words.proofs.Places.{places-more}
-use Rattle.words.proofs.Bytes.{words-length, word-in}
+use Rattle.words.proofs.Bytes.{words-length, word-in, words-behind}
 
 -- ---- the bytes of some words
 
@@ -81,3 +82,45 @@ module _ (b : List ℕ) (bytes : Bytes b) where
       go false e =
           let h : length (wordsIn b) ≤ i = rw (words-length b) (ltb-false i (length b / 4) e) in
           rw (List·getD-eq-default (wordsIn b) 0 h) (omega arith)
+
+-- ---- the words of those bytes
+
+pub bytes-length : (ws : List ℕ) → length (bytesOf ws) ≡ 4 * length ws
+unfolding bytesOf wordBytes
+bytes-length [] = refl
+bytes-length (w ∷ ws) = omega (arith, bytes-length ws)
+
+-- each is a byte
+pub all-bytes : (ws : List ℕ) → Bytes (bytesOf ws)
+unfolding bytesOf wordBytes
+all-bytes [] i = omega arith
+all-bytes (w ∷ ws) zero = omega arith
+all-bytes (w ∷ ws) (suc zero) = omega arith
+all-bytes (w ∷ ws) (suc (suc zero)) = omega arith
+all-bytes (w ∷ ws) (suc (suc (suc zero))) = omega arith
+all-bytes (w ∷ ws) (suc (suc (suc (suc i)))) = all-bytes ws i
+
+module _ (w : ℕ) (ws : List ℕ) (h : Word w) where
+  abbrev longer : List ℕ
+  longer = wordBytes w ++ bytesOf ws
+
+  is-some : 0 < length longer / 4
+  unfolding wordBytes
+  is-some = omega arith
+
+  first-word : getD (wordsIn longer) 0 0 ≡ w
+  unfolding wordBytes
+  first-word = word-in longer 0 is-some ∙ word-of-bytes w h
+
+  other-words : drop 1 (wordsIn longer) ≡ wordsIn (bytesOf ws)
+  unfolding wordBytes
+  other-words = words-behind longer 1
+
+  words-cons : wordsIn longer ≡ w ∷ wordsIn (bytesOf ws)
+  words-cons = drop-cons (wordsIn longer) 0 0 (rw (words-length longer) is-some) ∙ (λ i. first-word i ∷ other-words i)
+
+-- for words of 32 bits
+pub words-back : (ws : List ℕ) → ((i : ℕ) → Word (getD ws i 0)) → wordsIn (bytesOf ws) ≡ ws
+unfolding bytesOf wordsIn below
+words-back [] h = refl
+words-back (w ∷ ws) h = words-cons w ws (h 0) ∙ ap (λ (l : List ℕ). w ∷ l) (words-back ws (λ i. h (suc i)))

@@ -7,7 +7,6 @@ use mathlib.Core.Bool.{Bool, true, false}
 use lib.Dec.{ltb}
 use borrow.Author.Needs.{needs}
 use borrow.Author.Tests.{ltb-true, ltb-false}
-use Rattle.rules.specs.declared.Side.{Side}
 use Rattle.rules.specs.declared.Order.{Order}
 use Rattle.rules.specs.declared.Event.the-variants.{Cancel, Deal}
 use Rattle.rules.specs.Orders.{left}
@@ -63,7 +62,7 @@ returns-3 c =
           (cancel-passes live (represents .good) id (a .slot) at t there)
           (deal-passes live (represents .good) id (a .slot) at t (a .volume) there (sym (c .before .before .before .before .before .before .before .before .before .before .before .before .before .volume .ensures) ∙ c .before .before .before .before .before .before .before .before .before .before .before .before .if2 .taken)
           (subst (λ (m : ℕ). m ≤ left id live) (sym all) (le-refl _)))
-          (λ (s : Side) n. n)
+          refl refl
           (deal-cancels live (represents .good) t id (a .volume) (known live (represents .good) id (a .slot) at t there) all)
           (cancelled .ensures .0 t id minimum live represents at),
       cancelled .ensures .1,

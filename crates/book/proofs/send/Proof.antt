@@ -81,11 +81,10 @@ returns-2 c =
     let h = start .pre .0 in
     let t = c .before .before .before .before .before .before .before .before .before .before .before .before .changed in
     let q = c .before .before .before .before .requote in
-    let s = c .before .before .before .before .before .before .side-at in
     let none : t .result .refusal ≡ 0 = omega (arith, c .before .before .before .before .before .before .before .if1 .left) in (
       taken-sends (readFields (a .f)) (a .minimum .0) (a .widest) (a .keeping) (a .table .now) (t .last .0) (t .result)
           (λ live good is. t .ensures .0 (a .minimum .0) live (record { good = good; is = is })) (only-fifteen (a .f)) (h .live) (h .good) (h .is) none (h .some)
-          (s .result) (s .ensures) (q .last .0) (q .result) (q .ensures) (c .keeps-after .result) (c .keeps-after .ensures),
+          (q .last .0) (q .result) (q .ensures) (c .keeps-after .result) (c .keeps-after .ensures),
       λ refused. absurd (omega (arith, refused)),
     )
 

@@ -1,6 +1,6 @@
 -- The place of a named cell fits. Assumes nothing.
 use native.Mathlib.Omega.{arith}
-use Rattle.cells.proofs.Ranges.{in-range}
+use Rattle.rules.proofs.Places.{in-range}
 use borrow.Author.Needs.{needs}
 use Rattle.cells.proofs.place_of.Statement.{statement}
 use Rattle.cells.proofs.place_of.Tie as tie

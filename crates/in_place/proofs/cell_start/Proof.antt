@@ -1,6 +1,6 @@
 -- The numbers of a named cell are small. Assumes nothing.
 use native.Mathlib.Omega.{arith}
-use Rattle.cells.proofs.Ranges.{in-range}
+use Rattle.rules.proofs.Places.{in-range}
 use borrow.Author.Needs.{needs}
 use Rattle.in_place.proofs.cell_start.Statement.{statement}
 use Rattle.in_place.proofs.cell_start.Tie as tie

@@ -1,5 +1,6 @@
 -- With none open 7; else what the quantum's words answer, and the count. Assumes nothing.
 use native.Mathlib.Omega.{arith}
+use mathlib.Core.Path.{refl}
 use lib.ListN.{drop, length-drop}
 use lib.Seq.{length-take-le}
 use Rattle.in_place.proofs.Months.{holds-quantum, send-none, send-stops, send-goes}
@@ -8,7 +9,7 @@ use Rattle.in_place.proofs.send.Statement.{statement}
 use Rattle.in_place.proofs.send.Tie as tie
 
 returns : tie.Need-returns
-returns c = λ e f. send-none (c .before .before .before .before .args .words .now) e (c .if1 .taken)
+returns c = (λ e f. send-none (c .before .before .before .before .args .words .now) e (c .if1 .taken), λ refused. refl)
 
 step-requires : tie.Need-step-requires
 step-requires c κs =
@@ -19,15 +20,19 @@ step-requires c κs =
 returns-2 : tie.Need-returns-2
 returns-2 c =
     let s = c .before .before .before .before .before .before .before .before .before .before .before .before in
-    let x = c .before .before .before .before .before .step in
-    λ e f. send-stops (s .args .words .now) (c .before .before .before .before .before .before .before .before .if1 .left) e (x .last .0) (x .result) (x .ensures e f) (c .if2 .taken)
+    let x = c .before .before .before .before .before .step in (
+      λ e f. send-stops (s .args .words .now) (c .before .before .before .before .before .before .before .before .if1 .left) e (x .last .0) (x .result) (x .ensures .0 e f) (c .if2 .taken),
+      x .ensures .1,
+    )
 
 returns-3 : tie.Need-returns-3
 returns-3 c =
     let s = c .before .before .before .before .before .before .before .before .before .before .before .before .before .before .before .before in
-    let x = c .before .before .before .before .before .before .before .before .before .step in
-    λ e f.
-    send-goes (s .args .words .now) (c .before .before .before .before .before .before .before .before .before .before .before .before .if1 .left) e (x .last .0) (x .result) (x .ensures e f) (c .before .before .before .before .if2 .left) (c .before .before .count-on .last .0) (c .before .before .count-on .ensures)
+    let x = c .before .before .before .before .before .before .before .before .before .step in (
+      λ e f.
+          send-goes (s .args .words .now) (c .before .before .before .before .before .before .before .before .before .before .before .before .if1 .left) e (x .last .0) (x .result) (x .ensures .0 e f) (c .before .before .before .before .if2 .left) (c .before .before .count-on .last .0) (c .before .before .count-on .ensures),
+      λ refused. absurd (omega (arith, refused)),
+    )
 
 pub send-spec : {M : Type 1} → statement M
 send-spec =

@@ -1,4 +1,4 @@
--- The loop's invariant: the key next to it among those that were passed. Assumes nothing.
+-- The loop's invariant: the key next to it among those that were passed.
 use Prim.Native.Nat.{ℕ, _-_, _≤_, min}
 use native.Mathlib.Omega.{arith}
 use mathlib.Core.Path.{_≡_, refl, ap, _∙_}
@@ -8,7 +8,7 @@ use lib.ListN.{length, getD, take}
 use lib.Seq.{take-length}
 use Rattle.rules.specs.Lists.{if_then_else_, filter}
 use Rattle.quote.specs.Levels.{greatest}
-use Rattle.level.specs.Internal.{least, keyAbove}
+use Rattle.level.specs.Candidates.{least, keyAbove}
 use Rattle.level.proofs.Nexts.{where-most, above-next}
 use Rattle.level.proofs.above.Statement.{statement}
 use Rattle.level.proofs.above.Tie as tie

@@ -1,4 +1,4 @@
--- The search among the four first slots, whose key is written (small-requotes). Assumes nothing.
+-- The search among the four first slots, whose key is written (small-requotes).
 use native.Mathlib.Omega.{arith}
 use mathlib.Core.Path.{_≡_, refl}
 use lib.ListN.{length, drop, length-take, length-drop}
@@ -36,9 +36,10 @@ put-requires c κs =
     moving-length (s .args .words .now) (s .pre .change) (s .args .minimum .0) (s .pre .stale)
 
 returns : tie.Need-returns
-returns c = λ side change m.
+returns c = λ change m.
     let s = c .before .before .before .before .before .before .before .before .before in
-    small-requotes side (s .args .words .now) change (s .args .minimum .0) m (s .pre .few) (c .before .before .before .before .best .result) (c .before .before .before .before .best .ensures) (c .before .before .put .last .0) (c .before .before .put .ensures)
+    let best = c .before .before .before .before .best in
+    small-requotes (s .args .words .now) change (s .args .minimum .0) m (s .pre .few) (best .result) (best .ensures) (c .before .before .put .last .0) (c .before .before .put .ensures)
 
 pub by-small-spec : {M : Type 1} → statement M
 by-small-spec =

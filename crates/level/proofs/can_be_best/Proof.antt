@@ -1,8 +1,8 @@
--- By its test. Assumes nothing.
+-- By its test.
 use mathlib.Core.Path.{sym}
 use mathlib.Core.Bool.{_&&_}
 use lib.Dec.{ltb}
-use Rattle.level.proofs.Starts.{where-enough, where-short}
+use Rattle.level.proofs.Nexts.{where-enough, where-short}
 use Rattle.level.proofs.can_be_best.Statement.{statement}
 use Rattle.level.proofs.can_be_best.Tie as tie
 

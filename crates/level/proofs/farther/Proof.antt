@@ -1,11 +1,11 @@
--- By its test: the guess itself, or one with a level more. Assumes nothing.
-use mathlib.Core.Path.{_≡_, refl, sym, ap, _∙_, subst}
-use mathlib.Core.Bool.{true≢false}
+-- By its test: the guess itself, or one with the level next to its own.
+use mathlib.Core.Path.{sym, ap, _∙_}
+use mathlib.Core.Bool.{Bool}
 use borrow.Author.Needs.{needs}
+use Rattle.rules.specs.Lists.{if_then_else_}
 use Rattle.quote.specs.declared.Level.{Level}
-use Rattle.level.specs.declared.Guess.{Guess}
-use Rattle.level.specs.Internal.{withLevel, Steps}
-use Rattle.level.proofs.Depths.{level-small}
+use Rattle.level.specs.Internal.{nextLevel, withLevel}
+use Rattle.level.proofs.Depths.{own-level, level-small}
 use Rattle.level.proofs.farther.Statement.{statement}
 use Rattle.level.proofs.farther.Tie as tie
 
@@ -16,27 +16,25 @@ falls-short-requires c κs =
 
 returns : tie.Need-returns
 returns c =
-    record { stays = λ e. refl; steps = λ e. absurd (true≢false (sym (sym (c .before .falls-short .ensures) ∙ c .if1 .taken) ∙ e)) }
+    let a = c .before .before .before .before .before .args in
+    let more = withLevel (a .guess) (nextLevel (a .minimum .0) (a .keys .now) (a .volumes .now) (a .guess .level)) (a .minimum .0) in
+    ap (λ (b : Bool). if b then a .guess else more) (sym (c .if1 .taken) ∙ c .before .falls-short .ensures)
 
 tried-requires : tie.Need-tried-requires
 tried-requires c κs =
     let s = c .before .before .before .before .before .before in
-    (level-small (s .args .keys .now) (s .args .volumes .now) (c .stepped .result) (s .pre .0 .columns) (c .stepped .ensures .is), s .pre .4)
+    let a = s .args in (
+      level-small (a .keys .now) (a .volumes .now) (c .stepped .result) (s .pre .0 .columns)
+          (own-level (a .keys .now) (a .volumes .now) _ (c .stepped .result) (c .stepped .ensures)),
+      s .pre .5,
+    )
 
 returns-2 : tie.Need-returns-2
 returns-2 c =
-    let s = c .before .before .before .before .before .before .before in
-    let a = s .args in
-    let l = c .before .stepped in
-    let is : l .result ≡ c .tried .result .level = sym (ap (λ (g : Guess). g .level) (c .tried .ensures)) in
-    record {
-      stays = λ e. absurd (true≢false (sym e ∙ sym (c .before .before .before .falls-short .ensures) ∙ c .before .before .if1 .left));
-      steps =
-          λ e. (
-            subst (Steps (a .minimum .0) (a .keys .now) (a .volumes .now) (a .guess .level)) is (l .ensures),
-            c .tried .ensures ∙ ap (λ (x : Level). withLevel (a .guess) x (a .minimum .0)) is,
-          );
-    }
+    let a = c .before .before .before .before .before .before .before .args in
+    let more = withLevel (a .guess) (nextLevel (a .minimum .0) (a .keys .now) (a .volumes .now) (a .guess .level)) (a .minimum .0) in
+    c .tried .ensures ∙ ap (λ (l : Level). withLevel (a .guess) l (a .minimum .0)) (c .before .stepped .ensures)
+    ∙ ap (λ (b : Bool). if b then a .guess else more) (sym (c .before .before .if1 .left) ∙ c .before .before .before .falls-short .ensures)
 
 pub farther-spec : {M : Type 1} → statement M
 farther-spec =

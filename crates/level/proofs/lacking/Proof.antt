@@ -1,8 +1,8 @@
--- By its test. Assumes nothing.
+-- By its test.
 use Prim.Native.Nat.{_+_, _-_}
 use mathlib.Core.Path.{sym, _∙_}
 use borrow.Author.Needs.{needs}
-use Rattle.level.proofs.Starts.{where-enough, where-short}
+use Rattle.level.proofs.Nexts.{where-enough, where-short}
 use Rattle.level.proofs.lacking.Statement.{statement}
 use Rattle.level.proofs.lacking.Tie as tie
 

@@ -1,24 +1,48 @@
--- A small side by its search, a larger one by its old best key's level, which stays or gives way to another (Requotes). Assumes nothing.
+-- A small side by its search, a side that got its fifth order by the search from none, a larger one by its old best key's level, which stays
+-- or gives way to another (Requotes).
 use Prim.Native.Nat.{ℕ, _+_, _-_, _≤_}
 use native.Mathlib.Omega.{arith}
-use mathlib.Core.Path.{_≡_, refl, sym, _∙_}
-use mathlib.Core.Bool.{Bool, true, false}
+use mathlib.Core.Path.{_≡_, refl, sym, ap, _∙_, subst}
+use mathlib.Core.Bool.{Bool, true, false, _&&_}
+use mathlib.Core.List.{List}
 use mathlib.Core.Logic.{inl}
+use lib.Dec.{leb, eqb}
 use lib.ListN.{length, getD}
 use borrow.Author.Needs.{needs}
-use Rattle.rules.specs.Lists.{if_then_else_}
-use Rattle.side.specs.Slots.{keysOf, volumesOf, bestKeyIn}
+use borrow.Author.Tests.{eqb-true}
+use Rattle.rules.proofs.Lists.{both}
+use Rattle.quote.specs.declared.Level.{Level}
+use Rattle.side.specs.declared.Change.{Change}
+use Rattle.side.specs.Slots.{keysOf, volumesOf, levelIn, bestKeyIn}
+use Rattle.side.specs.Internal.{StaleLevel, brings}
 use Rattle.side.proofs.Words.{room-over, room-most}
+use Rattle.level.specs.Requotes.{Requotes}
+use Rattle.level.specs.Internal.{IsLevel, levelRead}
 use Rattle.level.proofs.Depths.{own-level, level-small, slots-columns}
-use Rattle.level.proofs.Parts.{moving-length, moving-count, moving-few, part-searchable, part-level, part-none}
+use Rattle.level.proofs.Parts.{moving-length, moving-count, moving-few, carried, carried-key, part-searchable, part-level, part-none}
 use Rattle.level.proofs.Starts.{best-key-most}
-use Rattle.level.proofs.Requotes.{same-requotes, sought-requotes}
+use Rattle.level.proofs.Requotes.{fifth-requotes, same-requotes, sought-requotes}
 use Rattle.level.proofs.requote.Statement.{statement}
 use Rattle.level.proofs.requote.Tie as tie
 
-at-most-one : (n : ℕ) (b : Bool) → n ≡ (if b then 1 else 0) → n ≤ 1
-at-most-one n true e = omega (arith, e)
-at-most-one n false e = omega (arith, e)
+module _ (words : List ℕ) (c : Change) (minimum : ℕ) (m : StaleLevel words c minimum) where
+  more : 5 ≤ getD words 192 0 → 5 ≤ length (m .after)
+  more h = omega (arith, h, moving-count words c minimum m)
+
+  five : (b : Bool) → b ≡ (eqb (getD words 192 0) 5 && brings c) → b ≡ true → getD words 192 0 ≡ 5
+  five b e t = eqb-true (getD words 192 0) 5 (both (eqb (getD words 192 0) 5) (brings c) (sym e ∙ t) .0)
+
+  -- the side was a small one just where the change brought the fifth order
+  was-small : 5 ≤ getD words 192 0 → (b d : Bool) → b ≡ (eqb (getD words 192 0) 5 && brings c) → b ≡ d → leb (length (m .before)) 4 ≡ d
+  was-small h b d e f =
+      m .grown (more h) ∙ ap (λ (n : ℕ). eqb n 5 && brings c) (sym (moving-count words c minimum m)) ∙ sym e ∙ f
+
+  -- else its words have the level of the old best key
+  old-level : leb (length (m .before)) 4 ≡ false → (l : Level) → l ≡ levelRead words → IsLevel (m .before) l
+  old-level large l e = carried words c minimum m large l e
+
+  old-key : (l : Level) → l ≡ levelRead words → l .key ≡ bestKeyIn minimum (m .before)
+  old-key l e = ap (λ (x : Level). x .key) e ∙ carried-key words c minimum m
 
 slice-read-count : tie.Need-slice-read-count
 slice-read-count c =
@@ -32,44 +56,96 @@ by-small-requires c κs =
     record { change = s .args .change; stale = s .pre .0; few = c .before .if1 .taken; some = s .pre .1 }
 
 returns : tie.Need-returns
-returns c m = c .before .before .by-small .ensures (c .before .before .before .before .before .before .before .args .side) _ m
+returns c m = c .before .before .by-small .ensures _ m
 
-carried-requires : tie.Need-carried-requires
-carried-requires c κs =
-    let s = c .before .before .before .before in
-    record { minimum = s .args .minimum .0; stale = s .pre .0; many = omega (arith, c .before .if1 .left, moving-count (s .args .words .now) (s .args .change) (s .args .minimum .0) (s .pre .0)) }
+-- ---- the fifth order
 
-is-best-requires : tie.Need-is-best-requires
-is-best-requires c κs =
-    let s = c .before .before .before .before .before .before .before in
-    let m = s .pre .0 in
-    let l = c .before .before .carried in
-    level-small (keysOf (m .after)) (volumesOf (m .after)) (l .result) (slots-columns (m .after) (m .good))
-    (own-level (keysOf (m .after)) (volumesOf (m .after)) (bestKeyIn (s .args .minimum .0) (m .before)) (l .result) (l .ensures (s .args .minimum .0) m))
+by-fifth-requires : tie.Need-by-fifth-requires
+by-fifth-requires c κs =
+    let s = c .before .before .before .before .before .before in
+    record {
+      change = s .args .change;
+      stale = s .pre .0;
+      five = five (s .args .words .now) (s .args .change) (s .args .minimum .0) (s .pre .0) (c .before .before .is-fifth .result) (c .before .before .is-fifth .ensures) (c .before .if2 .taken);
+      some = s .pre .1;
+    }
 
-put-requires : tie.Need-put-requires
-put-requires c κs =
-    let s = c .before .before .before .before .before .before .before .before .before .before in
+settled-requires : tie.Need-settled-requires
+settled-requires c κs =
+    let s = c .before .before .before .before .before .before .before .before in
     moving-length (s .args .words .now) (s .args .change) (s .args .minimum .0) (s .pre .0)
 
 returns-2 : tie.Need-returns-2
 returns-2 c m =
-    let s = c .before .before .before .before .before .before .before .before .before .before .before .before .before in
-    let a = s .args in
-    let l = c .before .before .before .before .before .before .before .before .carried in
-    let f = c .before .before .before .before .before .before .before .is-fifth in
-    same-requotes (a .side) (s .args .words .now) (s .args .change) (s .args .minimum .0) m (omega (arith, c .before .before .before .before .before .before .before .before .before .before .if1 .left, moving-count (s .args .words .now) (s .args .change) (s .args .minimum .0) m)) (l .result) (l .ensures (a .minimum .0) m)
-    (f .result) (c .before .before .before .before .before .before .volume-where .result) (c .before .before .before .before .before .before .volume-where .ensures) (sym (c .before .before .before .before .before .is-best .ensures) ∙ c .before .before .before .before .if2 .taken)
-    (c .before .before .put .last .0) (c .before .before .put .ensures)
+    let s = c .before .before .before .before .before .before .before .before .before .before .before in
+    let is = c .before .before .before .before .before .before .before .is-fifth in
+    let n = five (s .args .words .now) (s .args .change) (s .args .minimum .0) m (is .result) (is .ensures) (c .before .before .before .before .before .before .if2 .taken) in
+    let found = c .before .before .before .before .by-fifth in
+    let put = c .before .before .settled in
+    subst (Requotes (s .args .minimum .0) (m .before) (m .after) (s .args .change) (put .last .0)) (sym (put .ensures .1))
+    (fifth-requotes (s .args .words .now) (s .args .change) (s .args .minimum .0) m (more (s .args .words .now) (s .args .change) (s .args .minimum .0) m (omega (arith, n)))
+    (was-small (s .args .words .now) (s .args .change) (s .args .minimum .0) m (omega (arith, n)) (is .result) true (is .ensures) (c .before .before .before .before .before .before .if2 .taken))
+    (omega (arith, n)) (found .result) (found .ensures) (put .last .0) (put .ensures .0))
+
+-- ---- the old best key's level
+
+level-of-requires : tie.Need-level-of-requires
+level-of-requires c κs =
+    let s = c .before .before .before .before .before .before in
+    moving-length (s .args .words .now) (s .args .change) (s .args .minimum .0) (s .pre .0)
+
+large : (c : tie.After-level-of) → let s = c .before .before .before .before .before .before .before in (m : StaleLevel (s .args .words .now) (s .args .change) (s .args .minimum .0)) → leb (length (m .before)) 4 ≡ false
+large c m =
+    let s = c .before .before .before .before .before .before .before in
+    was-small (s .args .words .now) (s .args .change) (s .args .minimum .0) m (omega (arith, c .before .before .before .before .if1 .left)) (c .before .before .before .is-fifth .result) false (c .before .before .before .is-fifth .ensures) (c .before .before .if2 .left)
+
+moved-requires : tie.Need-moved-requires
+moved-requires c κs =
+    let s = c .before .before .before .before .before .before .before in
+    let m = s .pre .0 in
+    record {
+      before = m .before;
+      after = m .after;
+      good-before = m .good-before;
+      good = m .good;
+      changed = m .changed;
+      is = old-level (s .args .words .now) (s .args .change) (s .args .minimum .0) m (large c m) (c .level-of .result) (c .level-of .ensures);
+    }
+
+old-is : (c : tie.After-moved) → let s = c .before .before .before .before .before .before .before .before in (m : StaleLevel (s .args .words .now) (s .args .change) (s .args .minimum .0)) → c .moved .result ≡ levelIn (m .after) (bestKeyIn (s .args .minimum .0) (m .before))
+old-is c m =
+    let s = c .before .before .before .before .before .before .before .before in
+    let l = c .before .level-of in
+    c .moved .ensures (m .before) (m .after) (m .good-before) (m .good) (old-level (s .args .words .now) (s .args .change) (s .args .minimum .0) m (large (c .before) m) (l .result) (l .ensures)) (m .changed)
+    ∙ ap (levelIn (m .after)) (old-key (s .args .words .now) (s .args .change) (s .args .minimum .0) m (l .result) (l .ensures))
+
+is-best-requires : tie.Need-is-best-requires
+is-best-requires c κs =
+    let s = c .before .before .before .before .before .before .before .before in
+    let m = s .pre .0 in
+    level-small (keysOf (m .after)) (volumesOf (m .after)) (c .moved .result) (slots-columns (m .after) (m .good))
+    (own-level (keysOf (m .after)) (volumesOf (m .after)) (bestKeyIn (s .args .minimum .0) (m .before)) (c .moved .result) (old-is c m))
+
+put-requires : tie.Need-put-requires
+put-requires c κs =
+    let s = c .before .before .before .before .before .before .before .before .before .before .before in
+    moving-length (s .args .words .now) (s .args .change) (s .args .minimum .0) (s .pre .0)
+
+returns-3 : tie.Need-returns-3
+returns-3 c m =
+    let s = c .before .before .before .before .before .before .before .before .before .before .before .before .before .before in
+    let l = c .before .before .before .before .before .before in
+    same-requotes (s .args .words .now) (s .args .change) (s .args .minimum .0) m (more (s .args .words .now) (s .args .change) (s .args .minimum .0) m (omega (arith, c .before .before .before .before .before .before .before .before .before .before .before .if1 .left))) (large (l .before) m) (l .moved .result) (old-is l m)
+    (sym (c .before .before .before .before .before .is-best .ensures) ∙ c .before .before .before .before .if3 .taken) (c .before .before .put .last .0) (c .before .before .put .ensures)
 
 room-requires : tie.Need-room-requires
 room-requires c κs =
-    let s = c .before .before .before .before .before .before .before .before .before in
+    let s = c .before .before .before .before .before .before .before .before .before .before in
     moving-few (s .args .words .now) (s .args .change) (s .args .minimum .0) (s .pre .0)
 
 add-sought : tie.Need-add-sought
 add-sought c =
-    let s = c .before .before .before .before .before .before .before .before .before .before in
+    let s = c .before .before .before .before .before .before .before .before .before .before .before in
     let few = moving-few (s .args .words .now) (s .args .change) (s .args .minimum .0) (s .pre .0) in
     let to = c .room in
     let over = room-over (getD (s .args .words .now) 192 0) (to .result) (to .ensures) in
@@ -78,7 +154,7 @@ add-sought c =
 
 part-sought-end : tie.Need-part-sought-end
 part-sought-end c =
-    let s = c .before .before .before .before .before .before .before .before .before .before .before in
+    let s = c .before .before .before .before .before .before .before .before .before .before .before .before in
     let few = moving-few (s .args .words .now) (s .args .change) (s .args .minimum .0) (s .pre .0) in
     let to = c .before .room in
     let over = room-over (getD (s .args .words .now) 192 0) (to .result) (to .ensures) in
@@ -88,7 +164,7 @@ part-sought-end c =
 
 add-sought-2 : tie.Need-add-sought-2
 add-sought-2 c =
-    let s = c .before .before .before .before .before .before .before .before .before .before .before .before in
+    let s = c .before .before .before .before .before .before .before .before .before .before .before .before .before in
     let few = moving-few (s .args .words .now) (s .args .change) (s .args .minimum .0) (s .pre .0) in
     let to = c .before .before .room in
     let over = room-over (getD (s .args .words .now) 192 0) (to .result) (to .ensures) in
@@ -97,7 +173,7 @@ add-sought-2 c =
 
 part-sought-end-2 : tie.Need-part-sought-end-2
 part-sought-end-2 c =
-    let s = c .before .before .before .before .before .before .before .before .before .before .before .before in
+    let s = c .before .before .before .before .before .before .before .before .before .before .before .before .before in
     let few = moving-few (s .args .words .now) (s .args .change) (s .args .minimum .0) (s .pre .0) in
     let to = c .before .before .room in
     let over = room-over (getD (s .args .words .now) 192 0) (to .result) (to .ensures) in
@@ -107,47 +183,45 @@ part-sought-end-2 c =
 
 sought-requires : tie.Need-sought-requires
 sought-requires c κs =
-    let s = c .before .before .before .before .before .before .before .before .before .before .before .before .before in
+    let s = c .before .before .before .before .before .before .before .before .before .before .before .before .before .before in
     let few = moving-few (s .args .words .now) (s .args .change) (s .args .minimum .0) (s .pre .0) in
     let to = c .before .before .before .room in
     let over = room-over (getD (s .args .words .now) 192 0) (to .result) (to .ensures) in
     let most = room-most (getD (s .args .words .now) 192 0) (to .result) few (to .ensures) in
     let a = s .args in
     let m = s .pre .0 in
-    let l = c .before .before .before .before .before .before .before .before .carried in
+    let l = c .before .before .before .before .before .before in
     let en : 64 + to .result - 64 ≡ to .result = omega arith in
     let ek : 128 + to .result - 128 ≡ to .result = omega arith in
-    let is = l .ensures (a .minimum .0) m in
-    let key : l .result .key ≤ 2000000001 = best-key-most (a .minimum .0) (m .before) (m .good-before) (m .after) (l .result) is in (
-      part-searchable (s .args .words .now) (s .args .change) (s .args .minimum .0) m (to .result) (64 + to .result - 64) (128 + to .result - 128) en ek over most (l .result .key) key,
-      own-level (keysOf (m .after)) (volumesOf (m .after)) (bestKeyIn (a .minimum .0) (m .before)) (l .result) is
-          ∙ sym (part-level (s .args .words .now) (s .args .change) (s .args .minimum .0) m (to .result) (64 + to .result - 64) (128 + to .result - 128) en ek over most (l .result .key)),
-      sym (c .before .before .before .before .before .is-best .ensures) ∙ c .before .before .before .before .if2 .left,
+    let key : l .moved .result .key ≤ 2000000001 = best-key-most (a .minimum .0) (m .before) (m .good-before) (m .after) (l .moved .result) (old-is l m) in (
+      part-searchable (s .args .words .now) (s .args .change) (s .args .minimum .0) m (to .result) (64 + to .result - 64) (128 + to .result - 128) en ek over most (l .moved .result .key) key,
+      own-level (keysOf (m .after)) (volumesOf (m .after)) (bestKeyIn (a .minimum .0) (m .before)) (l .moved .result) (old-is l m)
+          ∙ sym (part-level (s .args .words .now) (s .args .change) (s .args .minimum .0) m (to .result) (64 + to .result - 64) (128 + to .result - 128) en ek over most (l .moved .result .key)),
+      sym (c .before .before .before .before .before .is-best .ensures) ∙ c .before .before .before .before .if3 .left,
       s .pre .1,
       record { none = part-none (s .args .words .now) (s .args .change) (s .args .minimum .0) m (to .result) (64 + to .result - 64) (128 + to .result - 128) en ek over most; below = inl refl },
     )
 
-put-requires-2 : tie.Need-put-requires-2
-put-requires-2 c κs =
+settled-requires-2 : tie.Need-settled-requires-2
+settled-requires-2 c κs =
     let s = c .before .before .before .before .before .before .before .before .before .before .before .before .before .before .before .before in
     moving-length (s .args .words .now) (s .args .change) (s .args .minimum .0) (s .pre .0)
 
-returns-3 : tie.Need-returns-3
-returns-3 c m =
-    let s = c .before .before .before .before .before .before .before .before .before .before .before .before .before .before .before .before .before .before .before .before in
+returns-4 : tie.Need-returns-4
+returns-4 c m =
+    let s = c .before .before .before .before .before .before .before .before .before .before .before .before .before .before .before .before .before .before .before in
     let few = moving-few (s .args .words .now) (s .args .change) (s .args .minimum .0) (s .pre .0) in
-    let to = c .before .before .before .before .before .before .before .before .before .before .room in
+    let to = c .before .before .before .before .before .before .before .before .room in
     let over = room-over (getD (s .args .words .now) 192 0) (to .result) (to .ensures) in
     let most = room-most (getD (s .args .words .now) 192 0) (to .result) few (to .ensures) in
-    let a = s .args in
-    let l = c .before .before .before .before .before .before .before .before .before .before .before .before .before .before .before .carried in
-    let f = c .before .before .before .before .before .before .before .before .before .before .before .before .before .before .is-fifth in
+    let l = c .before .before .before .before .before .before .before .before .before .before .before in
+    let found = c .before .before .before .before .sought in
+    let put = c .before .before .settled2 in
     let en : 64 + to .result - 64 ≡ to .result = omega arith in
     let ek : 128 + to .result - 128 ≡ to .result = omega arith in
-    sought-requotes (a .side) (s .args .words .now) (s .args .change) (s .args .minimum .0) m (omega (arith, c .before .before .before .before .before .before .before .before .before .before .before .before .before .before .before .before .before .if1 .left, moving-count (s .args .words .now) (s .args .change) (s .args .minimum .0) m)) (l .result) (l .ensures (a .minimum .0) m)
-    (f .result) (c .before .before .before .before .before .before .before .before .before .before .before .before .before .volume-where .result) (c .before .before .before .before .before .before .before .before .before .before .before .before .before .volume-where .ensures)
-    (to .result) (64 + to .result - 64) (128 + to .result - 128) en ek over most
-    (c .before .before .before .before .before .before .sought .result) (c .before .before .before .before .before .before .sought .ensures) (c .before .before .before .put2 .last .0) (c .before .before .before .put2 .ensures)
+    subst (Requotes (s .args .minimum .0) (m .before) (m .after) (s .args .change) (put .last .0)) (sym (put .ensures .1))
+    (sought-requotes (s .args .words .now) (s .args .change) (s .args .minimum .0) m (more (s .args .words .now) (s .args .change) (s .args .minimum .0) m (omega (arith, c .before .before .before .before .before .before .before .before .before .before .before .before .before .before .before .before .if1 .left))) (large (l .before) m) (l .moved .result) (old-is l m)
+    (to .result) (64 + to .result - 64) (128 + to .result - 128) en ek over most (found .result) (found .ensures) (put .last .0) (put .ensures .0))
 
 pub requote-spec : {M : Type 1} → statement M
 requote-spec =
@@ -157,13 +231,17 @@ requote-spec =
     by-small-requires
     (λ c. search needs)
     returns
-    carried-requires
     (λ c κs. search needs)
-    (λ c κs. search needs)
+    by-fifth-requires
+    settled-requires
+    (λ c. search needs)
+    returns-2
+    level-of-requires
+    moved-requires
     is-best-requires
     put-requires
     (λ c. search needs)
-    returns-2
+    returns-3
     room-requires
     add-sought
     (λ c. search needs)
@@ -174,15 +252,6 @@ requote-spec =
     (λ c. search needs)
     part-sought-end-2
     sought-requires
-    put-requires-2
-    (λ c.
-    record {
-      fits =
-          omega (
-            arith,
-            at-most-one (c .before .before .before .before .before .before .before .before .before .before .before .before .before .volume-where .result) (c .before .before .before .before .before .before .before .before .before .before .before .before .before .before .is-fifth .result) (c .before .before .before .before .before .before .before .before .before .before .before .before .before .volume-where .ensures),
-            c .before .before .before .before .before .before .sought .ensures .few,
-          );
-    })
+    settled-requires-2
     (λ c. search needs)
-    returns-3)
+    returns-4)

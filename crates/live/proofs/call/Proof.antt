@@ -1,13 +1,17 @@
 -- Four early returns that change nothing, and the ways to run the call. Assumes nothing.
 use mathlib.Core.Path.{refl, sym, _∙_}
 use lib.Dec.{leb}
-use lib.ListN.{length}
+use lib.ListN.{length, take}
 use lib.Seq.{length-take-le}
 use borrow.Author.Tests.{lt-leb, le-leb, not-true, not-false}
+use Rattle.rules.specs.Calls.{Send}
+use Rattle.words.specs.Bytes.{wordsIn}
+use Rattle.blocks.specs.Kinds.{callOf}
 use Rattle.live.specs.declared.Called.the-variants.{WordsShort, HintsShort, AnswerShort, NoCall}
 use Rattle.live.specs.Calling.{isCall}
 use Rattle.live.proofs.Events.{says-event, event-performs}
 use Rattle.live.proofs.Calling.{unchanged, words-short, hints-short, answer-short, no-call, is-done, words-not-done, hints-not-done, answer-not-done, no-call-not-done}
+use Rattle.live.proofs.Hints.{of-call, all-untouched, lent-first}
 use borrow.Author.Needs.{needs}
 use Rattle.live.proofs.call.Statement.{statement}
 use Rattle.live.proofs.call.Tie as tie
@@ -45,8 +49,11 @@ returns-4 c =
     let x = c .before .before .before .before .before .before .send in
     record {
       called = is-done (leb 2464 (length (a .words .now))) (leb 2048 (length (a .hints .now))) (leb 20 (length (a .answer .now))) (isCall (a .bytes .now)) (le-leb _ _ (c .before .before .before .before .before .before .before .before .before .before .before .before .before .before .before .if1 .left)) (le-leb _ _ (c .before .before .before .before .before .before .before .before .before .before .before .before .before .before .if2 .left)) (le-leb _ _ (c .before .before .before .before .before .before .before .before .before .before .before .before .before .if3 .left)) (says .is-call);
-      done = λ e. event-performs (a .words .now) (a .answer .now) (a .bytes .now) (x .last .0) (x .last .1 .1 .1 .0) (f .result) says (x .ensures (says .event) (says .fields));
+      done = λ e. event-performs (a .words .now) (a .answer .now) (a .bytes .now) (x .last .0) (x .last .1 .1 .1 .0) (f .result) says (x .ensures (says .event) (says .fields) .0);
       kept = λ never. absurd (never refl);
+      leaves =
+          lent-first (a .words .now) (a .hints .now) (a .bytes .now) (x .last .1 .0) (x .kept .1 .0 ∙ length-take-le 2048 (a .hints .now) (c .before .before .before .before .before .before .before .before .before .before .before .before .before .before .if2 .left))
+          (of-call (a .words .now) (Send (says .event)) (callOf (wordsIn (a .bytes .now))) (take 2048 (a .hints .now)) (x .last .1 .0) (sym (says .says)) (x .ensures (says .event) (says .fields) .1));
     }
 
 returns-5 : tie.Need-returns-5
@@ -67,6 +74,7 @@ returns-6 c =
       called = is-done (leb 2464 (length (a .words .now))) (leb 2048 (length (a .hints .now))) (leb 20 (length (a .answer .now))) (isCall (a .bytes .now)) (le-leb _ _ (c .before .before .before .before .before .before .before .before .before .before .before .before .before .before .before .if1 .left)) (le-leb _ _ (c .before .before .before .before .before .before .before .before .before .before .before .before .before .before .if2 .left)) (le-leb _ _ (c .before .before .before .before .before .before .before .before .before .before .before .before .before .if3 .left)) (sym (c .before .before .before .before .before .before .before .before .before .is-call .ensures) ∙ not-false _ (c .before .before .before .before .before .before .before .before .if5 .left));
       done = λ e. c .before .before .before .before .perform .ensures;
       kept = λ never. absurd (never refl);
+      leaves = all-untouched (a .words .now) (a .hints .now) (a .bytes .now);
     }
 
 other-requires : tie.Need-other-requires
@@ -80,8 +88,11 @@ returns-7 c =
     let a = c .before .before .before .before .before .before .before .before .before .before .before .before .before .before .before .before .before .before .before .before .before .before .before .args in
     record {
       called = is-done (leb 2464 (length (a .words .now))) (leb 2048 (length (a .hints .now))) (leb 20 (length (a .answer .now))) (isCall (a .bytes .now)) (le-leb _ _ (c .before .before .before .before .before .before .before .before .before .before .before .before .before .before .before .before .before .before .if1 .left)) (le-leb _ _ (c .before .before .before .before .before .before .before .before .before .before .before .before .before .before .before .before .before .if2 .left)) (le-leb _ _ (c .before .before .before .before .before .before .before .before .before .before .before .before .before .before .before .before .if3 .left)) (sym (c .before .before .before .before .before .before .before .before .before .before .before .before .is-call .ensures) ∙ not-false _ (c .before .before .before .before .before .before .before .before .before .before .before .if5 .left));
-      done = λ e. c .before .before .before .before .before .before .other .ensures;
+      done = λ e. c .before .before .before .before .before .before .other .ensures .0;
       kept = λ never. absurd (never refl);
+      leaves =
+          lent-first (a .words .now) (a .hints .now) (a .bytes .now) (c .before .before .before .before .before .before .other .last .1 .0) (c .before .before .before .before .before .before .other .kept .1 .0 ∙ length-take-le 2048 (a .hints .now) (c .before .before .before .before .before .before .before .before .before .before .before .before .before .before .before .before .before .if2 .left))
+          (c .before .before .before .before .before .before .other .ensures .1);
     }
 
 pub call-spec : {M : Type 1} → statement M

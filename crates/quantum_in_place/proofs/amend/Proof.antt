@@ -16,13 +16,15 @@ returns : tie.Need-returns
 returns c =
     let s = c .before .before .before .before .before .before .before .before .before in
     let ws = s .args .words .now in
-    let x = c .before .before .before .before .step-front in
-    λ e f.
-    record {
-      number = λ row sp es g is. number-is ws (x .last .0) e (x .result) (x .ensures e f) row sp es g is;
-      words-after = λ row sp es g is.
-          amended-words ws (x .last .0) e (x .result) (x .ensures e f) row sp es g is (sym (ap (λ (y : Fields). y .kind) f) ∙ s .pre .4);
-    }
+    let x = c .before .before .before .before .step-front in (
+      λ e f.
+          record {
+            number = λ row sp es g is. number-is ws (x .last .0) e (x .result) (x .ensures .0 e f) row sp es g is;
+            words-after = λ row sp es g is.
+                amended-words ws (x .last .0) e (x .result) (x .ensures .0 e f) row sp es g is (sym (ap (λ (y : Fields). y .kind) f) ∙ s .pre .4);
+          },
+      x .ensures .1,
+    )
 
 pub amend-spec : {M : Type 1} → statement M
 amend-spec =

@@ -1,5 +1,5 @@
 -- By the kind: a tick, an amendment, or another event. Assumes nothing.
-use mathlib.Core.Path.{subst}
+use mathlib.Core.Path.{refl, subst}
 use Rattle.rules.specs.declared.Event.{Event}
 use Rattle.quantum_in_place.specs.Events.{StepsWords}
 use Rattle.quantum_in_place.proofs.Ticks.{says-tick}
@@ -10,8 +10,10 @@ use Rattle.quantum_in_place.proofs.step.Tie as tie
 returns : tie.Need-returns
 returns c =
     let s = c .before .before .before .before .before .before .before .before in
-    let x = c .before .before .tick in
-    λ e f. subst (λ (v : Event). StepsWords (s .args .words .now) v (x .last .0) (x .result)) (says-tick e (s .args .f) f (c .before .before .before .before .if1 .taken)) (x .ensures)
+    let x = c .before .before .tick in (
+      λ e f. subst (λ (v : Event). StepsWords (s .args .words .now) v (x .last .0) (x .result)) (says-tick e (s .args .f) f (c .before .before .before .before .if1 .taken)) (x .ensures),
+      λ refused. refl,
+    )
 
 amend-requires : tie.Need-amend-requires
 amend-requires c κs = search needs

@@ -20,10 +20,12 @@ returns c =
     let s = c .before .before .before .before .before .before .before .before .before .before .before .before .before .before .before .before .before .before .before .before in
     let d = c .before .before .before .before .before .before .before .before .before .before .before .before .before .before .before .duty-in in
     let k = c .before .before .before .before .before .before .before .before .before .before .before .before .clock-in in
-    let x = c .before .before .before .before .before .before .before .before .before .step-fields in
-    λ e f.
-    steps-front (s .args .words .now) (d .result) (k .result) (s .pre .1) (d .ensures) (k .ensures) e (x .last .1 .1 .0) (c .before .before .put-clock .last .1 .0) (x .result)
-    (by-fields (d .result) (k .result) e _ (x .last .1 .1 .0) (s .args .f) (x .result) f (x .ensures)) (c .before .before .put-clock .ensures)
+    let x = c .before .before .before .before .before .before .before .before .before .step-fields in (
+      λ e f.
+          steps-front (s .args .words .now) (d .result) (k .result) (s .pre .1) (d .ensures) (k .ensures) e (x .last .1 .1 .0) (c .before .before .put-clock .last .1 .0) (x .result)
+          (by-fields (d .result) (k .result) e _ (x .last .1 .1 .0) (s .args .f) (x .result) f (x .ensures .0)) (c .before .before .put-clock .ensures),
+      x .ensures .1,
+    )
 
 pub step-front-spec : {M : Type 1} → statement M
 step-front-spec =

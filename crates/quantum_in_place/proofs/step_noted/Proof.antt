@@ -20,12 +20,14 @@ returns : tie.Need-returns
 returns c =
     let s = c .before .before .before .before .before .before .before .before .before .before .before .before .before in
     let ws = s .args .words .now in
-    let x = c .before .before .before .before .before .step-front in
-    λ e f.
-    record {
-      number = λ row sp es g is. number-is ws (x .last .0) e (x .result) (x .ensures e f) row sp es g is;
-      words-after = λ row sp es g is. refused-words ws (x .last .0) e (x .result) (x .ensures e f) row sp es g is (c .if1 .taken);
-    }
+    let x = c .before .before .before .before .before .step-front in (
+      λ e f.
+          record {
+            number = λ row sp es g is. number-is ws (x .last .0) e (x .result) (x .ensures .0 e f) row sp es g is;
+            words-after = λ row sp es g is. refused-words ws (x .last .0) e (x .result) (x .ensures .0 e f) row sp es g is (c .if1 .taken);
+          },
+      x .ensures .1,
+    )
 
 count-requires-2 : tie.Need-count-requires-2
 count-requires-2 c κs =
@@ -35,7 +37,7 @@ count-requires-2 c κs =
     let h = s .pre .0 in
     let r = h .reached in
     let y = s .pre .3 in
-    new-held ws (x .last .0) (y .event) (x .result) (x .ensures (y .event) (y .is)) (r .row) (r .sp) (r .events) (r .bounds) (held-is ws (s .pre .1) h) (c .before .before .if1 .left)
+    new-held ws (x .last .0) (y .event) (x .result) (x .ensures .0 (y .event) (y .is)) (r .row) (r .sp) (r .events) (r .bounds) (held-is ws (s .pre .1) h) (c .before .before .if1 .left)
 
 note-requires : tie.Need-note-requires
 note-requires c κs =
@@ -50,7 +52,7 @@ note-requires c κs =
       events = r .events;
       event = y .event;
       follows =
-          follows-on ws (x .last .0) (y .event) (x .result) (x .ensures (y .event) (y .is)) (r .row) (r .sp) (r .events) (r .bounds) (held-is ws (s .pre .1) h) (c .before .before .before .before .if1 .left) _ _ (s .args .f) (y .is)
+          follows-on ws (x .last .0) (y .event) (x .result) (x .ensures .0 (y .event) (y .is)) (r .row) (r .sp) (r .events) (r .bounds) (held-is ws (s .pre .1) h) (c .before .before .before .before .if1 .left) _ _ (s .args .f) (y .is)
           (c .before .before .before .before .before .before .before .before .before .before .before .before .count .ensures) (c .before .count2 .ensures);
     }
 
@@ -59,15 +61,17 @@ returns-2 c =
     let s = c .before .before .before .before .before .before .before .before .before .before .before .before .before .before .before .before .before .before .before .before in
     let ws = s .args .words .now in
     let x = c .before .before .before .before .before .before .before .before .before .before .before .before .step-front in
-    let left = c .before .before .before .before .before .before .before .if1 .left in
-    λ e f.
-    record {
-      number = λ row sp es g is. omega (arith, left, number-is ws (x .last .0) e (x .result) (x .ensures e f) row sp es g is);
-      words-after = λ row sp es g is.
-          accepted-words ws (x .last .0) e (x .result) (x .ensures e f) row sp es g is left (c .before .before .note .last .0)
-          (c .before .before .note .ensures row es e
-          (follows-on ws (x .last .0) e (x .result) (x .ensures e f) row sp es g is left _ _ (s .args .f) f (c .before .before .before .before .before .before .before .before .before .before .before .before .before .before .before .count .ensures) (c .before .before .before .before .count2 .ensures)));
-    }
+    let left = c .before .before .before .before .before .before .before .if1 .left in (
+      λ e f.
+          record {
+            number = λ row sp es g is. omega (arith, left, number-is ws (x .last .0) e (x .result) (x .ensures .0 e f) row sp es g is);
+            words-after = λ row sp es g is.
+                accepted-words ws (x .last .0) e (x .result) (x .ensures .0 e f) row sp es g is left (c .before .before .note .last .0)
+                (c .before .before .note .ensures row es e
+                (follows-on ws (x .last .0) e (x .result) (x .ensures .0 e f) row sp es g is left _ _ (s .args .f) f (c .before .before .before .before .before .before .before .before .before .before .before .before .before .before .before .count .ensures) (c .before .before .before .before .count2 .ensures)));
+          },
+      λ refused. absurd (omega (arith, refused)),
+    )
 
 pub step-noted-spec : {M : Type 1} → statement M
 step-noted-spec =

@@ -1,5 +1,5 @@
--- `quote::search` meets its contract. The outer loop's invariant: the best key found, the number of keys tried and the most of the sums that
--- were not enough, among those passed, and what stands at the found key or better. The inner loop's: what was added up is held at the candidate's key or better in the part of the columns that was passed. Assumes nothing.
+-- `quote::search` meets its contract. The outer loop's invariant: the best key found, W3's number and the most of the sums that were
+-- not enough, of the keys passed, and what stands at the found key or better. The inner loop's: what was added up is held at the candidate's key or better in the part of the columns that was passed. Assumes nothing.
 use Prim.Native.Nat.{ℕ, _+_, _-_, _≤_, _<_, max}
 use native.Mathlib.Omega.{arith}
 use mathlib.Core.Path.{_≡_, refl, sym, ap, _∙_}
@@ -8,11 +8,13 @@ use mathlib.Core.Bool.{Bool, true, false}
 use borrow.Author.Tests.{le-leb, lt-leb, le-ltb, lt-ltb}
 use lib.Dec.{leb}
 use lib.ListN.{length, getD, take}
-use Rattle.rules.specs.Lists.{count, filter}
+use lib.Seq.{take-length}
+use Rattle.rules.specs.Lists.{filter}
 use Rattle.prices.specs.Keys.{quoteAt}
-use Rattle.quote.specs.Levels.{enough, greatest, foundBy, triedBy, shortBy, depthFrom}
+use Rattle.quote.specs.Levels.{enough, greatest, foundBy, shortBy, depthFrom}
 use Rattle.quote.specs.Levels as L
-use Rattle.quote.proofs.Loops.{held-next, held-fits, held-all, found-better, found-few, found-worse, tried-one, tried-none}
+use Rattle.quote.specs.Sums.{keySums}
+use Rattle.quote.proofs.Loops.{held-next, held-fits, held-all, found-better, found-few, found-worse, sums-better, sums-worse}
 use Rattle.quote.proofs.Short.{short-enough, short-few, short-worse, short-next}
 use Rattle.quote.proofs.Finding.{finds}
 use Rattle.quote.proofs.search.Statement.{statement}
@@ -28,7 +30,7 @@ abbrev μ-volumes : tie.MeasureT-volumes
 abbrev Inv-candidates : tie.InvT-candidates
 Inv-candidates side keys volumes start m found₀ enough₀ short₀ sums₀ i₀ found enough short sums i =
     (i ≤ length keys) × (found ≤ 2000000001) × (sums ≤ i) × (found ≡ foundBy start m keys volumes i)
-    × (sums ≡ triedBy start m keys volumes i) × (short ≡ shortBy start m keys volumes i)
+    × (sums ≡ keySums (L.enough m keys volumes) start (take i keys)) × (short ≡ shortBy start m keys volumes i)
     × (enough ≡ depthFrom start found keys volumes)
 
 abbrev μ-candidates : tie.MeasureT-candidates
@@ -89,7 +91,7 @@ abbrev After : Candidates → ℕ → ℕ → ℕ → Type 0
 After u found sums short =
     let a = u .before .before .before .args in
     let i = u .candidates .i + 1 in
-    (found ≡ foundBy (a .start) (minimumOf u) (keysOf u) (volumesOf u) i) × (sums ≡ triedBy (a .start) (minimumOf u) (keysOf u) (volumesOf u) i)
+    (found ≡ foundBy (a .start) (minimumOf u) (keysOf u) (volumesOf u) i) × (sums ≡ keySums (enough (minimumOf u) (keysOf u) (volumesOf u)) (a .start) (take i (keysOf u)))
     × (short ≡ shortBy (a .start) (minimumOf u) (keysOf u) (volumesOf u) i)
 
 module _ (u : Candidates) (more : u .candidates .i < length (keysOf u)) where
@@ -101,7 +103,7 @@ module _ (u : Candidates) (more : u .candidates .i < length (keysOf u)) where
       let s = short-next (a .start) (minimumOf u) (keysOf u) (volumesOf u) (n .i) more in
       let z = short-enough (a .start) (minimumOf u) (keysOf u) (volumesOf u) (candidate u) e in (
         found-better (a .start) (minimumOf u) (keysOf u) (volumesOf u) (n .i) (n .found) more (n .inv .3) h e,
-        tried-one (a .start) (minimumOf u) (keysOf u) (volumesOf u) (n .i) (n .found) (n .sums) (n .inv .3) (n .inv .4) h,
+        sums-better (a .start) (minimumOf u) (keysOf u) (volumesOf u) (n .i) (n .found) (n .sums) more (n .inv .3) (n .inv .4) h,
         omega (arith, n .inv .5, s, z),
       )
 
@@ -114,7 +116,7 @@ module _ (u : Candidates) (more : u .candidates .i < length (keysOf u)) where
       let s = short-next (a .start) (minimumOf u) (keysOf u) (volumesOf u) (n .i) more in
       let z = short-few (a .start) (minimumOf u) (keysOf u) (volumesOf u) (candidate u) (omega (arith, n .inv .3, h)) e in (
         found-few (a .start) (minimumOf u) (keysOf u) (volumesOf u) (n .i) (n .found) more (n .inv .3) e,
-        tried-one (a .start) (minimumOf u) (keysOf u) (volumesOf u) (n .i) (n .found) (n .sums) (n .inv .3) (n .inv .4) h,
+        sums-better (a .start) (minimumOf u) (keysOf u) (volumesOf u) (n .i) (n .found) (n .sums) more (n .inv .3) (n .inv .4) h,
         omega (arith, n .inv .5, s, z, q, r),
       )
 
@@ -125,12 +127,12 @@ module _ (u : Candidates) (more : u .candidates .i < length (keysOf u)) where
       let s = short-next (a .start) (minimumOf u) (keysOf u) (volumesOf u) (n .i) more in
       let z = short-worse (a .start) (minimumOf u) (keysOf u) (volumesOf u) (n .i) (candidate u) (omega (arith, n .inv .3, h)) in (
         found-worse (a .start) (minimumOf u) (keysOf u) (volumesOf u) (n .i) (n .found) more (n .inv .3) h,
-        tried-none (a .start) (minimumOf u) (keysOf u) (volumesOf u) (n .i) (n .found) (n .sums) (n .inv .3) (n .inv .4) h,
+        sums-worse (a .start) (minimumOf u) (keysOf u) (volumesOf u) (n .i) (n .found) (n .sums) more (n .inv .3) (n .inv .4) h,
         omega (arith, n .inv .5, s, z),
       )
 
 candidates-holds : tie.Need-candidates-holds Inv-volumes μ-volumes Inv-candidates μ-candidates
-unfolding greatest filter triedBy count
+unfolding greatest filter keySums
 candidates-holds c = (omega arith, omega (arith, c .before .before .pre .start-most), omega arith, omega arith, refl, refl, sym (depth-start (c .before .before .args .start) (c .before .before .args .keys .now) (c .before .before .args .volumes .now)))
 
 shared-slice-read-key :
@@ -209,7 +211,7 @@ returns c =
     finds (a .side) (keysOf u) (volumesOf u) (a .start) (minimumOf u)
     (record { quote = c .quote-at .result; before = n .short; depth = n .enough; sums = n .sums })
     (u .before .before .before .pre .start-most)
-    (c .quote-at .ensures ∙ ap (quoteAt (a .side)) last) (n .inv .4 ∙ ap (triedBy (a .start) (minimumOf u) (keysOf u) (volumesOf u)) end)
+    (c .quote-at .ensures ∙ ap (quoteAt (a .side)) last) (n .inv .4 ∙ ap (λ (l : List ℕ). keySums (enough (minimumOf u) (keysOf u) (volumesOf u)) (a .start) l) (ap (λ (j : ℕ). take j (keysOf u)) end ∙ take-length (keysOf u)))
     (n .inv .5 ∙ ap (shortBy (a .start) (minimumOf u) (keysOf u) (volumesOf u)) end)
     (n .inv .6 ∙ ap (λ (k : ℕ). depthFrom (a .start) k (keysOf u) (volumesOf u)) last)
 
