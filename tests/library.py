@@ -424,7 +424,8 @@ def refused_calls():
 
 def some_lists(rng, count):
     """Lists of calls as bytes: known ones, random ones, and such that stop being calls."""
-    calls = [known.paper_calls(), known.greatest_charges(), known.every_refusal(), known.lapse_calls(), known.strike_calls(), known.ask_calls(), refused_calls()]
+    calls = [known.paper_calls(), known.greatest_charges(), known.every_refusal(), known.lapse_calls(), known.strike_calls(), known.ask_calls()]
+    calls += [refused_calls()]
     calls += [months.any_calls(rng)[1] for _ in range(count)] + [message_lists.any_calls(rng)[1] for _ in range(count)]
     lists = [calls_text.calls_bytes(some) for some in calls]
     yield from lists
