@@ -1,8 +1,9 @@
 // What stands now: the open quantum of a month's words, written into a lent buffer for whoever shows it (specs/Views). The month's words
 // are as they were.
 ghost use mathlib.Core.Path.{_≡_};
+ghost use mathlib.Core.Bool.{true};
 ghost use mathlib.Core.List.{List};
-ghost use Prim.Native.Nat.{_*_, _≤_};
+ghost use Prim.Native.Nat.{_*_, _-_, _≤_};
 ghost use lib.ListN.{length, getD};
 ghost use Rattle.rules.specs.declared.Row.{Row};
 ghost use Rattle.rules.specs.declared.SpreadRule.{SpreadRule};
@@ -14,13 +15,14 @@ ghost use Rattle.quantum.specs.Represents.{quantumOf};
 ghost use Rattle.quantum.specs.Words.{quantumWords};
 ghost use Rattle.month.specs.Words.{HoldsMonth};
 ghost use Rattle.quantum_in_place.specs.Events.{HoldsQuantum};
+ghost use Rattle.in_place.specs.Entry.{mayBeMonth};
 ghost use Rattle.views.specs.Views.{orderWords, ordersWords, quotingWords, Shown, Views};
 ghost use Rattle.views.specs.Internal.{headFrom, Placed, Listed};
 use rules::Order;
 use rules::Side;
 
-// What became of a view: the month's words or the buffer's are too few, and then nothing is written; or so many words were written, 0 with
-// none open.
+// What became of a view: the month's words are too few, or no month's, or the buffer's are too few, and then nothing is written; or so many
+// words were written, 0 with none open.
 pub enum Viewed {
     WordsShort,
     NoMonth,
@@ -56,8 +58,11 @@ fn put_order(order: Order, into: &mut [u32])
     lent::copy(&four, into);
 }
 
-// The place of what a scan found.
-fn place_of(found: u32) -> usize {
+// The place of the order that a scan found; in words that no call wrote it may have found none, or several.
+fn place_of(found: u32) -> usize
+    requires { ⌜ (1 ≤ found) × (found ≤ 64) ⌝ }
+    ensures { λ r. ⌜ r ≡ found - 1 ⌝ }
+{
     (numbers::one_less(found) % 64) as usize
 }
 
@@ -126,7 +131,7 @@ fn show(day: u32, allowed: u32, quantum: &[u32], buffer: &mut [u32]) -> Viewed
 
 // What stands now, of a month's words.
 pub fn view(words: &[u32], buffer: &mut [u32]) -> Viewed
-    requires { ⌜ (2464 ≤ length (now words) → HoldsMonth (now words)) ⌝ }
+    requires { ⌜ (2464 ≤ length (now words) → mayBeMonth (now words) ≡ true → HoldsMonth (now words)) ⌝ }
     ensures { λ r. ⌜ Views (now (words .entry)) (now (buffer .entry)) (now (buffer .exit)) r ⌝ }
 {
     if words.len() < 2464 {
