@@ -1,191 +1,170 @@
+-- Five early returns that change nothing, and the ways to run the call.
+use Prim.Native.Nat.{_≤_}
+use mathlib.Core.Path.{_≡_, refl, sym, _∙_}
+use mathlib.Core.Bool.{true}
+use lib.Dec.{leb}
+use lib.ListN.{length, take}
+use lib.Seq.{length-take-le}
+use borrow.Author.Tests.{lt-leb, le-leb, not-true, not-false}
+use Rattle.rules.specs.Calls.{Send}
+use Rattle.words.specs.Bytes.{wordsIn}
+use Rattle.blocks.specs.Kinds.{callOf}
+use Rattle.month.specs.Words.{HoldsMonth}
+use Rattle.in_place.specs.Entry.{mayBeMonth}
+use Rattle.live.specs.declared.Called.the-variants.{WordsShort, NoMonth, HintsShort, AnswerShort, NoCall}
+use Rattle.live.specs.Calling.{isCall}
+use Rattle.live.proofs.Events.{says-event, event-performs}
+use Rattle.live.proofs.Calling.{unchanged, words-short, foreign, hints-short, answer-short, no-call, is-done, words-not-done, foreign-not-done, hints-not-done, answer-not-done, no-call-not-done}
+use Rattle.live.proofs.Hints.{of-call, all-untouched, lent-first}
 use borrow.Author.Needs.{needs}
 use Rattle.live.proofs.call.Statement.{statement}
 use Rattle.live.proofs.call.Tie as tie
-use Rattle.live.proofs.call.Reads as reads
-use Rattle.live.proofs.call.Lts as lts
-use Rattle.in_place.proofs.may_be_month.Reads as may-be-month-reads
-use Rattle.live.proofs.event_in.Reads as event-in-reads
-use Rattle.live.proofs.is_call.Reads as is-call-reads
-use Rattle.live.proofs.other.Reads as other-reads
-use Rattle.live.proofs.perform.Reads as perform-reads
-use Rattle.live.proofs.send.Reads as send-reads
 
--- src/lib.rt:295:9
 returns : tie.Need-returns
-returns c = ?
+returns c =
+    let a = c .before .before .before .before .before .args in
+    unchanged (a .words .now) (a .hints .now) (a .answer .now) (a .bytes .now) WordsShort words-not-done
+    (words-short (leb 2464 (length (a .words .now))) (mayBeMonth (a .words .now)) (leb 2048 (length (a .hints .now))) (leb 20 (length (a .answer .now))) (isCall (a .bytes .now)) (lt-leb _ _ (c .if1 .taken)))
 
--- src/lib.rt:297:9
-may-be-month-requires : tie.Need-may-be-month-requires
-may-be-month-requires c κs = search needs
-
--- src/lib.rt:298:9
-same-length : tie.Need-same-length
-same-length c = search needs
-
--- src/lib.rt:298:9
 returns-2 : tie.Need-returns-2
-returns-2 c = ?
+returns-2 c =
+    let a = c .before .before .before .before .before .before .before .before .args in
+    unchanged (a .words .now) (a .hints .now) (a .answer .now) (a .bytes .now) NoMonth foreign-not-done
+    (foreign (leb 2464 (length (a .words .now))) (mayBeMonth (a .words .now)) (leb 2048 (length (a .hints .now))) (leb 20 (length (a .answer .now))) (isCall (a .bytes .now)) (le-leb _ _ (c .before .before .before .if1 .left)) (sym (c .before .may-be-month .ensures .0) ∙ not-true _ (c .if2 .taken)))
 
--- src/lib.rt:301:9
-same-length-2 : tie.Need-same-length-2
-same-length-2 c = search needs
+-- ---- the words passed the tests on entry
 
--- src/lib.rt:301:9
+abbrev Passed : Type 0
+Passed = tie.Else2
+
+room : (e : Passed) → 2464 ≤ length (e .before .before .before .before .before .before .before .before .args .words .now)
+room e = e .before .before .before .if1 .left
+
+passed : (e : Passed) → mayBeMonth (e .before .before .before .before .before .before .before .before .args .words .now) ≡ true
+passed e = sym (e .before .may-be-month .ensures .0) ∙ not-false _ (e .if2 .left)
+
+holds : (e : Passed) → HoldsMonth (e .before .before .before .before .before .before .before .before .args .words .now)
+holds e = e .before .before .before .before .before .before .before .before .pre (room e) (passed e)
+
+-- ---- the other returns, and the calls
+
 returns-3 : tie.Need-returns-3
-returns-3 c = ?
+returns-3 c =
+    let a = c .before .before .before .before .before .before .before .before .before .args in
+    unchanged (a .words .now) (a .hints .now) (a .answer .now) (a .bytes .now) HintsShort hints-not-done
+    (hints-short (leb 2464 (length (a .words .now))) (mayBeMonth (a .words .now)) (leb 2048 (length (a .hints .now))) (leb 20 (length (a .answer .now))) (isCall (a .bytes .now)) (le-leb _ _ (room (c .before))) (passed (c .before)) (lt-leb _ _ (c .if3 .taken)))
 
--- src/lib.rt:304:9
-same-length-3 : tie.Need-same-length-3
-same-length-3 c = search needs
-
--- src/lib.rt:304:9
 returns-4 : tie.Need-returns-4
-returns-4 c = ?
+returns-4 c =
+    let a = c .before .before .before .before .before .before .before .before .before .before .args in
+    let e = c .before .before in
+    unchanged (a .words .now) (a .hints .now) (a .answer .now) (a .bytes .now) AnswerShort answer-not-done
+    (answer-short (leb 2464 (length (a .words .now))) (mayBeMonth (a .words .now)) (leb 2048 (length (a .hints .now))) (leb 20 (length (a .answer .now))) (isCall (a .bytes .now)) (le-leb _ _ (room e)) (passed e) (le-leb _ _ (c .before .if3 .left)) (lt-leb _ _ (c .if4 .taken)))
 
--- src/lib.rt:306:9
-event-in-requires : tie.Need-event-in-requires
-event-in-requires c κs = search needs
-
--- src/lib.rt:308:21
-sub-send : tie.Need-sub-send
-sub-send c = search needs
-
--- src/lib.rt:308:21
-part-send-start : tie.Need-part-send-start
-part-send-start c = search needs
-
--- src/lib.rt:308:21
-part-send-end : tie.Need-part-send-end
-part-send-end c = search needs
-
--- src/lib.rt:308:45
-sub-send-2 : tie.Need-sub-send-2
-sub-send-2 c = search needs
-
--- src/lib.rt:308:45
-part-send-start-2 : tie.Need-part-send-start-2
-part-send-start-2 c = search needs
-
--- src/lib.rt:308:45
-part-send-end-2 : tie.Need-part-send-end-2
-part-send-end-2 c = search needs
-
--- src/lib.rt:308:9
 send-requires : tie.Need-send-requires
-send-requires c κs = ?
+send-requires c κs =
+    let e = c .before .before .before .before .before .before .before .before in
+    let s = e .before .before .before .before .before .before .before .before in
+    let f = c .before .before .before .before .before .event-in in
+    (holds e, room e, length-take-le 2048 (s .args .hints .now) (c .before .before .before .before .before .before .before .if3 .left), says-event (s .args .bytes .now) (f .result) (f .ensures (c .before .before .before .if5 .taken)), length-take-le 20 (s .args .answer .now) (c .before .before .before .before .before .before .if4 .left))
 
--- src/lib.rt:309:9
-same-length-4 : tie.Need-same-length-4
-same-length-4 c = search needs
-
--- src/lib.rt:309:9
-same-length-5 : tie.Need-same-length-5
-same-length-5 c = search needs
-
--- src/lib.rt:309:9
-same-length-6 : tie.Need-same-length-6
-same-length-6 c = search needs
-
--- src/lib.rt:309:9
 returns-5 : tie.Need-returns-5
-returns-5 c = ?
+returns-5 c =
+    let e = c .before .before .before .before .before .before .before .before .before .before .before .before .before .before .before in
+    let a = e .before .before .before .before .before .before .before .before .args in
+    let hinted = c .before .before .before .before .before .before .before .before .before .before .before .before .before .before .if3 .left in
+    let f = c .before .before .before .before .before .before .before .before .before .before .before .before .event-in in
+    let says = f .ensures (c .before .before .before .before .before .before .before .before .before .before .if5 .taken) in
+    let x = c .before .before .before .before .before .before .send in
+    record {
+      called = is-done (leb 2464 (length (a .words .now))) (mayBeMonth (a .words .now)) (leb 2048 (length (a .hints .now))) (leb 20 (length (a .answer .now))) (isCall (a .bytes .now)) (le-leb _ _ (room e)) (passed e) (le-leb _ _ hinted) (le-leb _ _ (c .before .before .before .before .before .before .before .before .before .before .before .before .before .if4 .left)) (says .is-call);
+      done = λ d. event-performs (a .words .now) (a .answer .now) (a .bytes .now) (x .last .0) (x .last .1 .1 .1 .0) (f .result) says (x .ensures (says .event) (says .fields) .0);
+      kept = λ never. absurd (never refl);
+      leaves =
+          lent-first (a .words .now) (a .hints .now) (a .bytes .now) (x .last .1 .0) (x .kept .1 .0 ∙ length-take-le 2048 (a .hints .now) hinted)
+          (of-call (a .words .now) (Send (says .event)) (callOf (wordsIn (a .bytes .now))) (take 2048 (a .hints .now)) (x .last .1 .0) (sym (says .says)) (x .ensures (says .event) (says .fields) .1));
+    }
 
--- src/lib.rt:311:9
-is-call-requires : tie.Need-is-call-requires
-is-call-requires c κs = search needs
-
--- src/lib.rt:312:9
-same-length-7 : tie.Need-same-length-7
-same-length-7 c = search needs
-
--- src/lib.rt:312:9
 returns-6 : tie.Need-returns-6
-returns-6 c = ?
+returns-6 c =
+    let e = c .before .before .before .before .before .before .before in
+    let a = e .before .before .before .before .before .before .before .before .args in
+    unchanged (a .words .now) (a .hints .now) (a .answer .now) (a .bytes .now) NoCall no-call-not-done
+    (no-call (leb 2464 (length (a .words .now))) (mayBeMonth (a .words .now)) (leb 2048 (length (a .hints .now))) (leb 20 (length (a .answer .now))) (isCall (a .bytes .now)) (le-leb _ _ (room e)) (passed e) (le-leb _ _ (c .before .before .before .before .before .before .if3 .left)) (le-leb _ _ (c .before .before .before .before .before .if4 .left)) (sym (c .before .is-call .ensures) ∙ not-true _ (c .if6 .taken)))
 
--- src/lib.rt:316:9
 perform-requires : tie.Need-perform-requires
-perform-requires c κs = ?
+perform-requires c κs =
+    let e = c .before .before .before .before .before .before .before .before .before .before in
+    (holds e, room e, c .before .before .before .before .before .before .before .before .if4 .left, sym (c .before .before .before .before .is-call .ensures) ∙ not-false _ (c .before .before .before .if6 .left))
 
--- src/lib.rt:317:9
-same-length-8 : tie.Need-same-length-8
-same-length-8 c = search needs
-
--- src/lib.rt:317:9
-same-length-9 : tie.Need-same-length-9
-same-length-9 c = search needs
-
--- src/lib.rt:317:9
 returns-7 : tie.Need-returns-7
-returns-7 c = ?
+returns-7 c =
+    let e = c .before .before .before .before .before .before .before .before .before .before .before .before .before .before .before in
+    let a = e .before .before .before .before .before .before .before .before .args in
+    record {
+      called = is-done (leb 2464 (length (a .words .now))) (mayBeMonth (a .words .now)) (leb 2048 (length (a .hints .now))) (leb 20 (length (a .answer .now))) (isCall (a .bytes .now)) (le-leb _ _ (room e)) (passed e) (le-leb _ _ (c .before .before .before .before .before .before .before .before .before .before .before .before .before .before .if3 .left)) (le-leb _ _ (c .before .before .before .before .before .before .before .before .before .before .before .before .before .if4 .left)) (sym (c .before .before .before .before .before .before .before .before .before .is-call .ensures) ∙ not-false _ (c .before .before .before .before .before .before .before .before .if6 .left));
+      done = λ d. c .before .before .before .before .perform .ensures;
+      kept = λ never. absurd (never refl);
+      leaves = all-untouched (a .words .now) (a .hints .now) (a .bytes .now);
+    }
 
--- src/lib.rt:319:18
-sub-other : tie.Need-sub-other
-sub-other c = search needs
-
--- src/lib.rt:319:18
-part-other-start : tie.Need-part-other-start
-part-other-start c = search needs
-
--- src/lib.rt:319:18
-part-other-end : tie.Need-part-other-end
-part-other-end c = search needs
-
--- src/lib.rt:319:5
 other-requires : tie.Need-other-requires
-other-requires c κs = ?
+other-requires c κs =
+    let e = c .before .before .before .before .before .before .before .before .before .before .before in
+    let s = e .before .before .before .before .before .before .before .before in
+    (holds e, room e, length-take-le 2048 (s .args .hints .now) (c .before .before .before .before .before .before .before .before .before .before .if3 .left), c .before .before .before .before .before .before .before .before .before .if4 .left, sym (c .before .before .before .before .before .is-call .ensures) ∙ not-false _ (c .before .before .before .before .if6 .left))
 
--- src/lib.rt:290:1
-same-length-10 : tie.Need-same-length-10
-same-length-10 c = search needs
-
--- src/lib.rt:290:1
-same-length-11 : tie.Need-same-length-11
-same-length-11 c = search needs
-
--- src/lib.rt:290:1
-same-length-12 : tie.Need-same-length-12
-same-length-12 c = search needs
-
--- src/lib.rt:290:1
 returns-8 : tie.Need-returns-8
-returns-8 c = ?
+returns-8 c =
+    let e = c .before .before .before .before .before .before .before .before .before .before .before .before .before .before .before .before .before .before in
+    let a = e .before .before .before .before .before .before .before .before .args in
+    let hinted = c .before .before .before .before .before .before .before .before .before .before .before .before .before .before .before .before .before .if3 .left in
+    let x = c .before .before .before .before .before .before .other in
+    record {
+      called = is-done (leb 2464 (length (a .words .now))) (mayBeMonth (a .words .now)) (leb 2048 (length (a .hints .now))) (leb 20 (length (a .answer .now))) (isCall (a .bytes .now)) (le-leb _ _ (room e)) (passed e) (le-leb _ _ hinted) (le-leb _ _ (c .before .before .before .before .before .before .before .before .before .before .before .before .before .before .before .before .if4 .left)) (sym (c .before .before .before .before .before .before .before .before .before .before .before .before .is-call .ensures) ∙ not-false _ (c .before .before .before .before .before .before .before .before .before .before .before .if6 .left));
+      done = λ d. x .ensures .0;
+      kept = λ never. absurd (never refl);
+      leaves =
+          lent-first (a .words .now) (a .hints .now) (a .bytes .now) (x .last .1 .0) (x .kept .1 .0 ∙ length-take-le 2048 (a .hints .now) hinted)
+          (x .ensures .1);
+    }
 
 pub call-spec : {M : Type 1} → statement M
 call-spec =
     tie.close
     (tie.spec
     returns
-    may-be-month-requires
-    same-length
+    (λ c κs. search needs)
+    (λ c. search needs)
     returns-2
-    same-length-2
+    (λ c. search needs)
     returns-3
-    same-length-3
+    (λ c. search needs)
     returns-4
-    event-in-requires
-    sub-send
-    part-send-start
-    part-send-end
-    sub-send-2
-    part-send-start-2
-    part-send-end-2
+    (λ c κs. search needs)
+    (λ c. search needs)
+    (λ c. search needs)
+    (λ c. search needs)
+    (λ c. search needs)
+    (λ c. search needs)
+    (λ c. search needs)
     send-requires
-    same-length-4
-    same-length-5
-    same-length-6
+    (λ c. search needs)
+    (λ c. search needs)
+    (λ c. search needs)
     returns-5
-    is-call-requires
-    same-length-7
+    (λ c κs. search needs)
+    (λ c. search needs)
     returns-6
     perform-requires
-    same-length-8
-    same-length-9
+    (λ c. search needs)
+    (λ c. search needs)
     returns-7
-    sub-other
-    part-other-start
-    part-other-end
+    (λ c. search needs)
+    (λ c. search needs)
+    (λ c. search needs)
     other-requires
-    same-length-10
-    same-length-11
-    same-length-12
+    (λ c. search needs)
+    (λ c. search needs)
+    (λ c. search needs)
     returns-8)
