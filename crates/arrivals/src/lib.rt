@@ -57,7 +57,7 @@ fn remove(ids: &mut [u32], count: u32, id: u32)
     ensures { λ _. ⌜ now (ids .exit) ≡ shifted (now (ids .entry)) (seenFrom 1 id (take count (now (ids .entry))) - 1) (count - 1) ⌝ }
 {
     let found = side::scan(&ids[0..count as usize], id);
-    side::shift(ids, (found - 1) as usize, (count - 1) as usize);
+    side::shift(ids, numbers::one_less(found) as usize, (count - 1) as usize);
 }
 
 // After an accepted event, by the numbers of live orders before and after it: one more is behind the others, one less is gone.

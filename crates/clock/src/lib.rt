@@ -94,9 +94,9 @@ fn starting(clock: Clock) -> u32
     ensures { λ r. ⌜ (r ≡ startingBy clock) × (r ≤ 1) ⌝ }
 {
     if clock.time.0 == 0 {
-        return 1 - clock.keeps;
+        return numbers::difference(1, clock.keeps);
     }
-    (1 - clock.keeps) * clock.last
+    numbers::product(numbers::difference(1, clock.keeps), clock.last)
 }
 
 // Time runs on to t: the quotes of before count up to there, as kept time or as a lapse.
@@ -106,10 +106,10 @@ pub fn onward(clock: Clock, t: Millis, keeps: u32) -> Clock
 {
     let time = clock.time;
     let kept = clock.kept;
-    let more = clock.keeps * (t.0 - time.0);
-    let total = Millis(kept.0 + more);
+    let more = numbers::product(clock.keeps, numbers::difference(t.0, time.0));
+    let total = Millis(numbers::sum(kept.0, more));
     if time.0 < t.0 {
-        let lapses = clock.lapses + starting(clock);
+        let lapses = numbers::sum(clock.lapses, starting(clock));
         return Clock {
             time: t,
             kept: total,

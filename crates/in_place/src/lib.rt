@@ -4,6 +4,7 @@ ghost use mathlib.Core.Path.{_≡_};
 ghost use mathlib.Core.Bool.{true};
 ghost use mathlib.Core.List.{List, [], _∷_};
 ghost use Prim.Native.Nat.{ℕ, _+_, _*_, _≤_, _<_};
+ghost use lib.Dec.{ltb};
 ghost use lib.ListN.{length, getD};
 ghost use Rattle.rules.specs.declared.Event.{Event};
 ghost use Rattle.rules.specs.declared.Cell.{Cell};
@@ -18,6 +19,7 @@ ghost use Rattle.quantum.specs.Words.{quantumWords, Sized};
 ghost use Rattle.month.specs.Internal.{Previewed};
 ghost use Rattle.month.specs.Words.{HoldsMonth};
 ghost use Rattle.quantum_in_place.specs.Events.{HoldsQuantum, SaysEvent};
+ghost use Rattle.in_place.specs.Entry.{mayBeMonth};
 ghost use Rattle.in_place.specs.Events.{Sends, Shows};
 use record::Fields;
 use rules::Amendment;
@@ -28,6 +30,31 @@ use rules::Preview;
 use rules::Refusal;
 use rules::Side;
 use rules::Ticket;
+
+// ---- words that a caller lends
+
+// More orders than a month has.
+fn too_many(buys: u32, sells: u32) -> bool
+    ensures { λ r. ⌜ r ≡ ltb 64 (buys + sells) ⌝ }
+{
+    64 < numbers::wide(buys) + numbers::wide(sells)
+}
+
+// Whether words can be a month's, by the few that every call rests on (specs/Entry). A month's always can.
+pub fn may_be_month(words: &[u32]) -> bool
+    requires { ⌜ 2464 ≤ length (now words) ⌝ }
+    ensures { λ r. ⌜ (r ≡ mayBeMonth (now (words .entry))) × (HoldsMonth (now (words .entry)) → r ≡ true) ⌝ }
+{
+    if too_many(words[208], words[464]) {
+        return false;
+    }
+    if 186 <= words[1] {
+        return false;
+    }
+    0 < words[6]
+}
+
+// ---- the calls
 
 // One more accepted call, in the count's two words.
 fn count_on(words: &mut [u32])
@@ -82,7 +109,7 @@ pub fn look(words: &[u32], day: u32, expiry: u32, quantum: u32) -> Looked
         return Looked::Refused(Refusal::ArgumentOutOfRange);
     }
     let cell = cell_named(&words[604..2464], day, expiry, quantum);
-    if cell.filled {
+    if verdict::is_filled(cell) {
         return Looked::Found(verdict::view(cell));
     }
     Looked::Refused(Refusal::CellBlank)

@@ -32,12 +32,12 @@ pub struct Requoted {
     pub sums: u32,
 }
 
-// A sum of contracts that gains and loses: in 64 bits, since what it gains may be what it loses.
+// A sum of contracts that gains and loses: in 64 bits, since what it gains may be what it loses, and modulo 2^32 as all sums of volumes are.
 fn changed(sum: u32, gained: u32, lost: u32) -> u32
     requires { ⌜ SumFits sum gained lost ⌝ }
     ensures { λ r. ⌜ r ≡ sum + gained - lost ⌝ }
 {
-    (sum as u64 + gained as u64 - lost as u64) as u32
+    numbers::low(4294967296 + numbers::wide(sum) + numbers::wide(gained) - numbers::wide(lost))
 }
 
 // A number less another, or 0.
@@ -160,7 +160,7 @@ fn qualified(level: Level, start: u32, minimum: Contracts) -> u32
     requires { ⌜ level .before + level .at ≤ 64000000 ⌝ }
     ensures { λ r. ⌜ r ≡ foundAt (minimum .0) start level ⌝ }
 {
-    if minimum.0 <= level.before + level.at {
+    if minimum.0 <= numbers::sum(level.before, level.at) {
         return level.key;
     }
     start
@@ -189,7 +189,7 @@ fn stepped(keys: &[u32], volumes: &[u32], level: Level, minimum: Contracts) -> L
         let there = quote::held_at(keys, volumes, up);
         return Level {
             key: up,
-            before: level.before - there,
+            before: numbers::difference(level.before, there),
             at: there,
         };
     }
@@ -197,13 +197,13 @@ fn stepped(keys: &[u32], volumes: &[u32], level: Level, minimum: Contracts) -> L
     if down == 0 {
         return Level {
             key: 0,
-            before: level.before + level.at,
+            before: numbers::sum(level.before, level.at),
             at: 0,
         };
     }
     Level {
         key: down,
-        before: level.before + level.at,
+        before: numbers::sum(level.before, level.at),
         at: quote::held_at(keys, volumes, down),
     }
 }
@@ -216,7 +216,7 @@ fn lacking(level: Level, minimum: Contracts) -> u32
     if minimum.0 <= level.before {
         return level.before - minimum.0;
     }
-    less(minimum.0, level.before + level.at)
+    less(minimum.0, numbers::sum(level.before, level.at))
 }
 
 // Whether another step is vain: what is at the level is less than an eighth of what it lacks, so that the best one is likely far.
@@ -224,7 +224,7 @@ fn falls_short(level: Level, minimum: Contracts) -> bool
     requires { ⌜ level .before + level .at ≤ 64000000 ⌝ }
     ensures { λ r. ⌜ r ≡ fallsShort level (minimum .0) ⌝ }
 {
-    8 * level.at < lacking(level, minimum)
+    8 * numbers::wide(level.at) < numbers::wide(lacking(level, minimum))
 }
 
 // One step more from a guess that is not the best, where it is not vain.

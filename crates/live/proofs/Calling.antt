@@ -20,34 +20,41 @@ use Rattle.month.specs.declared.Month.{Month}
 use Rattle.month.specs.Represents.{monthOf, Reached}
 use Rattle.month.specs.Words.{monthWords, Fits, wordsAfter, HoldsMonth}
 use Rattle.month.proofs.Words.{month-fits}
+use Rattle.in_place.specs.Entry.{mayBeMonth}
 use Rattle.script.specs.declared.Shown.{Shown}
 use Rattle.script.specs.declared.Done.{Done as Ended}
 use Rattle.script.specs.Blocks.{shownOf, Performed, Stepped}
 use Rattle.answers.specs.Words.{answerWords}
 use Rattle.live.specs.declared.Called.{Called}
-use Rattle.live.specs.declared.Called.the-variants.{Done, WordsShort, HintsShort, AnswerShort, NoCall}
+use Rattle.live.specs.declared.Called.the-variants.{Done, WordsShort, NoMonth, HintsShort, AnswerShort, NoCall}
 use Rattle.live.specs.Calling.{isCall, calledBy, Performs, Calling, wordsShown}
 use Rattle.live.proofs.Hints.{all-untouched}
 
 -- ---- what became of it
 
-pub words-short : (w h a c : Bool) → w ≡ false → WordsShort ≡ calledBy w h a c
-words-short w h a c p = ap (λ (b : Bool). calledBy b h a c) (sym p)
+pub words-short : (w m h a c : Bool) → w ≡ false → WordsShort ≡ calledBy w m h a c
+words-short w m h a c p = ap (λ (b : Bool). calledBy b m h a c) (sym p)
 
-pub hints-short : (w h a c : Bool) → w ≡ true → h ≡ false → HintsShort ≡ calledBy w h a c
-hints-short w h a c p q = λ i. calledBy (sym p i) (sym q i) a c
+pub foreign : (w m h a c : Bool) → w ≡ true → m ≡ false → NoMonth ≡ calledBy w m h a c
+foreign w m h a c p o = λ i. calledBy (sym p i) (sym o i) h a c
 
-pub answer-short : (w h a c : Bool) → w ≡ true → h ≡ true → a ≡ false → AnswerShort ≡ calledBy w h a c
-answer-short w h a c p q r = λ i. calledBy (sym p i) (sym q i) (sym r i) c
+pub hints-short : (w m h a c : Bool) → w ≡ true → m ≡ true → h ≡ false → HintsShort ≡ calledBy w m h a c
+hints-short w m h a c p o q = λ i. calledBy (sym p i) (sym o i) (sym q i) a c
 
-pub no-call : (w h a c : Bool) → w ≡ true → h ≡ true → a ≡ true → c ≡ false → NoCall ≡ calledBy w h a c
-no-call w h a c p q r s = λ i. calledBy (sym p i) (sym q i) (sym r i) (sym s i)
+pub answer-short : (w m h a c : Bool) → w ≡ true → m ≡ true → h ≡ true → a ≡ false → AnswerShort ≡ calledBy w m h a c
+answer-short w m h a c p o q r = λ i. calledBy (sym p i) (sym o i) (sym q i) (sym r i) c
 
-pub is-done : (w h a c : Bool) → w ≡ true → h ≡ true → a ≡ true → c ≡ true → Done ≡ calledBy w h a c
-is-done w h a c p q r s = λ i. calledBy (sym p i) (sym q i) (sym r i) (sym s i)
+pub no-call : (w m h a c : Bool) → w ≡ true → m ≡ true → h ≡ true → a ≡ true → c ≡ false → NoCall ≡ calledBy w m h a c
+no-call w m h a c p o q r s = λ i. calledBy (sym p i) (sym o i) (sym q i) (sym r i) (sym s i)
+
+pub is-done : (w m h a c : Bool) → w ≡ true → m ≡ true → h ≡ true → a ≡ true → c ≡ true → Done ≡ calledBy w m h a c
+is-done w m h a c p o q r s = λ i. calledBy (sym p i) (sym o i) (sym q i) (sym r i) (sym s i)
 
 pub words-not-done : WordsShort ≡ Done → ⊥
 words-not-done e = let z : _≡_ {A = ℕ} 0 1 = cc in omega arith
+
+pub foreign-not-done : NoMonth ≡ Done → ⊥
+foreign-not-done e = let z : _≡_ {A = ℕ} 0 1 = cc in omega arith
 
 pub hints-not-done : HintsShort ≡ Done → ⊥
 hints-not-done e = let z : _≡_ {A = ℕ} 0 1 = cc in omega arith
@@ -60,7 +67,7 @@ no-call-not-done e = let z : _≡_ {A = ℕ} 0 1 = cc in omega arith
 
 -- nothing is changed, whatever the cause
 pub unchanged : (words hints out bytes : List ℕ) (r : Called) → (r ≡ Done → ⊥)
-    → r ≡ calledBy (leb 2464 (length words)) (leb 2048 (length hints)) (leb 20 (length out)) (isCall bytes)
+    → r ≡ calledBy (leb 2464 (length words)) (mayBeMonth words) (leb 2048 (length hints)) (leb 20 (length out)) (isCall bytes)
     → Calling words hints out bytes words hints out r
 unchanged words hints out bytes r never e =
     record {

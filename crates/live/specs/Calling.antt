@@ -18,8 +18,9 @@ use Rattle.script.specs.declared.Outcome.{Outcome}
 use Rattle.script.specs.declared.Outcome.the-variants as O
 use Rattle.answers.specs.Words.{answerWords}
 use Rattle.month.specs.Words.{wordsAfter}
+use Rattle.in_place.specs.Entry.{mayBeMonth}
 use Rattle.live.specs.declared.Called.{Called}
-use Rattle.live.specs.declared.Called.the-variants.{Done, WordsShort, HintsShort, AnswerShort, NoCall}
+use Rattle.live.specs.declared.Called.the-variants.{Done, WordsShort, NoMonth, HintsShort, AnswerShort, NoCall}
 
 -- one call's block, and nothing more
 unfoldable pub isCall : List ℕ → Bool
@@ -28,9 +29,11 @@ isCall bytes =
     (not (eqb size 0) && eqb size (length (wordsIn bytes))) && eqb (length bytes % 4) 0
 
 -- what became of a call
-abbrev pub calledBy : Bool → Bool → Bool → Bool → Called
-calledBy words hints answer call =
-    if words then (if hints then (if answer then (if call then Done else NoCall) else AnswerShort) else HintsShort) else WordsShort
+abbrev pub calledBy : Bool → Bool → Bool → Bool → Bool → Called
+calledBy words month hints answer call =
+    if words
+    then (if month then (if hints then (if answer then (if call then Done else NoCall) else AnswerShort) else HintsShort) else NoMonth)
+    else WordsShort
 
 -- For every list of calls whose month these words are: they are those of the longer list, and the answer's words are the plain book's
 -- answer, of refused calls too. What stands behind the words and behind the answer is kept.
@@ -64,11 +67,11 @@ pub record LeavesHints (words hints bytes hints′ : List ℕ) : Type 0 where
   pub others : notes (callOf (wordsIn bytes)) ≡ false → hints′ ≡ hints
   pub rest : drop 2048 hints′ ≡ drop 2048 hints
 
--- Too few words for a month, too few hints, too few words for an answer, and bytes that are no call, are answered as such, and then
--- nothing is changed, nor are the hints. The hints are no function of the month, and what is answered and left in the words is the same
+-- Too few words for a month, words that are no month's by the tests on entry, too few hints, too few words for an answer, and bytes that are
+-- no call, are answered as such, and then nothing is changed, nor are the hints. The hints are no function of the month, and what is answered and left in the words is the same
 -- whatever they contain. What an accepted event or ask leaves in the first 2,048 bytes is free.
 pub record Calling (words hints out bytes words′ hints′ out′ : List ℕ) (r : Called) : Type 0 where
-  pub called : r ≡ calledBy (leb 2464 (length words)) (leb 2048 (length hints)) (leb 20 (length out)) (isCall bytes)
+  pub called : r ≡ calledBy (leb 2464 (length words)) (mayBeMonth words) (leb 2048 (length hints)) (leb 20 (length out)) (isCall bytes)
   pub done : r ≡ Done → Performs words out bytes words′ out′
   pub kept : (r ≡ Done → ⊥) → (words′ ≡ words) × (hints′ ≡ hints) × (out′ ≡ out)
   pub leaves : LeavesHints words hints bytes hints′

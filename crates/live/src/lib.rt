@@ -17,6 +17,7 @@ ghost use Rattle.record.specs.Fields.{fieldsFor};
 ghost use Rattle.words.specs.Bytes.{wordsIn};
 ghost use Rattle.blocks.specs.Kinds.{stepsAt, callOf};
 ghost use Rattle.quantum_in_place.specs.Events.{SaysEvent};
+ghost use Rattle.in_place.specs.Entry.{mayBeMonth};
 ghost use Rattle.live.specs.Calling.{isCall, wordsShown, Calling, Performs};
 ghost use Rattle.live.specs.Internal.{amendIn, cancelIn, dealIn, tickIn, SaysAdd, SaysBlock, SendsShown, ShowsWords, LeavesLent};
 use blocks::Decoded;
@@ -38,11 +39,12 @@ pub const HINTS: usize = 2048;
 
 pub const ANSWER: usize = 20;
 
-// What became of a call: done, accepted or refused; or the lent words, the hints or the answer's words are too few, or the bytes are no
-// call, and then nothing is changed.
+// What became of a call: done, accepted or refused; or the lent words are too few or no month's, the hints or the answer's words are too few,
+// or the bytes are no call, and then nothing is changed.
 pub enum Called {
     Done,
     WordsShort,
+    NoMonth,
     HintsShort,
     AnswerShort,
     NoCall,
@@ -286,11 +288,14 @@ fn other(words: &mut [u32], hints: &mut [u8], bytes: &[u8], answer: &mut [u32])
 // is answered or left in the words depends on it. A refused call leaves them; what an accepted event or ask leaves in the first 2,048 bytes
 // is free, and the bytes after these never change.
 pub fn call(words: &mut [u32], hints: &mut [u8], bytes: &[u8], answer: &mut [u32]) -> Called
-    requires { ⌜ (2464 ≤ length (now words) → HoldsMonth (now words)) ⌝ }
+    requires { ⌜ (2464 ≤ length (now words) → mayBeMonth (now words) ≡ true → HoldsMonth (now words)) ⌝ }
     ensures { λ r. ⌜ Calling (now (words .entry)) (now (hints .entry)) (now (answer .entry)) (now (bytes .entry)) (now (words .exit)) (now (hints .exit)) (now (answer .exit)) r ⌝ }
 {
     if words.len() < MONTH {
         return Called::WordsShort;
+    }
+    if !in_place::may_be_month(words) {
+        return Called::NoMonth;
     }
     if hints.len() < HINTS {
         return Called::HintsShort;

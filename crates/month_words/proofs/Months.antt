@@ -1,4 +1,4 @@
--- A month in lent words, as the numbers that are answered. Assumes nothing.
+-- A month in lent words, as the numbers that are answered.
 use Prim.Native.Nat.{ℕ, _+_}
 use native.Mathlib.Omega.{arith}
 use mathlib.Core.Path.{_≡_, refl, sym, ap, subst, _∙_}
@@ -14,8 +14,9 @@ use Rattle.rules.specs.Book.{after}
 use Rattle.month.specs.Represents.{monthOf}
 use Rattle.month.proofs.Words.{month-fits, month-length}
 use Rattle.live.specs.declared.Called.{Called}
-use Rattle.live.specs.declared.Called.the-variants.{Done, WordsShort, HintsShort, AnswerShort, NoCall}
+use Rattle.live.specs.declared.Called.the-variants.{Done, WordsShort, NoMonth, HintsShort, AnswerShort, NoCall}
 use Rattle.month.specs.Words.{wordsAfter}
+use Rattle.in_place.specs.Entry.{mayBeMonth}
 use Rattle.live.specs.Calling.{isCall, calledBy, Calling}
 use Rattle.buffers.specs.Answers.{refusedNumber, Fills}
 use Rattle.month_words.specs.Internal.{calledNumber}
@@ -47,20 +48,24 @@ module _ (words words′ : List ℕ) (b : Bool) (r : ℕ) (enough : b ≡ leb 24
 -- ---- one call
 
 -- the number by what became of the call
-by-called : (w h a c : Bool) → calledNumber (calledBy w h a c) c ≡ callNumber w h a c
-by-called false h a true = refl
-by-called false h a false = refl
-by-called true false a true = refl
-by-called true false a false = refl
-by-called true true false true = refl
-by-called true true false false = refl
-by-called true true true true = refl
-by-called true true true false = refl
+by-called : (w m h a c : Bool) → calledNumber (calledBy w m h a c) c ≡ callNumber w m h a c
+by-called false m h a true = refl
+by-called false m h a false = refl
+by-called true false h a true = refl
+by-called true false h a false = refl
+by-called true true false a true = refl
+by-called true true false a false = refl
+by-called true true true false true = refl
+by-called true true true false false = refl
+by-called true true true true true = refl
+by-called true true true true false = refl
 
 twenty-done : (d : Called) (c : Bool) → calledNumber d c ≡ 20 → d ≡ Done
 twenty-done Done c e = refl
 twenty-done WordsShort true e = absurd (omega arith)
 twenty-done WordsShort false e = absurd (omega arith)
+twenty-done NoMonth true e = absurd (omega arith)
+twenty-done NoMonth false e = absurd (omega arith)
 twenty-done HintsShort true e = absurd (omega arith)
 twenty-done HintsShort false e = absurd (omega arith)
 twenty-done AnswerShort true e = absurd (omega arith)
@@ -73,7 +78,7 @@ month-called words hints out bytes words′ hints′ out′ d r g e =
     record {
       number =
           e ∙ ap (λ (x : Called). calledNumber x (isCall bytes)) (g .called)
-          ∙ by-called (leb 2464 (length words)) (leb 2048 (length hints)) (leb 20 (length out)) (isCall bytes);
+          ∙ by-called (leb 2464 (length words)) (mayBeMonth words) (leb 2048 (length hints)) (leb 20 (length out)) (isCall bytes);
       done = λ t. g .done (twenty-done d (isCall bytes) (sym e ∙ t));
       kept = λ never. g .kept (λ is. never (e ∙ ap (λ (x : Called). calledNumber x (isCall bytes)) is));
       leaves = g .leaves;
@@ -82,10 +87,9 @@ month-called words hints out bytes words′ hints′ out′ d r g e =
 pub called-as : (d said : Called) (c : Bool) (r : ℕ) → d ≡ said → r ≡ calledNumber said c → r ≡ calledNumber d c
 called-as d said c r h e = e ∙ ap (λ (x : Called). calledNumber x c) (sym h)
 
-pub short-call : (b : Bool) (place n r : ℕ) (c : Bool) → c ≡ b → b ≡ true → n ≡ refusedNumber 16 → r ≡ n + place
-    → r ≡ (if c then refusedNumber 16 + place else refusedNumber 3)
-short-call b place n r c e h f g = g ∙ ap (λ (m : ℕ). m + place) f ∙ rw (e ∙ h) refl
+-- a refusal at a place, or 3 where the bytes are no call
+pub refused-call : (b : Bool) (k place n r : ℕ) (c : Bool) → c ≡ b → b ≡ true → n ≡ k → r ≡ n + place → r ≡ (if c then k + place else refusedNumber 3)
+refused-call b k place n r c e h f g = g ∙ ap (λ (m : ℕ). m + place) f ∙ rw (e ∙ h) refl
 
-pub short-no-call : (b : Bool) (place r : ℕ) (c : Bool) → c ≡ b → b ≡ false → r ≡ refusedNumber 3
-    → r ≡ (if c then refusedNumber 16 + place else refusedNumber 3)
-short-no-call b place r c e h f = f ∙ rw (e ∙ h) refl
+pub refused-no-call : (b : Bool) (k place r : ℕ) (c : Bool) → c ≡ b → b ≡ false → r ≡ refusedNumber 3 → r ≡ (if c then k + place else refusedNumber 3)
+refused-no-call b k place r c e h f = f ∙ rw (e ∙ h) refl

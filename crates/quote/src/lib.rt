@@ -41,7 +41,7 @@ pub fn held_at(keys: &[u32], volumes: &[u32], key: u32) -> u32
     let mut at: u32 = 0;
     let mut i: usize = 0;
     while i < keys.len() {
-        at += volume_where(key == keys[i], volumes[i]);
+        at = numbers::sum(at, volume_where(key == keys[i], volumes[i]));
         i += 1;
     }
     at
@@ -58,8 +58,8 @@ pub fn measured(keys: &[u32], volumes: &[u32], key: u32) -> Level
     while i < keys.len() {
         let k = keys[i];
         let v = volumes[i];
-        before += volume_where(key < k, v);
-        at += volume_where(key == k, v);
+        before = numbers::sum(before, volume_where(key < k, v));
+        at = numbers::sum(at, volume_where(key == k, v));
         i += 1;
     }
     Level { key, before, at }
@@ -71,7 +71,7 @@ pub fn is_best(level: Level, minimum: Contracts) -> bool
     ensures { λ r. ⌜ r ≡ isBest level (minimum .0) ⌝ }
 {
     let m = minimum.0;
-    (level.before < m) & ((level.key == 0) | (m <= level.before + level.at))
+    (level.before < m) & ((level.key == 0) | (m <= numbers::sum(level.before, level.at)))
 }
 
 // The best quote of a side, from a key that it is better than or that is it: the best price of an order for which those at that
@@ -101,7 +101,7 @@ pub fn search(side: Side, keys: &[u32], volumes: &[u32], start: u32, minimum: Co
                 if keys.len() <= j {
                     break 'volumes held;
                 }
-                held += volume_where(key <= keys[j], volumes[j]);
+                held = numbers::sum(held, volume_where(key <= keys[j], volumes[j]));
                 j += 1;
             };
             sums += 1;

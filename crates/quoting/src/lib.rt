@@ -3,7 +3,7 @@
 // include/quoting.h says word for word what each one does.
 use makers::Maker;
 ghost use mathlib.Core.Path.{_≡_};
-ghost use mathlib.Core.Bool.{not};
+ghost use mathlib.Core.Bool.{true, not};
 ghost use mathlib.Core.List.{[]};
 ghost use Prim.Native.Nat.{_≤_};
 ghost use lib.Dec.{eqb};
@@ -31,6 +31,7 @@ ghost use Rattle.quoting.specs.Lists.{AnswersCalls, wordsOutcome};
 ghost use Rattle.standings.specs.Standings.{AnswersStanding};
 ghost use Rattle.makers.specs.Calls.{standing};
 ghost use Rattle.month.specs.Words.{wordsAfter, HoldsMonth};
+ghost use Rattle.in_place.specs.Entry.{mayBeMonth};
 ghost use Rattle.month_words.specs.Views.{ViewsMonth};
 
 // ---- rows and weights
@@ -173,7 +174,7 @@ pub extern "C" fn quoting_month_call(
     call: &[u8],
     answer: &mut [u32],
 ) -> u64
-    requires { ⌜ (2464 ≤ length (now words) → HoldsMonth (now words)) ⌝ }
+    requires { ⌜ (2464 ≤ length (now words) → mayBeMonth (now words) ≡ true → HoldsMonth (now words)) ⌝ }
     ensures { λ r. ⌜ CallsMonth (now (words .entry)) (now (hints .entry)) (now (answer .entry)) (now (call .entry)) (now (words .exit)) (now (hints .exit)) (now (answer .exit)) r ⌝ }
 {
     month_words::call(words, hints, call, answer)
@@ -182,7 +183,7 @@ pub extern "C" fn quoting_month_call(
 // The open quantum of the month whose words these are.
 #[no_mangle]
 pub extern "C" fn quoting_month_view(words: &[u32], buffer: &mut [u32]) -> u64
-    requires { ⌜ (2464 ≤ length (now words) → HoldsMonth (now words)) ⌝ }
+    requires { ⌜ (2464 ≤ length (now words) → mayBeMonth (now words) ≡ true → HoldsMonth (now words)) ⌝ }
     ensures { λ r. ⌜ ViewsMonth (now (words .entry)) (now (buffer .entry)) (now (buffer .exit)) r ⌝ }
 {
     month_words::view(words, buffer)

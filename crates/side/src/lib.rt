@@ -170,7 +170,7 @@ pub fn remove(words: &mut [u32], side: Side, place: usize) -> Change
 {
     let order = order_at(words, side, place);
     let held = order.volume;
-    let rest = words[COUNT] - 1;
+    let rest = numbers::one_less(words[COUNT]);
     shift(&mut words[IDS..KEYS], place, rest as usize);
     shift(&mut words[KEYS..VOLUMES], place, rest as usize);
     shift(&mut words[VOLUMES..COUNT], place, rest as usize);

@@ -47,7 +47,7 @@ module _ (table : List ℕ) (id : ℕ) (p : Placed table id) where
 
   -- where it stands
   module _ (n k : ℕ) (l : n < 2) (h : Has id (ofSide (sideAt n) (p .live)) k) where
-    small : k < 64
+    pub small : k < 64
     small = omega (arith, h .inside, few-side (sideAt n) (p .live) (p .good))
 
     half : (64 * n + k) / 64 ≡ n
@@ -78,6 +78,10 @@ module _ (table : List ℕ) (id : ℕ) (p : Placed table id) where
 
     seen-there : seen id (slotsIn (sideAt n) (p .live)) ≡ 1 + k
     seen-there = seen-at (sideAt n) id 1 (ofSide (sideAt n) (p .live)) k (distinct-side (sideAt n) (p .live) (p .good)) h
+
+  -- the same place, by another number
+  pub placed : (n k j : ℕ) → Has id (ofSide (sideAt n) (p .live)) k → j ≡ k → Has id (ofSide (sideAt n) (p .live)) j
+  placed n k j h e = subst (Has id (ofSide (sideAt n) (p .live))) (sym e) h
 
   -- a sell's id is not among the buys
   not-buys : (k : ℕ) → Has id (ofSide Sell (p .live)) k → seen id (slotsIn Buy (p .live)) ≡ 0

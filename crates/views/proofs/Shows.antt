@@ -40,12 +40,14 @@ use Rattle.quantum.specs.Words.{quantumWords, Sized}
 use Rattle.events.proofs.Represents.{good-orders, widest-is}
 use Rattle.quantum.proofs.Words.{of-sized, table-part, notes-behind}
 use Rattle.month.specs.Represents.{monthOf}
-use Rattle.month.proofs.Fields.{place-inside, closed-is, opened}
+use Rattle.month.proofs.Fields.{closed-is, opened}
 use Rattle.month.proofs.Words.{month-fits, month-length, word-in, quantum-in}
 use Rattle.in_place.proofs.Months.{flag-off, flag-on, flag-is}
-use Rattle.month.specs.Words.{wordsAfter, HoldsMonth}
+use Rattle.month.specs.Words.{wordsAfter}
+use Rattle.in_place.specs.Entry.{mayBeMonth}
+use Rattle.in_place.proofs.Entry.{month-passes}
 use Rattle.views.specs.declared.Viewed.{Viewed}
-use Rattle.views.specs.declared.Viewed.the-variants.{WordsShort, BufferShort, Written}
+use Rattle.views.specs.declared.Viewed.the-variants.{WordsShort, NoMonth, BufferShort, Written}
 use Rattle.views.specs.Views.{ordersWords, headWords, quotingWords, viewWords, Shown, Views}
 use Rattle.views.specs.Internal.{headFrom, Listed}
 use Rattle.views.proofs.Orders.{orders-length}
@@ -181,23 +183,32 @@ idle-is Idle h = refl
 idle-is (Quoting place row opening events) h = absurd (true≢false h)
 
 module _ (ws : List ℕ) where
-  pub place-small : HoldsMonth ws → getD ws 1 0 < 186
-  place-small h =
-      let m = monthOf (after paper (h .calls)) in
-      omega (arith, word-in ws m (month-fits (h .calls)) (h .is) 1 (omega arith), place-inside m (record { calls = h .calls; is = refl }))
-
   no-month : length ws < 2464 → (calls : List Call) → take 2464 ws ≡ wordsAfter calls → ⊥
   no-month h calls is =
       omega (arith, h, ap length (sym (take-all 2464 ws (omega (arith, h))) ∙ is), month-length (monthOf (after paper calls)) (month-fits calls))
 
   module _ (before : List ℕ) where
     pub views-short : length ws < 2464 → Views ws before before WordsShort
-    views-short h = record { short = λ l. (refl, refl); shown = λ calls is. absurd (no-month h calls is) }
+    views-short h =
+        record {
+          short = λ l. (refl, refl);
+          foreign = λ l e. absurd (omega (arith, h, l));
+          shown = λ calls is. absurd (no-month h calls is);
+        }
 
-    pub views-none : 2464 ≤ length ws → getD ws 0 0 ≡ 0 → Views ws before before (Written 0)
-    views-none h z =
+    pub views-foreign : 2464 ≤ length ws → mayBeMonth ws ≡ false → Views ws before before NoMonth
+    views-foreign h e =
         record {
           short = λ l. absurd (omega (arith, h, l));
+          foreign = λ l f. (refl, refl);
+          shown = λ calls is. absurd (true≢false (sym (month-passes ws h (record { calls = calls; is = is })) ∙ e));
+        }
+
+    pub views-none : 2464 ≤ length ws → mayBeMonth ws ≡ true → getD ws 0 0 ≡ 0 → Views ws before before (Written 0)
+    views-none h m z =
+        record {
+          short = λ l. absurd (omega (arith, h, l));
+          foreign = λ l f. absurd (true≢false (sym m ∙ f));
           shown = λ calls is.
               let b = after paper calls in
               let off = flag-off (monthOf b .running) (sym (flag-is ws calls is) ∙ z) in
@@ -205,11 +216,11 @@ module _ (ws : List ℕ) where
               (fits [] before before 0 refl (omega arith) refl);
         }
 
-    pub views-open : 2464 ≤ length ws → (getD ws 0 0 ≡ 0 → ⊥) → (behind : List ℕ) (r : Viewed)
+    pub views-open : 2464 ≤ length ws → mayBeMonth ws ≡ true → (getD ws 0 0 ≡ 0 → ⊥) → (behind : List ℕ) (r : Viewed)
         → ((row : Row) (spread : SpreadRule) (events : List Event) → EventBounds row events → take 598 (drop 6 ws) ≡ quantumWords (quantumOf row spread events)
         → Shown (quotingWords (dayAt (getD ws 1 0)) (getD ws 3 0) row spread events) before behind r)
         → Views ws before behind r
-    views-open h z behind r shows = record { short = λ l. absurd (omega (arith, h, l)); shown = shown }
+    views-open h m z behind r shows = record { short = λ l. absurd (omega (arith, h, l)); foreign = λ l f. absurd (true≢false (sym m ∙ f)); shown = shown }
       where
         shown : (calls : List Call) → take 2464 ws ≡ wordsAfter calls → Shown (viewWords (after paper calls .running)) before behind r
         shown calls is =

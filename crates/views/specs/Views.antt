@@ -1,6 +1,7 @@
 -- What stands now: the open quantum in words, by the plain book, for whoever shows it. It is no call of the papers and alters nothing.
-use Prim.Native.Nat.{ℕ, _<_}
+use Prim.Native.Nat.{ℕ, _≤_, _<_}
 use mathlib.Core.Path.{_≡_}
+use mathlib.Core.Bool.{false}
 use mathlib.Core.List.{List, [], _∷_, _++_}
 use lib.Dec.{leb}
 use lib.ListN.{length, take, drop}
@@ -19,8 +20,9 @@ use Rattle.rules.specs.Book.{after}
 use Rattle.arrivals.specs.Notes.{rowWords, spreadWords}
 use Rattle.clock.specs.Clocks.{widestFor}
 use Rattle.month.specs.Words.{wordsAfter}
+use Rattle.in_place.specs.Entry.{mayBeMonth}
 use Rattle.views.specs.declared.Viewed.{Viewed}
-use Rattle.views.specs.declared.Viewed.the-variants.{WordsShort, BufferShort, Written}
+use Rattle.views.specs.declared.Viewed.the-variants.{WordsShort, NoMonth, BufferShort, Written}
 
 -- an order: its id, its side (1 buy, 2 sell), its price in two's complement, its volume
 unfoldable pub orderWords : Order → List ℕ
@@ -53,7 +55,9 @@ pub record Shown (view before behind : List ℕ) (r : Viewed) : Type 0 where
   pub answer : r ≡ (if leb (length view) (length before) then Written (length view) else BufferShort)
   pub buffer : behind ≡ (if leb (length view) (length before) then view ++ drop (length view) before else before)
 
--- for every list of calls whose month these words are, what it writes is the plain book's; fewer words than a month's are answered as such
+-- for every list of calls whose month these words are, what it writes is the plain book's; fewer words than a month's, and words that are no
+-- month's by the tests on entry, are answered as such
 pub record Views (words before behind : List ℕ) (r : Viewed) : Type 0 where
   pub short : length words < 2464 → (r ≡ WordsShort) × (behind ≡ before)
+  pub foreign : 2464 ≤ length words → mayBeMonth words ≡ false → (r ≡ NoMonth) × (behind ≡ before)
   pub shown : (calls : List Call) → take 2464 words ≡ wordsAfter calls → Shown (viewWords (after paper calls .running)) before behind r

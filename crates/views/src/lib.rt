@@ -1,8 +1,9 @@
 // What stands now: the open quantum of a month's words, written into a lent buffer for whoever shows it (specs/Views). The month's words
 // are as they were.
 ghost use mathlib.Core.Path.{_≡_};
+ghost use mathlib.Core.Bool.{true};
 ghost use mathlib.Core.List.{List};
-ghost use Prim.Native.Nat.{_*_, _≤_};
+ghost use Prim.Native.Nat.{_*_, _-_, _≤_};
 ghost use lib.ListN.{length, getD};
 ghost use Rattle.rules.specs.declared.Row.{Row};
 ghost use Rattle.rules.specs.declared.SpreadRule.{SpreadRule};
@@ -14,15 +15,17 @@ ghost use Rattle.quantum.specs.Represents.{quantumOf};
 ghost use Rattle.quantum.specs.Words.{quantumWords};
 ghost use Rattle.month.specs.Words.{HoldsMonth};
 ghost use Rattle.quantum_in_place.specs.Events.{HoldsQuantum};
+ghost use Rattle.in_place.specs.Entry.{mayBeMonth};
 ghost use Rattle.views.specs.Views.{orderWords, ordersWords, quotingWords, Shown, Views};
 ghost use Rattle.views.specs.Internal.{headFrom, Placed, Listed};
 use rules::Order;
 use rules::Side;
 
-// What became of a view: the month's words or the buffer's are too few, and then nothing is written; or so many words were written, 0 with
-// none open.
+// What became of a view: the month's words are too few, or no month's, or the buffer's are too few, and then nothing is written; or so many
+// words were written, 0 with none open.
 pub enum Viewed {
     WordsShort,
+    NoMonth,
     BufferShort,
     Written(usize),
 }
@@ -55,6 +58,14 @@ fn put_order(order: Order, into: &mut [u32])
     lent::copy(&four, into);
 }
 
+// The place of the order that a scan found; in words that no call wrote it may have found none, or several.
+fn place_of(found: u32) -> usize
+    requires { ⌜ (1 ≤ found) × (found ≤ 64) ⌝ }
+    ensures { λ r. ⌜ r ≡ found - 1 ⌝ }
+{
+    (numbers::one_less(found) % 64) as usize
+}
+
 // The live order with an id: a buy, or else a sell.
 fn order_with(table: &[u32], id: u32) -> Order
     requires { ⌜ Placed (now table) id ⌝ }
@@ -62,10 +73,10 @@ fn order_with(table: &[u32], id: u32) -> Order
 {
     let buys = side::located(&table[0..256], id);
     if 0 < buys {
-        return side::order_at(&table[0..256], Side::Buy, (buys - 1) as usize);
+        return side::order_at(&table[0..256], Side::Buy, place_of(buys));
     }
     let sells = side::located(&table[256..512], id);
-    side::order_at(&table[256..512], Side::Sell, (sells - 1) as usize)
+    side::order_at(&table[256..512], Side::Sell, place_of(sells))
 }
 
 // The live orders, by their ids as they were added: the table has them by side.
@@ -120,11 +131,14 @@ fn show(day: u32, allowed: u32, quantum: &[u32], buffer: &mut [u32]) -> Viewed
 
 // What stands now, of a month's words.
 pub fn view(words: &[u32], buffer: &mut [u32]) -> Viewed
-    requires { ⌜ (2464 ≤ length (now words) → HoldsMonth (now words)) ⌝ }
+    requires { ⌜ (2464 ≤ length (now words) → mayBeMonth (now words) ≡ true → HoldsMonth (now words)) ⌝ }
     ensures { λ r. ⌜ Views (now (words .entry)) (now (buffer .entry)) (now (buffer .exit)) r ⌝ }
 {
     if words.len() < 2464 {
         return Viewed::WordsShort;
+    }
+    if !in_place::may_be_month(words) {
+        return Viewed::NoMonth;
     }
     if words[0] == 0 {
         return Viewed::Written(0);

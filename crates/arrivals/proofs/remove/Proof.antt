@@ -1,4 +1,4 @@
--- What is found among the ids is where those behind it move up to (`scan`, `shift`). Assumes nothing.
+-- What is found among the ids is where those after it move up to (`scan`, `shift`).
 use Prim.Native.Nat.{ℕ, _-_}
 use mathlib.Core.Path.{ap, _∙_}
 use native.Mathlib.Omega.{arith}
@@ -10,24 +10,20 @@ use borrow.Author.Needs.{needs}
 use Rattle.arrivals.proofs.remove.Statement.{statement}
 use Rattle.arrivals.proofs.remove.Tie as tie
 
-sub-shift : tie.Need-sub-shift
-sub-shift c =
-    let a = c .before .before .before .before .before .args in
-    let found = c .before .scan .ensures ∙ ap (λ (n : ℕ). seenFrom 1 (a .id) (take n (a .ids .now))) (sub-zero (a .count)) in
-    omega (arith, found, c .before .before .before .before .before .pre .2)
-
 shift-requires : tie.Need-shift-requires
 shift-requires c κs =
-    let a = c .before .before .before .before .before .args in
-    let found = c .before .scan .ensures ∙ ap (λ (n : ℕ). seenFrom 1 (a .id) (take n (a .ids .now))) (sub-zero (a .count)) in
-    let p = c .before .before .before .before .before .pre in
-    (omega (arith, found, p .2, p .3), omega (arith, found, p .0, p .1, p .2, p .3))
+    let s = c .before .before .before .before .before .before in
+    let a = s .args in
+    let found = c .before .before .scan .ensures ∙ ap (λ (n : ℕ). seenFrom 1 (a .id) (take n (a .ids .now))) (sub-zero (a .count)) in
+    let p = s .pre in
+    (omega (arith, c .one-less .ensures, found, p .2, p .3), omega (arith, found, p .0, p .1, p .2, p .3))
 
 returns : tie.Need-returns
 returns c =
-    let a = c .before .before .before .before .before .before .before .before .args in
-    let found = c .before .before .before .before .scan .ensures ∙ ap (λ (n : ℕ). seenFrom 1 (a .id) (take n (a .ids .now))) (sub-zero (a .count)) in
-    c .before .before .shift .ensures ∙ ap (λ (n : ℕ). shifted (a .ids .now) (n - 1) (a .count - 1)) found
+    let a = c .before .before .before .before .before .before .before .before .before .args in
+    let found = c .before .before .before .before .before .scan .ensures ∙ ap (λ (n : ℕ). seenFrom 1 (a .id) (take n (a .ids .now))) (sub-zero (a .count)) in
+    let place = c .before .before .before .one-less .ensures ∙ ap (λ (n : ℕ). n - 1) found in
+    c .before .before .shift .ensures ∙ ap (λ (n : ℕ). shifted (a .ids .now) n (a .count - 1)) place
 
 pub remove-spec : {M : Type 1} → statement M
 remove-spec =
@@ -37,7 +33,7 @@ remove-spec =
     (λ c. search needs)
     (λ c. search needs)
     (λ c κs. search needs)
-    sub-shift
+    (λ c κs. search needs)
     (λ c. search needs)
     (λ c. search needs)
     (λ c. search needs)

@@ -1,5 +1,5 @@
--- By what became of the call. Assumes nothing.
-use Rattle.live.specs.declared.Called.the-variants.{WordsShort, HintsShort, AnswerShort}
+-- By what became of the call.
+use Rattle.live.specs.declared.Called.the-variants.{WordsShort, NoMonth, HintsShort, AnswerShort}
 use Rattle.month_words.proofs.Months.{called-as}
 use borrow.Author.Needs.{needs}
 use Rattle.month_words.proofs.called_number.Statement.{statement}
@@ -11,11 +11,15 @@ returns-2 c =
 
 returns-3 : tie.Need-returns-3
 returns-3 c =
-    called-as (c .before .before .before .before .args .called) HintsShort _ (c .short-at2 .result) (c .before .enum-told3 .given .1) (c .short-at2 .ensures)
+    called-as (c .before .before .before .before .args .called) NoMonth _ (c .no-month .result) (c .before .enum-told3 .given .1) (c .no-month .ensures)
 
 returns-4 : tie.Need-returns-4
 returns-4 c =
-    called-as (c .before .before .before .before .args .called) AnswerShort _ (c .short-at3 .result) (c .before .enum-told4 .given .1) (c .short-at3 .ensures)
+    called-as (c .before .before .before .before .args .called) HintsShort _ (c .short-at2 .result) (c .before .enum-told4 .given .1) (c .short-at2 .ensures)
+
+returns-5 : tie.Need-returns-5
+returns-5 c =
+    called-as (c .before .before .before .before .args .called) AnswerShort _ (c .short-at3 .result) (c .before .enum-told5 .given .1) (c .short-at3 .ensures)
 
 pub called-number-spec : {M : Type 1} → statement M
 called-number-spec =
@@ -31,7 +35,10 @@ called-number-spec =
     (λ c. search needs)
     (λ c κs. search needs)
     (λ c. search needs)
+    (λ c κs. search needs)
+    (λ c. search needs)
     returns-2
     returns-3
     returns-4
+    returns-5
     (λ c. search needs))

@@ -1,6 +1,7 @@
--- 16 at its place, or 3 where the bytes are no call. Assumes nothing.
+-- 16 at its place, or 3 where the bytes are no call.
 use mathlib.Core.Path.{refl, sym}
-use Rattle.month_words.proofs.Months.{short-call, short-no-call}
+use Rattle.buffers.specs.Answers.{refusedNumber}
+use Rattle.month_words.proofs.Months.{refused-call, refused-no-call}
 use borrow.Author.Needs.{needs}
 use Rattle.month_words.proofs.short_at.Statement.{statement}
 use Rattle.month_words.proofs.short_at.Tie as tie
@@ -8,12 +9,12 @@ use Rattle.month_words.proofs.short_at.Tie as tie
 returns : tie.Need-returns
 returns c =
     let e = c .before .before .is-call in
-    short-call (e .result) (c .before .before .before .before .args .place) (c .refused .result) _ _ (sym (e .ensures)) (c .before .if1 .taken) (c .refused .ensures) refl
+    refused-call (e .result) (refusedNumber 16) (c .before .before .before .before .args .place) (c .refused .result) _ _ (sym (e .ensures)) (c .before .if1 .taken) (c .refused .ensures) refl
 
 returns-2 : tie.Need-returns-2
 returns-2 c =
     let e = c .before .before .is-call in
-    short-no-call (e .result) (c .before .before .before .before .args .place) (c .refused2 .result) _ (sym (e .ensures)) (c .before .if1 .left) (c .refused2 .ensures)
+    refused-no-call (e .result) (refusedNumber 16) (c .before .before .before .before .args .place) (c .refused2 .result) _ (sym (e .ensures)) (c .before .if1 .left) (c .refused2 .ensures)
 
 pub short-at-spec : {M : Type 1} → statement M
 short-at-spec =

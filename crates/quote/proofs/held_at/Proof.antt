@@ -1,7 +1,7 @@
--- The loop's invariant: what was added up is held at the key in the part of the columns that was passed. Assumes nothing.
+-- The loop's invariant: what was added up is held at the key in the part of the columns that was passed.
 use Prim.Native.Nat.{_-_, _≤_}
 use native.Mathlib.Omega.{arith}
-use mathlib.Core.Path.{_≡_, refl}
+use mathlib.Core.Path.{_≡_, refl, _∙_}
 use lib.Dec.{eqb}
 use lib.ListN.{length, take}
 use Rattle.quote.specs.Levels.{held}
@@ -19,8 +19,8 @@ loop-holds : tie.Need-loop-holds Inv-loop μ-loop
 unfolding held
 loop-holds c = (omega arith, refl)
 
-add-at : tie.Need-add-at Inv-loop μ-loop
-add-at c =
+sum-requires : tie.Need-sum-requires Inv-loop μ-loop
+sum-requires c κs =
     let u = c .before .before .before .before in
     let b = u .before .before .before in
     omega (
@@ -31,9 +31,10 @@ add-at c =
 
 loop-again : tie.Need-loop-again Inv-loop μ-loop
 loop-again c =
-    let u = c .before .before .before .before in
+    let more = c .before in
+    let u = more .before .before .before .before in
     let b = u .before .before .before in
-    (omega arith, held-next (eqb (b .args .key)) (u .loop .i) (b .args .keys .now) (b .args .volumes .now) (u .loop .at) (c .volume-where .result) (omega arith) (b .pre .even) (u .loop .inv .1) (c .volume-where .ensures))
+    (omega arith, c .sum .ensures ∙ held-next (eqb (b .args .key)) (u .loop .i) (b .args .keys .now) (b .args .volumes .now) (u .loop .at) (more .volume-where .result) (omega arith) (b .pre .even) (u .loop .inv .1) (more .volume-where .ensures))
 
 returns : tie.Need-returns Inv-loop μ-loop
 returns c =
@@ -54,7 +55,7 @@ held-at-spec =
     (λ c. omega arith)
     (λ c. omega arith)
     (λ c κs. tt)
-    add-at
+    sum-requires
     (λ c. omega arith)
     (λ c. omega arith)
     loop-again

@@ -1,8 +1,8 @@
 -- `quote::measured` meets its contract. The loop's invariant: what was added up is held at better keys, and at it, in the part of the
--- columns that was passed. Assumes nothing.
+-- columns that was passed.
 use Prim.Native.Nat.{ℕ, _+_, _-_, _≤_, _<_}
 use native.Mathlib.Omega.{arith}
-use mathlib.Core.Path.{_≡_, refl}
+use mathlib.Core.Path.{_≡_, refl, _∙_}
 use mathlib.Core.Bool.{Bool}
 use lib.Dec.{ltb, eqb}
 use lib.ListN.{length, getD, take}
@@ -41,17 +41,17 @@ module _ (u : Turn) (t : ℕ → Bool) (h s : ℕ) (more : u .loop .i < length (
       let b = u .before .before .before in
       omega (arith, held-fits t (u .loop .i) (b .args .keys .now) (b .args .volumes .now) h s more (b .pre .even) so-far volume-where, b .pre .small)
 
-add-before : tie.Need-add-before Inv-loop μ-loop
-add-before c =
+sum-requires : tie.Need-sum-requires Inv-loop μ-loop
+sum-requires c κs =
     let u = c .before .before .before .before in
     let h = u .loop .before in
     let fits : h + c .volume-where .result ≤ 64000000 =
     small u (ltb (u .before .before .before .args .key)) h (c .volume-where .result) (omega arith) (u .loop .inv .1) (c .volume-where .ensures) in
     omega arith
 
-add-at : tie.Need-add-at Inv-loop μ-loop
-add-at c =
-    let u = c .before .before .before .before .before in
+sum-requires-2 : tie.Need-sum-requires-2 Inv-loop μ-loop
+sum-requires-2 c κs =
+    let u = c .before .before .before .before .before .before in
     let h = u .loop .at in
     let fits : h + c .volume-where2 .result ≤ 64000000 =
     small u (eqb (u .before .before .before .args .key)) h (c .volume-where2 .result) (omega arith) (u .loop .inv .2) (c .volume-where2 .ensures) in
@@ -59,11 +59,13 @@ add-at c =
 
 loop-again : tie.Need-loop-again Inv-loop μ-loop
 loop-again c =
-    let u = c .before .before .before .before .before in
+    let here = c .before in
+    let better = here .before .before in
+    let u = better .before .before .before .before in
     let key = u .before .before .before .args .key in (
       omega arith,
-      added u (ltb key) (u .loop .before) (c .before .volume-where .result) (omega arith) (u .loop .inv .1) (c .before .volume-where .ensures),
-      added u (eqb key) (u .loop .at) (c .volume-where2 .result) (omega arith) (u .loop .inv .2) (c .volume-where2 .ensures),
+      here .before .sum .ensures ∙ added u (ltb key) (u .loop .before) (better .volume-where .result) (omega arith) (u .loop .inv .1) (better .volume-where .ensures),
+      c .sum2 .ensures ∙ added u (eqb key) (u .loop .at) (here .volume-where2 .result) (omega arith) (u .loop .inv .2) (here .volume-where2 .ensures),
     )
 
 returns : tie.Need-returns Inv-loop μ-loop
@@ -92,9 +94,9 @@ measured-spec =
     (λ c. omega arith)
     (λ c. omega arith)
     (λ c κs. tt)
-    add-before
+    sum-requires
     (λ c κs. tt)
-    add-at
+    sum-requires-2
     (λ c. omega arith)
     (λ c. omega arith)
     loop-again

@@ -1,5 +1,5 @@
 -- `quote::search` meets its contract. The outer loop's invariant: the best key found, W3's number and the most of the sums that were
--- not enough, of the keys passed, and what stands at the found key or better. The inner loop's: what was added up is held at the candidate's key or better in the part of the columns that was passed. Assumes nothing.
+-- not enough, of the keys passed, and what stands at the found key or better. The inner loop's: what was added up is held at the candidate's key or better in the part of the columns that was passed.
 use Prim.Native.Nat.{ℕ, _+_, _-_, _≤_, _<_, max}
 use native.Mathlib.Omega.{arith}
 use mathlib.Core.Path.{_≡_, refl, sym, ap, _∙_}
@@ -151,8 +151,8 @@ shared-slice-read-volume-where-2 :
     tie.Need-shared-slice-read-volume-where-2 Inv-volumes μ-volumes Inv-candidates μ-candidates
 shared-slice-read-volume-where-2 c = omega (arith, even (outer (c .before .before .before)))
 
-add-held : tie.Need-add-held Inv-volumes μ-volumes Inv-candidates μ-candidates
-add-held c =
+sum-requires : tie.Need-sum-requires Inv-volumes μ-volumes Inv-candidates μ-candidates
+sum-requires c κs =
     let v = c .before .before .before .before in
     let u = outer v in
     let n = v .volumes in
@@ -164,10 +164,11 @@ add-held c =
 
 volumes-again : tie.Need-volumes-again Inv-volumes μ-volumes Inv-candidates μ-candidates
 volumes-again c =
-    let v = c .before .before .before .before in
+    let more = c .before in
+    let v = more .before .before .before .before in
     let u = outer v in
     let n = v .volumes in
-    (omega arith, held-next (leb (candidate u)) (n .j) (keysOf u) (volumesOf u) (n .held) (c .volume-where .result) (omega arith) (even u) (n .inv .1) (c .volume-where .ensures))
+    (omega arith, c .sum .ensures ∙ held-next (leb (candidate u)) (n .j) (keysOf u) (volumesOf u) (n .held) (more .volume-where .result) (omega arith) (even u) (n .inv .1) (more .volume-where .ensures))
 
 add-sums : tie.Need-add-sums Inv-volumes μ-volumes Inv-candidates μ-candidates
 add-sums c = omega (arith, outer (c .before) .before .before .before .pre .few)
@@ -234,7 +235,7 @@ search-spec =
     (λ c. omega arith)
     shared-slice-read-volume-where-2
     (λ c κs. tt)
-    add-held
+    sum-requires
     (λ c. omega arith)
     (λ c. omega arith)
     volumes-again

@@ -1,8 +1,13 @@
--- It is found on one side, and the order that stands there is the live one. Assumes nothing.
+-- It is found on one side, and the order there is the live one.
+use Prim.Native.Nat.{_-_, _≤_}
 use native.Mathlib.Omega.{arith}
 use mathlib.Core.Path.{_∙_}
 use borrow.Author.Needs.{needs}
-use Rattle.views.proofs.Named.{long, sized, asked, stands-there, order-there, buys-have, sells-have}
+use Rattle.rules.specs.declared.Side.the-variants.{Buy, Sell}
+use Rattle.table.specs.Table.{ofSide}
+use Rattle.table.proofs.Slots.{Has}
+use Rattle.views.specs.Internal.{Placed}
+use Rattle.views.proofs.Named.{long, sized, asked, small, placed, stands-there, order-there, buys-have, sells-have}
 use Rattle.views.proofs.order_with.Statement.{statement}
 use Rattle.views.proofs.order_with.Tie as tie
 
@@ -21,22 +26,33 @@ part-order-at-end c =
     let s = c .before .before .before .before in
     omega (arith, long (s .args .table .now) (s .args .id) (s .pre))
 
-order-at-requires : tie.Need-order-at-requires
-order-at-requires c κs =
+-- the place that was found among the buys
+bought : (c : tie.After-order-at-arg) (p : Placed (c .before .before .before .before .before .args .table .now) (c .before .before .before .before .before .args .id))
+    → Has (c .before .before .before .before .before .args .id) (ofSide Buy (p .live)) (c .before .before .located .result - 1)
+bought c p =
     let s = c .before .before .before .before .before in
     let t = s .args .table .now in
     let x = c .before .before .located in
-    stands-there t (s .args .id) (s .pre) 0 _ (omega arith)
-    (buys-have t (s .args .id) (s .pre) (x .result) (asked t (s .args .id) (s .pre) 0 (x .result) (omega arith) (x .ensures)) (c .before .if1 .taken))
+    buys-have t (s .args .id) p (x .result) (asked t (s .args .id) p 0 (x .result) (omega arith) (x .ensures)) (c .before .if1 .taken)
+
+place-of-requires : tie.Need-place-of-requires
+place-of-requires c κs =
+    let s = c .before .before .before .before .before in
+    let some = c .before .if1 .taken in
+    (omega (arith, some), omega (arith, some, small (s .args .table .now) (s .args .id) (s .pre) 0 _ (omega arith) (bought c (s .pre))))
+
+order-at-requires : tie.Need-order-at-requires
+order-at-requires c κs =
+    let s = c .before .before .before .before .before .before in
+    let t = s .args .table .now in
+    stands-there t (s .args .id) (s .pre) 0 _ (omega arith) (placed t (s .args .id) (s .pre) 0 _ _ (bought (c .before) (s .pre)) (c .place-of .ensures))
 
 returns : tie.Need-returns
 returns c p =
-    let s = c .before .before .before .before .before .before in
+    let s = c .before .before .before .before .before .before .before in
     let t = s .args .table .now in
-    let x = c .before .before .before .located in
     c .order-at .ensures
-    ∙ order-there t (s .args .id) p 0 _ (omega arith)
-    (buys-have t (s .args .id) p (x .result) (asked t (s .args .id) p 0 (x .result) (omega arith) (x .ensures)) (c .before .before .if1 .taken))
+    ∙ order-there t (s .args .id) p 0 _ (omega arith) (placed t (s .args .id) p 0 _ _ (bought (c .before .before) p) (c .before .place-of .ensures))
 
 part-located-end-2 : tie.Need-part-located-end-2
 part-located-end-2 c =
@@ -53,35 +69,35 @@ part-order-at-end-2 c =
     let s = c .before .before .before .before .before .before in
     omega (arith, long (s .args .table .now) (s .args .id) (s .pre))
 
-sub-order-at-4 : tie.Need-sub-order-at-4
-sub-order-at-4 c =
+-- the place that was found among the sells
+sold : (c : tie.After-order-at-arg2) (p : Placed (c .before .before .before .before .before .before .before .args .table .now) (c .before .before .before .before .before .before .before .args .id))
+    → (1 ≤ c .before .located2 .result) × Has (c .before .before .before .before .before .before .before .args .id) (ofSide Sell (p .live)) (c .before .located2 .result - 1)
+sold c p =
     let s = c .before .before .before .before .before .before .before in
     let t = s .args .table .now in
     let x = c .before .before .before .before .located in
     let y = c .before .located2 in
-    sells-have t (s .args .id) (s .pre) (x .result) (y .result) (asked t (s .args .id) (s .pre) 0 (x .result) (omega arith) (x .ensures)) (c .before .before .before .if1 .left)
-    (asked t (s .args .id) (s .pre) 1 (y .result) (omega arith) (y .ensures)) .0
+    sells-have t (s .args .id) p (x .result) (y .result) (asked t (s .args .id) p 0 (x .result) (omega arith) (x .ensures)) (c .before .before .before .if1 .left)
+    (asked t (s .args .id) p 1 (y .result) (omega arith) (y .ensures))
+
+place-of-requires-2 : tie.Need-place-of-requires-2
+place-of-requires-2 c κs =
+    let s = c .before .before .before .before .before .before .before in
+    let h = sold c (s .pre) in
+    (h .0, omega (arith, h .0, small (s .args .table .now) (s .args .id) (s .pre) 1 _ (omega arith) (h .1)))
 
 order-at-requires-2 : tie.Need-order-at-requires-2
 order-at-requires-2 c κs =
-    let s = c .before .before .before .before .before .before .before in
+    let s = c .before .before .before .before .before .before .before .before in
     let t = s .args .table .now in
-    let x = c .before .before .before .before .located in
-    let y = c .before .located2 in
-    stands-there t (s .args .id) (s .pre) 1 _ (omega arith)
-    (sells-have t (s .args .id) (s .pre) (x .result) (y .result) (asked t (s .args .id) (s .pre) 0 (x .result) (omega arith) (x .ensures)) (c .before .before .before .if1 .left)
-    (asked t (s .args .id) (s .pre) 1 (y .result) (omega arith) (y .ensures)) .1)
+    stands-there t (s .args .id) (s .pre) 1 _ (omega arith) (placed t (s .args .id) (s .pre) 1 _ _ (sold (c .before) (s .pre) .1) (c .place-of2 .ensures))
 
 returns-2 : tie.Need-returns-2
 returns-2 c p =
-    let s = c .before .before .before .before .before .before .before .before in
+    let s = c .before .before .before .before .before .before .before .before .before in
     let t = s .args .table .now in
-    let x = c .before .before .before .before .before .located in
-    let y = c .before .before .located2 in
     c .order-at2 .ensures
-    ∙ order-there t (s .args .id) p 1 _ (omega arith)
-    (sells-have t (s .args .id) p (x .result) (y .result) (asked t (s .args .id) p 0 (x .result) (omega arith) (x .ensures)) (c .before .before .before .before .if1 .left)
-    (asked t (s .args .id) p 1 (y .result) (omega arith) (y .ensures)) .1)
+    ∙ order-there t (s .args .id) p 1 _ (omega arith) (placed t (s .args .id) p 1 _ _ (sold (c .before .before) p .1) (c .before .place-of2 .ensures))
 
 pub order-with-spec : {M : Type 1} → statement M
 order-with-spec =
@@ -94,8 +110,7 @@ order-with-spec =
     (λ c. search needs)
     (λ c. search needs)
     part-order-at-end
-    (λ c. search needs)
-    (λ c. search needs)
+    place-of-requires
     order-at-requires
     returns
     (λ c. search needs)
@@ -105,7 +120,6 @@ order-with-spec =
     (λ c. search needs)
     (λ c. search needs)
     part-order-at-end-2
-    sub-order-at-4
-    (λ c. search needs)
+    place-of-requires-2
     order-at-requires-2
     returns-2)
