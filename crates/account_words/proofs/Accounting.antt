@@ -1,4 +1,4 @@
--- A session's account in a lent buffer. Assumes nothing.
+-- A session's account in a lent buffer.
 use Prim.Native.Nat.{ℕ, _+_, _-_, _*_, _≤_, _<_}
 use native.Mathlib.Omega.{arith}
 use mathlib.Core.Path.{_≡_, refl, sym, ap, subst, _∙_}
@@ -14,7 +14,7 @@ use Rattle.rules.specs.Lists.{if_then_else_}
 use Rattle.rules.specs.Terms.{paper}
 use Rattle.rules.specs.Session.{mostRecords}
 use Rattle.rules.specs.Answers.{numberOf}
-use Rattle.rules.specs.Accounts.{Part, partWords, Account, accounted, halted, AccountRan, reckoned, stoppedAt, account, accountRan, accountFront, accountBuffer}
+use Rattle.rules.specs.Accounts.{Part, partWords, Account, AccountRan, account, accountRan, accountFront, accountBuffer}
 use Rattle.accounts.specs.declared.Times.{Times}
 use Rattle.accounts.specs.declared.AccountAnswer.{AccountAnswer}
 use Rattle.accounts.specs.declared.AccountAnswer.the-variants.{Finished, Refused}
@@ -27,20 +27,20 @@ use Rattle.account_words.specs.Accounts.{accountWords, accountNumber, ac
 
 short : (a : Account) (n : ℕ) → n < 7 → shortAccount (accountRan 0 a) ≡ accountNumber n a
 unfolding accountRan accountNumber
-short (accounted t ps) n h = go (ltb 0 (3 * length ps)) ∙ sym (rw (lt-ltb n (7 + 3 * length ps) (omega arith)) refl)
+short (Account.accepted t ps) n h = go (ltb 0 (3 * length ps)) ∙ sym (rw (lt-ltb n (7 + 3 * length ps) (omega arith)) refl)
   where
-    go : (b : Bool) → shortAccount (if b then stoppedAt 16 0 else reckoned t (length ps)) ≡ refusedNumber 16
+    go : (b : Bool) → shortAccount (if b then AccountRan.refused 16 0 else AccountRan.accepted t (length ps)) ≡ refusedNumber 16
     go true = refl
     go false = refl
-short (halted m p) n h = refl
+short (Account.refused m p) n h = refl
 
 pub account-short-is : (a : Account) (shown : AccountRan) (r n : ℕ) → shown ≡ accountRan 0 a → r ≡ shortAccount shown → n < 7 → r ≡ accountNumber n a
 account-short-is a shown r n e f h = f ∙ ap shortAccount e ∙ short a n h
 
 pub short-fills : (a : Account) (b : List ℕ) (r : ℕ) → length b < 7 → r ≡ accountNumber (length b) a → FillsAccount a b b r
 unfolding accountFilled
-short-fills (accounted t ps) b r h e = record { number = e; buffer = rw (lt-ltb (length b) (7 + 3 * length ps) (omega arith)) refl }
-short-fills (halted m p) b r h e = record { number = e; buffer = refl }
+short-fills (Account.accepted t ps) b r h e = record { number = e; buffer = rw (lt-ltb (length b) (7 + 3 * length ps) (omega arith)) refl }
+short-fills (Account.refused m p) b r h e = record { number = e; buffer = refl }
 
 pub account-stopped : (r : AccountAnswer) (f : Refusal) (place n : ℕ) → r ≡ Refused f place → n ≡ numberOf f → 4294967296 * n + place ≡ shortAccount (shownAccount r)
 account-stopped r f place n e is = ap (λ (m : ℕ). 4294967296 * m + place) is ∙ sym (ap (λ (x : AccountAnswer). shortAccount (shownAccount x)) e)
@@ -60,14 +60,14 @@ module _ (x0 x1 x2 x3 x4 x5 x6 : ℕ) (t : List ℕ) where
   abbrev behind : List ℕ → List ℕ
   behind l = x0 ∷ x1 ∷ x2 ∷ x3 ∷ x4 ∷ x5 ∷ x6 ∷ l
 
-  not-filled : (times : List ℕ) (ps : List Part) → length t < 3 * length ps → FillsAccount (accounted times ps) (behind t) (behind t) (refusedNumber 16)
+  not-filled : (times : List ℕ) (ps : List Part) → length t < 3 * length ps → FillsAccount (Account.accepted times ps) (behind t) (behind t) (refusedNumber 16)
   unfolding accountNumber accountFilled
   not-filled times ps l =
       let short : ltb (length (behind t)) (7 + 3 * length ps) ≡ true = lt-ltb (length (behind t)) (7 + 3 * length ps) (omega arith) in
       record { number = rw short refl; buffer = rw short refl }
 
   filled : (times : List ℕ) (ps : List Part) (x : Times) → timesShown x ≡ times → 3 * length ps ≤ length t
-      → FillsAccount (accounted times ps) (behind t) (headedBy (behind (partWords ps ++ drop (length (partWords ps)) t)) x (length ps)) (7 + 3 * length ps)
+      → FillsAccount (Account.accepted times ps) (behind t) (headedBy (behind (partWords ps ++ drop (length (partWords ps)) t)) x (length ps)) (7 + 3 * length ps)
   unfolding accountNumber accountFilled
   filled times ps x e l =
       let long : ltb (length (behind t)) (7 + 3 * length ps) ≡ false = le-ltb (length (behind t)) (7 + 3 * length ps) (omega arith) in
@@ -77,24 +77,24 @@ module _ (x0 x1 x2 x3 x4 x5 x6 : ℕ) (t : List ℕ) where
       record { number = rw long refl; buffer = rw long same }
 
   by-room : (times : List ℕ) (ps : List Part) (b : Bool) → ltb (length t) (3 * length ps) ≡ b → (r : AccountAnswer)
-      → shownAccount r ≡ (if b then stoppedAt 16 0 else reckoned times (length ps))
-      → FillsAccount (accounted times ps) (behind t)
-      (headedAccount (behind ((if b then [] else partWords ps) ++ drop (length (if b then [] else partWords ps)) t)) r) (ranAccount (if b then stoppedAt 16 0 else reckoned times (length ps)))
+      → shownAccount r ≡ (if b then AccountRan.refused 16 0 else AccountRan.accepted times (length ps))
+      → FillsAccount (Account.accepted times ps) (behind t)
+      (headedAccount (behind ((if b then [] else partWords ps) ++ drop (length (if b then [] else partWords ps)) t)) r) (ranAccount (if b then AccountRan.refused 16 0 else AccountRan.accepted times (length ps)))
   by-room times ps true f (Finished x c) e = let z : _≡_ {A = ℕ} 0 1 = cc in absurd (omega arith)
   by-room times ps true f (Refused x c) e = not-filled times ps (ltb-true (length t) (3 * length ps) f)
   by-room times ps false f (Finished x c) e =
       let n : c ≡ length ps = cc in
       let is : timesShown x ≡ times = cc in
-      subst (λ (k : ℕ). FillsAccount (accounted times ps) (behind t) (headedBy (behind (partWords ps ++ drop (length (partWords ps)) t)) x k) (7 + 3 * length ps)) (sym n)
+      subst (λ (k : ℕ). FillsAccount (Account.accepted times ps) (behind t) (headedBy (behind (partWords ps ++ drop (length (partWords ps)) t)) x k) (7 + 3 * length ps)) (sym n)
       (filled times ps x is (ltb-false (length t) (3 * length ps) f))
   by-room times ps false f (Refused x c) e = let z : _≡_ {A = ℕ} 0 1 = cc in absurd (omega arith)
 
   fills : (a : Account) (r : AccountAnswer) → shownAccount r ≡ accountRan (length t) a
       → FillsAccount a (behind t) (headedAccount (behind (accountBuffer t a)) r) (ranAccount (accountRan (length t) a))
   unfolding accountRan accountFront accountBuffer accountNumber accountFilled
-  fills (accounted times ps) r e = by-room times ps (ltb (length t) (3 * length ps)) refl r e
-  fills (halted m p) (Finished x c) e = let z : _≡_ {A = ℕ} 0 1 = cc in absurd (omega arith)
-  fills (halted m p) (Refused x c) e = record { number = refl; buffer = refl }
+  fills (Account.accepted times ps) r e = by-room times ps (ltb (length t) (3 * length ps)) refl r e
+  fills (Account.refused m p) (Finished x c) e = let z : _≡_ {A = ℕ} 0 1 = cc in absurd (omega arith)
+  fills (Account.refused m p) (Refused x c) e = record { number = refl; buffer = refl }
 
 filled-behind : (a : Account) (b mid e : List ℕ) (ran : AccountAnswer) (r : ℕ) → 7 ≤ length b → shownAccount ran ≡ accountRan (length (drop 7 b)) a
     → mid ≡ take 7 b ++ accountBuffer (drop 7 b) a → r ≡ ranAccount (shownAccount ran) → e ≡ headedAccount mid ran → FillsAccount a b e r

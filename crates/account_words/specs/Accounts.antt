@@ -10,7 +10,7 @@ use Rattle.rules.specs.declared.Strike.{Strike}
 use Rattle.rules.specs.declared.SpreadRule.{SpreadRule}
 use Rattle.rules.specs.declared.SpreadRule.the-variants.{Settled, OfStrike}
 use Rattle.rules.specs.Lists.{if_then_else_}
-use Rattle.rules.specs.Accounts.{Part, partWords, Account, accounted, halted, AccountRan, reckoned, stoppedAt}
+use Rattle.rules.specs.Accounts.{Part, partWords, Account, AccountRan}
 use Rattle.accounts.specs.declared.Times.{Times}
 use Rattle.accounts.specs.declared.AccountAnswer.{AccountAnswer}
 use Rattle.accounts.specs.declared.AccountAnswer.the-variants.{Finished, Refused}
@@ -32,12 +32,12 @@ noRoom n ps = ltb n (7 + 3 * length ps)
 
 -- how many words are written, or 4,294,967,296 × the refusal + its place; 16 comes after all records
 unfoldable pub accountNumber : ℕ → Account → ℕ
-accountNumber n (accounted times ps) = if noRoom n ps then refusedNumber 16 else 7 + 3 * length ps
-accountNumber n (halted number place) = refusedNumber number + place
+accountNumber n (Account.accepted times ps) = if noRoom n ps then refusedNumber 16 else 7 + 3 * length ps
+accountNumber n (Account.refused number place) = refusedNumber number + place
 
 unfoldable pub accountFilled : List ℕ → Account → List ℕ
-accountFilled before (accounted times ps) = if noRoom (length before) ps then before else accountWords times ps ++ drop (7 + 3 * length ps) before
-accountFilled before (halted number place) = before
+accountFilled before (Account.accepted times ps) = if noRoom (length before) ps then before else accountWords times ps ++ drop (7 + 3 * length ps) before
+accountFilled before (Account.refused number place) = before
 
 pub record FillsAccount (a : Account) (before behind : List ℕ) (r : ℕ) : Type 0 where
   pub number : r ≡ accountNumber (length before) a
@@ -47,13 +47,13 @@ pub record FillsAccount (a : Account) (before behind : List ℕ) (r : ℕ) : Typ
 
 -- where there is no room for the times and the number of stretches
 abbrev pub shortAccount : AccountRan → ℕ
-shortAccount (reckoned times n) = refusedNumber 16
-shortAccount (stoppedAt number place) = refusedNumber number + place
+shortAccount (AccountRan.accepted times n) = refusedNumber 16
+shortAccount (AccountRan.refused number place) = refusedNumber number + place
 
 -- where there is
 abbrev pub ranAccount : AccountRan → ℕ
-ranAccount (reckoned times n) = 7 + 3 * n
-ranAccount (stoppedAt number place) = refusedNumber number + place
+ranAccount (AccountRan.accepted times n) = 7 + 3 * n
+ranAccount (AccountRan.refused number place) = refusedNumber number + place
 
 abbrev pub headedBy : List ℕ → Times → ℕ → List ℕ
 headedBy b t n =

@@ -1,4 +1,4 @@
--- What the account's calls make of a pass. Assumes nothing.
+-- What the account's calls make of a pass.
 use Prim.Native.Nat.{ℕ, _*_, _≤_, _<_}
 use native.Mathlib.Omega.{arith}
 use mathlib.Core.Path.{_≡_, refl, sym, ap, _∙_, subst}
@@ -16,7 +16,7 @@ use Rattle.rules.specs.Terms.{paper}
 use Rattle.rules.specs.Causes.{readRow, goodSettlement, goodSpreadRule}
 use Rattle.rules.specs.Answers.{accepted, refused, numberOf}
 use Rattle.rules.specs.Session.{recordsOf}
-use Rattle.rules.specs.Accounts.{Part, partWords, Account, accounted, halted, reckoned, stoppedAt, accountRecords, account, accountRan, accountFront, accountBuffer}
+use Rattle.rules.specs.Accounts.{AccountRan, Part, partWords, Account, accountRecords, account, accountRan, accountFront, accountBuffer}
 use Rattle.accounts.specs.declared.Times.{Times}
 use Rattle.accounts.specs.declared.AccountAnswer.{AccountAnswer}
 use Rattle.accounts.specs.declared.AccountAnswer.the-variants as S
@@ -29,30 +29,30 @@ use Rattle.accounts.proofs.Runs.{account-row, account-price, account-st
 use Rattle.accounts.proofs.Loop.{passed-halted}
 
 -- the pass says how the account ends
-counted-stopped : (a : Account) (n place : ℕ) → stoppedAt n place ≡ counted a → a ≡ halted n place
+counted-stopped : (a : Account) (n place : ℕ) → AccountRan.refused n place ≡ counted a → a ≡ Account.refused n place
 unfolding counted
-counted-stopped (accounted t ps) n place e = let z : _≡_ {A = ℕ} 0 1 = cc in absurd (omega arith)
-counted-stopped (halted m at) n place e = cc
+counted-stopped (Account.accepted t ps) n place e = let z : _≡_ {A = ℕ} 0 1 = cc in absurd (omega arith)
+counted-stopped (Account.refused m at) n place e = cc
 
-counted-finished : (a : Account) (t : List ℕ) (n : ℕ) → reckoned t n ≡ counted a → (ps : List Part) × (a ≡ accounted t ps) × (length ps ≡ n)
+counted-finished : (a : Account) (t : List ℕ) (n : ℕ) → AccountRan.accepted t n ≡ counted a → (ps : List Part) × (a ≡ Account.accepted t ps) × (length ps ≡ n)
 unfolding counted
-counted-finished (accounted t′ ps) t n e = (ps, cc, cc)
-counted-finished (halted m at) t n e = let z : _≡_ {A = ℕ} 0 1 = cc in absurd (omega arith)
+counted-finished (Account.accepted t′ ps) t n e = (ps, cc, cc)
+counted-finished (Account.refused m at) t n e = let z : _≡_ {A = ℕ} 0 1 = cc in absurd (omega arith)
 
 abbrev Ended : Account → List ℕ → List ℕ → AccountAnswer → Type 0
 Ended a entry exit r = (shownAccount r ≡ accountRan (length entry) a) × (exit ≡ accountBuffer entry a)
 
 -- how an account that ends so ends with a buffer
-halted-ends : (n place : ℕ) (entry : List ℕ) (r : AccountAnswer) → shownAccount r ≡ stoppedAt n place → Ended (halted n place) entry entry r
+halted-ends : (n place : ℕ) (entry : List ℕ) (r : AccountAnswer) → shownAccount r ≡ AccountRan.refused n place → Ended (Account.refused n place) entry entry r
 unfolding accountRan accountFront accountBuffer
 halted-ends n place entry r e = (e, refl)
 
-short-ends : (t : List ℕ) (ps : List Part) (entry : List ℕ) → length entry < 3 * length ps → Ended (accounted t ps) entry entry (S.Refused BufferShort 0)
+short-ends : (t : List ℕ) (ps : List Part) (entry : List ℕ) → length entry < 3 * length ps → Ended (Account.accepted t ps) entry entry (S.Refused BufferShort 0)
 unfolding accountRan accountFront accountBuffer
 short-ends t ps entry l = rw (lt-ltb (length entry) (3 * length ps) l) (refl, refl)
 
 written-ends : (t : List ℕ) (ps : List Part) (entry exit : List ℕ) (r : AccountAnswer) → 3 * length ps ≤ length entry
-    → shownAccount r ≡ reckoned t (length ps) → exit ≡ partWords ps ++ drop (3 * length ps) entry → Ended (accounted t ps) entry exit r
+    → shownAccount r ≡ AccountRan.accepted t (length ps) → exit ≡ partWords ps ++ drop (3 * length ps) entry → Ended (Account.accepted t ps) entry exit r
 unfolding accountRan accountFront accountBuffer
 written-ends t ps entry exit r l e f = rw (le-ltb (length entry) (3 * length ps) l, words-length ps) (e, f)
 
@@ -63,7 +63,7 @@ module _ (a : Account) (none none′ : List ℕ) (first : AccountAnswer) (p : Pa
       subst (λ (t : Account). Ended t entry entry first) (sym h) (halted-ends (numberOf f) place entry first (ap shownAccount e))
 
   module _ (t : Times) (n : ℕ) (e : first ≡ S.Finished t n) where
-    finds : (ps : List Part) × (a ≡ accounted (timesShown t) ps) × (length ps ≡ n)
+    finds : (ps : List Part) × (a ≡ Account.accepted (timesShown t) ps) × (length ps ≡ n)
     finds = counted-finished a (timesShown t) n (sym (ap shownAccount e) ∙ p .answer)
 
     pub ends-short : length entry < filledBy first → Ended a entry entry (S.Refused BufferShort 0)
@@ -76,16 +76,16 @@ module _ (a : Account) (none none′ : List ℕ) (first : AccountAnswer) (p : Pa
     ends-written exit second l q =
         let (ps, is, long) = finds in
         let few : filledBy first ≡ 3 * n = ap filledBy e in
-        let shown : shownAccount first ≡ reckoned (timesShown t) (length ps) = ap shownAccount e ∙ ap (reckoned (timesShown t)) (sym long) in
+        let shown : shownAccount first ≡ AccountRan.accepted (timesShown t) (length ps) = ap shownAccount e ∙ ap (AccountRan.accepted (timesShown t)) (sym long) in
         subst (λ (x : Account). Ended x entry exit first) (sym is)
         (written-ends (timesShown t) ps entry exit first (omega arith) shown (q .words (timesShown t) ps is (omega arith)))
 
 -- what a run has filled lies in the buffer
 pub filled-fits : (a : Account) (n : ℕ) (r : AccountAnswer) → shownAccount r ≡ accountRan n a → filledBy r ≤ n
 unfolding accountRan
-filled-fits (accounted t ps) n r e = go (ltb n (3 * length ps)) refl r e
+filled-fits (Account.accepted t ps) n r e = go (ltb n (3 * length ps)) refl r e
   where
-    go : (b : Bool) → ltb n (3 * length ps) ≡ b → (r : AccountAnswer) → shownAccount r ≡ (if b then stoppedAt 16 0 else reckoned t (length ps)) → filledBy r ≤ n
+    go : (b : Bool) → ltb n (3 * length ps) ≡ b → (r : AccountAnswer) → shownAccount r ≡ (if b then AccountRan.refused 16 0 else AccountRan.accepted t (length ps)) → filledBy r ≤ n
     go true f (S.Finished x c) e = let z : _≡_ {A = ℕ} 0 1 = cc in absurd (omega arith)
     go true f (S.Refused x c) e = omega arith
     go false f (S.Finished x c) e =
@@ -93,8 +93,8 @@ filled-fits (accounted t ps) n r e = go (ltb n (3 * length ps)) refl r e
         let l = ltb-false n (3 * length ps) f in
         omega arith
     go false f (S.Refused x c) e = omega arith
-filled-fits (halted m at) n (S.Finished x c) e = let z : _≡_ {A = ℕ} 0 1 = cc in absurd (omega arith)
-filled-fits (halted m at) n (S.Refused x c) e = omega arith
+filled-fits (Account.refused m at) n (S.Finished x c) e = let z : _≡_ {A = ℕ} 0 1 = cc in absurd (omega arith)
+filled-fits (Account.refused m at) n (S.Refused x c) e = omega arith
 
 -- ---- the row and the quantum's opening
 

@@ -1,4 +1,4 @@
--- How many stretches a run can give: one more than its records, so 1,601 for the 1,600 of the program `account`. Assumes nothing.
+-- How many stretches a run can give: one more than its records, so 1,601 for the 1,600 of the program `account`.
 use Prim.Native.Nat.{ℕ, zero, suc, _+_, _-_, _≤_, _<_}
 use native.Mathlib.Omega.{arith}
 use mathlib.Core.Path.{_≡_, refl, sym, ap, _∙_}
@@ -18,7 +18,7 @@ use Rattle.rules.specs.States.{State, ordersState, stateAt}
 use Rattle.rules.specs.Causes.{eventRefusal}
 use Rattle.rules.specs.Bounds.{EventBounds}
 use Rattle.rules.specs.Session.{mostSheetRecords, recordsOf}
-use Rattle.rules.specs.Accounts.{Part, part, sameState, grownBy, parts, Account, accounted, halted, accountUnless, accountOf, account}
+use Rattle.rules.specs.Accounts.{Part, part, sameState, grownBy, parts, Account, accountUnless, accountOf, account}
 use Rattle.rules.proofs.Orders.{present-snoc}
 use Rattle.rules.proofs.States.{stateAt-now, stateAt-snoc}
 use Rattle.rules.proofs.Refusals.{event-passes}
@@ -73,29 +73,29 @@ few-none row sp = omega arith
 
 -- ---- record by record
 
-not-accounted : (n place : ℕ) (times : List ℕ) (ps : List Part) → halted n place ≡ accounted times ps → ⊥
+not-accounted : (n place : ℕ) (times : List ℕ) (ps : List Part) → Account.refused n place ≡ Account.accepted times ps → ⊥
 not-accounted n place times ps e = let z : _≡_ {A = ℕ} 0 1 = cc in omega arith
 
 -- of a run that is not refused
 module _ (most : ℕ) (words : List ℕ) (sp : SpreadRule) (bytes times : List ℕ) (ps : List Part) where
-  begun : (n : ℕ) (next : Account) → accountUnless n 0 next ≡ accounted times ps → n ≡ 0
+  begun : (n : ℕ) (next : Account) → accountUnless n 0 next ≡ Account.accepted times ps → n ≡ 0
   begun zero next e = refl
   begun (suc n) next e = absurd (not-accounted (suc n) 0 times ps e)
 
-  opens : account paper most words sp bytes ≡ accounted times ps → openRefusal words sp ≡ 0
+  opens : account paper most words sp bytes ≡ Account.accepted times ps → openRefusal words sp ≡ 0
   unfolding account
   opens h = begun (openRefusal words sp) _ h
 
-  same-long : {t : List ℕ} {qs : List Part} → accounted t qs ≡ accounted times ps → length qs ≡ length ps
+  same-long : {t : List ℕ} {qs : List Part} → Account.accepted t qs ≡ Account.accepted times ps → length qs ≡ length ps
   same-long e = cc
 
-  pub few-stretches : account paper most words sp bytes ≡ accounted times ps → (length ps ≤ length (recordsOf bytes) + 1) × (length (recordsOf bytes) ≤ most)
+  pub few-stretches : account paper most words sp bytes ≡ Account.accepted times ps → (length ps ≤ length (recordsOf bytes) + 1) × (length (recordsOf bytes) ≤ most)
   unfolding accountOf
   few-stretches h =
       let row = rowOf words in
       let cell = cellOf words sp in
       let t =
-      takes (walks most cell row sp) (accounted times ps) (λ n place e. not-accounted n place times ps e) (λ es. EventBounds row es × (length (partsOf row sp es) ≤ length es))
+      takes (walks most cell row sp) (Account.accepted times ps) (λ n place e. not-accounted n place times ps e) (λ es. EventBounds row es × (length (partsOf row sp es) ≤ length es))
       (λ es e passes s. (event-bounds-more row es e (s .0) passes, few-more row sp es (s .0) e passes (s .1)))
       [] (recordsOf bytes) 1 (event-bounds-none row, few-none row sp) (omega arith) (sym (account-begins most words sp bytes (opens h)) ∙ h) in
       let same : length (parts (stateAt row sp (t .events)) (row .length .0)) ≡ length ps =
@@ -103,5 +103,5 @@ module _ (most : ℕ) (words : List ℕ) (sp : SpreadRule) (bytes times : List �
       (omega (arith, same, onward row sp (t .events) (t .stands .0) (row .length .0) (t .stands .0 .ends), t .stands .1, t .many), omega (arith, t .small))
 
 -- the buffer of the program `account`
-pub account-fits : (words : List ℕ) (sp : SpreadRule) (bytes times : List ℕ) (ps : List Part) → account paper mostSheetRecords words sp bytes ≡ accounted times ps → length ps ≤ 1601
+pub account-fits : (words : List ℕ) (sp : SpreadRule) (bytes times : List ℕ) (ps : List Part) → account paper mostSheetRecords words sp bytes ≡ Account.accepted times ps → length ps ≤ 1601
 account-fits words sp bytes times ps h = let f = few-stretches mostSheetRecords words sp bytes times ps h in omega (arith, f .0, f .1)

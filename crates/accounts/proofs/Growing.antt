@@ -1,5 +1,5 @@
 -- The stretches so far, as time runs on: their number, where the last one starts and its state, the milliseconds of each state, and the
--- stretches' words in a buffer. Assumes nothing.
+-- stretches' words in a buffer.
 use Prim.Native.Nat.{ℕ, suc, _+_, _*_, _-_, _≤_, _<_}
 use native.Mathlib.Omega.{arith}
 use mathlib.Core.Path.{_≡_, refl, sym, ap, _∙_, subst}

@@ -1,4 +1,4 @@
--- The loop over the records: how it starts, one turn, and each way out. Assumes nothing.
+-- The loop over the records: how it starts, one turn, and each way out.
 use Prim.Native.Nat.{ℕ, _+_, _*_, _/_, _≤_, _<_}
 use native.Mathlib.Omega.{arith}
 use mathlib.Core.Path.{_≡_, refl, sym, ap, _∙_, subst}
@@ -17,7 +17,7 @@ use Rattle.rules.specs.States.{stateAt}
 use Rattle.rules.specs.Answers.{numberOf}
 use Rattle.rules.specs.Records.{readRecord}
 use Rattle.rules.specs.Session.{recordsOf}
-use Rattle.rules.specs.Accounts.{Part, parts, totals, partWords, Account, accounted, halted, reckoned, accountOf, accountRecords}
+use Rattle.rules.specs.Accounts.{AccountRan, Part, parts, totals, partWords, Account, accountOf, accountRecords}
 use Rattle.rules.proofs.Bounds.{event-bounds-none}
 use Rattle.clock.specs.declared.Duty.{Duty}
 use Rattle.clock.specs.Clocks.{dutyOf}
@@ -36,20 +36,20 @@ use Rattle.accounts.proofs.Runs.{walks, runs-end}
 
 -- ---- how a pass ends
 
-not-accounted : {a : Account} (n place : ℕ) (times : List ℕ) (ps : List Part) → a ≡ halted n place → a ≡ accounted times ps → ⊥
+not-accounted : {a : Account} (n place : ℕ) (times : List ℕ) (ps : List Part) → a ≡ Account.refused n place → a ≡ Account.accepted times ps → ⊥
 not-accounted n place times ps e f = let z : _≡_ {A = ℕ} 0 1 = cc in omega arith
 
-pub passed-halted : (a : Account) (f : Refusal) (place : ℕ) (entry exit : List ℕ) → a ≡ halted (numberOf f) place
+pub passed-halted : (a : Account) (f : Refusal) (place : ℕ) (entry exit : List ℕ) → a ≡ Account.refused (numberOf f) place
     → Passed a entry exit (S.Refused f place)
 unfolding counted
 passed-halted a f place entry exit e =
     record { answer = sym (ap counted e); words = λ times ps h. absurd (not-accounted (numberOf f) place times ps e h) }
 
-same-parts : (a : Account) (t t′ : List ℕ) (ps ps′ : List Part) → a ≡ accounted t ps → a ≡ accounted t′ ps′ → ps ≡ ps′
+same-parts : (a : Account) (t t′ : List ℕ) (ps ps′ : List Part) → a ≡ Account.accepted t ps → a ≡ Account.accepted t′ ps′ → ps ≡ ps′
 same-parts a t t′ ps ps′ e f = cc
 
-passed-whole : (a : Account) (times : List ℕ) (ps : List Part) (entry exit : List ℕ) (r : AccountAnswer) → a ≡ accounted times ps
-    → shownAccount r ≡ reckoned times (length ps) → Holds entry ps exit → Passed a entry exit r
+passed-whole : (a : Account) (times : List ℕ) (ps : List Part) (entry exit : List ℕ) (r : AccountAnswer) → a ≡ Account.accepted times ps
+    → shownAccount r ≡ AccountRan.accepted times (length ps) → Holds entry ps exit → Passed a entry exit r
 unfolding counted
 passed-whole a times ps entry exit r e s h =
     record {
@@ -122,7 +122,7 @@ module _ (most : ℕ) (row : Row) (sp : SpreadRule) (bytes base : List ℕ) wher
         pub loop-refused : (f : Refusal) → 0 < r .refusal → numberOf f ≡ r .refusal → (cell : ℕ) → Passed (Run cell) base exit (S.Refused f place)
         loop-refused f h e cell =
             passed-halted (Run cell) f place base exit
-            (walk-stops (walks most cell row sp) bytes at place (g .events) (g .runs cell) l (r .refusal) h p (sym judged) ∙ ap (λ (m : ℕ). halted m place) (sym e))
+            (walk-stops (walks most cell row sp) bytes at place (g .events) (g .runs cell) l (r .refusal) h p (sym judged) ∙ ap (λ (m : ℕ). Account.refused m place) (sym e))
 
         pub loop-on : at + 20 ≤ length bytes → r .refusal ≤ 0 → LoopState most row sp bytes base (r .progress) duty (at + 20) (place + 1) next exit
         loop-on room e =

@@ -1,5 +1,5 @@
 -- The stretches of one state below a bound, for any states: what they are, that no other list is that, how they grow, and how they
--- stand to the kept stretches and the lapses. Assumes nothing.
+-- stand to the kept stretches and the lapses.
 use Prim.Native.Nat.{ℕ, zero, suc, _+_, _≤_, _<_}
 use native.Mathlib.Omega.{arith}
 use mathlib.Core.Path.{_≡_, refl, sym, ap, _∙_, subst}

@@ -1,5 +1,4 @@
 -- The account run by its accepted events, with the book taken away: how it starts, what each record does, how it ends.
--- Assumes nothing.
 use Prim.Native.Nat.{ℕ, suc}
 use mathlib.Core.Path.{_≡_, refl, sym, ap, _∙_}
 use mathlib.Core.List.{List, []}
@@ -14,7 +13,7 @@ use Rattle.rules.specs.Answers.{accepted, refused}
 use Rattle.rules.specs.Causes.{goodSettlement, goodSpreadRule, readRow}
 use Rattle.rules.specs.Records.{readRecord}
 use Rattle.rules.specs.Session.{recordsOf, recordRefusal}
-use Rattle.rules.specs.Accounts.{halted, accountOf, accountRecords, account}
+use Rattle.rules.specs.Accounts.{Account, accountOf, accountRecords, account}
 use Rattle.runs.specs.Internal.{bookOf}
 use Rattle.runs.proofs.Walks.{Walk}
 use Rattle.runs.proofs.Openings.{read-refusal, read-step, openRefusal, cellOf, opened, open-row, read-is, open-price, open-strike, open-passes}
@@ -22,7 +21,7 @@ use Rattle.runs.proofs.Openings.{read-refusal, read-step, openRefusal, cellOf, 
 -- ---- a record
 
 module _ (most cell : ℕ) (row : Row) (sp : SpreadRule) where
-  pub walks : Walk halted most row (λ place es. accountRecords paper most place (bookOf cell row sp es))
+  pub walks : Walk Account.refused most row (λ place es. accountRecords paper most place (bookOf cell row sp es))
   unfolding accountRecords recordRefusal
   walks =
       record {
@@ -38,12 +37,12 @@ module _ (most cell : ℕ) (row : Row) (sp : SpreadRule) where
 -- ---- the start
 
 module _ (most : ℕ) (words : List ℕ) (sp : SpreadRule) (bytes : List ℕ) where
-  stops : (n : ℕ) → openRefusal words sp ≡ suc n → account paper most words sp bytes ≡ halted (suc n) 0
+  stops : (n : ℕ) → openRefusal words sp ≡ suc n → account paper most words sp bytes ≡ Account.refused (suc n) 0
   unfolding account
   stops n e = rw e refl
 
-  pub account-row : (n : ℕ) → refused n ≡ readRow paper sp words → account paper most words sp bytes ≡ halted n 0
-  account-row n e = let (m, is, by) = open-row words sp n e in stops m by ∙ ap (λ (k : ℕ). halted k 0) (sym is)
+  pub account-row : (n : ℕ) → refused n ≡ readRow paper sp words → account paper most words sp bytes ≡ Account.refused n 0
+  account-row n e = let (m, is, by) = open-row words sp n e in stops m by ∙ ap (λ (k : ℕ). Account.refused k 0) (sym is)
 
   pub account-begins : openRefusal words sp ≡ 0
       → account paper most words sp bytes ≡ accountRecords paper most 1 (bookOf (cellOf words sp) (rowOf words) sp []) (recordsOf bytes)
@@ -52,10 +51,10 @@ module _ (most : ℕ) (words : List ℕ) (sp : SpreadRule) (bytes : List ℕ) wh
 
   -- the row is read
   module _ (row : Row) (e : accepted row ≡ readRow paper sp words) where
-    pub account-price : goodSettlement sp ≡ false → account paper most words sp bytes ≡ halted 3 0
+    pub account-price : goodSettlement sp ≡ false → account paper most words sp bytes ≡ Account.refused 3 0
     account-price f = stops 2 (open-price words sp row e f)
 
-    pub account-strike : goodSettlement sp ≡ true → goodSpreadRule sp ≡ false → account paper most words sp bytes ≡ halted 18 0
+    pub account-strike : goodSettlement sp ≡ true → goodSpreadRule sp ≡ false → account paper most words sp bytes ≡ Account.refused 18 0
     account-strike f g = stops 17 (open-strike words sp row e f g)
 
     pub account-opens : goodSettlement sp ≡ true → goodSpreadRule sp ≡ true

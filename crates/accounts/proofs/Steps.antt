@@ -1,4 +1,4 @@
--- One event further, and the end: the run so far as the one value for the accepted events. Assumes nothing.
+-- One event further, and the end: the run so far as the one value for the accepted events.
 use Prim.Native.Nat.{ℕ, _≤_, _<_}
 use native.Mathlib.Omega.{arith}
 use mathlib.Core.Path.{_≡_, refl, sym, ap, _∙_, subst}
@@ -10,7 +10,7 @@ use Rattle.rules.specs.declared.Order.{Order}
 use Rattle.rules.specs.declared.Row.{Row}
 use Rattle.rules.specs.declared.SpreadRule.{SpreadRule}
 use Rattle.rules.specs.declared.Event.{Event}
-use Rattle.rules.specs.Lists.{count}
+use Rattle.rules.specs.Lists.{countBelow}
 use Rattle.rules.specs.Terms.{paper}
 use Rattle.rules.specs.Units.{millis}
 use Rattle.rules.specs.Rows.{goodRowFor}
@@ -19,7 +19,7 @@ use Rattle.rules.specs.States.{State, stateWord, ordersState, stateAt}
 use Rattle.rules.specs.Answers.{Outcome}
 use Rattle.rules.specs.Causes.{eventRefusal}
 use Rattle.rules.specs.Bounds.{EventBounds}
-use Rattle.rules.specs.Accounts.{Part, parts, timeIn, totals, reckoned}
+use Rattle.rules.specs.Accounts.{AccountRan, Part, parts, timeIn, totals}
 use Rattle.rules.proofs.Orders.{present-snoc}
 use Rattle.rules.proofs.States.{stateAt-now, stateAt-snoc}
 use Rattle.rules.proofs.Refusals.{event-passes}
@@ -127,7 +127,7 @@ module _ (row : Row) (sp : SpreadRule) (es : List Event) (w : Progress) (is : w 
 
 pub begins : (row : Row) (sp : SpreadRule) (clock : Clock) → clock ≡ clockOf row sp []
     → _≡_ {A = Progress} (record { clock = clock; marks = record { stretches = 0; start = 0; state = 6; times = record { kept = millis 0; «no_bid» = millis 0; «no_ask» = millis 0; neither = millis 0; crossed = millis 0; wide = millis 0 } } }) (progressAt row sp [])
-unfolding progressAt marksAt present timeFrom parts lastStart lastWord timesAt timeIn count
+unfolding progressAt marksAt present timeFrom parts lastStart lastWord timesAt timeIn countBelow
 begins row sp clock is =
     ap (λ (x : Clock). record { clock = x; marks = record { stretches = 0; start = 0; state = 6; times = record { kept = millis 0; «no_bid» = millis 0; «no_ask» = millis 0; neither = millis 0; crossed = millis 0; wide = millis 0 } } }) is
 
@@ -217,13 +217,13 @@ module _ (w : Progress) (duty : Duty) (table : List ℕ) (n : ℕ) (s : StateOf 
 
   pub ended-is : (r : Marks) (entry exit : List ℕ) → MarksAfter (w .marks) (w .clock .time) (duty .length) n r entry exit
       → (row : Row) (sp : SpreadRule) (es : List Event) (base : List ℕ) → RepresentsRun row sp es w duty table → Holds base (partsOf row sp es) entry
-      → (reckoned (timesShown (r .times)) (r .stretches) ≡ reckoned (totals (stateAt row sp es) (row .length .0)) (length (parts (stateAt row sp es) (row .length .0))))
+      → (AccountRan.accepted (timesShown (r .times)) (r .stretches) ≡ AccountRan.accepted (totals (stateAt row sp es) (row .length .0)) (length (parts (stateAt row sp es) (row .length .0))))
       × Holds base (parts (stateAt row sp es) (row .length .0)) exit
   ended-is r entry exit grows row sp es base h held =
       let f = stateAt row sp es in
       let long = length-is row sp es duty (w .clock) table (represents row sp es w duty table h) in
       let (m, put) = grown-to row sp es w (h .is) (h .bounds) (duty .length) n r entry exit base (state-of row sp es w duty table h n s) grows held in
       let at = m ∙ ap (marksAt f) long in (
-        (λ i. reckoned ((ap timesShown (times-are f (row .length .0) r at) ∙ shown-times f (row .length .0)) i) (stretches-are f (row .length .0) r at i)),
+        (λ i. AccountRan.accepted ((ap timesShown (times-are f (row .length .0) r at) ∙ shown-times f (row .length .0)) i) (stretches-are f (row .length .0) r at i)),
         subst (λ (k : ℕ). Holds base (parts f k) exit) long put,
       )

@@ -1,6 +1,5 @@
 -- The theorems: the lengths of an account add up to L and the states' sums do; its kept stretches are the session run's pairs; its other
 -- stretches, joined where they touch, are W1's lapses; no other list is the account; and the run is refused as the session run is.
--- Assumes nothing.
 use Prim.Native.Nat.{ℕ, zero, suc, _+_, _≤_, _<_}
 use native.Mathlib.Omega.{arith}
 use mathlib.Core.Path.{_≡_, refl, sym, ap, _∙_}
@@ -13,7 +12,7 @@ use Rattle.rules.specs.declared.Row.{Row}
 use Rattle.rules.specs.declared.SpreadRule.{SpreadRule}
 use Rattle.rules.specs.declared.SpreadRule.the-variants.{Settled}
 use Rattle.rules.specs.declared.Event.{Event}
-use Rattle.rules.specs.Lists.{if_then_else_, filter, sum, count, All}
+use Rattle.rules.specs.Lists.{if_then_else_, filter, sum, countBelow, All}
 use Rattle.rules.specs.Terms.{paper}
 use Rattle.rules.specs.Rows.{rowOf}
 use Rattle.rules.specs.Units.{kopecks}
@@ -29,7 +28,7 @@ use Rattle.rules.specs.Causes.{refusalOf}
 use Rattle.rules.specs.Book.{step}
 use Rattle.rules.specs.Records.{readRecord}
 use Rattle.rules.specs.Session as S
-use Rattle.rules.specs.Accounts.{Part, sameState, parts, inState, timeIn, totals, Tiles, Stays, Differ, AccountOf, joinedUp, asStretch, keptParts, lostParts, Account, accounted, halted, accountUnless, noLimit, accountOf, accountIn, accountRecords, account}
+use Rattle.rules.specs.Accounts.{Part, sameState, parts, inState, timeIn, totals, Tiles, Stays, Differ, AccountOf, joinedUp, asStretch, keptParts, lostParts, Account, accountUnless, noLimit, accountOf, accountIn, accountRecords, account}
 use Rattle.rules.proofs.Counting.{count-ext}
 use Rattle.rules.proofs.States.{kept-state}
 use Rattle.rules.proofs.Stretches.{stretches-ext, stretches-false, stretches-new, stretches-longer, stretches-ends}
@@ -57,7 +56,7 @@ six-one crossed = refl
 six-one wide = refl
 
 pub totals-whole : (f : ℕ → State) (n : ℕ) → sum (totals f n) ≡ n
-unfolding totals timeIn sum count
+unfolding totals timeIn sum countBelow
 totals-whole f zero = refl
 totals-whole f (suc n) = let ih = totals-whole f n in omega (arith, six-one (f n))
 
@@ -75,7 +74,7 @@ lengths-from f s x n (p ∷ ps) t h =
     omega (arith, ih, run)
 
 pub lengths-time : (f : ℕ → State) (n : ℕ) (s : State) → lengthsIn s (parts f n) ≡ timeIn f n s
-unfolding timeIn count
+unfolding timeIn countBelow
 lengths-time f n s =
     let a = parts-account f n in
     let e = lengths-from f s 0 n (parts f n) (a .whole) (a .stays) in
@@ -233,16 +232,16 @@ kept-time row spread events n =
 -- ---- the account run and the session run: refused by the same number at the same place, or the kept stretches are the pairs
 
 abbrev pub Agree : S.Session → Account → Type 0
-Agree (S.whole k w ss) (accounted times ps) = keptParts ps ≡ ss
-Agree (S.whole k w ss) (halted n place) = ⊥
-Agree (S.halted n place) (accounted times ps) = ⊥
-Agree (S.halted n place) (halted m at) = (n ≡ m) × (place ≡ at)
+Agree (S.Session.accepted k w ss) (Account.accepted times ps) = keptParts ps ≡ ss
+Agree (S.Session.accepted k w ss) (Account.refused n place) = ⊥
+Agree (S.Session.refused n place) (Account.accepted times ps) = ⊥
+Agree (S.Session.refused n place) (Account.refused m at) = (n ≡ m) × (place ≡ at)
 
 agree-unless : (n place : ℕ) (s : S.Session) (a : Account) → Agree s a → Agree (S.unless n place s) (accountUnless n place a)
 agree-unless zero place s a h = h
 agree-unless (suc n) place s a h = (refl, refl)
 
-agree-in : (k w : ℕ) (r : Running) → Agree (S.whole k w (S.stretchesIn r)) (accountIn r)
+agree-in : (k w : ℕ) (r : Running) → Agree (S.Session.accepted k w (S.stretchesIn r)) (accountIn r)
 unfolding accountOf keptParts filter
 agree-in k w Idle = refl
 agree-in k w (Quoting place row opening events) = kept-pairs row (opening .spread) events

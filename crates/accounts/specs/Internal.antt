@@ -19,7 +19,7 @@ use Rattle.rules.specs.States.{State, kept, noBid, noAsk, neither, crossed, wid
 use Rattle.rules.specs.Answers.{Outcome}
 use Rattle.rules.specs.Bounds.{EventBounds}
 use Rattle.rules.specs.Session.{recordsOf}
-use Rattle.rules.specs.Accounts.{Part, parts, timeIn, totals, partWords, Account, accounted, halted, AccountRan, reckoned, stoppedAt, accountRecords}
+use Rattle.rules.specs.Accounts.{Part, parts, timeIn, totals, partWords, Account, AccountRan, accountRecords}
 use Rattle.clock.specs.declared.Duty.{Duty}
 use Rattle.clock.specs.Clocks.{dutyOf, clockOf}
 use Rattle.events.specs.Represents.{tableAfter}
@@ -149,7 +149,7 @@ pub record Advanced (w : Progress) (duty : Duty) (o : Outcome Event) (r : Steppe
 abbrev pub FinalAnswer : Progress → Duty → List ℕ → AccountAnswer → List ℕ → List ℕ → Type 0
 FinalAnswer w duty table r entry exit =
     (row : Row) (sp : SpreadRule) (es : List Event) (base : List ℕ) → RepresentsRun row sp es w duty table → Holds base (partsOf row sp es) entry
-    → (shownAccount r ≡ reckoned (totals (stateAt row sp es) (row .length .0)) (length (parts (stateAt row sp es) (row .length .0))))
+    → (shownAccount r ≡ AccountRan.accepted (totals (stateAt row sp es) (row .length .0)) (length (parts (stateAt row sp es) (row .length .0))))
     × Holds base (parts (stateAt row sp es) (row .length .0)) exit
 
 -- ---- a whole pass
@@ -166,11 +166,11 @@ pub record LoopState (most : ℕ) (row : Row) (sp : SpreadRule) (bytes base : Li
 
 -- the milliseconds of each state and the number of stretches, or the refusal and its place, whatever the buffer
 unfoldable pub counted : Account → AccountRan
-counted (accounted times ps) = reckoned times (length ps)
-counted (halted number place) = stoppedAt number place
+counted (Account.accepted times ps) = AccountRan.accepted times (length ps)
+counted (Account.refused number place) = AccountRan.refused number place
 
 -- what a pass over the records promises
 pub record Passed (a : Account) (entry exit : List ℕ) (r : AccountAnswer) : Type 0 where
   pub answer : shownAccount r ≡ counted a
-  pub words : (times : List ℕ) (ps : List Part) → a ≡ accounted times ps → 3 * length ps ≤ length entry
+  pub words : (times : List ℕ) (ps : List Part) → a ≡ Account.accepted times ps → 3 * length ps ≤ length entry
       → exit ≡ partWords ps ++ drop (3 * length ps) entry

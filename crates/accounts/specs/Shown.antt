@@ -2,7 +2,7 @@
 use Prim.Native.Nat.{ℕ, _*_}
 use mathlib.Core.List.{List, [], _∷_}
 use Rattle.rules.specs.Answers.{numberOf}
-use Rattle.rules.specs.Accounts.{AccountRan, reckoned, stoppedAt}
+use Rattle.rules.specs.Accounts.{AccountRan}
 use Rattle.accounts.specs.declared.Times.{Times}
 use Rattle.accounts.specs.declared.AccountAnswer.{AccountAnswer}
 use Rattle.accounts.specs.declared.AccountAnswer.the-variants.{Finished, Refused}
@@ -12,8 +12,8 @@ abbrev pub timesShown : Times → List ℕ
 timesShown t = t .kept .0 ∷ t .«no_bid» .0 ∷ t .«no_ask» .0 ∷ t .neither .0 ∷ t .crossed .0 ∷ t .wide .0 ∷ []
 
 abbrev pub shownAccount : AccountAnswer → AccountRan
-shownAccount (Finished times stretches) = reckoned (timesShown times) stretches
-shownAccount (Refused refusal place) = stoppedAt (numberOf refusal) place
+shownAccount (Finished times stretches) = AccountRan.accepted (timesShown times) stretches
+shownAccount (Refused refusal place) = AccountRan.refused (numberOf refusal) place
 
 -- the words that a run has filled
 abbrev pub filledBy : AccountAnswer → ℕ

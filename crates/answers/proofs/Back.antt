@@ -1,4 +1,4 @@
--- The answer that twenty words say, and that an answer's own words say it. Assumes nothing.
+-- The answer that twenty words say, and that an answer's own words say it.
 use Prim.Native.Nat.{ℕ, zero, suc, _+_, _*_}
 use native.Mathlib.Omega.{arith}
 use mathlib.Core.Path.{_≡_, refl, sym, ap, _∙_}

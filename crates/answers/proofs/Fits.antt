@@ -1,5 +1,5 @@
 -- Every answer of the plain book fits its words: after any list of calls its prices are within their type, and it has six failure counts.
--- So no two answers that the book ever gives have the same words. Assumes nothing.
+-- So no two answers that the book ever gives have the same words.
 use Prim.Native.Nat.{ℕ, zero, suc}
 use native.Mathlib.Omega.{arith}
 use mathlib.Core.Path.{_≡_, refl, subst}

@@ -1,5 +1,4 @@
 -- What an accepted event does to the live orders' ids: one more behind the others, none changed, or one gone and those behind it moved up.
--- Assumes nothing.
 use Prim.Native.Nat.{ℕ, suc, _+_, _-_, _≤_, _<_}
 use native.Mathlib.Omega.{arith}
 use mathlib.Core.Path.{_≡_, refl, sym, ap, _∙_, subst}

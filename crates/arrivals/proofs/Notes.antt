@@ -1,4 +1,4 @@
--- The notes of a quantum that opens, and after an event. Assumes nothing.
+-- The notes of a quantum that opens, and after an event.
 use Prim.Native.Nat.{ℕ, _≤_}
 use native.Mathlib.Omega.{arith}
 use mathlib.Core.Path.{_≡_, refl, ap, _∙_}

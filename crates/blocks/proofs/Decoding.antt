@@ -1,4 +1,4 @@
--- A block's arguments, and the call by its kind. Assumes nothing.
+-- A block's arguments, and the call by its kind.
 use Prim.Native.Nat.{ℕ, _+_, _-_, _*_, _/_, _≤_, _<_, min}
 use native.Mathlib.Omega.{arith}
 use mathlib.Core.Path.{_≡_, refl, sym, ap, _∙_}

@@ -1,4 +1,4 @@
--- A loop over the blocks of a list of words: what is known after so many calls and words. Assumes nothing.
+-- A loop over the blocks of a list of words: what is known after so many calls and words.
 use Prim.Native.Nat.{ℕ, suc, _+_, _-_, _≤_, _<_}
 use native.Mathlib.Omega.{arith}
 use mathlib.Core.Path.{_≡_, refl, sym, ap, _∙_}

@@ -1,6 +1,5 @@
 -- A list of words that comes in pieces. What has come tells a block's length whatever comes behind it, a block that is whole stays what it
 -- is, and so the words of a list, and its calls, are those of its first piece and then those of what that leaves with the rest behind it.
--- Assumes nothing.
 use Prim.Native.Nat.{ℕ, zero, suc, _+_, _*_, _/_, _≤_, _<_}
 use native.Mathlib.Omega.{arith}
 use mathlib.Core.Path.{_≡_, refl, sym, ap, subst, _∙_}

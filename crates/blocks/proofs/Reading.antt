@@ -1,4 +1,4 @@
--- Laws of reading a list of words, block by block. Assumes nothing.
+-- Laws of reading a list of words, block by block.
 use Prim.Native.Nat.{ℕ, zero, suc, _+_, _-_, _≤_, _<_}
 use native.Mathlib.Omega.{arith}
 use mathlib.Core.Path.{_≡_, refl, sym, ap, _∙_}

@@ -1,4 +1,4 @@
--- The size of a block by its kind. Assumes nothing.
+-- The size of a block by its kind.
 use Prim.Native.Nat.{ℕ}
 use mathlib.Core.Path.{_≡_, refl, sym, ap, _∙_}
 use mathlib.Core.List.{List, [], _∷_}

@@ -1,4 +1,4 @@
--- Every list of calls can be written: the calls read from the words of a list are that list, and all its words are read. Assumes nothing.
+-- Every list of calls can be written: the calls read from the words of a list are that list, and all its words are read.
 use Prim.Native.Nat.{ℕ, zero, suc, _+_, _-_, _*_, _/_, _<_}
 use native.Mathlib.Omega.{arith}
 use mathlib.Core.Path.{_≡_, refl, sym, ap, _∙_}

@@ -1,4 +1,4 @@
--- The answer to an event, and the table that it leaves: refused, accepted without a change, or accepted with one. Assumes nothing.
+-- The answer to an event, and the table that it leaves: refused, accepted without a change, or accepted with one.
 use Prim.Native.Nat.{ℕ, suc, _+_, _*_, _-_, _/_, _%_, _≤_, _<_}
 use native.Mathlib.Omega.{arith}
 use mathlib.Core.Path.{_≡_, refl, sym, ap, _∙_, subst}

@@ -1,4 +1,4 @@
--- The trader's causes, read off an id's slot, the tests of ranges, the number of orders and what is left of an order. Assumes nothing.
+-- The trader's causes, read off an id's slot, the tests of ranges, the number of orders and what is left of an order.
 use Prim.Native.Nat.{ℕ, _≤_, _<_}
 use mathlib.Core.Path.{_≡_, sym, ap, _∙_}
 use mathlib.Core.List.{List}

@@ -1,4 +1,4 @@
--- What an accepted event does to the slots of a side, and that they stay within their bounds. Assumes nothing.
+-- What an accepted event does to the slots of a side, and that they stay within their bounds.
 use Prim.Native.Nat.{ℕ, suc, _-_, _≤_, _<_}
 use native.Mathlib.Omega.{arith}
 use mathlib.Core.Path.{_≡_, refl, sym, ap, _∙_}

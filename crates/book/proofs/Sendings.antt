@@ -1,4 +1,4 @@
--- The table after an event: with the best level of its side moved, it stands for the orders after it. Assumes nothing.
+-- The table after an event: with the best level of its side moved, it stands for the orders after it.
 use Prim.Native.Nat.{ℕ, zero, suc, _≤_, _<_}
 use native.Mathlib.Omega.{arith}
 use mathlib.Core.Path.{_≡_, refl, sym, ap, _∙_}

@@ -1,4 +1,4 @@
--- How each event changes the orders of one side. Assumes nothing.
+-- How each event changes the orders of one side.
 use Prim.Native.Nat.{ℕ, _-_}
 use mathlib.Core.Path.{_≡_, refl, ap, _∙_}
 use mathlib.Core.List.{List, [], _∷_, _++_, map, List·Memᴰ}

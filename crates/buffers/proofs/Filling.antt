@@ -1,4 +1,4 @@
--- A copy to the front of a lent buffer, and what is then answered. Assumes nothing.
+-- A copy to the front of a lent buffer, and what is then answered.
 use Prim.Native.Nat.{ℕ, suc, _+_, _≤_, _<_}
 use native.Mathlib.Numerals.{add-one}
 use native.Mathlib.Omega.{arith}

@@ -1,4 +1,4 @@
--- Two different answers never show the same. Assumes nothing.
+-- Two different answers never show the same.
 use mathlib.Core.Path.{_≡_, refl, sym, ap, _∙_}
 use Rattle.rules.specs.Units.{millis}
 use Rattle.rules.specs.Answers.{Outcome, accepted, refused}

@@ -1,4 +1,4 @@
--- The form of a time, place by place. Assumes nothing.
+-- The form of a time, place by place.
 use Prim.Native.Nat.{ℕ, zero, suc, _+_, _*_, _-_, _≤_, _<_}
 use mathlib.Core.Path.{_≡_, refl, sym, ap, _∙_}
 use mathlib.Core.Bool.{Bool, true, _&&_, and-assoc, and-true, true≢false}

@@ -1,4 +1,4 @@
--- The days of the first months of a year, in a leap year and in another. Assumes nothing.
+-- The days of the first months of a year, in a leap year and in another.
 use Prim.Native.Nat.{ℕ, _+_, _-_, _≤_}
 use mathlib.Core.Path.{_≡_, refl, ap, _∙_}
 use mathlib.Core.Bool.{Bool, true, false, _||_}

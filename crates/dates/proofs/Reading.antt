@@ -1,4 +1,4 @@
--- What is read of a time, and what every time that was read keeps. Assumes nothing.
+-- What is read of a time, and what every time that was read keeps.
 use Prim.Native.Nat.{ℕ, _+_, _*_, _-_, _≤_, _<_}
 use mathlib.Core.Path.{_≡_, refl, sym, ap, _∙_}
 use mathlib.Core.Bool.{Bool, true, false, _&&_}

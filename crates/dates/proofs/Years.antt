@@ -1,4 +1,4 @@
--- The days of years counted one by one are those of the closed form. Assumes nothing.
+-- The days of years counted one by one are those of the closed form.
 use Prim.Native.Nat.{ℕ, zero, suc, _+_, _*_, _-_, _/_, _%_, _≤_}
 use native.Mathlib.Omega.{arith}
 use mathlib.Core.Path.{_≡_, refl, sym, ap, _∙_}

@@ -1,4 +1,4 @@
--- Numbers in digits, as the loop reads them and as 32 bits hold them. Assumes nothing.
+-- Numbers in digits, as the loop reads them and as 32 bits hold them.
 use Prim.Native.Nat.{ℕ, zero, suc, _+_, _*_, _-_, _≤_, _<_}
 use mathlib.Core.Path.{_≡_, refl, sym, ap, _∙_}
 use mathlib.Core.Bool.{Bool, true, false, _&&_, true≢false}

@@ -1,4 +1,4 @@
--- Signed numbers of 32 bits, as the machine holds them: a signed value in a goal is what is read back from its bits. Assumes nothing.
+-- Signed numbers of 32 bits, as the machine holds them: a signed value in a goal is what is read back from its bits.
 use Prim.Native.Nat.{ℕ, zero, suc, _+_, _<_}
 use native.Mathlib.Omega.{arith}
 use mathlib.Core.Path.{_≡_, refl, ap}

@@ -1,4 +1,4 @@
--- The sum of bytes, modulo 256, as the loop takes it. Assumes nothing.
+-- The sum of bytes, modulo 256, as the loop takes it.
 use Prim.Native.Nat.{ℕ, suc, _+_, _≤_, _<_, _%_}
 use mathlib.Core.Path.{_≡_, refl, ap, _∙_}
 use mathlib.Core.List.{List}

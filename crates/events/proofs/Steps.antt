@@ -1,4 +1,4 @@
--- What an event promises of the clock and the table, where it is refused and where it is taken. Assumes nothing.
+-- What an event promises of the clock and the table, where it is refused and where it is taken.
 use Prim.Native.Nat.{ℕ, zero, suc, _≤_, _<_}
 use mathlib.Core.Path.{_≡_, refl, ap, sym, _∙_, subst}
 use mathlib.Core.Bool.{Bool, true, false, _&&_}

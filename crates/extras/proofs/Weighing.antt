@@ -1,4 +1,4 @@
--- The weight of K, L and p, by its tests. Assumes nothing.
+-- The weight of K, L and p, by its tests.
 use Prim.Native.Nat.{ℕ, _≤_, _<_}
 use native.Mathlib.Omega.{arith}
 use mathlib.Core.Path.{_≡_, refl, sym, _∙_}

@@ -1,4 +1,4 @@
--- The fields of some bytes, written one behind the other, are those bytes. Assumes nothing.
+-- The fields of some bytes, written one behind the other, are those bytes.
 use Prim.Native.Nat.{ℕ}
 use native.Mathlib.Omega.{arith}
 use mathlib.Core.Path.{_≡_, refl, sym, ap, _∙_}

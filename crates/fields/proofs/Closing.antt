@@ -1,4 +1,4 @@
--- The fields behind 35, one in front of the others: none of the frame but the last, a 10 of three bytes. Assumes nothing.
+-- The fields behind 35, one in front of the others: none of the frame but the last, a 10 of three bytes.
 use Prim.Native.Nat.{ℕ, _+_, _<_}
 use native.Mathlib.Omega.{arith}
 use mathlib.Core.Path.{_≡_, refl, ap, _∙_}

@@ -1,4 +1,4 @@
--- The slots after a further field. Assumes nothing.
+-- The slots after a further field.
 use Prim.Native.Nat.{ℕ, _+_, _-_, _≤_, _<_}
 use native.Mathlib.Omega.{arith}
 use mathlib.Core.Path.{_≡_, refl, sym, ap, _∙_}

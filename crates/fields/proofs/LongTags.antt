@@ -1,4 +1,4 @@
--- Digits passed on the way to an equals sign. Assumes nothing.
+-- Digits passed on the way to an equals sign.
 use Prim.Native.Nat.{ℕ, suc, _+_, _<_}
 use native.Mathlib.Omega.{arith}
 use native.Mathlib.Numerals.{add-one}

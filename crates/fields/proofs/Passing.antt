@@ -1,4 +1,4 @@
--- What a search has passed, and what the next byte says. Assumes nothing.
+-- What a search has passed, and what the next byte says.
 use Prim.Native.Nat.{ℕ, _+_, _-_, _≤_, _<_}
 use native.Mathlib.Nat.{eq-or-lt-of-le}
 use native.Mathlib.Omega.{arith}

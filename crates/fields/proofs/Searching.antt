@@ -1,4 +1,4 @@
--- The search for fields, turn by turn. Assumes nothing.
+-- The search for fields, turn by turn.
 use Prim.Native.Nat.{ℕ, suc, _+_, _-_, _≤_, _<_}
 use native.Mathlib.Omega.{arith}
 use mathlib.Core.Path.{_≡_, refl, sym, ap, subst, _∙_}

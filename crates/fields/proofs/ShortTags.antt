@@ -1,4 +1,4 @@
--- The tag that starts at a place, by its first bytes. Assumes nothing.
+-- The tag that starts at a place, by its first bytes.
 use Prim.Native.Nat.{ℕ, suc, _+_, _*_, _-_, _≤_, _<_}
 use native.Mathlib.Omega.{arith}
 use native.Mathlib.Numerals.{add-one}

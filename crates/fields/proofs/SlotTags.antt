@@ -1,4 +1,4 @@
--- A tag's slot and its digits. Assumes nothing.
+-- A tag's slot and its digits.
 use Prim.Native.Nat.{ℕ, zero, suc, _≤_, _<_}
 use native.Mathlib.Omega.{arith}
 use mathlib.Core.Path.{_≡_, refl, sym, ap, _∙_}

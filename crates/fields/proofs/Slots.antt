@@ -1,4 +1,4 @@
--- The slot of a tag's number, and the number of 9 against a length. Assumes nothing.
+-- The slot of a tag's number, and the number of 9 against a length.
 use Prim.Native.Nat.{ℕ, _<_}
 use mathlib.Core.Path.{_≡_, refl, sym, ap, _∙_}
 use mathlib.Core.Bool.{Bool, true, false}

@@ -1,4 +1,4 @@
--- A turn of the search for fields: the field that is found, and its slot. Assumes nothing.
+-- A turn of the search for fields: the field that is found, and its slot.
 use Prim.Native.Nat.{ℕ, suc, _+_, _-_, _<_}
 use native.Mathlib.Nat.{le-of-lt, eq-or-lt-of-le}
 use native.Mathlib.Omega.{arith}

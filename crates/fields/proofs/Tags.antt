@@ -1,4 +1,4 @@
--- What is a field and what is none, by the bytes up to the first that is no digit. Assumes nothing.
+-- What is a field and what is none, by the bytes up to the first that is no digit.
 use Prim.Native.Nat.{ℕ, _≤_, _<_}
 use native.Mathlib.Omega.{arith}
 use mathlib.Core.Path.{_≡_, refl, sym, ap, _∙_}

@@ -1,4 +1,4 @@
--- Two different answers never show the same number and values. Assumes nothing.
+-- Two different answers never show the same number and values.
 use mathlib.Core.Path.{_≡_, refl, sym, ap, _∙_}
 use lib.Dec.{eqb}
 use Rattle.rules.specs.declared.Timestamp.{Timestamp}

@@ -1,4 +1,4 @@
--- From the frame and the slots to the message. Assumes nothing.
+-- From the frame and the slots to the message.
 use Prim.Native.Nat.{ℕ}
 use mathlib.Core.Path.{_≡_, refl, sym, ap, subst, _∙_}
 use mathlib.Core.Bool.{Bool, true, false, true≢false}

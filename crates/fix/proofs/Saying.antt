@@ -1,4 +1,4 @@
--- The values of a message one after the other: the first that is missing makes it unreadable. Assumes nothing.
+-- The values of a message one after the other: the first that is missing makes it unreadable.
 use Prim.Native.Nat.{ℕ}
 use mathlib.Core.Path.{_≡_, refl, sym, ap, _∙_}
 use mathlib.Core.List.{List}

@@ -1,4 +1,4 @@
--- What every message that was read keeps: its time is a time, and its numbers are of 32 bits. Assumes nothing.
+-- What every message that was read keeps: its time is a time, and its numbers are of 32 bits.
 use Prim.Native.Nat.{ℕ, zero, suc}
 use native.Mathlib.Omega.{arith}
 use mathlib.Core.Path.{_≡_, refl, subst}

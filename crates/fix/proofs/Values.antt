@@ -1,4 +1,4 @@
--- What a slot says: the one value of its tag, or nothing. Assumes nothing.
+-- What a slot says: the one value of its tag, or nothing.
 use Prim.Native.Nat.{ℕ, _+_, _-_, _≤_, _<_}
 use native.Mathlib.Omega.{arith}
 use mathlib.Core.Path.{_≡_, refl, sym, ap}

@@ -1,4 +1,4 @@
--- A message that is written reads back. Assumes nothing.
+-- A message that is written reads back.
 use Prim.Native.Nat.{ℕ, _+_, _/_, _%_}
 use native.Mathlib.Omega.{arith}
 use mathlib.Core.Path.{_≡_, refl, ap, _∙_}

@@ -1,4 +1,4 @@
--- The digits that are written of a number: how many, and that they say the number. Assumes nothing.
+-- The digits that are written of a number: how many, and that they say the number.
 use Prim.Native.Nat.{ℕ, zero, suc, _+_, _*_, _-_, _/_, _%_, _≤_, _<_}
 use native.Mathlib.Omega.{arith}
 use mathlib.Core.Path.{_≡_, refl, ap}

@@ -1,4 +1,4 @@
--- Fields that are written are read again. Assumes nothing.
+-- Fields that are written are read again.
 use Prim.Native.Nat.{ℕ}
 use native.Mathlib.Omega.{arith}
 use mathlib.Core.Path.{_≡_, refl, sym, ap, _∙_}

@@ -1,4 +1,4 @@
--- The frame laid around the fields, and the text that is answered. Assumes nothing.
+-- The frame laid around the fields, and the text that is answered.
 use Prim.Native.Nat.{ℕ, _-_, _%_, _≤_}
 use native.Mathlib.Omega.{arith}
 use mathlib.Core.Path.{_≡_, refl, sym, ap, subst, _∙_}

@@ -1,4 +1,4 @@
--- The values that are written are read again. Assumes nothing.
+-- The values that are written are read again.
 use Prim.Native.Nat.{ℕ, suc, _≤_, _<_}
 use native.Mathlib.Omega.{arith}
 use mathlib.Core.Path.{_≡_, refl, ap, _∙_}

@@ -1,4 +1,4 @@
--- A message that passes every test of the frame: its body is what the fields behind 35 say. Assumes nothing.
+-- A message that passes every test of the frame: its body is what the fields behind 35 say.
 use Prim.Native.Nat.{ℕ, _-_, _%_, _<_}
 use native.Mathlib.Omega.{arith}
 use mathlib.Core.Path.{_≡_, refl, sym, ap, _∙_}

@@ -1,4 +1,4 @@
--- The tests of the frame at places of the message, and the bytes that stand there. Assumes nothing.
+-- The tests of the frame at places of the message, and the bytes that stand there.
 use Prim.Native.Nat.{ℕ, zero, suc, _+_, _/_, _%_, _≤_}
 use native.Mathlib.Nat.{add-zero}
 use native.Mathlib.Omega.{arith}

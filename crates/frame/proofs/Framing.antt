@@ -1,4 +1,4 @@
--- What the tests of the frame find together, at the places where they look. Assumes nothing.
+-- What the tests of the frame find together, at the places where they look.
 use Prim.Native.Nat.{ℕ, zero, suc, _+_, _-_, _/_, _%_, _≤_, _<_}
 use native.Mathlib.Omega.{arith}
 use mathlib.Core.Path.{_≡_, refl, sym, ap, _∙_}

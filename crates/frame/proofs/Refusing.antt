@@ -1,4 +1,4 @@
--- Each test of the frame passes on a message with a right frame: where one fails, there is no body. Assumes nothing.
+-- Each test of the frame passes on a message with a right frame: where one fails, there is no body.
 use Prim.Native.Nat.{ℕ, _+_, _-_, _%_, _<_}
 use native.Mathlib.Omega.{arith}
 use mathlib.Core.Path.{_≡_, refl, sym, ap, _∙_}

@@ -1,4 +1,4 @@
--- The bytes of a message whose frame is right. Assumes nothing.
+-- The bytes of a message whose frame is right.
 use Prim.Native.Nat.{ℕ, _%_}
 use native.Mathlib.Omega.{arith}
 use mathlib.Core.Path.{_≡_, refl, sym, ap, _∙_}

@@ -1,4 +1,4 @@
--- An ask on a copy of the quantum's words, and what it shows of the month's. Assumes nothing.
+-- An ask on a copy of the quantum's words, and what it shows of the month's.
 use Prim.Native.Nat.{ℕ, zero, suc, _+_, _*_, _≤_, _<_}
 use native.Mathlib.Omega.{arith}
 use mathlib.Core.Path.{_≡_, refl, sym, ap, subst, _∙_}

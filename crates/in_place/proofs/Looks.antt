@@ -1,4 +1,4 @@
--- A look at a cell in the words of a month. Assumes nothing.
+-- A look at a cell in the words of a month.
 use Prim.Native.Nat.{ℕ, _+_, _*_, _≤_, _<_}
 use native.Mathlib.Omega.{arith}
 use mathlib.Core.Path.{_≡_, refl, sym, ap, _∙_}

@@ -1,4 +1,4 @@
--- An event on the words of a month, from what it does to the quantum's: with none open, refused and accepted. Assumes nothing.
+-- An event on the words of a month, from what it does to the quantum's: with none open, refused and accepted.
 use Prim.Native.Nat.{ℕ, zero, suc, _+_, _*_, _≤_, _<_}
 use native.Mathlib.Omega.{arith}
 use mathlib.Core.Path.{_≡_, refl, sym, ap, _∙_}

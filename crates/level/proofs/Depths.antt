@@ -1,4 +1,4 @@
--- What a level holds, and what it holds after a change. Assumes nothing.
+-- What a level holds, and what it holds after a change.
 use Prim.Native.Nat.{ℕ, _+_, _-_, _*_, _≤_}
 use native.Mathlib.Omega.{arith}
 use mathlib.Core.Path.{_≡_, refl, sym, ap, _∙_}

@@ -1,4 +1,4 @@
--- The loop over a whole list: what is known after so many calls, and what follows at its end. Assumes nothing.
+-- The loop over a whole list: what is known after so many calls, and what follows at its end.
 use Prim.Native.Nat.{ℕ, _+_, _-_, _*_, _/_, _≤_, _<_}
 use native.Mathlib.Omega.{arith}
 use mathlib.Core.Path.{_≡_, refl, sym, ap, subst, _∙_}

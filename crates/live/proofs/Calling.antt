@@ -1,4 +1,4 @@
--- What became of a call, and the words that it leaves. Assumes nothing.
+-- What became of a call, and the words that it leaves.
 use Prim.Native.Nat.{ℕ, _%_}
 use mathlib.Core.Path.{_≡_, refl, sym, ap, subst, _∙_}
 use mathlib.Core.Bool.{Bool, true, false, not, _&&_}

@@ -1,4 +1,4 @@
--- A block that is an event or a look: its fields, and what becomes of the words and the answer. Assumes nothing.
+-- A block that is an event or a look: its fields, and what becomes of the words and the answer.
 use Prim.Native.Nat.{ℕ, zero, suc, _%_, _<_, _≤_}
 use native.Mathlib.Omega.{arith}
 use mathlib.Core.Path.{_≡_, refl, sym, ap, _∙_}

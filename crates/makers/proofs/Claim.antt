@@ -1,5 +1,5 @@
 -- The claim about lists of calls: after any of them, from count 0 on any records lent, the used records are the present makers with the
--- ratings last accepted, in order, each once, and they alone are. Assumes nothing.
+-- ratings last accepted, in order, each once, and they alone are.
 --     claim        the theorem, as `Claimed`
 --     same-list    two lists in order with the same records are one
 --     stands-step  one call, on the standing and on the roll

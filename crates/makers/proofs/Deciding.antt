@@ -1,4 +1,4 @@
--- What a decision says of the tests behind it, by the kind of the call. Assumes nothing.
+-- What a decision says of the tests behind it, by the kind of the call.
 use Prim.Native.Nat.{ℕ, suc}
 use native.Mathlib.Omega.{arith}
 use mathlib.Core.Path.{_≡_, refl, ap, sym, _∙_}

@@ -1,4 +1,4 @@
--- The order of the used records, judged from neighbours and by marks. Assumes nothing.
+-- The order of the used records, judged from neighbours and by marks.
 --     marked-is   a mark is there exactly where a record before has left it
 --     look-back   whether the maker has a record before is seen from as many as the mark says
 --     good-is     what was checked is whether the records are sorted, each maker once

@@ -1,5 +1,5 @@
 -- The order of the standing: `above` goes on, and decides between any two makers; what `every`, `sorted` and `once` say of members and
--- of a list that grows at its end. Assumes nothing.
+-- of a list that grows at its end.
 use Prim.Native.Nat.{ℕ, _<_}
 use native.Mathlib.Omega.{arith}
 use mathlib.Core.Path.{_≡_, refl, sym, ap, _∙_}

@@ -1,4 +1,4 @@
--- A record at its place: by how many stand above it, and what `placed` and `without` leave of members, order and length. Assumes nothing.
+-- A record at its place: by how many stand above it, and what `placed` and `without` leave of members, order and length.
 use Prim.Native.Nat.{ℕ, suc, _+_, _≤_, zero-le}
 use native.Mathlib.Omega.{arith}
 use native.Mathlib.Numerals.{one-add}

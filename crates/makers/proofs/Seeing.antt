@@ -1,4 +1,4 @@
--- What a look through the first records finds, in the words of the standing. Assumes nothing.
+-- What a look through the first records finds, in the words of the standing.
 use Prim.Native.Nat.{ℕ, zero, suc, _+_, _≤_, _<_, zero-le}
 use native.Mathlib.Omega.{arith}
 use mathlib.Core.Path.{_≡_, refl, sym, ap, subst, _∙_}

@@ -1,5 +1,5 @@
 -- A record that is taken out at one place and put in at another, the records between moving by one place, one after the other: the list
--- while a hole stands at i is what is left with something put in there. Assumes nothing.
+-- while a hole stands at i is what is left with something put in there.
 use Prim.Native.Nat.{ℕ, suc, _+_, _-_, _≤_, _<_}
 use native.Mathlib.Omega.{arith}
 use native.Mathlib.Numerals.{add-one}

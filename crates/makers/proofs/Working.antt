@@ -1,4 +1,4 @@
--- What was found and decided does what the call is to do: the refusal, the count and the records of `step`. Assumes nothing.
+-- What was found and decided does what the call is to do: the refusal, the count and the records of `step`.
 use Prim.Native.Nat.{ℕ, zero, suc, _+_, _-_, _≤_, _<_, min}
 use native.Mathlib.Omega.{arith}
 use native.Mathlib.Nat.{min-eq-left}

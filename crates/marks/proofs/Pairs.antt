@@ -1,4 +1,4 @@
--- The pairs so far, as time runs on: their number, where the last one starts, and their words in a buffer. Assumes nothing.
+-- The pairs so far, as time runs on: their number, where the last one starts, and their words in a buffer.
 use Prim.Native.Nat.{ℕ, zero, suc, _+_, _*_, _-_, _≤_, _<_}
 use native.Mathlib.Omega.{arith}
 use mathlib.Core.Path.{_≡_, refl, sym, ap, _∙_, subst}

@@ -1,4 +1,4 @@
--- A FIX message as words, read and to be written. Assumes nothing.
+-- A FIX message as words, read and to be written.
 use Prim.Native.Nat.{ℕ, _≤_, _<_}
 use mathlib.Core.Path.{_≡_, refl, sym, ap, _∙_}
 use mathlib.Core.Bool.{Bool, true, false, not}

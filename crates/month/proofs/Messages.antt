@@ -1,4 +1,4 @@
--- A message, by what the quantum answers to it. Assumes nothing.
+-- A message, by what the quantum answers to it.
 use Prim.Native.Nat.{ℕ}
 use mathlib.Core.Path.{_≡_, refl, ap, sym, _∙_}
 use mathlib.Core.Bool.{Bool, true, false}

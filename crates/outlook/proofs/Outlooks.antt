@@ -1,4 +1,4 @@
--- What the fields of the duty and the clock give is the outlook of the definition. Assumes nothing.
+-- What the fields of the duty and the clock give is the outlook of the definition.
 use Prim.Native.Nat.{ℕ, _-_, _≤_}
 use native.Mathlib.Omega.{arith}
 use mathlib.Core.Path.{_≡_, sym, ap, _∙_}

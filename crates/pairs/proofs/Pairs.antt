@@ -1,4 +1,4 @@
--- A session's answer in a lent buffer. Assumes nothing.
+-- A session's answer in a lent buffer.
 use Prim.Native.Nat.{ℕ, _+_, _-_, _*_, _≤_, _<_}
 use native.Mathlib.Omega.{arith}
 use mathlib.Core.Path.{_≡_, refl, sym, ap, subst, _∙_}
@@ -15,10 +15,10 @@ use Rattle.rules.specs.declared.SessionAnswer.{SessionAnswer}
 use Rattle.rules.specs.declared.SessionAnswer.the-variants as S
 use Rattle.rules.specs.Lists.{if_then_else_, below}
 use Rattle.rules.specs.Terms.{paper}
-use Rattle.rules.specs.Answers.{Ran, finished, stopped, numberOf, shownSession}
+use Rattle.rules.specs.Answers.{numberOf}
 use Rattle.rules.specs.Stretches.{pairWords}
 use Rattle.rules.specs.Records.{wordAt}
-use Rattle.rules.specs.Session.{Session, whole, halted, mostRecords, session, sessionBytes, leadingWords, leadingPrice, ran, front, bufferAfter}
+use Rattle.rules.specs.Session.{Ran, shownSession, Session, mostRecords, session, sessionBytes, leadingWords, leadingPrice, ran, front, bufferAfter}
 use Rattle.rules.proofs.Stretches.{pairWords-length}
 use Rattle.buffers.specs.Answers.{refusedNumber}
 use Rattle.pairs.specs.Sessions.{pairsNumber, FillsPairs}
@@ -28,12 +28,12 @@ use Rattle.buffers.proofs.Filling.{too-short, fills-not, fills-whole}
 -- ---- no room for K, w and the number of pairs
 short : (s : Session) (n : ℕ) → n < 3 → shortNumber (ran 0 s) ≡ pairsNumber n s
 unfolding ran
-short (whole k w ss) n h = go (ltb 0 (2 * length ss)) ∙ too-short n (k ∷ w ∷ length ss ∷ pairWords ss) (omega arith)
+short (Session.accepted k w ss) n h = go (ltb 0 (2 * length ss)) ∙ too-short n (k ∷ w ∷ length ss ∷ pairWords ss) (omega arith)
   where
-    go : (b : Bool) → shortNumber (if b then stopped 16 0 else finished k w (length ss)) ≡ refusedNumber 16
+    go : (b : Bool) → shortNumber (if b then Ran.refused 16 0 else Ran.accepted k w (length ss)) ≡ refusedNumber 16
     go true = refl
     go false = refl
-short (halted m p) n h = refl
+short (Session.refused m p) n h = refl
 
 pub short-is : (s : Session) (shown : Ran) (r n : ℕ) → shown ≡ ran 0 s → r ≡ shortNumber shown → n < 3 → r ≡ pairsNumber n s
 short-is s shown r n e f h = f ∙ ap shortNumber e ∙ short s n h
@@ -57,12 +57,12 @@ head-stopped r f place n b e is = (
 
 fills : (s : Session) (x y z : ℕ) (t : List ℕ) → FillsPairs s (x ∷ y ∷ z ∷ t) (headed (x ∷ y ∷ z ∷ bufferAfter t s) (ran (length t) s)) (ranNumber (ran (length t) s))
 unfolding ran front bufferAfter
-fills (whole k w ss) x y z t = go (ltb (length t) (2 * length ss)) refl
+fills (Session.accepted k w ss) x y z t = go (ltb (length t) (2 * length ss)) refl
   where
     go : (b : Bool) → ltb (length t) (2 * length ss) ≡ b
-        → FillsPairs (whole k w ss) (x ∷ y ∷ z ∷ t)
-        (headed (x ∷ y ∷ z ∷ ((if b then [] else pairWords ss) ++ drop (length (if b then [] else pairWords ss)) t)) (if b then stopped 16 0 else finished k w (length ss)))
-        (ranNumber (if b then stopped 16 0 else finished k w (length ss)))
+        → FillsPairs (Session.accepted k w ss) (x ∷ y ∷ z ∷ t)
+        (headed (x ∷ y ∷ z ∷ ((if b then [] else pairWords ss) ++ drop (length (if b then [] else pairWords ss)) t)) (if b then Ran.refused 16 0 else Ran.accepted k w (length ss)))
+        (ranNumber (if b then Ran.refused 16 0 else Ran.accepted k w (length ss)))
     go true f =
         let l = ltb-true (length t) (2 * length ss) f in
         let all =
@@ -74,7 +74,7 @@ fills (whole k w ss) x y z t = go (ltb (length t) (2 * length ss)) refl
         fills-whole (k ∷ w ∷ length ss ∷ pairWords ss) (x ∷ y ∷ z ∷ t) (k ∷ w ∷ length ss ∷ (pairWords ss ++ drop (length (pairWords ss)) t)) (3 + 2 * length ss)
         (omega (arith, pairWords-length ss)) refl (omega (arith, pairWords-length ss)) in
         record { number = all .number; buffer = all .buffer }
-fills (halted m p) x y z t = record { number = refl; buffer = refl }
+fills (Session.refused m p) x y z t = record { number = refl; buffer = refl }
 
 pub pairs-filled : (s : Session) (b mid e : List ℕ) (shown : Ran) (r : ℕ) → 3 ≤ length b → shown ≡ ran (length (drop 3 b)) s
     → mid ≡ take 3 b ++ bufferAfter (drop 3 b) s → r ≡ ranNumber shown → e ≡ headed mid shown → FillsPairs s b e r
@@ -82,10 +82,10 @@ pairs-filled s [] mid e shown r h f g i j = absurd (omega arith)
 pairs-filled s (x ∷ []) mid e shown r h f g i j = absurd (omega arith)
 pairs-filled s (x ∷ y ∷ []) mid e shown r h f g i j = absurd (omega arith)
 pairs-filled s (x ∷ y ∷ z ∷ t) mid e shown r h f g i j =
-    let whole = fills s x y z t in
+    let whole′ = fills s x y z t in
     record {
-      number = i ∙ ap ranNumber f ∙ whole .number;
-      buffer = j ∙ (λ k. headed (g k) (f k)) ∙ whole .buffer;
+      number = i ∙ ap ranNumber f ∙ whole′ .number;
+      buffer = j ∙ (λ k. headed (g k) (f k)) ∙ whole′ .buffer;
     }
 
 -- the buffer from the fourth word on is lent to the run, and back
@@ -102,9 +102,9 @@ pairs-lent s b out e k shown r h is f g i j =
     pairs-filled s b (take 3 b ++ (out ++ drop k (drop 3 b))) e shown r h (f ∙ ap (λ (l : List ℕ). ran (length l) s) part) mid i j
 
 pub short-fills : (s : Session) (b : List ℕ) (r : ℕ) → length b < 3 → r ≡ pairsNumber (length b) s → FillsPairs s b b r
-short-fills (whole k w ss) b r h e =
+short-fills (Session.accepted k w ss) b r h e =
     record { number = e; buffer = fills-not (k ∷ w ∷ length ss ∷ pairWords ss) b (refusedNumber 16) (omega arith) refl .buffer }
-short-fills (halted m p) b r h e = record { number = e; buffer = refl }
+short-fills (Session.refused m p) b r h e = record { number = e; buffer = refl }
 
 -- ---- the leading bytes
 pub words-read : (head : List ℕ) {a b c d e f g : ℕ} → a ≡ wordAt head 0 → b ≡ wordAt head 4 → c ≡ wordAt head 8 → d ≡ wordAt head 12

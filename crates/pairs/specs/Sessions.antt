@@ -5,7 +5,7 @@ use mathlib.Core.List.{List, _∷_}
 use lib.ListN.{length}
 use Rattle.rules.specs.Answers.{Outcome, accepted}
 use Rattle.rules.specs.Stretches.{Stretch, pairWords}
-use Rattle.rules.specs.Session.{Session, whole, halted}
+use Rattle.rules.specs.Session.{Session}
 use Rattle.buffers.specs.Answers.{fitted, lengthNumber, bufferWith, refusedNumber}
 
 -- K, w, the number of pairs, and the pairs
@@ -14,12 +14,12 @@ pairsOutcome kept weight pairs = accepted (kept ∷ weight ∷ length pairs ∷ 
 
 -- how many words are written, or 4,294,967,296 × the refusal + its place; 16 comes after all records
 abbrev pub pairsNumber : ℕ → Session → ℕ
-pairsNumber n (whole kept weight pairs) = lengthNumber (fitted n (pairsOutcome kept weight pairs))
-pairsNumber n (halted number place) = refusedNumber number + place
+pairsNumber n (Session.accepted kept weight pairs) = lengthNumber (fitted n (pairsOutcome kept weight pairs))
+pairsNumber n (Session.refused number place) = refusedNumber number + place
 
 abbrev pub pairsBuffer : List ℕ → Session → List ℕ
-pairsBuffer before (whole kept weight pairs) = bufferWith before (fitted (length before) (pairsOutcome kept weight pairs))
-pairsBuffer before (halted number place) = before
+pairsBuffer before (Session.accepted kept weight pairs) = bufferWith before (fitted (length before) (pairsOutcome kept weight pairs))
+pairsBuffer before (Session.refused number place) = before
 
 pub record FillsPairs (s : Session) (before behind : List ℕ) (r : ℕ) : Type 0 where
   pub number : r ≡ pairsNumber (length before) s

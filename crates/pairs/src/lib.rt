@@ -5,8 +5,7 @@ ghost use mathlib.Core.Path.{_≡_};
 ghost use Prim.Native.Nat.{ℕ, _≤_, _<_};
 ghost use lib.ListN.{length};
 ghost use Rattle.rules.specs.Terms.{paper};
-ghost use Rattle.rules.specs.Answers.{shownSession};
-ghost use Rattle.rules.specs.Session.{mostRecords, session, sessionBytes, leadingWords, leadingPrice};
+ghost use Rattle.rules.specs.Session.{shownSession, mostRecords, session, sessionBytes, leadingWords, leadingPrice};
 ghost use Rattle.pairs.specs.Sessions.{pairsNumber, FillsPairs};
 ghost use Rattle.pairs.specs.Internal.{shortNumber, ranNumber, headed};
 

@@ -1,4 +1,4 @@
--- The loop over the records: how it starts, one turn, and each way out. Assumes nothing.
+-- The loop over the records: how it starts, one turn, and each way out.
 use Prim.Native.Nat.{ℕ, zero, _+_, _*_, _-_, _/_, _≤_, _<_}
 use native.Mathlib.Omega.{arith}
 use mathlib.Core.Path.{_≡_, refl, sym, ap, _∙_, subst}
@@ -17,9 +17,9 @@ use Rattle.rules.specs.Terms.{paper}
 use Rattle.rules.specs.Rows.{goodRow}
 use Rattle.rules.specs.Orders.{present, timeFrom}
 use Rattle.rules.specs.Stretches.{Stretch, stretches, keptStretches, pairWords}
-use Rattle.rules.specs.Answers.{numberOf, finished, shownSession}
+use Rattle.rules.specs.Answers.{numberOf}
 use Rattle.rules.specs.Records.{readRecord}
-use Rattle.rules.specs.Session.{Session, whole, halted, recordsOf, runRecords}
+use Rattle.rules.specs.Session.{shownSession, Ran, Session, recordsOf, runRecords}
 use Rattle.rules.proofs.Stretches.{pairWords-length}
 use Rattle.rules.proofs.Bounds.{event-bounds-none}
 use Rattle.clock.specs.declared.Duty.{Duty}
@@ -36,20 +36,20 @@ use Rattle.pass.proofs.Runs.{walks, runs-end}
 
 -- ---- how a pass ends
 
-pub not-whole : {s : Session} (n place k w : ℕ) (ss : List Stretch) → s ≡ halted n place → s ≡ whole k w ss → ⊥
+pub not-whole : {s : Session} (n place k w : ℕ) (ss : List Stretch) → s ≡ Session.refused n place → s ≡ Session.accepted k w ss → ⊥
 not-whole n place k w ss e f = let z : _≡_ {A = ℕ} 0 1 = cc in omega arith
 
-pub passed-halted : (s : Session) (f : Refusal) (place : ℕ) (entry exit : List ℕ) → s ≡ halted (numberOf f) place
+pub passed-halted : (s : Session) (f : Refusal) (place : ℕ) (entry exit : List ℕ) → s ≡ Session.refused (numberOf f) place
     → Passed s entry exit (S.Refused f place)
 unfolding counted
 passed-halted s f place entry exit e =
     record { answer = sym (ap counted e); words = λ k w ss h. absurd (not-whole (numberOf f) place k w ss e h) }
 
-whole-pairs : (s : Session) (k w k′ w′ : ℕ) (ss ss′ : List Stretch) → s ≡ whole k w ss → s ≡ whole k′ w′ ss′ → ss ≡ ss′
+whole-pairs : (s : Session) (k w k′ w′ : ℕ) (ss ss′ : List Stretch) → s ≡ Session.accepted k w ss → s ≡ Session.accepted k′ w′ ss′ → ss ≡ ss′
 whole-pairs s k w k′ w′ ss ss′ e f = cc
 
-passed-whole : (s : Session) (k w : ℕ) (ss : List Stretch) (entry exit : List ℕ) (r : SessionAnswer) → s ≡ whole k w ss
-    → shownSession r ≡ finished k w (length ss) → Holds entry ss exit → Passed s entry exit r
+passed-whole : (s : Session) (k w : ℕ) (ss : List Stretch) (entry exit : List ℕ) (r : SessionAnswer) → s ≡ Session.accepted k w ss
+    → shownSession r ≡ Ran.accepted k w (length ss) → Holds entry ss exit → Passed s entry exit r
 unfolding counted
 passed-whole s k w ss entry exit r e a h =
     record {
@@ -139,7 +139,7 @@ module _ (most : ℕ) (row : Row) (sp : Steps) (bytes base : List ℕ) where
         pub loop-refused : (f : Refusal) → 0 < r .refusal → numberOf f ≡ r .refusal → (cell : ℕ) → cell < 186 → Passed (Run cell) base exit (S.Refused f place)
         loop-refused f h e cell c =
             passed-halted (Run cell) f place base exit
-            (walk-stops (walks most cell row sp) bytes at place (g .events) (g .runs cell) l (r .refusal) h p (sym judged) ∙ ap (λ (m : ℕ). halted m place) (sym e))
+            (walk-stops (walks most cell row sp) bytes at place (g .events) (g .runs cell) l (r .refusal) h p (sym judged) ∙ ap (λ (m : ℕ). Session.refused m place) (sym e))
 
         pub loop-on : at + 20 ≤ length bytes → r .refusal ≤ 0 → LoopState most row sp bytes base (r .progress) (at + 20) (place + 1) next exit
         loop-on room e =

@@ -1,4 +1,4 @@
--- A pass from the row on: refused, or the quantum opened and the records run. Assumes nothing.
+-- A pass from the row on: refused, or the quantum opened and the records run.
 use Prim.Native.Nat.{ℕ, _<_}
 use mathlib.Core.Path.{_≡_, sym, ap, _∙_, subst}
 use mathlib.Core.List.{List, []}

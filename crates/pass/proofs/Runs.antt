@@ -1,5 +1,4 @@
 -- The session's run by its accepted events, with the book taken away: how it starts, what each record does, how it ends.
--- Assumes nothing.
 use Prim.Native.Nat.{ℕ, zero, suc, _<_}
 use native.Mathlib.Omega.{arith}
 use mathlib.Core.Path.{_≡_, refl, sym, ap, _∙_}
@@ -26,7 +25,7 @@ use Rattle.rules.specs.Causes.{firstNumber, causes, readRow, refusalOf}
 use Rattle.rules.specs.Changes.{closedCell, changed}
 use Rattle.rules.specs.Book.{step}
 use Rattle.rules.specs.Records.{readRecord}
-use Rattle.rules.specs.Session.{Session, whole, halted, withoutLapseLimit, unless, recordsOf, recordRefusal, closing, runRecords, session}
+use Rattle.rules.specs.Session.{Session, withoutLapseLimit, unless, recordsOf, recordRefusal, closing, runRecords, session}
 use Rattle.rules.proofs.Refusals.{call-passes, step-accepted}
 use Rattle.pass.specs.Internal.{bookWith}
 use Rattle.runs.proofs.Walks.{Walk}
@@ -40,7 +39,7 @@ no-lapse-limit b lapses = and-true b
 -- ---- a record
 
 module _ (most cell : ℕ) (row : Row) (sp : Steps) where
-  pub walks : Walk halted most row (λ place es. runRecords paper most cell place (bookWith cell row sp es))
+  pub walks : Walk Session.refused most row (λ place es. runRecords paper most cell place (bookWith cell row sp es))
   unfolding runRecords recordRefusal
   walks =
       record {
@@ -75,23 +74,23 @@ module _ (most cell : ℕ) (row : Row) (sp : Steps) where
 
   pub runs-end : (place : ℕ) (es : List Event) → cell < 186
       → runRecords paper most cell place (bookWith cell row sp es) []
-      ≡ whole (keptBelow row (Settled sp) es (row .length .0)) (weight paper (keptBelow row (Settled sp) es (row .length .0)) (row .length .0) (row .share)) (keptStretches row (Settled sp) es)
+      ≡ Session.accepted (keptBelow row (Settled sp) es (row .length .0)) (weight paper (keptBelow row (Settled sp) es (row .length .0)) (row .length .0) (row .share)) (keptStretches row (Settled sp) es)
   unfolding runRecords closing
   runs-end place es l =
       rw (closed-cell es l)
-      (ap (λ (w : ℕ). whole (keptBelow row (Settled sp) es (row .length .0)) w (keptStretches row (Settled sp) es)) (closed-weight es))
+      (ap (λ (w : ℕ). Session.accepted (keptBelow row (Settled sp) es (row .length .0)) w (keptStretches row (Settled sp) es)) (closed-weight es))
 
 -- ---- the start
 
 module _ (most : ℕ) (words : List ℕ) (sp : Steps) (bytes : List ℕ) where
-  session-stops : (n : ℕ) → openRefusal words (Settled sp) ≡ suc n → session paper most words sp bytes ≡ halted (suc n) 0
+  session-stops : (n : ℕ) → openRefusal words (Settled sp) ≡ suc n → session paper most words sp bytes ≡ Session.refused (suc n) 0
   unfolding session
   session-stops n e = rw e refl
 
-  pub session-row : (n : ℕ) → refused n ≡ readRow paper (Settled sp) words → session paper most words sp bytes ≡ halted n 0
-  session-row n e = let (m, is, by) = open-row words (Settled sp) n e in session-stops m by ∙ ap (λ (k : ℕ). halted k 0) (sym is)
+  pub session-row : (n : ℕ) → refused n ≡ readRow paper (Settled sp) words → session paper most words sp bytes ≡ Session.refused n 0
+  session-row n e = let (m, is, by) = open-row words (Settled sp) n e in session-stops m by ∙ ap (λ (k : ℕ). Session.refused k 0) (sym is)
 
-  pub session-price : (row : Row) → accepted row ≡ readRow paper (Settled sp) words → goodPrice (sp .0) ≡ false → session paper most words sp bytes ≡ halted 3 0
+  pub session-price : (row : Row) → accepted row ≡ readRow paper (Settled sp) words → goodPrice (sp .0) ≡ false → session paper most words sp bytes ≡ Session.refused 3 0
   session-price row e f = session-stops 2 (open-price words (Settled sp) row e f)
 
   begins : openRefusal words (Settled sp) ≡ 0
@@ -109,13 +108,13 @@ module _ (most : ℕ) (words : List ℕ) (sp : Steps) (bytes : List ℕ) where
       (is, good, begins zero ∙ ap (λ (b : Book). runRecords paper most (cellOf words (Settled sp)) 1 b (recordsOf bytes)) (opened words (Settled sp) zero))
 
   -- a session that ends whole was opened
-  unless-whole : (n place : ℕ) (next : Session) (k w : ℕ) (ss : List Stretch) → unless n place next ≡ whole k w ss → (n ≡ 0) × (next ≡ whole k w ss)
+  unless-whole : (n place : ℕ) (next : Session) (k w : ℕ) (ss : List Stretch) → unless n place next ≡ Session.accepted k w ss → (n ≡ 0) × (next ≡ Session.accepted k w ss)
   unless-whole zero place next k w ss e = (refl, e)
   unless-whole (suc n) place next k w ss e = let z : _≡_ {A = ℕ} 0 1 = cc in absurd (omega arith)
 
-  pub session-begun : (k w : ℕ) (ss : List Stretch) → session paper most words sp bytes ≡ whole k w ss
+  pub session-begun : (k w : ℕ) (ss : List Stretch) → session paper most words sp bytes ≡ Session.accepted k w ss
       → (openRefusal words (Settled sp) ≡ 0) × (goodRow paper (rowOf words) ≡ true)
-      × (runRecords paper most (cellOf words (Settled sp)) 1 (bookWith (cellOf words (Settled sp)) (rowOf words) sp []) (recordsOf bytes) ≡ whole k w ss)
+      × (runRecords paper most (cellOf words (Settled sp)) 1 (bookWith (cellOf words (Settled sp)) (rowOf words) sp []) (recordsOf bytes) ≡ Session.accepted k w ss)
   unfolding session goodRowFor
   session-begun k w ss e =
       let (none, next) = unless-whole (openRefusal words (Settled sp)) 0 _ k w ss e in

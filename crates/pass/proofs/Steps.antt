@@ -1,4 +1,4 @@
--- One event further, and the end: the run so far as the one value for the accepted events. Assumes nothing.
+-- One event further, and the end: the run so far as the one value for the accepted events.
 use Prim.Native.Nat.{ℕ, _≤_, _<_}
 use native.Mathlib.Omega.{arith}
 use mathlib.Core.Path.{_≡_, refl, sym, ap, _∙_, subst}
@@ -17,7 +17,8 @@ use Rattle.rules.specs.Orders.{live, present, timeFrom, timeOf}
 use Rattle.rules.specs.Kept.{ordersKeep, keptAt, keptBelow}
 use Rattle.rules.specs.Stretches.{Stretch, stretches, keptStretches}
 use Rattle.rules.specs.Pay.{weight}
-use Rattle.rules.specs.Answers.{Outcome, finished}
+use Rattle.rules.specs.Answers.{Outcome}
+use Rattle.rules.specs.Session.{Ran}
 use Rattle.rules.specs.Causes.{eventRefusal}
 use Rattle.rules.specs.Bounds.{EventBounds}
 use Rattle.rules.proofs.Orders.{present-snoc}
@@ -201,9 +202,9 @@ module _ (row : Row) (sp : SpreadRule) (es : List Event) (w : Progress) (is : w 
   pub ended-is : (keeps : Bool) (r : Marks) (entry exit base : List ℕ) → keeps ≡ eqb (w .clock .keeps) 1
       → MarksAfter (w .marks) (w .clock .time) (row .length) keeps (eqb (w .clock .last) 1) r entry exit → Holds base (pairsOf row sp es) entry
       → (kept : ℕ) (worth : ℕ) → kept ≡ keptBelow row sp es (row .length .0) → worth ≡ weight paper kept (row .length .0) (row .share)
-      → (finished kept worth (r .pairs) ≡ finished (keptBelow row sp es (row .length .0)) (weight paper (keptBelow row sp es (row .length .0)) (row .length .0) (row .share)) (length (keptStretches row sp es)))
+      → (Ran.accepted kept worth (r .pairs) ≡ Ran.accepted (keptBelow row sp es (row .length .0)) (weight paper (keptBelow row sp es (row .length .0)) (row .length .0) (row .share)) (length (keptStretches row sp es)))
       × Holds base (keptStretches row sp es) exit
   unfolding keptStretches
   ended-is keeps r entry exit base k grows h kept worth ke we =
       let (m, held) = grown-to row sp es w is g (row .length) keeps r entry exit base k grows h in
-      (λ i. finished (ke i) ((we ∙ ap (λ (n : ℕ). weight paper n (row .length .0) (row .share)) ke) i) (pairs-are (keptAt row sp es) (row .length .0) r m i), held)
+      (λ i. Ran.accepted (ke i) ((we ∙ ap (λ (n : ℕ). weight paper n (row .length .0) (row .share)) ke) i) (pairs-are (keptAt row sp es) (row .length .0) r m i), held)

@@ -17,10 +17,10 @@ use Rattle.rules.specs.Orders.{present}
 use Rattle.rules.specs.Kept.{keptAt, keptBelow}
 use Rattle.rules.specs.Stretches.{Stretch, stretches, keptStretches, pairWords}
 use Rattle.rules.specs.Pay.{weight}
-use Rattle.rules.specs.Answers.{Outcome, Ran, finished, stopped, shownSession}
+use Rattle.rules.specs.Answers.{Outcome}
 use Rattle.rules.specs.Calls.{Book}
 use Rattle.rules.specs.Bounds.{EventBounds}
-use Rattle.rules.specs.Session.{Session, whole, halted, recordsOf, runRecords}
+use Rattle.rules.specs.Session.{Ran, shownSession, Session, recordsOf, runRecords}
 use Rattle.clock.specs.declared.Duty.{Duty}
 use Rattle.clock.specs.Clocks.{dutyOf, clockOf}
 use Rattle.events.specs.Represents.{tableAfter}
@@ -75,7 +75,7 @@ pub record ReachedEnd (w : Progress) (row : Row) : Type 0 where
 abbrev pub FinalAnswer : Progress → Row → SessionAnswer → List ℕ → List ℕ → Type 0
 FinalAnswer w row r entry exit =
     (sp : SpreadRule) (es : List Event) (base : List ℕ) → EventBounds row es → w ≡ progressAt row sp es → Holds base (pairsOf row sp es) entry
-    → (shownSession r ≡ finished (keptBelow row sp es (row .length .0)) (weight paper (keptBelow row sp es (row .length .0)) (row .length .0) (row .share)) (length (keptStretches row sp es)))
+    → (shownSession r ≡ Ran.accepted (keptBelow row sp es (row .length .0)) (weight paper (keptBelow row sp es (row .length .0)) (row .length .0) (row .share)) (length (keptStretches row sp es)))
     × Holds base (keptStretches row sp es) exit
 
 -- ---- a whole pass
@@ -97,11 +97,11 @@ pub record LoopState (most : ℕ) (row : Row) (sp : Steps) (bytes base : List �
 
 -- K, w and the number of pairs, or the refusal and its place, whatever the buffer
 unfoldable pub counted : Session → Ran
-counted (whole kept weight pairs) = finished kept weight (length pairs)
-counted (halted number place) = stopped number place
+counted (Session.accepted kept weight pairs) = Ran.accepted kept weight (length pairs)
+counted (Session.refused number place) = Ran.refused number place
 
 -- what a pass over the records promises
 pub record Passed (s : Session) (entry exit : List ℕ) (r : SessionAnswer) : Type 0 where
   pub answer : shownSession r ≡ counted s
-  pub words : (kept weight : ℕ) (pairs : List Stretch) → s ≡ whole kept weight pairs → 2 * length pairs ≤ length entry
+  pub words : (kept weight : ℕ) (pairs : List Stretch) → s ≡ Session.accepted kept weight pairs → 2 * length pairs ≤ length entry
       → exit ≡ pairWords pairs ++ drop (2 * length pairs) entry

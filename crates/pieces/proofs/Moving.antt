@@ -1,4 +1,4 @@
--- Bytes moved to the front of the list that holds them, one by one: the next one to move is still what it was. Assumes nothing.
+-- Bytes moved to the front of the list that holds them, one by one: the next one to move is still what it was.
 use Prim.Native.Nat.{ℕ, _+_, _-_, _≤_, _<_}
 use native.Mathlib.Omega.{arith}
 use native.Mathlib.Numerals.{add-one}

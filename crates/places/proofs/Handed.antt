@@ -1,5 +1,5 @@
 -- The relation of a `Left` to its machine value, from those of its array and its answer: a field that is an array of records is the array
--- of the records' values, element by element. Assumes nothing.
+-- of the records' values, element by element.
 use mathlib.Core.Path.{_≡_, refl, ap, _∙_}
 use Prim.Native.Nat.{suc}
 use mathlib.Core.List.{[], _∷_, List, map}

@@ -1,4 +1,4 @@
--- The spread test by its limit, and of two best keys, is document 01's. Assumes nothing.
+-- The spread test by its limit, and of two best keys, is document 01's.
 use Prim.Native.Nat.{ℕ, zero, suc, _+_, _-_, _*_, _/_, _≤_, _<_, max}
 use native.Mathlib.Nat.{le-div-iff-mul-le, div-lt-iff-lt-mul}
 use native.Mathlib.Omega.{arith}

@@ -1,4 +1,4 @@
--- From the clock and the table to the quantum that holds them, and the numbers that refuse an event. Assumes nothing.
+-- From the clock and the table to the quantum that holds them, and the numbers that refuse an event.
 use Prim.Native.Nat.{ℕ, zero, suc, _≤_, _<_}
 use mathlib.Core.Path.{_≡_, refl, ap, sym, _∙_}
 use mathlib.Core.List.{List, [], _∷_, _++_}

@@ -1,4 +1,4 @@
--- The notes after an accepted event, by the tables before and after it. Assumes nothing.
+-- The notes after an accepted event, by the tables before and after it.
 use Prim.Native.Nat.{ℕ}
 use mathlib.Core.Path.{_≡_, refl, ap, _∙_}
 use mathlib.Core.List.{List, [], _∷_, _++_}

@@ -1,4 +1,4 @@
--- The words of a quantum, written part by part and read back. Assumes nothing.
+-- The words of a quantum, written part by part and read back.
 use Prim.Native.Nat.{ℕ, zero, suc}
 use native.Mathlib.Omega.{arith}
 use mathlib.Core.Path.{_≡_, refl, sym, ap, _∙_, subst}

@@ -1,4 +1,4 @@
--- An accepted amendment leaves as many orders as there were, with their ids, and so the notes. Assumes nothing.
+-- An accepted amendment leaves as many orders as there were, with their ids, and so the notes.
 use Prim.Native.Nat.{ℕ, zero, suc}
 use native.Mathlib.Omega.{arith}
 use mathlib.Core.Path.{_≡_, refl, ap, _∙_}

@@ -1,4 +1,4 @@
--- A tick on the words of an open quantum: too early, past the end, or the clock runs on and all else stays. Assumes nothing.
+-- A tick on the words of an open quantum: too early, past the end, or the clock runs on and all else stays.
 use Prim.Native.Nat.{ℕ, suc, _≤_, _<_}
 use native.Mathlib.Omega.{arith}
 use mathlib.Core.Path.{_≡_, refl, sym, ap, _∙_}

@@ -1,4 +1,4 @@
--- An event on all the words of an open quantum, from what it does to those before its notes. Assumes nothing.
+-- An event on all the words of an open quantum, from what it does to those before its notes.
 use Prim.Native.Nat.{ℕ, zero, suc, _≤_, _<_}
 use native.Mathlib.Omega.{arith}
 use mathlib.Core.Path.{_≡_, refl, sym, ap, _∙_, subst}

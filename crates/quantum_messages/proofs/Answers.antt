@@ -1,4 +1,4 @@
--- A call on a quantum, open or idle, of every book that has it: refused, or an event. Assumes nothing.
+-- A call on a quantum, open or idle, of every book that has it: refused, or an event.
 use Prim.Native.Nat.{ℕ, zero, suc, _≤_}
 use native.Mathlib.Omega.{arith}
 use mathlib.Core.Path.{_≡_, refl, ap, sym, _∙_, subst}

@@ -1,5 +1,5 @@
 -- The best quote of some orders is that of the best key in their columns, and what the search finds and counts in the columns is what
--- document 02 says of the orders. Assumes nothing.
+-- document 02 says of the orders.
 use Prim.Native.Nat.{ℕ, _+_, _≤_, max}
 use native.Mathlib.Omega.{arith}
 use mathlib.Core.Path.{_≡_, refl, sym, ap, _∙_}

@@ -1,4 +1,4 @@
--- Laws of a side's depth in columns: what a test passes, blanks behind the orders, and when a key's level is the best one's. Assumes nothing.
+-- Laws of a side's depth in columns: what a test passes, blanks behind the orders, and when a key's level is the best one's.
 use Prim.Native.Nat.{ℕ, zero, suc, _+_, _≤_, _<_, max}
 use native.Mathlib.Omega.{arith}
 use mathlib.Core.Path.{_≡_, refl, sym, ap, _∙_, fun-ext}

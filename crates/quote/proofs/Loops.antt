@@ -1,5 +1,5 @@
 -- A loop over columns, one step further: what the contracts at the keys that pass come to, the best key found, and for how many keys
--- volumes were added up. Assumes nothing.
+-- volumes were added up.
 use Prim.Native.Nat.{ℕ, zero, suc, _+_, _≤_, _<_, max}
 use native.Mathlib.Omega.{arith}
 use native.Mathlib.Numerals.{add-one}

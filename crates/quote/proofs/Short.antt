@@ -1,5 +1,5 @@
 -- The sums of the search that were not enough: they are those of the keys better than what is found, so the most of them is what stands
--- before it. Assumes nothing.
+-- before it.
 use Prim.Native.Nat.{ℕ, _+_, _-_, _≤_, _<_, max}
 use native.Mathlib.Omega.{arith}
 use native.Mathlib.Numerals.{add-one}

@@ -1,4 +1,4 @@
--- A list of calls, as the number that is answered. Assumes nothing.
+-- A list of calls, as the number that is answered.
 use Prim.Native.Nat.{ℕ, _*_, _≤_, _<_}
 use mathlib.Core.Path.{_≡_, refl, sym, ap, _∙_}
 use mathlib.Core.Bool.{Bool, true, false, not}

@@ -1,4 +1,4 @@
--- A fresh month whose quantum is open, whatever its spread limit is made of: how it opens, and what a record's event does. Assumes nothing.
+-- A fresh month whose quantum is open, whatever its spread limit is made of: how it opens, and what a record's event does.
 use Prim.Native.Nat.{ℕ, suc, _<_}
 use native.Mathlib.Omega.{arith}
 use mathlib.Core.Path.{_≡_, refl, ap, _∙_}

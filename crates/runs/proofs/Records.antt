@@ -1,5 +1,5 @@
 -- A record's event on an open quantum, by what `events::step_fields` promises: the number that refuses it; where none does, the event that
--- was taken. Assumes nothing.
+-- was taken.
 use Prim.Native.Nat.{ℕ, _≤_}
 use native.Mathlib.Omega.{arith}
 use mathlib.Core.Path.{_≡_, refl, ap, _∙_, subst}

@@ -1,4 +1,4 @@
--- A loop over the full records, as far as the limit lets it: its bytes, one turn, and what a record does. Assumes nothing.
+-- A loop over the full records, as far as the limit lets it: its bytes, one turn, and what a record does.
 use Prim.Native.Nat.{ℕ, _+_, _*_, _-_, _/_, _≤_, _<_, min}
 use native.Mathlib.Omega.{arith}
 use mathlib.Core.Path.{_≡_, refl, ap}
@@ -11,7 +11,6 @@ use Rattle.rules.specs.declared.SessionAnswer.the-variants as S
 use Rattle.rules.specs.Orders.{live, applyAll}
 use Rattle.rules.specs.Answers.{Outcome, accepted, refused}
 use Rattle.rules.specs.Bounds.{EventBounds}
-use Rattle.rules.specs.Session.{whole}
 use Rattle.rules.proofs.Bounds.{event-bounds-more}
 use Rattle.table.specs.Table.{tableOf}
 use Rattle.events.specs.Represents.{tableAfter}

@@ -1,5 +1,5 @@
 -- A run over records, whatever it gathers: each record is past the limit, refused or taken. By what a run makes of one record, how it
--- stands at a byte of its records, and that one that is not refused has taken them all. Assumes nothing.
+-- stands at a byte of its records, and that one that is not refused has taken them all.
 use Prim.Native.Nat.{ℕ, zero, suc, _+_, _*_, _-_, _/_, _≤_, _<_}
 use native.Mathlib.Omega.{arith}
 use native.Mathlib.Nat.{div-eq-of-lt, add-div-left}

@@ -1,4 +1,4 @@
--- From the month's promises to a block's. Assumes nothing.
+-- From the month's promises to a block's.
 use Prim.Native.Nat.{ℕ, _+_}
 use native.Mathlib.Omega.{arith}
 use mathlib.Core.Path.{_≡_, sym, ap, subst, _∙_}

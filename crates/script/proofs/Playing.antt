@@ -1,5 +1,5 @@
 -- A loop over blocks that keeps only the month and the place, as a program's, from a month that is reached: what is known at a place, and
--- what follows at the end. Assumes nothing.
+-- what follows at the end.
 use Prim.Native.Nat.{ℕ, _+_, _≤_, _<_}
 use native.Mathlib.Omega.{arith}
 use mathlib.Core.Path.{_≡_, refl, sym, ap, subst, _∙_}

@@ -1,4 +1,4 @@
--- What an order more, another, or less does to the sums of contracts and to the bounds. Assumes nothing.
+-- What an order more, another, or less does to the sums of contracts and to the bounds.
 use Prim.Native.Nat.{ℕ, zero, suc, _+_, _≤_, _<_}
 use mathlib.Core.Path.{_≡_, refl, ap, sym, _∙_}
 use mathlib.Core.Bool.{Bool, true, false, _&&_}

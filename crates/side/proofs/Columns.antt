@@ -1,4 +1,4 @@
--- A column of 64 words, and four of them one behind the other. Assumes nothing.
+-- A column of 64 words, and four of them one behind the other.
 use Prim.Native.Nat.{ℕ, zero, suc, _+_, _-_, _≤_, _<_}
 use mathlib.Core.Path.{_≡_, refl, ap, sym, _∙_}
 use mathlib.Core.List.{List, [], _∷_, _++_, append-assoc}

@@ -1,4 +1,4 @@
--- Lists: what stands behind a front of known length, what is in a cut, and stores and cuts under `map`. Assumes nothing.
+-- Lists: what stands behind a front of known length, what is in a cut, and stores and cuts under `map`.
 use Prim.Native.Nat.{ℕ, zero, suc, _+_, _<_}
 use mathlib.Core.Path.{_≡_, refl, ap, sym, _∙_}
 use native.Mathlib.Omega.{arith}

@@ -1,4 +1,4 @@
--- Looking for an id among a side's. Assumes nothing.
+-- Looking for an id among a side's.
 use Prim.Native.Nat.{ℕ, zero, suc, _+_, _-_, _*_, _≤_, _<_}
 use mathlib.Core.Path.{_≡_, refl, ap, sym, _∙_}
 use mathlib.Core.Bool.{Bool, true, false}

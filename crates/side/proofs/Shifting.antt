@@ -1,4 +1,4 @@
--- A column while what stands behind a place moves up to it, one word at a time. Assumes nothing.
+-- A column while what stands behind a place moves up to it, one word at a time.
 use Prim.Native.Nat.{ℕ, suc, _+_, _-_, _≤_, _<_}
 use mathlib.Core.Path.{_≡_, ap, sym, _∙_}
 use mathlib.Core.List.{List, [], _∷_, _++_, append-assoc, append-nil}

@@ -1,4 +1,4 @@
--- The stores that change a side's orders or its level. Assumes nothing.
+-- The stores that change a side's orders or its level.
 use Prim.Native.Nat.{ℕ, suc, _+_, _≤_, _<_}
 use mathlib.Core.Path.{_≡_, ap, sym, _∙_}
 use mathlib.Core.List.{List, [], _∷_, _++_, map, map-append}

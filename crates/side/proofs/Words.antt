@@ -1,4 +1,4 @@
--- What the words of a side say of its orders and its level. Assumes nothing.
+-- What the words of a side say of its orders and its level.
 use Prim.Native.Nat.{ℕ, _+_, _-_, _*_, _/_, _≤_, _<_}
 use mathlib.Core.Path.{_≡_, refl, ap, sym, _∙_}
 use mathlib.Core.List.{List, _++_, map}

@@ -1,4 +1,4 @@
--- Orders as one number: by their key first; five exchanges sort four of them, and change no sum. Assumes nothing.
+-- Orders as one number: by their key first; five exchanges sort four of them, and change no sum.
 use Prim.Native.Nat.{ℕ, zero, suc, _+_, _*_, _≤_, _<_, min, max}
 use native.Mathlib.Omega.{arith}
 use mathlib.Core.Path.{_≡_, refl, sym, ap, _∙_}

@@ -1,5 +1,5 @@
 -- The claim about lists, of running code: what `run` promises from count 0 is what is worked out afresh from the calls alone; and every
--- list of calls can be written as words and is read back as it was. Assumes nothing.
+-- list of calls can be written as words and is read back as it was.
 --     afresh       the theorem: a list that ran from count 0 left `Afresh`
 --     read-back    the words of a list of calls are a list of calls, and say those
 use Prim.Native.Nat.{ℕ}

@@ -1,4 +1,4 @@
--- The types and machine values of what the walks pass on, and what is known of them. Assumes nothing.
+-- The types and machine values of what the walks pass on, and what is known of them.
 use Prim.Native.Nat.{ℕ, _*_, _^_, _<_}
 use native.Mathlib.Omega.{arith}
 use mathlib.Core.Path.{_≡_, subst}

@@ -1,4 +1,4 @@
--- A list of words, three at a time: what is read from the front of it, and from a place on. Assumes nothing.
+-- A list of words, three at a time: what is read from the front of it, and from a place on.
 use Prim.Native.Nat.{ℕ, _+_, _-_, _*_, _≤_, _<_}
 use native.Mathlib.Omega.{arith}
 use mathlib.Core.Path.{_≡_, refl, sym, ap, subst, _∙_}

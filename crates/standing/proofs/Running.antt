@@ -1,4 +1,4 @@
--- A list of calls that runs, one call after the other: records, count and outcomes after the first k of them. Assumes nothing.
+-- A list of calls that runs, one call after the other: records, count and outcomes after the first k of them.
 use Prim.Native.Nat.{ℕ, zero, suc, _+_, _*_, _≤_, _<_}
 use native.Mathlib.Omega.{arith}
 use native.Mathlib.Numerals.{add-one}

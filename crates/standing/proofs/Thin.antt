@@ -1,7 +1,7 @@
 -- The functions that make a call's three words and pass them on, with the list, to `apply`: `join`, `change` and `leave`. They differ in the type of their third parameter and in the operands of the three words, and nothing else: one walk is of all of them.
 --     thin        the MIR of such a function, by that type and those operands
 --     thin-meets  it meets its contract, where the words say the call that the contract names
--- The slice is lent again to `apply` (`Calling.antt`), of which the proof knows only that it meets its contract. Assumes nothing.
+-- The slice is lent again to `apply` (`Calling.antt`), of which the proof knows only that it meets its contract.
 use mathlib.Core.Path.{_≡_, refl, subst}
 use Prim.Native.Nat.{ℕ, _<_, _^_}
 use mathlib.Core.List.{[], _∷_, List}

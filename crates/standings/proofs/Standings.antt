@@ -1,4 +1,4 @@
--- What a list of calls leaves of the standing, as one number, the records and the outcomes. Assumes nothing.
+-- What a list of calls leaves of the standing, as one number, the records and the outcomes.
 use Prim.Native.Nat.{ℕ, _≤_, _<_}
 use mathlib.Core.Path.{_≡_, refl, ap, _∙_}
 use mathlib.Core.Bool.{Bool, true, false, _&&_}

@@ -1,4 +1,4 @@
--- Whether an id is live on the other side: its words are scanned for it. Assumes nothing.
+-- Whether an id is live on the other side: its words are scanned for it.
 use Prim.Native.Nat.{ℕ, zero, suc, _+_, _*_, _-_, _≤_}
 use native.Mathlib.Omega.{arith}
 use mathlib.Core.Path.{_≡_, refl, ap, _∙_}

@@ -1,4 +1,4 @@
--- The order in a slot: at its place of its side, and in the side's words. Assumes nothing.
+-- The order in a slot: at its place of its side, and in the side's words.
 use Prim.Native.Nat.{ℕ, _*_, _+_, _-_, _/_, _%_, _≤_, _<_}
 use native.Mathlib.Omega.{arith}
 use mathlib.Core.Path.{_≡_, sym, ap, _∙_, subst}

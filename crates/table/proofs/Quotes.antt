@@ -1,4 +1,4 @@
--- The best keys in the table's words: their quotes, and the spread test on them. Assumes nothing.
+-- The best keys in the table's words: their quotes, and the spread test on them.
 use Prim.Native.Nat.{ℕ, _+_, _*_, _≤_, _<_}
 use native.Mathlib.Omega.{arith}
 use mathlib.Core.Path.{_≡_, refl, sym, ap, _∙_, subst}

@@ -1,4 +1,4 @@
--- The orders of one side: what of all live orders is read off the two sides. Assumes nothing.
+-- The orders of one side: what of all live orders is read off the two sides.
 use Prim.Native.Nat.{ℕ, suc, _+_, _≤_}
 use native.Mathlib.Omega.{arith}
 use mathlib.Core.Path.{_≡_, refl, sym, ap, _∙_}

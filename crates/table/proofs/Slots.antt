@@ -1,4 +1,4 @@
--- The place of an order on its side, and its slot in the table. Assumes nothing.
+-- The place of an order on its side, and its slot in the table.
 use Prim.Native.Nat.{ℕ, zero, suc, _+_, _*_, _-_, _/_, _%_, _≤_, _<_}
 use native.Mathlib.Omega.{arith}
 use native.Mathlib.Nat.{not-suc-le-zero, le-of-suc-le-suc}

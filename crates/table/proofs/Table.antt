@@ -1,4 +1,4 @@
--- The table's halves: read, lent and put back, and what its words say of the live orders. Assumes nothing.
+-- The table's halves: read, lent and put back, and what its words say of the live orders.
 use Prim.Native.Nat.{ℕ, zero, suc, _+_, _*_, _-_, _/_, _%_, _≤_, _<_}
 use native.Mathlib.Omega.{arith}
 use native.Mathlib.Nat.{not-suc-le-zero, le-of-suc-le-suc}

@@ -1,4 +1,4 @@
--- The words in front of the orders', written in three parts. Assumes nothing.
+-- The words in front of the orders', written in three parts.
 use Prim.Native.Nat.{ℕ}
 use native.Mathlib.Omega.{arith}
 use mathlib.Core.Path.{_≡_, refl, ap, _∙_}

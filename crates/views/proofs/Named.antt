@@ -1,4 +1,4 @@
--- The live order with an id, where it stands in the table. Assumes nothing.
+-- The live order with an id, where it stands in the table.
 use Prim.Native.Nat.{ℕ, zero, suc, _+_, _*_, _-_, _/_, _%_, _≤_, _<_}
 use native.Mathlib.Omega.{arith}
 use mathlib.Core.Path.{_≡_, refl, sym, subst, _∙_}

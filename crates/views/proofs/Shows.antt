@@ -1,4 +1,4 @@
--- The view of an open quantum, from its words, and of a month, from its own. Assumes nothing.
+-- The view of an open quantum, from its words, and of a month, from its own.
 use Prim.Native.Nat.{ℕ, _+_, _*_, _-_, _≤_, _<_}
 use native.Mathlib.Omega.{arith}
 use native.Mathlib.Nat.{le-refl}

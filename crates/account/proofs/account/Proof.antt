@@ -1,4 +1,4 @@
--- The words that the run has filled lie within the buffer. Assumes nothing.
+-- The words that the run has filled lie within the buffer.
 use Prim.Native.Nat.{ℕ, _≤_}
 use native.Mathlib.Omega.{arith}
 use mathlib.Core.Path.{_≡_, sym, ap, _∙_}

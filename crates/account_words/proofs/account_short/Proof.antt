@@ -1,4 +1,4 @@
--- 16, or the refusal before it. Assumes nothing.
+-- 16, or the refusal before it.
 use Rattle.account_words.proofs.Accounting.{account-short-is}
 use borrow.Author.Needs.{needs}
 use Rattle.account_words.proofs.account_short.Statement.{statement}

@@ -1,4 +1,4 @@
--- The six times and the number of stretches where the run is finished, nothing where not. Assumes nothing.
+-- The six times and the number of stretches where the run is finished, nothing where not.
 use native.Mathlib.Omega.{arith}
 use lib.ListN.{length-set}
 use Rattle.account_words.proofs.Accounting.{account-finished, account-refused}

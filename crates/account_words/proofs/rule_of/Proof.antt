@@ -1,4 +1,4 @@
--- By whether it is a strike's. Assumes nothing.
+-- By whether it is a strike's.
 use mathlib.Core.Path.{refl}
 use borrow.Author.Tests.{eq-eqb, ne-eqb}
 use Rattle.account_words.proofs.rule_of.Statement.{statement}

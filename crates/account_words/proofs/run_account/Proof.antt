@@ -1,4 +1,4 @@
--- The stretches, and the times and their number before them. Assumes nothing.
+-- The stretches, and the times and their number before them.
 use mathlib.Core.Path.{refl}
 use Rattle.account_words.proofs.Accounting.{account-lent}
 use borrow.Author.Needs.{needs}

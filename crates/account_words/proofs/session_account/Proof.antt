@@ -1,4 +1,4 @@
--- The buffer has no room for the times and the number of stretches, or it has. Assumes nothing.
+-- The buffer has no room for the times and the number of stretches, or it has.
 use mathlib.Core.Path.{ap, _∙_}
 use lib.ListN.{length}
 use Rattle.rules.specs.declared.Steps.{Steps}

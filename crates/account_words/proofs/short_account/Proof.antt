@@ -1,4 +1,4 @@
--- 16, or the refusal with its place. Assumes nothing.
+-- 16, or the refusal with its place.
 use Rattle.account_words.proofs.Accounting.{account-stopped}
 use borrow.Author.Needs.{needs}
 use Rattle.account_words.proofs.short_account.Statement.{statement}

@@ -1,4 +1,4 @@
--- No events, no stretch. Assumes nothing.
+-- No events, no stretch.
 use Rattle.accounts.proofs.Steps.{begins}
 use borrow.Author.Needs.{needs}
 use Rattle.accounts.proofs.begin.Statement.{statement}

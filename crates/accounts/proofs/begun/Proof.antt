@@ -1,4 +1,4 @@
--- By whether the last stretch has the state. Assumes nothing.
+-- By whether the last stretch has the state.
 use borrow.Author.Needs.{needs}
 use Rattle.accounts.proofs.Growing.{begun-last, begun-new}
 use Rattle.accounts.proofs.begun.Statement.{statement}

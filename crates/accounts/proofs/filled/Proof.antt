@@ -1,4 +1,4 @@
--- Three words a stretch where the run is finished, none where it is refused. Assumes nothing.
+-- Three words a stretch where the run is finished, none where it is refused.
 use mathlib.Core.Path.{sym, ap}
 use Rattle.accounts.specs.Shown.{filledBy}
 use borrow.Author.Needs.{needs}

@@ -1,4 +1,4 @@
--- Time runs on to L in the live orders' state. Assumes nothing.
+-- Time runs on to L in the live orders' state.
 use Rattle.accounts.proofs.Steps.{reached-long, end-bounds, ended-is}
 use borrow.Author.Needs.{needs}
 use Rattle.accounts.proofs.finish.Statement.{statement}

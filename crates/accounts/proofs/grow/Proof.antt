@@ -1,4 +1,4 @@
--- Nothing to add, or a stretch that begins or goes on. Assumes nothing.
+-- Nothing to add, or a stretch that begins or goes on.
 use Prim.Native.Nat.{_-_}
 use native.Mathlib.Omega.{arith}
 use Rattle.accounts.proofs.Growing.{grows-still, grows-at, begun-bounds}

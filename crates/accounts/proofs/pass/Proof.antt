@@ -1,4 +1,4 @@
--- The row is refused, or SP or a strike's numbers are, or the pass over the records answers. Assumes nothing.
+-- The row is refused, or SP or a strike's numbers are, or the pass over the records answers.
 use mathlib.Core.Path.{ap, sym, _∙_}
 use borrow.Author.Tests.{not-true, not-false}
 use Rattle.rules.specs.Answers.{shownRow}

@@ -1,4 +1,4 @@
--- The three words where they fit, or none. Assumes nothing.
+-- The three words where they fit, or none.
 use native.Mathlib.Omega.{arith}
 use lib.ListN.{length-set}
 use Rattle.accounts.proofs.Growing.{put-fits, put-not}

@@ -1,4 +1,4 @@
--- The record's event passes, and time runs on to it in the live orders' state; or it is refused. Assumes nothing.
+-- The record's event passes, and time runs on to it in the live orders' state; or it is refused.
 use Rattle.rules.specs.Records.{readRecord}
 use Rattle.accounts.proofs.Steps.{reached-long, reached-parts, bounds-taken, advanced-taken, advanced-refused}
 use borrow.Author.Needs.{needs}

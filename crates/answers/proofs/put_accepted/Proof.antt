@@ -1,4 +1,4 @@
--- Twenty zeros. Assumes nothing.
+-- Twenty zeros.
 use Rattle.answers.specs.Words.{answerWords}
 use borrow.Author.Needs.{needs}
 use Rattle.answers.proofs.put_accepted.Statement.{statement}

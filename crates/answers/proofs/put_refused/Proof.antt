@@ -1,4 +1,4 @@
--- The kind, the number, zeros. Assumes nothing.
+-- The kind, the number, zeros.
 use Rattle.answers.specs.Words.{answerWords}
 use borrow.Author.Needs.{needs}
 use Rattle.answers.proofs.put_refused.Statement.{statement}

@@ -1,4 +1,4 @@
--- By the numbers before and after, one of three things happened to the ids (`one-more`, `one-less`, `as-many`). Assumes nothing.
+-- By the numbers before and after, one of three things happened to the ids (`one-more`, `one-less`, `as-many`).
 use mathlib.Core.Path.{_∙_}
 use native.Mathlib.Omega.{arith}
 use Rattle.arrivals.proofs.Effects.{old-count, few, sized, one-more, one-less, as-many}

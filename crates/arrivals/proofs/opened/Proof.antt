@@ -1,4 +1,4 @@
--- No ids, then the twelve words (`laid`). Assumes nothing.
+-- No ids, then the twelve words (`laid`).
 use Rattle.arrivals.proofs.Notes.{laid}
 use borrow.Author.Needs.{needs}
 use Rattle.arrivals.proofs.opened.Statement.{statement}

@@ -1,4 +1,4 @@
--- One case each. Assumes nothing.
+-- One case each.
 use Prim.Native.Nat.{ℕ}
 use mathlib.Core.Path.{sym, ap, _∙_}
 use mathlib.Core.List.{List, [], _∷_}

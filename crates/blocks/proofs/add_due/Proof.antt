@@ -1,4 +1,4 @@
--- `blocks::add_due` meets its contract, side by side. Assumes nothing.
+-- `blocks::add_due` meets its contract, side by side.
 use mathlib.Core.Path.{sym, ap}
 use Rattle.blocks.specs.Kinds.{addDue}
 use Rattle.blocks.proofs.Sizes.{other-side}

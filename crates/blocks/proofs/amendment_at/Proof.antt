@@ -1,4 +1,4 @@
--- `blocks::amendment_at` meets its contract: word by word. Assumes nothing.
+-- `blocks::amendment_at` meets its contract: word by word.
 use borrow.Author.Needs.{needs}
 use Rattle.blocks.proofs.amendment_at.Statement.{statement}
 use Rattle.blocks.proofs.amendment_at.Tie as tie

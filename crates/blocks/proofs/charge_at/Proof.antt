@@ -1,4 +1,4 @@
--- `blocks::charge_at` meets its contract: the number at its place. Assumes nothing.
+-- `blocks::charge_at` meets its contract: the number at its place.
 use mathlib.Core.Path.{ap}
 use Rattle.rules.specs.Units.{kopecks}
 use borrow.Author.Needs.{needs}

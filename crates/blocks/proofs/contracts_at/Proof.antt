@@ -1,4 +1,4 @@
--- `blocks::contracts_at` meets its contract: the word at its place. Assumes nothing.
+-- `blocks::contracts_at` meets its contract: the word at its place.
 use mathlib.Core.Path.{ap}
 use Rattle.rules.specs.Units.{contracts}
 use borrow.Author.Needs.{needs}

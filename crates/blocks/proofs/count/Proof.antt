@@ -1,4 +1,4 @@
--- `blocks::count` meets its contract: four bytes a word. Assumes nothing.
+-- `blocks::count` meets its contract: four bytes a word.
 use native.Mathlib.Omega.{arith}
 use mathlib.Core.Path.{sym}
 use Rattle.words.proofs.Bytes.{words-length}

@@ -1,5 +1,4 @@
 -- `blocks::decode` meets its contract: the arm of each kind by the call of that kind (`by-kind`); with any other kind it is a report.
--- Assumes nothing.
 use Rattle.blocks.proofs.Decoding.{by-kind, open-is, strike-is, other-is}
 use mathlib.Core.Path.{_∙_}
 use Rattle.words.specs.Bytes.{wordsIn}

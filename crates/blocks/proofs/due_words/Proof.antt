@@ -1,4 +1,4 @@
--- `blocks::due_words` meets its contract, kind by kind (`due-is`); any other kind is due no words. Assumes nothing.
+-- `blocks::due_words` meets its contract, kind by kind (`due-is`); any other kind is due no words.
 use Prim.Native.Nat.{ℕ, _+_, _/_}
 use mathlib.Core.Path.{ap, _∙_}
 use Rattle.words.specs.Bytes.{wordsIn}

@@ -1,5 +1,5 @@
 -- The invariant is `Passed`: what is read of the whole list is what was read so far and what is read from there on. The measure is the
--- number of words left. Assumes nothing.
+-- number of words left.
 use Prim.Native.Nat.{_-_}
 use native.Mathlib.Omega.{arith}
 use lib.ListN.{length}

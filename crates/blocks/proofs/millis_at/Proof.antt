@@ -1,4 +1,4 @@
--- `blocks::millis_at` meets its contract: the word at its place. Assumes nothing.
+-- `blocks::millis_at` meets its contract: the word at its place.
 use mathlib.Core.Path.{ap}
 use Rattle.rules.specs.Units.{millis}
 use borrow.Author.Needs.{needs}

@@ -1,4 +1,4 @@
--- `blocks::open` meets its contract: the day is the word behind the row. Assumes nothing.
+-- `blocks::open` meets its contract: the day is the word behind the row.
 use Prim.Native.Nat.{ℕ}
 use mathlib.Core.Path.{ap, _∙_}
 use lib.ListN.{getD}

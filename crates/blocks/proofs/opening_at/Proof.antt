@@ -1,4 +1,4 @@
--- `blocks::opening_at` meets its contract: a price and the word behind it. Assumes nothing.
+-- `blocks::opening_at` meets its contract: a price and the word behind it.
 use Rattle.rules.specs.declared.SpreadRule.the-variants.{Settled}
 use borrow.Author.Needs.{needs}
 use Rattle.blocks.proofs.opening_at.Statement.{statement}

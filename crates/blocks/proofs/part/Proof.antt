@@ -1,4 +1,4 @@
--- `blocks::part` meets its contract: an end past the whole words is their end (`part-is`). Assumes nothing.
+-- `blocks::part` meets its contract: an end past the whole words is their end (`part-is`).
 use Prim.Native.Nat.{ℕ, _*_, _/_}
 use mathlib.Core.Path.{_≡_, ap, _∙_}
 use lib.ListN.{length}

@@ -1,4 +1,4 @@
--- `blocks::row` meets its contract: the words behind the first two, one by one. Assumes nothing.
+-- `blocks::row` meets its contract: the words behind the first two, one by one.
 use lib.ListN.{getD}
 use Rattle.words.specs.Bytes.{wordsIn}
 use Rattle.blocks.proofs.Decoding.{row-is}

@@ -1,4 +1,4 @@
--- `blocks::row_length` meets its contract: an end past the words is the words' end, as with `take`. Assumes nothing.
+-- `blocks::row_length` meets its contract: an end past the words is the words' end, as with `take`.
 use Prim.Native.Nat.{_+_, min}
 use mathlib.Core.Path.{_≡_, _∙_}
 use lib.ListN.{length, getD}

@@ -1,4 +1,4 @@
--- `blocks::side_at` meets its contract: 1 is buy, else sell. Assumes nothing.
+-- `blocks::side_at` meets its contract: 1 is buy, else sell.
 use mathlib.Core.Path.{sym, _∙_}
 use Rattle.blocks.proofs.Decoding.{is-buy, is-sell}
 use borrow.Author.Needs.{needs}

@@ -1,4 +1,4 @@
--- `blocks::size` meets its contract: what is due, where the words are there. Assumes nothing.
+-- `blocks::size` meets its contract: what is due, where the words are there.
 use native.Mathlib.Omega.{arith}
 use mathlib.Core.Path.{sym}
 use Rattle.words.specs.Bytes.{wordsIn}

@@ -1,4 +1,4 @@
--- `blocks::size_at` meets its contract: the words of the part that it hands on are those from that place. Assumes nothing.
+-- `blocks::size_at` meets its contract: the words of the part that it hands on are those from that place.
 use Prim.Native.Nat.{_*_}
 use mathlib.Core.Path.{refl, ap, _∙_}
 use Rattle.blocks.specs.Kinds.{blockSize}

@@ -1,4 +1,4 @@
--- `blocks::start` meets its contract: as many bytes as the second word says. Assumes nothing.
+-- `blocks::start` meets its contract: as many bytes as the second word says.
 use Prim.Native.Nat.{ℕ}
 use mathlib.Core.Path.{ap, _∙_}
 use lib.ListN.{take, drop}

@@ -1,4 +1,4 @@
--- `blocks::steps_at` meets its contract: the word in two's complement. Assumes nothing.
+-- `blocks::steps_at` meets its contract: the word in two's complement.
 use Prim.Native.Nat.{ℕ}
 use mathlib.Core.Path.{ap, _∙_}
 use Rattle.rules.specs.Units.{steps}

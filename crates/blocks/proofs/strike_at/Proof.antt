@@ -1,4 +1,4 @@
--- `blocks::strike_at` meets its contract: word by word. Assumes nothing.
+-- `blocks::strike_at` meets its contract: word by word.
 use borrow.Author.Needs.{needs}
 use Rattle.blocks.proofs.strike_at.Statement.{statement}
 use Rattle.blocks.proofs.strike_at.Tie as tie

@@ -1,4 +1,4 @@
--- `blocks::strike_opening_at` meets its contract: a strike and the word behind it. Assumes nothing.
+-- `blocks::strike_opening_at` meets its contract: a strike and the word behind it.
 use Rattle.rules.specs.declared.SpreadRule.the-variants.{OfStrike}
 use borrow.Author.Needs.{needs}
 use Rattle.blocks.proofs.strike_opening_at.Statement.{statement}

@@ -1,4 +1,4 @@
--- `blocks::telling_words` meets its contract, kind by kind. Assumes nothing.
+-- `blocks::telling_words` meets its contract, kind by kind.
 use mathlib.Core.Path.{sym, ap}
 use Rattle.blocks.specs.Pieces.{telling}
 use Rattle.blocks.proofs.Sizes.{other-telling}

@@ -1,4 +1,4 @@
--- `blocks::ticket_at` meets its contract: the amendment and the count behind it. Assumes nothing.
+-- `blocks::ticket_at` meets its contract: the amendment and the count behind it.
 use borrow.Author.Needs.{needs}
 use Rattle.blocks.proofs.ticket_at.Statement.{statement}
 use Rattle.blocks.proofs.ticket_at.Tie as tie

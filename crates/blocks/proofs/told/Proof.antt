@@ -1,4 +1,4 @@
--- `blocks::told` meets its contract: as many words as tell it have come. Assumes nothing.
+-- `blocks::told` meets its contract: as many words as tell it have come.
 use mathlib.Core.Path.{ap, _∙_}
 use lib.Dec.{leb}
 use Rattle.blocks.specs.Pieces.{telling, isTold}

@@ -1,4 +1,4 @@
--- `blocks::wide_at` meets its contract: the two words and their places. Assumes nothing.
+-- `blocks::wide_at` meets its contract: the two words and their places.
 use Rattle.blocks.proofs.Decoding.{wide-is}
 use Rattle.words.specs.Bytes.{wordsIn}
 use borrow.Author.Needs.{needs}

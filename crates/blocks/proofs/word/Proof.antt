@@ -1,4 +1,4 @@
--- `blocks::word` meets its contract: the word that starts at four times its place; past the end `getD` gives 0. Assumes nothing.
+-- `blocks::word` meets its contract: the word that starts at four times its place; past the end `getD` gives 0.
 use native.Mathlib.Omega.{arith}
 use mathlib.Core.Path.{sym, _∙_}
 use lib.ListN.{List·getD-eq-default}

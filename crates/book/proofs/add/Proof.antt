@@ -1,4 +1,4 @@
--- Each refusal by `refuses` with the law of its cause (Causes); an accepted add by `applied-add`. Assumes nothing.
+-- Each refusal by `refuses` with the law of its cause (Causes); an accepted add by `applied-add`.
 use Prim.Native.Nat.{ℕ, _+_, _*_, _≤_, _<_}
 use native.Mathlib.Omega.{arith}
 use mathlib.Core.Path.{refl, sym, _∙_, subst}

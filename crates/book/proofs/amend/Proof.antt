@@ -1,4 +1,4 @@
--- Each refusal by `refuses` with the law of its cause (Causes); an accepted amendment by `applied-amend`. Assumes nothing.
+-- Each refusal by `refuses` with the law of its cause (Causes); an accepted amendment by `applied-amend`.
 use native.Mathlib.Omega.{arith}
 use mathlib.Core.Path.{refl, sym, ap, _∙_}
 use borrow.Author.Needs.{needs}

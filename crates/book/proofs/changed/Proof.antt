@@ -1,4 +1,4 @@
--- Each kind by its own function. Assumes nothing.
+-- Each kind by its own function.
 use mathlib.Core.Path.{_≡_, sym, ap, _∙_, subst}
 use lib.ListN.{length}
 use borrow.Author.Needs.{needs}

@@ -1,4 +1,4 @@
--- Each refusal by `refuses`; a deal of all is a cancel (`deal-cancels`), of a part puts what is left (`applied-deal`). Assumes nothing.
+-- Each refusal by `refuses`; a deal of all is a cancel (`deal-cancels`), of a part puts what is left (`applied-deal`).
 use Prim.Native.Nat.{ℕ, _-_, _≤_, _<_}
 use native.Mathlib.Nat.{le-refl}
 use native.Mathlib.Omega.{arith}

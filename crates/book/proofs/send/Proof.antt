@@ -1,5 +1,5 @@
 -- The orders by `changed`, the best level of their side by `requote`; both halves of the table are then those of the orders after the
--- event, and whether these keep the quote follows from their best keys (Sendings). Assumes nothing.
+-- event, and whether these keep the quote follows from their best keys (Sendings).
 use Prim.Native.Nat.{_+_, _-_, _*_, _<_}
 use native.Mathlib.Omega.{arith}
 use mathlib.Core.Path.{_≡_, _∙_}

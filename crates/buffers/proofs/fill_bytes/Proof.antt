@@ -1,4 +1,4 @@
--- 16, or the bytes put. Assumes nothing.
+-- 16, or the bytes put.
 use Rattle.buffers.proofs.Filling.{front-not, front-whole}
 use borrow.Author.Needs.{needs}
 use Rattle.buffers.proofs.fill_bytes.Statement.{statement}

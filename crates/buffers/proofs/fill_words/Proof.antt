@@ -1,4 +1,4 @@
--- 16, or the words put. Assumes nothing.
+-- 16, or the words put.
 use mathlib.Core.Path.{refl}
 use Rattle.buffers.proofs.Filling.{fills-not, fills-whole}
 use borrow.Author.Needs.{needs}

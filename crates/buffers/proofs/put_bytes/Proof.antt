@@ -1,4 +1,4 @@
--- The bytes before the place are put, and the rest is as it was. The measure is the number of bytes left. Assumes nothing.
+-- The bytes before the place are put, and the rest is as it was. The measure is the number of bytes left.
 use Prim.Native.Nat.{_-_, _≤_}
 use native.Mathlib.Omega.{arith}
 use mathlib.Core.Path.{_≡_, ap, _∙_}

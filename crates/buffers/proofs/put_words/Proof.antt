@@ -1,4 +1,4 @@
--- The words before the place are put, and the rest is as it was. The measure is the number of words left. Assumes nothing.
+-- The words before the place are put, and the rest is as it was. The measure is the number of words left.
 use Prim.Native.Nat.{_-_, _≤_}
 use native.Mathlib.Omega.{arith}
 use mathlib.Core.Path.{_≡_, ap, _∙_}

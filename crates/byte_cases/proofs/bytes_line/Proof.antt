@@ -1,4 +1,4 @@
--- What is left of the bytes falls. Assumes nothing.
+-- What is left of the bytes falls.
 use Prim.Native.Nat.{_-_, _≤_}
 use mathlib.Core.Path.{_≡_}
 use lib.ListN.{length}

@@ -1,4 +1,4 @@
--- The start's bytes say a time or none. Assumes nothing.
+-- The start's bytes say a time or none.
 use mathlib.Core.Path.{sym, ap, _∙_}
 use mathlib.Core.Option.{Option, some}
 use Rattle.rules.specs.declared.Timestamp.{Timestamp}

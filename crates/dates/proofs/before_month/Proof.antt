@@ -1,4 +1,4 @@
--- `dates::before_month` meets its contract: each arm is the days of the months before its own (`table`, `month-is`). Assumes nothing.
+-- `dates::before_month` meets its contract: each arm is the days of the months before its own (`table`, `month-is`).
 use Prim.Native.Nat.{_+_}
 use native.Mathlib.Omega.{arith}
 use Rattle.dates.proofs.Months.{table, month-is, twelfth}

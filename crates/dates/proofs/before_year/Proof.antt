@@ -1,4 +1,4 @@
--- `dates::before_year` meets its contract: the closed form is the days counted year by year (`counted`, `most-days`). Assumes nothing.
+-- `dates::before_year` meets its contract: the closed form is the days counted year by year (`counted`, `most-days`).
 use Prim.Native.Nat.{_-_}
 use mathlib.Core.Path.{sym}
 use native.Mathlib.Omega.{arith}

@@ -1,4 +1,4 @@
--- `dates::between` meets its contract: its two tests are those of `momentBetween`. Assumes nothing.
+-- `dates::between` meets its contract: its two tests are those of `momentBetween`.
 use borrow.Author.Tests.{lt-ltb, le-ltb}
 use borrow.Author.Needs.{needs}
 use Rattle.dates.proofs.between.Statement.{statement}

@@ -1,4 +1,4 @@
--- `dates::clock_good` meets its contract: it is `goodClock`'s own test. Assumes nothing.
+-- `dates::clock_good` meets its contract: it is `goodClock`'s own test.
 use mathlib.Core.Path.{refl}
 use Rattle.rules.specs.Dates.{goodClock}
 use Rattle.dates.proofs.clock_good.Statement.{statement}

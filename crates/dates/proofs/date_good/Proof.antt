@@ -1,4 +1,4 @@
--- `dates::date_good` meets its contract: it is `goodDate`'s own test, with the month's days that `month_days` promises. Assumes nothing.
+-- `dates::date_good` meets its contract: it is `goodDate`'s own test, with the month's days that `month_days` promises.
 use Prim.Native.Nat.{ℕ}
 use mathlib.Core.Path.{ap}
 use mathlib.Core.Bool.{_&&_}

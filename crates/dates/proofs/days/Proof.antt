@@ -1,4 +1,4 @@
--- `dates::days` meets its contract: it is `daysBefore`'s own sum, small in the ranges of a date (`date-ranges`). Assumes nothing.
+-- `dates::days` meets its contract: it is `daysBefore`'s own sum, small in the ranges of a date (`date-ranges`).
 use Prim.Native.Nat.{_+_, _-_}
 use native.Mathlib.Omega.{arith}
 use Rattle.rules.specs.Dates.{daysBefore}

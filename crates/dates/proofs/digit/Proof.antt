@@ -1,4 +1,4 @@
--- `dates::digit` meets its contract: a digit's byte is from 48 (`digit-from`) to 57 (`digit-to`). Assumes nothing.
+-- `dates::digit` meets its contract: a digit's byte is from 48 (`digit-from`) to 57 (`digit-to`).
 use native.Mathlib.Omega.{arith}
 use Rattle.digits.proofs.Numbers.{digit-from, digit-to}
 use borrow.Author.Needs.{needs}

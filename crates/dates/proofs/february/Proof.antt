@@ -1,4 +1,4 @@
--- `dates::february` meets its contract: 29 where the year is a leap year (`leap-by`), 28 where it is not (`common-by`). Assumes nothing.
+-- `dates::february` meets its contract: 29 where the year is a leap year (`leap-by`), 28 where it is not (`common-by`).
 use mathlib.Core.Path.{sym, _∙_}
 use Rattle.dates.proofs.Months.{leap-by, common-by}
 use borrow.Author.Needs.{needs}

@@ -1,4 +1,4 @@
--- `dates::formed` meets its contract: its tests of pairs and marks are those of the form, place by place (`formed-is`). Assumes nothing.
+-- `dates::formed` meets its contract: its tests of pairs and marks are those of the form, place by place (`formed-is`).
 use Rattle.dates.proofs.Forms.{formed-is}
 use borrow.Author.Needs.{needs}
 use Rattle.dates.proofs.formed.Statement.{statement}

@@ -1,4 +1,4 @@
--- `dates::four` meets its contract: four digits make 100 times the first two plus the last two (`four-is`). Assumes nothing.
+-- `dates::four` meets its contract: four digits make 100 times the first two plus the last two (`four-is`).
 use Prim.Native.Nat.{_+_, _*_}
 use mathlib.Core.Path.{sym, _∙_}
 use native.Mathlib.Omega.{arith}

@@ -1,4 +1,4 @@
--- `dates::in_day` meets its contract: it is `clockOf`'s own sum, within a day by the clock's ranges (`clock-ranges`). Assumes nothing.
+-- `dates::in_day` meets its contract: it is `clockOf`'s own sum, within a day by the clock's ranges (`clock-ranges`).
 use mathlib.Core.Path.{refl}
 use native.Mathlib.Omega.{arith}
 use Rattle.dates.proofs.Ranges.{clock-ranges}

@@ -1,4 +1,4 @@
--- `dates::instant` meets its contract: it is `instantOf`'s own sum of the days and of the day's milliseconds. Assumes nothing.
+-- `dates::instant` meets its contract: it is `instantOf`'s own sum of the days and of the day's milliseconds.
 use Prim.Native.Nat.{_+_, _*_}
 use mathlib.Core.Path.{_∙_}
 use Rattle.rules.specs.Dates.{instantOf}

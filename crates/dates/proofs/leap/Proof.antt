@@ -1,4 +1,4 @@
--- `dates::leap` meets its contract: it is `isLeap`'s own test. Assumes nothing.
+-- `dates::leap` meets its contract: it is `isLeap`'s own test.
 use mathlib.Core.Path.{refl}
 use Rattle.rules.specs.Dates.{isLeap}
 use Rattle.dates.proofs.leap.Statement.{statement}

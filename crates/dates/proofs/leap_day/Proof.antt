@@ -1,4 +1,4 @@
--- `dates::leap_day` meets its contract: 1 where the year is a leap year (`leap-by`), 0 where it is not (`common-by`). Assumes nothing.
+-- `dates::leap_day` meets its contract: 1 where the year is a leap year (`leap-by`), 0 where it is not (`common-by`).
 use mathlib.Core.Path.{sym, _∙_}
 use native.Mathlib.Omega.{arith}
 use Rattle.dates.proofs.Months.{leap-by, common-by}

@@ -1,4 +1,4 @@
--- `dates::moment` meets its contract: it compares the two instants, as the definition `momentOf` does. Assumes nothing.
+-- `dates::moment` meets its contract: it compares the two instants, as the definition `momentOf` does.
 use mathlib.Core.Path.{_∙_}
 use Rattle.rules.specs.Answers.{accepted}
 use Rattle.rules.specs.Dates.{momentOf, momentBetween}

@@ -1,5 +1,5 @@
 -- `dates::month_days` meets its contract: it branches as `monthDays` does, into February (`month-february`), the months of 30 days
--- (`month-thirty`), the others (`month-other`). Assumes nothing.
+-- (`month-thirty`), the others (`month-other`).
 use mathlib.Core.Path.{sym, _∙_}
 use Rattle.dates.proofs.Months.{month-february, month-thirty, month-other}
 use borrow.Author.Needs.{needs}

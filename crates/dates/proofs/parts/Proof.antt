@@ -1,4 +1,4 @@
--- `dates::parts` meets its contract: the form has digits at each part (`digits-at`), and they are read as `partsOf` says. Assumes nothing.
+-- `dates::parts` meets its contract: the form has digits at each part (`digits-at`), and they are read as `partsOf` says.
 use mathlib.Core.Path.{refl}
 use native.Mathlib.Omega.{arith}
 use Rattle.rules.specs.Dates.{partsOf}

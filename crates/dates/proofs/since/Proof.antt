@@ -1,4 +1,4 @@
--- The 60's bytes say a time or none. Assumes nothing.
+-- The 60's bytes say a time or none.
 use mathlib.Core.Path.{sym, ap, _∙_}
 use Rattle.dates.specs.Answers.{shownTime}
 use Rattle.dates.proofs.Reading.{timed, no-sixty, with-sixty}

@@ -1,4 +1,4 @@
--- `dates::three` meets its contract: three digits make 10 times the first two plus the third (`three-is`). Assumes nothing.
+-- `dates::three` meets its contract: three digits make 10 times the first two plus the third (`three-is`).
 use Prim.Native.Nat.{_+_, _*_}
 use mathlib.Core.Path.{sym, _∙_}
 use native.Mathlib.Omega.{arith}

@@ -1,5 +1,5 @@
 -- `dates::time_in` meets its contract: where a test fails there is no time (`other-length`, `no-form`, `lost`), else the parts are the time
--- (`found`). Assumes nothing.
+-- (`found`).
 use mathlib.Core.Path.{sym, _∙_}
 use borrow.Author.Tests.{not-true, not-false}
 use Rattle.dates.proofs.Reading.{no-form, other-length, found, lost}

@@ -1,4 +1,4 @@
--- `dates::two` meets its contract: two digits make 10 times the first plus the second (`two-is`). Assumes nothing.
+-- `dates::two` meets its contract: two digits make 10 times the first plus the second (`two-is`).
 use Prim.Native.Nat.{_+_, _*_}
 use mathlib.Core.Path.{sym, _∙_}
 use native.Mathlib.Omega.{arith}

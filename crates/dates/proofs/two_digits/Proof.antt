@@ -1,4 +1,4 @@
--- `dates::two_digits` meets its contract: it is the contract's own test, since `is_digit` promises `isDigit` of each byte. Assumes nothing.
+-- `dates::two_digits` meets its contract: it is the contract's own test, since `is_digit` promises `isDigit` of each byte.
 use mathlib.Core.Bool.{_&&_}
 use borrow.Author.Needs.{needs}
 use Rattle.dates.proofs.two_digits.Statement.{statement}

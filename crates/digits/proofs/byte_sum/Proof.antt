@@ -1,5 +1,4 @@
 -- `digits::byte_sum` meets its contract. The loop's invariant: what is summed up and the sum of what is left make the whole sum, modulo 256.
--- Assumes nothing.
 use Prim.Native.Nat.{_+_, _-_, _<_, _≤_, _%_}
 use mathlib.Core.Path.{_≡_, sym, _∙_}
 use borrow.Author.Needs.{needs}

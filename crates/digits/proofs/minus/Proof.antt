@@ -1,4 +1,4 @@
--- `digits::minus` meets its contract: zero has no minus sign; else -1 - (n - 1) fits (`below-fits`) and is -n (`below`). Assumes nothing.
+-- `digits::minus` meets its contract: zero has no minus sign; else -1 - (n - 1) fits (`below-fits`) and is -n (`below`).
 use Prim.Native.Nat.{_-_}
 use mathlib.Core.Path.{ap, _∙_}
 use mathlib.Core.Option.{some}

@@ -1,4 +1,4 @@
--- `digits::more` meets its contract: its test is `moreOf`'s own, and where it passes the longer number fits 64 bits. Assumes nothing.
+-- `digits::more` meets its contract: its test is `moreOf`'s own, and where it passes the longer number fits 64 bits.
 use borrow.Author.Needs.{needs}
 use borrow.Author.Tests.{le-leb, lt-leb}
 use Rattle.digits.proofs.more.Statement.{statement}

@@ -1,5 +1,5 @@
 -- `digits::negative_in` meets its contract: the capped number is past the bound just where the number is (`negative-above`), and else it is
--- the number (`negative-held`). Assumes nothing.
+-- the number (`negative-held`).
 use mathlib.Core.Path.{ap, sym, _∙_}
 use Rattle.rules.specs.Digits.{inDigits}
 use Rattle.digits.specs.Answers.{shownNumber}

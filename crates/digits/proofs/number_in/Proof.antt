@@ -1,5 +1,4 @@
 -- `digits::number_in` meets its contract. The loop's invariant: the digits that are left decide whether all are, and make the whole number of what is read.
--- Assumes nothing.
 use Prim.Native.Nat.{_-_, _≤_}
 use mathlib.Core.Path.{_≡_, refl, sym, _∙_}
 use mathlib.Core.Bool.{true}

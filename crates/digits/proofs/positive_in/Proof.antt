@@ -1,5 +1,5 @@
 -- `digits::positive_in` meets its contract: the capped number is past the bound just where the number is (`positive-above`), and else it is
--- the number (`positive-held`). Assumes nothing.
+-- the number (`positive-held`).
 use mathlib.Core.Path.{ap, sym, _∙_}
 use native.Mathlib.Omega.{arith}
 use mathlib.Core.Option.{some}

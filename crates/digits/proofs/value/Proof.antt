@@ -1,4 +1,4 @@
--- `digits::value` meets its contract: a digit's byte is from 48 (`digit-from`) to 57 (`digit-to`). Assumes nothing.
+-- `digits::value` meets its contract: a digit's byte is from 48 (`digit-from`) to 57 (`digit-to`).
 use borrow.Author.Needs.{needs}
 use native.Mathlib.Omega.{arith}
 use Rattle.digits.proofs.Numbers.{digit-from, digit-to}

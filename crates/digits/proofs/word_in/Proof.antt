@@ -1,5 +1,5 @@
 -- `digits::word_in` meets its contract: the capped number is past 32 bits just where the number is (`word-above`), and else it is the
--- number (`word-held`). Assumes nothing.
+-- number (`word-held`).
 use mathlib.Core.Path.{ap, sym, _∙_}
 use Rattle.rules.specs.Digits.{inDigits, wordIn}
 use Rattle.digits.specs.Answers.{shownNumber}

@@ -1,4 +1,4 @@
--- The answer, as a number, and the row. Assumes nothing.
+-- The answer, as a number, and the row.
 use mathlib.Core.Path.{ap, _∙_}
 use Rattle.rules.specs.declared.SpreadRule.{SpreadRule}
 use Rattle.volatile.specs.Answers.{insideOf}

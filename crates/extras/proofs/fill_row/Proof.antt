@@ -1,4 +1,4 @@
--- The row chosen. Assumes nothing.
+-- The row chosen.
 use mathlib.Core.Path.{ap}
 use Rattle.rules.specs.Answers.{accepted}
 use Rattle.buffers.proofs.Filling.{fills-as}

@@ -1,4 +1,4 @@
--- `extras::fill_sigma` meets its contract: no word where there is no sigma, else the one that `buffers::fill_words` puts. Assumes nothing.
+-- `extras::fill_sigma` meets its contract: no word where there is no sigma, else the one that `buffers::fill_words` puts.
 use native.Mathlib.Omega.{arith}
 use mathlib.Core.Path.{refl, sym, ap}
 use mathlib.Core.List.{[]}

@@ -1,4 +1,4 @@
--- `extras::last_sigma` meets its contract: the words of the sigma that `sigma::last_sigma` answers. Assumes nothing.
+-- `extras::last_sigma` meets its contract: the words of the sigma that `sigma::last_sigma` answers.
 use mathlib.Core.Path.{ap}
 use Rattle.rules.specs.Answers.{accepted}
 use Rattle.sigma.specs.declared.SigmaAnswer.{SigmaAnswer}

@@ -1,4 +1,4 @@
--- The answer, as a number. Assumes nothing.
+-- The answer, as a number.
 use mathlib.Core.Path.{ap, _∙_}
 use Rattle.buffers.specs.Answers.{valueNumber}
 use borrow.Author.Needs.{needs}

@@ -1,4 +1,4 @@
--- By the test: 0 is SP. Assumes nothing.
+-- By the test: 0 is SP.
 use mathlib.Core.Path.{refl}
 use borrow.Author.Tests.{eq-eqb, ne-eqb}
 use Rattle.extras.proofs.spread_for.Statement.{statement}

@@ -1,4 +1,4 @@
--- The three answers, by the tests before them. Assumes nothing.
+-- The three answers, by the tests before them.
 use mathlib.Core.Path.{_∙_}
 use mathlib.Core.Bool.{_&&_}
 use Rattle.extras.proofs.Weighing.{weighed-out, weighed-above, weighed-within, in-range}

@@ -1,4 +1,4 @@
--- `fields::begin` meets its contract: its test, whether the old begin is 0, is the contract's own. Assumes nothing.
+-- `fields::begin` meets its contract: its test, whether the old begin is 0, is the contract's own.
 use borrow.Author.Tests.{eq-eqb, ne-eqb}
 use Rattle.fields.proofs.begin.Statement.{statement}
 use Rattle.fields.proofs.begin.Tie as tie

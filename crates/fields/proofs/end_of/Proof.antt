@@ -1,4 +1,4 @@
--- `fields::end_of` meets its contract. The loop's invariant: no byte 1 was passed, and the place is inside. Assumes nothing.
+-- `fields::end_of` meets its contract. The loop's invariant: no byte 1 was passed, and the place is inside.
 use Prim.Native.Nat.{_-_}
 use borrow.Author.Needs.{needs}
 use lib.ListN.{length}

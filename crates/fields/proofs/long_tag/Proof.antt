@@ -1,4 +1,4 @@
--- `fields::long_tag` meets its contract. The loop's invariant: digits from the begin up to the place, which is inside, since the last byte is no digit. Assumes nothing.
+-- `fields::long_tag` meets its contract. The loop's invariant: digits from the begin up to the place, which is inside, since the last byte is no digit.
 use mathlib.Core.Path.{sym, _∙_}
 use native.Mathlib.Omega.{arith}
 use borrow.Author.Needs.{needs}

@@ -1,4 +1,4 @@
--- `fields::note` meets its contract: it sets the two entries that `noted` sets, the first to what `begin` promises. Assumes nothing.
+-- `fields::note` meets its contract: it sets the two entries that `noted` sets, the first to what `begin` promises.
 use Prim.Native.Nat.{ℕ, _+_}
 use mathlib.Core.Path.{ap}
 use lib.ListN.{set}

@@ -1,4 +1,4 @@
--- `fields::slot_of` meets its contract: each arm is its tag's slot, and a tag of no arm has slot 6 (`others`). Assumes nothing.
+-- `fields::slot_of` meets its contract: each arm is its tag's slot, and a tag of no arm has slot 6 (`others`).
 use Rattle.fields.proofs.Slots.{frame-8, frame-9, frame-10, frame-35, used-11, used-41, used-54, used-38, used-44, used-60, others}
 use Rattle.fields.proofs.slot_of.Statement.{statement}
 use Rattle.fields.proofs.slot_of.Tie as tie

@@ -1,4 +1,4 @@
--- `fields::spans_of` meets its contract. The loop's invariant: the fields read so far stand in front of those that are left, and each slot holds the values of its tag. Assumes nothing.
+-- `fields::spans_of` meets its contract. The loop's invariant: the fields read so far stand in front of those that are left, and each slot holds the values of its tag.
 use mathlib.Core.Path.{refl}
 use mathlib.Core.Bool.{false}
 use native.Mathlib.Omega.{arith}

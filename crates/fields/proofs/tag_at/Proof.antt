@@ -1,5 +1,5 @@
 -- `fields::tag_at` meets its contract: its first bytes tell that there is no tag (`no-begin`, `no-second`), or one of one digit
--- (`one-digit`), two (`two-digits`) or more, which `long_tag` reads on (`more-digits`). Assumes nothing.
+-- (`one-digit`), two (`two-digits`) or more, which `long_tag` reads on (`more-digits`).
 use Prim.Native.Nat.{_+_}
 use mathlib.Core.Path.{sym, _∙_}
 use lib.ListN.{getD}

@@ -1,4 +1,4 @@
--- `fix::read` meets its contract: a wrong frame is refusal 20 (`no-frame`), a right one is read on (`a-frame`). Assumes nothing.
+-- `fix::read` meets its contract: a wrong frame is refusal 20 (`no-frame`), a right one is read on (`a-frame`).
 use Rattle.fix.proofs.Reading.{no-frame, a-frame}
 use borrow.Author.Needs.{needs}
 use Rattle.fix.proofs.read.Statement.{statement}

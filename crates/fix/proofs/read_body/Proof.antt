@@ -1,4 +1,4 @@
--- `fix::read_body` meets its contract: wrong fields are refusal 20 (`no-spans`), others what `read_kind` says (`said`). Assumes nothing.
+-- `fix::read_body` meets its contract: wrong fields are refusal 20 (`no-spans`), others what `read_kind` says (`said`).
 use borrow.Author.Tests.{not-true, not-false}
 use Rattle.frame.specs.Frames.{kindByte}
 use Rattle.fix.proofs.Reading.{no-spans, filled, said}

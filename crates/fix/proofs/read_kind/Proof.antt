@@ -1,4 +1,4 @@
--- `fix::read_kind` meets its contract: its tests are `kindByte`'s (`kind-new`, `kind-cancel`, `kind-replace`). Assumes nothing.
+-- `fix::read_kind` meets its contract: its tests are `kindByte`'s (`kind-new`, `kind-cancel`, `kind-replace`).
 use mathlib.Core.Path.{ap, _∙_}
 use Rattle.rules.specs.Frame.{Kind}
 use Rattle.rules.specs.Messages.{messageOf, readable}

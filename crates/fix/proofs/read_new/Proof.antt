@@ -1,4 +1,4 @@
--- `fix::read_new` meets its contract: it takes each value in turn, as `messageOf` does (`new-says`). Assumes nothing.
+-- `fix::read_new` meets its contract: it takes each value in turn, as `messageOf` does (`new-says`).
 use mathlib.Core.Path.{refl, sym, ap, _∙_}
 use mathlib.Core.Option.{none, some}
 use Rattle.rules.specs.Dates.{timeIn}

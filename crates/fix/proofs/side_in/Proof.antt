@@ -1,4 +1,4 @@
--- `fix::side_in` meets its contract: 1 says buy (`side-buy`), 2 sell (`side-sell`), else none (`side-long`, `side-other`). Assumes nothing.
+-- `fix::side_in` meets its contract: 1 says buy (`side-buy`), 2 sell (`side-sell`), else none (`side-long`, `side-other`).
 use native.Mathlib.Omega.{arith}
 use borrow.Author.Needs.{needs}
 use Rattle.fix.proofs.Values.{side-long, side-buy, side-sell, side-other}

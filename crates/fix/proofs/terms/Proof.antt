@@ -1,5 +1,5 @@
 -- `fix::terms` meets its contract: without one of 54, 38 and 44 there are none (`no-side`, `no-volume`, `no-price`), else the three make
--- them (`all-terms`). Assumes nothing.
+-- them (`all-terms`).
 use mathlib.Core.Path.{sym, ap, _∙_}
 use Rattle.digits.specs.Answers.{shownUnsigned, shownSigned}
 use Rattle.fix.specs.Internal.{shownSide}

@@ -1,4 +1,4 @@
--- `fix::word` meets its contract: a begin below 2 means no value or several (`absent`), any other one value (`present`). Assumes nothing.
+-- `fix::word` meets its contract: a begin below 2 means no value or several (`absent`), any other one value (`present`).
 use mathlib.Core.Path.{_∙_}
 use Rattle.rules.specs.Digits.{wordIn}
 use Rattle.fix.proofs.Values.{absent, present, bounds}

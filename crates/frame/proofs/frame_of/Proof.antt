@@ -1,5 +1,4 @@
 -- `frame::frame_of` meets its contract. Where a test fails there is no body, since it passes on every message with a right frame.
--- Assumes nothing.
 use Prim.Native.Nat.{_-_}
 use mathlib.Core.Path.{sym, ap, _∙_}
 use lib.ListN.{length}

@@ -1,4 +1,4 @@
--- `frame::head_good` meets its contract: it is `headRight`'s own test, byte by byte. Assumes nothing.
+-- `frame::head_good` meets its contract: it is `headRight`'s own test, byte by byte.
 use mathlib.Core.Path.{refl}
 use Rattle.frame.specs.Frames.{headRight}
 use borrow.Author.Needs.{needs}

@@ -1,5 +1,5 @@
 -- `frame::length_good` meets its contract: no number is no length (`no-length`), and the capped number is the length just where the number
--- is (`a-length`). Assumes nothing.
+-- is (`a-length`).
 use mathlib.Core.Path.{ap, sym, _∙_}
 use Rattle.rules.specs.Digits.{inDigits}
 use Rattle.digits.specs.Answers.{shownNumber}

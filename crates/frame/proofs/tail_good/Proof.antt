@@ -1,4 +1,4 @@
--- `frame::tail_good` meets its contract: it is `tailRight`'s own test, byte by byte. Assumes nothing.
+-- `frame::tail_good` meets its contract: it is `tailRight`'s own test, byte by byte.
 use mathlib.Core.Path.{refl}
 use Rattle.frame.specs.Frames.{tailRight}
 use borrow.Author.Needs.{needs}

@@ -1,4 +1,4 @@
--- `frame::type_good` meets its contract: it is `typeRight`'s own test, byte by byte. Assumes nothing.
+-- `frame::type_good` meets its contract: it is `typeRight`'s own test, byte by byte.
 use mathlib.Core.Path.{refl}
 use Rattle.frame.specs.Frames.{typeRight}
 use borrow.Author.Needs.{needs}

@@ -1,4 +1,4 @@
--- With none open 7; else what the amendment does to a copy of the quantum's words. Assumes nothing.
+-- With none open 7; else what the amendment does to a copy of the quantum's words.
 use Prim.Native.Nat.{ℕ}
 use native.Mathlib.Omega.{arith}
 use mathlib.Core.Path.{refl, sym, ap, subst, _∙_}

@@ -1,4 +1,4 @@
--- Its ten words, from where they start. Assumes nothing.
+-- Its ten words, from where they start.
 use Prim.Native.Nat.{_+_, _-_}
 use native.Mathlib.Omega.{arith}
 use Rattle.in_place.proofs.Looks.{cell-end, cell-read}

@@ -1,4 +1,4 @@
--- The numbers of a named cell are small. Assumes nothing.
+-- The numbers of a named cell are small.
 use native.Mathlib.Omega.{arith}
 use Rattle.rules.proofs.Places.{in-range}
 use borrow.Author.Needs.{needs}

@@ -1,4 +1,4 @@
--- Both words of the count with one more. Assumes nothing.
+-- Both words of the count with one more.
 use Prim.Native.Nat.{ℕ}
 use native.Mathlib.Omega.{arith}
 use mathlib.Core.Path.{_≡_, refl, ap, _∙_}

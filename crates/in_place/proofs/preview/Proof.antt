@@ -1,4 +1,4 @@
--- Both quotes off the table. Assumes nothing.
+-- Both quotes off the table.
 use Rattle.quantum_in_place.proofs.Whole.{table-held}
 use Rattle.in_place.proofs.Asks.{previewed}
 use borrow.Author.Needs.{needs}

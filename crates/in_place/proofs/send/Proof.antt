@@ -1,4 +1,4 @@
--- With none open 7; else what the quantum's words answer, and the count. Assumes nothing.
+-- With none open 7; else what the quantum's words answer, and the count.
 use native.Mathlib.Omega.{arith}
 use mathlib.Core.Path.{refl}
 use lib.ListN.{drop, length-drop}

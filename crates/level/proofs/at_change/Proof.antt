@@ -1,4 +1,4 @@
--- By its test: one level more, or the guess itself. Assumes nothing.
+-- By its test: one level more, or the guess itself.
 use mathlib.Core.Path.{sym, ap, _∙_}
 use mathlib.Core.Bool.{Bool}
 use borrow.Author.Needs.{needs}

@@ -1,4 +1,4 @@
--- `level::moved` meets its contract: each of its two sums gains and loses what the change says. Assumes nothing.
+-- `level::moved` meets its contract: each of its two sums gains and loses what the change says.
 use mathlib.Core.Path.{_≡_, _∙_}
 use borrow.Author.Needs.{needs}
 use lib.Dec.{ltb, eqb}

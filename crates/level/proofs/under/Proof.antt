@@ -1,4 +1,4 @@
--- Keys are below the least number that reads as a negative one. Assumes nothing.
+-- Keys are below the least number that reads as a negative one.
 use borrow.Author.Needs.{needs}
 use Rattle.level.proofs.Nexts.{signed-less}
 use Rattle.level.proofs.under.Statement.{statement}

@@ -1,5 +1,5 @@
 -- `lists::run` meets its contract. The invariant is `Ongoing`: after k calls the month is that of those calls, and the buffer's front
--- holds their answers. The measure is the number of calls left. Assumes nothing.
+-- holds their answers. The measure is the number of calls left.
 use Prim.Native.Nat.{_+_, _-_, _*_, _≤_}
 use native.Mathlib.Omega.{arith}
 use mathlib.Core.Path.{_≡_}

@@ -1,4 +1,4 @@
--- Word by word, where the side is one of the two. Assumes nothing.
+-- Word by word, where the side is one of the two.
 use Rattle.live.proofs.Events.{add-said, none-said}
 use borrow.Author.Needs.{needs}
 use Rattle.live.proofs.add_in.Statement.{statement}

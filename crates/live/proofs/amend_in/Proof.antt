@@ -1,4 +1,4 @@
--- Word by word. Assumes nothing.
+-- Word by word.
 use Rattle.rules.specs.Units.{millis, contracts}
 use borrow.Author.Needs.{needs}
 use Rattle.live.proofs.amend_in.Statement.{statement}

@@ -1,4 +1,4 @@
--- What is shown or the refusal, with the answer's words. Assumes nothing.
+-- What is shown or the refusal, with the answer's words.
 use Prim.Native.Nat.{ℕ}
 use mathlib.Core.Path.{ap, subst, _∙_}
 use Rattle.rules.specs.declared.Asked.{Asked}

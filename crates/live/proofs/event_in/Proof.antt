@@ -1,4 +1,4 @@
--- By the kind and the number of bytes. Assumes nothing.
+-- By the kind and the number of bytes.
 use Rattle.live.proofs.Events.{is-long, says-amend, says-tick, says-add, says-cancel, says-deal, none-said}
 use borrow.Author.Needs.{needs}
 use Rattle.live.proofs.event_in.Statement.{statement}

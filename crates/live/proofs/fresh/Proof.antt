@@ -1,4 +1,4 @@
--- By whether the words are enough. Assumes nothing.
+-- By whether the words are enough.
 use mathlib.Core.Path.{refl, sym, ap, subst, _∙_}
 use mathlib.Core.List.{[], _++_}
 use lib.ListN.{drop}

@@ -1,4 +1,4 @@
--- The block's size and the number of words are those of the definition. Assumes nothing.
+-- The block's size and the number of words are those of the definition.
 use Prim.Native.Nat.{_%_}
 use mathlib.Core.Bool.{not, _&&_}
 use lib.Dec.{eqb}

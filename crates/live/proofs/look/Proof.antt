@@ -1,4 +1,4 @@
--- The cell or the refusal, with the answer's words. Assumes nothing.
+-- The cell or the refusal, with the answer's words.
 use Prim.Native.Nat.{ℕ}
 use mathlib.Core.Path.{ap, subst, _∙_}
 use Rattle.rules.specs.declared.Looked.{Looked}

@@ -1,4 +1,4 @@
--- A look, an ask, or what `perform` promises. Assumes nothing.
+-- A look, an ask, or what `perform` promises.
 use mathlib.Core.Path.{sym, ap, _∙_}
 use Rattle.words.specs.Bytes.{wordsIn}
 use Rattle.blocks.specs.Decoded.{callWith}

@@ -1,4 +1,4 @@
--- The month is read, the call runs on it, and the month after it and the answer are written. Assumes nothing.
+-- The month is read, the call runs on it, and the month after it and the answer are written.
 use Rattle.live.proofs.Calling.{month-reached, after-fits, performs}
 use borrow.Author.Needs.{needs}
 use Rattle.live.proofs.perform.Statement.{statement}

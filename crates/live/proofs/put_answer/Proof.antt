@@ -1,4 +1,4 @@
--- Case by case of the outcome. Assumes nothing.
+-- Case by case of the outcome.
 use mathlib.Core.Path.{sym, ap, _∙_}
 use Rattle.script.specs.declared.Outcome.{Outcome}
 use Rattle.live.specs.Calling.{wordsShown}

@@ -1,4 +1,4 @@
--- Refused or accepted, with the answer's words. Assumes nothing.
+-- Refused or accepted, with the answer's words.
 use Rattle.live.proofs.Events.{shown-refused, shown-accepted}
 use Rattle.live.proofs.Hints.{send-leaves}
 use borrow.Author.Needs.{needs}

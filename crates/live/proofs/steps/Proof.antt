@@ -1,4 +1,4 @@
--- The word in two's complement. Assumes nothing.
+-- The word in two's complement.
 use mathlib.Core.Path.{ap, _∙_}
 use Prim.Native.Nat.{ℕ}
 use Rattle.rules.specs.Units.{steps}

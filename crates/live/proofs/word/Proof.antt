@@ -1,4 +1,4 @@
--- The word that starts at four times its place. Assumes nothing.
+-- The word that starts at four times its place.
 use native.Mathlib.Omega.{arith}
 use mathlib.Core.Path.{sym, _∙_}
 use Rattle.words.proofs.Bytes.{word-in}

@@ -1,4 +1,4 @@
--- `makers::check` meets its contract: `checkOf`, test by test. Assumes nothing.
+-- `makers::check` meets its contract: `checkOf`, test by test.
 use mathlib.Core.Path.{_≡_}
 use mathlib.Core.Bool.{Bool, not, _&&_}
 use borrow.Author.Needs.{needs}

@@ -1,5 +1,4 @@
 -- `makers::decide` meets its contract: refused, nothing moves; accepted, the plan is `moves`', which asks for room as `room` gives it.
--- Assumes nothing.
 use Prim.Native.Nat.{ℕ, _+_, _<_, _^_}
 use native.Mathlib.Omega.{arith}
 use mathlib.Core.Path.{_≡_, refl, sym, _∙_}

@@ -1,4 +1,4 @@
--- `makers::is_above` meets its contract: `above` by whether the ratings are equal. Assumes nothing.
+-- `makers::is_above` meets its contract: `above` by whether the ratings are equal.
 use borrow.Author.Tests.{eq-eqb, ne-eqb}
 use Rattle.makers.specs.Order.{above}
 use Rattle.makers.proofs.is_above.Statement.{statement}

@@ -1,4 +1,4 @@
--- `makers::is_behind` meets its contract: the first record stands behind none. Assumes nothing.
+-- `makers::is_behind` meets its contract: the first record stands behind none.
 use borrow.Author.Needs.{needs}
 use borrow.Author.Tests.{eq-eqb, ne-eqb}
 use Rattle.makers.proofs.is_behind.Statement.{statement}

@@ -1,5 +1,4 @@
 -- `makers::is_full` meets its contract: with a count within the records, none is left exactly where the two are equal (`none-left`).
--- Assumes nothing.
 use Prim.Native.Nat.{ℕ, _-_, _≤_}
 use mathlib.Core.Path.{_≡_, refl, sym}
 use mathlib.Core.Bool.{Bool, true, false}

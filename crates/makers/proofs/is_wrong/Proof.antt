@@ -1,4 +1,4 @@
--- `makers::is_wrong` meets its contract: by whether the count is above the records lent. Assumes nothing.
+-- `makers::is_wrong` meets its contract: by whether the count is above the records lent.
 use borrow.Author.Tests.{lt-ltb, le-ltb}
 use Rattle.makers.proofs.is_wrong.Statement.{statement}
 use Rattle.makers.proofs.is_wrong.Tie as tie

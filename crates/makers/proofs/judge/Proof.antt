@@ -1,4 +1,4 @@
--- `makers::judge` meets its contract: a join by the definition of its tests, a change and a leave by `other-passing`. Assumes nothing.
+-- `makers::judge` meets its contract: a join by the definition of its tests, a change and a leave by `other-passing`.
 use mathlib.Core.Path.{sym, _∙_}
 use borrow.Author.Needs.{needs}
 use borrow.Author.Tests.{eq-eqb}

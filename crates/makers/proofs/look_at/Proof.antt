@@ -1,4 +1,4 @@
--- `makers::look_at` meets its contract: `lookOf` by whether the record is the maker's, and whether it stands above. Assumes nothing.
+-- `makers::look_at` meets its contract: `lookOf` by whether the record is the maker's, and whether it stands above.
 use borrow.Author.Needs.{needs}
 use borrow.Author.Tests.{eq-eqb, ne-eqb}
 use Rattle.makers.specs.Internal.{lookOf}

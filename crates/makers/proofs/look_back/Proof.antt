@@ -1,4 +1,4 @@
--- `makers::look_back` meets its contract: `backTo` by whether the mark was there. Assumes nothing.
+-- `makers::look_back` meets its contract: `backTo` by whether the mark was there.
 use mathlib.Core.Path.{refl}
 use borrow.Author.Needs.{needs}
 use Rattle.makers.proofs.look_back.Statement.{statement}

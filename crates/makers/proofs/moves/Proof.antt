@@ -1,4 +1,4 @@
--- `makers::moves` meets its contract: by its kind the call is the one whose plan it hands back. Assumes nothing.
+-- `makers::moves` meets its contract: by its kind the call is the one whose plan it hands back.
 use native.Mathlib.Omega.{arith}
 use borrow.Author.Tests.{eq-eqb, ne-eqb}
 use Rattle.makers.specs.Calls.{callOf}

@@ -1,4 +1,4 @@
--- `makers::record_of` meets its contract: by its kind the call is the one whose record it hands back. Assumes nothing.
+-- `makers::record_of` meets its contract: by its kind the call is the one whose record it hands back.
 use borrow.Author.Tests.{eq-eqb, ne-eqb}
 use Rattle.makers.specs.Calls.{callOf}
 use Rattle.makers.specs.Internal.{recordOf}

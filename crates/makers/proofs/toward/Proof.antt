@@ -1,4 +1,4 @@
--- `makers::toward` meets its contract: `nearer` by which side the place is on. Assumes nothing.
+-- `makers::toward` meets its contract: `nearer` by which side the place is on.
 use borrow.Author.Needs.{needs}
 use borrow.Author.Tests.{lt-ltb, le-ltb}
 use Rattle.makers.proofs.toward.Statement.{statement}

@@ -1,4 +1,4 @@
--- By whether the last pair reaches the time. Assumes nothing.
+-- By whether the last pair reaches the time.
 use borrow.Author.Needs.{needs}
 use Rattle.marks.proofs.Pairs.{begun-last, begun-new}
 use Rattle.marks.proofs.begun.Statement.{statement}

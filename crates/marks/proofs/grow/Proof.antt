@@ -1,4 +1,4 @@
--- Nothing to add, a gap, or a pair that begins or goes on. Assumes nothing.
+-- Nothing to add, a gap, or a pair that begins or goes on.
 use native.Mathlib.Omega.{arith}
 use mathlib.Core.Path.{_∙_}
 use Rattle.marks.proofs.Pairs.{grows-still, grows-none, grows-by, begun-bounds}

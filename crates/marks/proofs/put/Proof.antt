@@ -1,4 +1,4 @@
--- Both words where they fit, or none. Assumes nothing.
+-- Both words where they fit, or none.
 use native.Mathlib.Omega.{arith}
 use lib.ListN.{length-set}
 use Rattle.marks.proofs.Pairs.{put-fits, put-not}

@@ -1,4 +1,4 @@
--- The thirteen words, in the buffer. Assumes nothing.
+-- The thirteen words, in the buffer.
 use mathlib.Core.Path.{ap}
 use Rattle.rules.specs.Answers.{accepted}
 use Rattle.buffers.proofs.Filling.{fills-as}

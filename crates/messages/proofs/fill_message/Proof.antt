@@ -1,4 +1,4 @@
--- The words by the kind of the message. Assumes nothing.
+-- The words by the kind of the message.
 use Rattle.buffers.proofs.Filling.{fills-as}
 use Rattle.messages.proofs.Texts.{as-read}
 use borrow.Author.Needs.{needs}

@@ -1,4 +1,4 @@
--- 21, or the bytes written. Assumes nothing.
+-- 21, or the bytes written.
 use Rattle.buffers.proofs.Filling.{fills-refused, fills-as}
 use Rattle.messages.proofs.Texts.{no-text, a-text}
 use borrow.Author.Needs.{needs}

@@ -1,4 +1,4 @@
--- The message as it was read. Assumes nothing.
+-- The message as it was read.
 use mathlib.Core.Path.{ap}
 use Rattle.messages.specs.Messages.{readWords}
 use Rattle.buffers.proofs.Filling.{fills-as}

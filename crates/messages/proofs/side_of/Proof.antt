@@ -1,4 +1,4 @@
--- By the test: 1 is buy. Assumes nothing.
+-- By the test: 1 is buy.
 use mathlib.Core.Path.{refl}
 use borrow.Author.Tests.{eq-eqb, ne-eqb}
 use Rattle.messages.proofs.side_of.Statement.{statement}

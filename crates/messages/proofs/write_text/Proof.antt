@@ -1,4 +1,4 @@
--- By the tests before each answer. Assumes nothing.
+-- By the tests before each answer.
 use mathlib.Core.Path.{_∙_}
 use Rattle.buffers.proofs.Filling.{fills-refused, fills-as}
 use Rattle.messages.proofs.Texts.{too-few, a-cancel, no-side, a-new, a-replace, no-kind}

@@ -1,4 +1,4 @@
--- The call, and its number. Assumes nothing.
+-- The call, and its number.
 use Rattle.month_words.proofs.Months.{month-called}
 use borrow.Author.Needs.{needs}
 use Rattle.month_words.proofs.call.Statement.{statement}

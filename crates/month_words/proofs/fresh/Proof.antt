@@ -1,4 +1,4 @@
--- The fresh month's words, or 16. Assumes nothing.
+-- The fresh month's words, or 16.
 use mathlib.Core.Path.{refl}
 use Rattle.month_words.proofs.Months.{fresh-short, fresh-written}
 use borrow.Author.Needs.{needs}

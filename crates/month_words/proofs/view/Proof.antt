@@ -1,4 +1,4 @@
--- The view, and its number. Assumes nothing.
+-- The view, and its number.
 use Rattle.month_words.proofs.Views.{month-viewed}
 use borrow.Author.Needs.{needs}
 use Rattle.month_words.proofs.view.Statement.{statement}

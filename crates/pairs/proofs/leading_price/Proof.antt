@@ -1,4 +1,4 @@
--- The eighth word. Assumes nothing.
+-- The eighth word.
 use Prim.Native.Nat.{ℕ}
 use mathlib.Core.Path.{ap, _∙_}
 use Rattle.rules.specs.Units.{steps}

@@ -1,4 +1,4 @@
--- The seven words. Assumes nothing.
+-- The seven words.
 use Rattle.pairs.proofs.Pairs.{words-read}
 use borrow.Author.Needs.{needs}
 use Rattle.pairs.proofs.leading_words.Statement.{statement}

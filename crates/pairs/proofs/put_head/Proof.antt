@@ -1,4 +1,4 @@
--- K, w and the number of pairs where the run is finished, nothing where not. Assumes nothing.
+-- K, w and the number of pairs where the run is finished, nothing where not.
 use native.Mathlib.Omega.{arith}
 use lib.ListN.{length-set}
 use Rattle.pairs.proofs.Pairs.{head-finished, head-stopped}

@@ -1,4 +1,4 @@
--- The pairs, and K, w and their number before them. Assumes nothing.
+-- The pairs, and K, w and their number before them.
 use mathlib.Core.Path.{refl}
 use Rattle.pairs.proofs.Pairs.{pairs-lent}
 use borrow.Author.Needs.{needs}

@@ -1,4 +1,4 @@
--- 16, or the refusal before it. Assumes nothing.
+-- 16, or the refusal before it.
 use Rattle.pairs.proofs.Pairs.{short-is}
 use borrow.Author.Needs.{needs}
 use Rattle.pairs.proofs.run_short.Statement.{statement}

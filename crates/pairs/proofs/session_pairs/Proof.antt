@@ -1,4 +1,4 @@
--- The leading bytes are not 32, the buffer has no room for K, w and the number of pairs, or it has. Assumes nothing.
+-- The leading bytes are not 32, the buffer has no room for K, w and the number of pairs, or it has.
 use lib.ListN.{length}
 use Rattle.pairs.proofs.Pairs.{no-head, by-head, fills-same, short-fills}
 use borrow.Author.Needs.{needs}

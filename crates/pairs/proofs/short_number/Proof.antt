@@ -1,4 +1,4 @@
--- 16, or the refusal with its place. Assumes nothing.
+-- 16, or the refusal with its place.
 use Rattle.pairs.proofs.Pairs.{short-stopped}
 use borrow.Author.Needs.{needs}
 use Rattle.pairs.proofs.short_number.Statement.{statement}

@@ -1,4 +1,4 @@
--- No events, no pair. Assumes nothing.
+-- No events, no pair.
 use Rattle.pass.proofs.Steps.{begins}
 use borrow.Author.Needs.{needs}
 use Rattle.pass.proofs.begin.Statement.{statement}

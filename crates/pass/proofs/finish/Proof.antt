@@ -1,4 +1,4 @@
--- Time runs on to L, and the pairs grow to there. Assumes nothing.
+-- Time runs on to L, and the pairs grow to there.
 use mathlib.Core.Path.{refl, ap, _∙_}
 use native.Mathlib.Omega.{arith}
 use Rattle.rules.specs.Terms.{paper}

@@ -1,4 +1,4 @@
--- The row is refused, or SP is, or the pass over the records answers. Assumes nothing.
+-- The row is refused, or SP is, or the pass over the records answers.
 use mathlib.Core.Path.{ap, sym, _∙_}
 use Rattle.rules.specs.Answers.{shownRow}
 use Rattle.pass.proofs.Opened.{opens-good, passed-opened, passed-price, passed-row}

@@ -1,4 +1,4 @@
--- The record's event passes, and time runs on to it; or it is refused. Assumes nothing.
+-- The record's event passes, and time runs on to it; or it is refused.
 use mathlib.Core.Path.{refl}
 use Rattle.pass.proofs.Steps.{reached-parts, bounds-taken, advanced-taken, advanced-refused}
 use borrow.Author.Needs.{needs}

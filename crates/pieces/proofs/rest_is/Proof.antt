@@ -1,4 +1,4 @@
--- `pieces::rest_is` meets its contract, test by test. Assumes nothing.
+-- `pieces::rest_is` meets its contract, test by test.
 use Prim.Native.Nat.{ℕ, _≤_, _<_}
 use mathlib.Core.Path.{_≡_, refl, sym, _∙_}
 use mathlib.Core.List.{List}

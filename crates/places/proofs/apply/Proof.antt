@@ -1,5 +1,4 @@
 -- `places::apply` meets its contract: a walk of its MIR, by hand. The array in the slot is taken apart into its elements, the first of them are lent as a slice for a lifetime of the call, taken back at the list that `standing::apply` left, and put together with the others.
--- Assumes nothing.
 use mathlib.Core.Path.{_≡_, refl, sym, ap, subst}
 use Prim.Native.Nat.{ℕ, _<_, _≤_, _^_}
 use native.Mathlib.Omega.{arith}

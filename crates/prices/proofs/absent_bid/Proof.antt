@@ -1,4 +1,4 @@
--- By whether there is an ask. Assumes nothing.
+-- By whether there is an ask.
 use mathlib.Core.Path.{refl}
 use borrow.Author.Tests.{eq-eqb, ne-eqb}
 use Rattle.prices.proofs.absent_bid.Statement.{statement}

@@ -1,4 +1,4 @@
--- `prices::keys_keep` meets its contract, which is its tests. Assumes nothing.
+-- `prices::keys_keep` meets its contract, which is its tests.
 use mathlib.Core.Path.{_≡_, refl}
 use mathlib.Core.Bool.{Bool, true, false}
 use mir.Val.{boolByte}

@@ -1,4 +1,4 @@
--- Which keys are there, then D against 1 and the limit. Assumes nothing.
+-- Which keys are there, then D against 1 and the limit.
 use borrow.Author.Needs.{needs}
 use Rattle.prices.proofs.Spread.{state-no-bid, state-no-ask, state-crossed, state-wide, state-kept}
 use Rattle.prices.proofs.keys_state.Statement.{statement}

@@ -1,4 +1,4 @@
--- `prices::positive_part` meets its contract, by the sign. Assumes nothing.
+-- `prices::positive_part` meets its contract, by the sign.
 use mathlib.Core.Path.{sym, _∙_}
 use borrow.Author.Needs.{needs}
 use mir.Syntax.{w32}

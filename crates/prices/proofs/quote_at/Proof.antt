@@ -1,4 +1,4 @@
--- By whether the key is 0. Assumes nothing.
+-- By whether the key is 0.
 use Prim.Native.Nat.{ℕ, zero, suc}
 use mathlib.Core.Path.{_≡_, refl, ap, _∙_}
 use borrow.Author.Needs.{needs}

@@ -1,5 +1,4 @@
 -- `prices::widest_for_price` meets its contract: a is at most 100,000, so that the product fits 64 bits and the quotient is at most the price.
--- Assumes nothing.
 use native.Mathlib.Nat.{mul-le-mul-right}
 use native.Mathlib.Omega.{arith}
 use borrow.Author.Needs.{needs}

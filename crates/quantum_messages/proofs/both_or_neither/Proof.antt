@@ -1,4 +1,4 @@
--- The first one's refusal, or the second one's on the quantum after it; or both calls. Assumes nothing.
+-- The first one's refusal, or the second one's on the quantum after it; or both calls.
 use mathlib.Core.Path.{sym, subst}
 use Rattle.rules.specs.Calls.{Message}
 use Rattle.quantum_messages.specs.Answers.{Answered}

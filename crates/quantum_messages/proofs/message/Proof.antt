@@ -1,4 +1,4 @@
--- What was read, at its time, is answered by its type; what was not, by 20 or 21. Assumes nothing.
+-- What was read, at its time, is answered by its type; what was not, by 20 or 21.
 use mathlib.Core.Path.{refl, ap, sym, _∙_, subst}
 use Rattle.rules.specs.declared.Refusal.the-variants.{FrameWrong, FieldWrong}
 use Rattle.rules.specs.Messages.{newOrder, cancelOrder, replaceOrder}

@@ -1,4 +1,4 @@
--- One call at a time that is one; else the time's refusal. Assumes nothing.
+-- One call at a time that is one; else the time's refusal.
 use mathlib.Core.Path.{refl, ap}
 use Rattle.dates.specs.Answers.{shownElapsed}
 use Rattle.rules.specs.Dates.{Moment}

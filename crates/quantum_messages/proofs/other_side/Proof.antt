@@ -1,4 +1,4 @@
--- The quantum is asked, open or idle. Assumes nothing.
+-- The quantum is asked, open or idle.
 use Rattle.quantum_messages.proofs.Answers.{quantum-reached}
 use Rattle.quantum_messages.proofs.Messages.{side-is}
 use Rattle.quantum_messages.proofs.other_side.Statement.{statement}

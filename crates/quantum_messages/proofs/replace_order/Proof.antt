@@ -1,4 +1,4 @@
--- The other side's refusal, both calls at a time that is one, or the time's refusal. Assumes nothing.
+-- The other side's refusal, both calls at a time that is one, or the time's refusal.
 use mathlib.Core.Path.{_≡_, refl, ap, sym, _∙_}
 use mathlib.Core.Bool.{Bool, true, false}
 use Rattle.rules.specs.Dates.{Moment}

@@ -1,4 +1,4 @@
--- With none open 7; else what the quantum answers. Assumes nothing.
+-- With none open 7; else what the quantum answers.
 use mathlib.Core.Path.{sym, subst}
 use borrow.Author.Tests.{not-true, not-false}
 use Rattle.rules.specs.Calls.{Send}

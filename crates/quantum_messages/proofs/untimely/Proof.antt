@@ -1,4 +1,4 @@
--- With none open 7; else the refusal. Assumes nothing.
+-- With none open 7; else the refusal.
 use mathlib.Core.Path.{ap, sym, _∙_}
 use mathlib.Core.Bool.{Bool}
 use borrow.Author.Tests.{not-true, not-false}

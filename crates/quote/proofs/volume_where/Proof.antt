@@ -1,4 +1,4 @@
--- `quote::volume_where` meets its contract, by its test. Assumes nothing.
+-- `quote::volume_where` meets its contract, by its test.
 use Prim.Native.Nat.{ℕ, _*_, _≤_}
 use native.Mathlib.Omega.{arith}
 use mathlib.Core.Path.{_≡_}

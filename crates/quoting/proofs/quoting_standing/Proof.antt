@@ -1,5 +1,5 @@
 -- `quoting_standing` meets its contract: a walk of its MIR, by hand. Records, words and outcomes are handed on to `standing::run` for good, at their own lifetimes, so that what the run leaves is what this call leaves; the words are shared, and are read again for the number.
--- All that the proof knows of the two functions that it calls is that they meet their contracts. Assumes nothing.
+-- All that the proof knows of the two functions that it calls is that they meet their contracts.
 use mathlib.Core.Path.{_≡_, refl, ap, subst}
 use Prim.Native.Nat.{ℕ, _<_, _^_}
 use mathlib.Core.List.{[], _∷_, List}

@@ -1,4 +1,4 @@
--- `replay::answer` meets its contract: the words that `play` read are left out. Assumes nothing.
+-- `replay::answer` meets its contract: the words that `play` read are left out.
 use Prim.Native.Nat.{_*_, _≤_}
 use native.Mathlib.Omega.{arith}
 use mathlib.Core.Path.{sym, _∙_}

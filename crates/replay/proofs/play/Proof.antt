@@ -1,5 +1,5 @@
 -- `replay::play` meets its contract. The invariant is `Underway`: the words before the place are read, and the month is that of their
--- calls. The measure is the number of words left. Assumes nothing.
+-- calls. The measure is the number of words left.
 use Prim.Native.Nat.{_-_}
 use native.Mathlib.Omega.{arith}
 use borrow.Author.Needs.{needs}

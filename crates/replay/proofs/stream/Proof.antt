@@ -1,5 +1,4 @@
--- `replay::stream` is safe and ends. Each turn reads a byte at least, and the loop's test bounds the words that are passed. Assumes
--- nothing.
+-- `replay::stream` is safe and ends. Each turn reads a byte at least, and the loop's test bounds the words that are passed.
 use Prim.Native.Nat.{ℕ, _-_, _+_, _*_, _≤_, _<_}
 use native.Mathlib.Omega.{arith}
 use mathlib.Core.Path.{_≡_, refl, sym, _∙_}

@@ -1,4 +1,4 @@
--- `script::block` meets its contract: the part that it hands on is the words from that place. Assumes nothing.
+-- `script::block` meets its contract: the part that it hands on is the words from that place.
 use Prim.Native.Nat.{_-_, _*_}
 use native.Mathlib.Omega.{arith}
 use mathlib.Core.Path.{refl, ap, _∙_}

@@ -1,4 +1,4 @@
--- `script::call` meets its contract: each call by the month's promise of it (`told`). Assumes nothing.
+-- `script::call` meets its contract: each call by the month's promise of it (`told`).
 use Rattle.script.proofs.Performing.{told}
 use borrow.Author.Needs.{needs}
 use Rattle.script.proofs.call.Statement.{statement}

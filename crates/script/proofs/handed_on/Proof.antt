@@ -1,4 +1,4 @@
--- `script::handed_on` meets its contract: seven is seven. Assumes nothing.
+-- `script::handed_on` meets its contract: seven is seven.
 use native.Mathlib.Omega.{arith}
 use mathlib.Core.Path.{refl}
 use borrow.Author.Tests.{eq-eqb, ne-eqb}

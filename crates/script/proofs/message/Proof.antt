@@ -1,4 +1,4 @@
--- `script::message` meets its contract: what is handed on are the bytes that the block says. Assumes nothing.
+-- `script::message` meets its contract: what is handed on are the bytes that the block says.
 use Rattle.script.proofs.Performing.{same-message}
 use borrow.Author.Needs.{needs}
 use Rattle.script.proofs.message.Statement.{statement}

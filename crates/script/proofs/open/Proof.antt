@@ -1,4 +1,4 @@
--- `script::open` meets its contract: seven words are the row, and of another length no word is needed (`handed`). Assumes nothing.
+-- `script::open` meets its contract: seven words are the row, and of another length no word is needed (`handed`).
 use Prim.Native.Nat.{ℕ}
 use native.Mathlib.Omega.{arith}
 use mathlib.Core.Path.{ap, _∙_}

@@ -1,4 +1,4 @@
--- `script::outlook_shown` meets its contract: case by case of the answer (`shown-by`). Assumes nothing.
+-- `script::outlook_shown` meets its contract: case by case of the answer (`shown-by`).
 use Prim.Native.Nat.{ℕ}
 use mathlib.Core.Path.{refl, ap}
 use Rattle.rules.specs.Answers.{shownOutlook}

@@ -1,4 +1,4 @@
--- `script::showing_only` meets its contract: an outcome with a blank report. Assumes nothing.
+-- `script::showing_only` meets its contract: an outcome with a blank report.
 
 use borrow.Author.Needs.{needs}
 use Rattle.script.proofs.showing_only.Statement.{statement}

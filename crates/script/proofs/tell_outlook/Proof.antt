@@ -1,4 +1,4 @@
--- `script::tell_outlook` meets its contract: what is shown is what the answer shows. Assumes nothing.
+-- `script::tell_outlook` meets its contract: what is shown is what the answer shows.
 use mathlib.Core.Path.{refl, _∙_}
 use borrow.Author.Needs.{needs}
 use Rattle.script.proofs.tell_outlook.Statement.{statement}

@@ -1,4 +1,4 @@
--- What the three words say; the price is that of the key. Assumes nothing.
+-- What the three words say; the price is that of the key.
 use mathlib.Core.Path.{ap}
 use Rattle.rules.specs.declared.Steps.{Steps}
 use Rattle.rules.specs.declared.Order.{Order}

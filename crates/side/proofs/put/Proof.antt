@@ -1,4 +1,4 @@
--- What stands there is read, and another stored. Assumes nothing.
+-- What stands there is read, and another stored.
 use Prim.Native.Nat.{ℕ}
 use mathlib.Core.Path.{ap, _∙_}
 use Rattle.prices.specs.Keys.{keyIn}

@@ -1,4 +1,4 @@
--- The invariant: what was found, and what the ids from i on will add, is what is looked for. Assumes nothing.
+-- The invariant: what was found, and what the ids from i on will add, is what is looked for.
 use Prim.Native.Nat.{ℕ, _+_, _-_}
 use mathlib.Core.Path.{subst, sym}
 use native.Mathlib.Omega.{arith}

@@ -1,4 +1,4 @@
--- Three stores. Assumes nothing.
+-- Three stores.
 use Prim.Native.Nat.{ℕ}
 use mathlib.Core.Path.{ap}
 use native.Mathlib.Omega.{arith}

@@ -1,4 +1,4 @@
--- Five exchanges sort the orders and keep what they hold (`sorted`, `sorted-held`); `down` then finds the best key. Assumes nothing.
+-- Five exchanges sort the orders and keep what they hold (`sorted`, `sorted-held`); `down` then finds the best key.
 use mathlib.Core.Path.{sym, _∙_}
 use borrow.Author.Needs.{needs}
 use Rattle.small.specs.Internal.{four}

@@ -1,4 +1,4 @@
--- By its test. Assumes nothing.
+-- By its test.
 use Prim.Native.Nat.{_+_, _%_}
 use mathlib.Core.Path.{sym, ap}
 use mathlib.Core.Bool.{Bool}

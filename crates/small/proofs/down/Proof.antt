@@ -1,4 +1,4 @@
--- The depth from the best order down: where it is first enough is the best key, by `down-is`. Assumes nothing.
+-- The depth from the best order down: where it is first enough is the best key, by `down-is`.
 use borrow.Author.Needs.{needs}
 use Rattle.small.proofs.Sums.{down-is}
 use Rattle.small.proofs.down.Statement.{statement}

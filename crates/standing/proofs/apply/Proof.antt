@@ -1,5 +1,4 @@
 -- `standing::apply` meets its contract: a walk of its MIR, by hand. The slice is lent again to `judge` and to `work` (`Calling.antt`), of which the proof knows only that they meet their contracts.
--- Assumes nothing.
 use mathlib.Core.Path.{_≡_, refl, ap}
 use Prim.Native.Nat.{ℕ, _<_, _^_}
 use mathlib.Core.List.{[], _∷_, List}

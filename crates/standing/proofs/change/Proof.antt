@@ -1,4 +1,4 @@
--- `standing::change` meets its contract: its MIR is `thin` at the words of a change, of which `thin-meets` is the proof. Assumes nothing.
+-- `standing::change` meets its contract: its MIR is `thin` at the words of a change, of which `thin-meets` is the proof.
 use mathlib.Core.Path.{_≡_, refl}
 use mathlib.Core.List.{[], _∷_}
 use lib.Dec.{lit<}

@@ -1,4 +1,4 @@
--- `standing::join` meets its contract: its MIR is `thin` at the words of a join, of which `thin-meets` is the proof. Assumes nothing.
+-- `standing::join` meets its contract: its MIR is `thin` at the words of a join, of which `thin-meets` is the proof.
 use mathlib.Core.Path.{_≡_, refl}
 use mathlib.Core.List.{[], _∷_}
 use lib.Dec.{lit<}

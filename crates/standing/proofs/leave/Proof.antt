@@ -1,4 +1,4 @@
--- `standing::leave` meets its contract: its MIR is `thin` at the words of a leave, of which `thin-meets` is the proof. Assumes nothing.
+-- `standing::leave` meets its contract: its MIR is `thin` at the words of a leave, of which `thin-meets` is the proof.
 use mathlib.Core.Path.{_≡_, refl}
 use Prim.Native.Nat.{ℕ}
 use mathlib.Core.List.{[], _∷_}

@@ -1,6 +1,5 @@
 -- `standing::run` meets its contract: a walk of its MIR, by hand, with a loop over three borrows. The list is lent to `judge` once; a turn reads a call from the words, which are shared, and lends the list again to `work` and the outcomes to `note` (`Calling.antt`).
 -- All that the proof knows of the five functions that it calls is that they meet their contracts. What the list leaves, call by call, is in `Running.antt`.
--- Assumes nothing.
 use mathlib.Core.Path.{_≡_, refl, sym, ap, subst, _∙_}
 use Prim.Native.Nat.{ℕ, _<_, _≤_, _^_, _-_, _+_, zero-le}
 use native.Mathlib.Omega.{arith}

@@ -1,6 +1,5 @@
 -- `standing::scan` meets its contract: a walk of its MIR, by hand, with a loop that calls `makers::look_at` on each record. The borrow of the slice is opened before the loop and closed after it, at the same list.
 -- All that the proof knows of `look_at` is that it meets its contract.
--- Assumes nothing.
 use mathlib.Core.Path.{_≡_, refl, sym, ap, _∙_}
 use Prim.Native.Nat.{ℕ, _<_, _≤_, _^_, _-_, _+_, zero-le}
 use native.Mathlib.Omega.{arith}

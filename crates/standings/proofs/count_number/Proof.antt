@@ -1,4 +1,4 @@
--- The count, or the greatest number that is no refusal. Assumes nothing.
+-- The count, or the greatest number that is no refusal.
 use Rattle.standings.proofs.Standings.{count-great, count-whole}
 use Rattle.standings.proofs.count_number.Statement.{statement}
 use Rattle.standings.proofs.count_number.Tie as tie

@@ -1,4 +1,4 @@
--- By whether the list ran, and else whether it is one. Assumes nothing.
+-- By whether the list ran, and else whether it is one.
 use mathlib.Core.Path.{sym, _∙_}
 use mathlib.Core.Bool.{true, false}
 use Rattle.standing.specs.Words.{readable}

@@ -1,4 +1,4 @@
--- Each side's word has its number of orders, and both together are the live ones (`all-count`). Assumes nothing.
+-- Each side's word has its number of orders, and both together are the live ones (`all-count`).
 use native.Mathlib.Omega.{arith}
 use borrow.Author.Needs.{needs}
 use Rattle.table.proofs.Table.{all-count, held-length, held-count}

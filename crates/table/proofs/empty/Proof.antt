@@ -1,4 +1,4 @@
--- `book::empty` meets its contract: both sides of no orders are blanks. Assumes nothing.
+-- `book::empty` meets its contract: both sides of no orders are blanks.
 use mathlib.Core.Path.{refl}
 use Rattle.rules.specs.Lists.{filter}
 use Rattle.quote.specs.Levels.{held, levelAt, greatest, bestKey, levelOf}

@@ -1,4 +1,4 @@
--- The other side's words are scanned for the id (`other-is`). Assumes nothing.
+-- The other side's words are scanned for the id (`other-is`).
 use Prim.Native.Nat.{_-_}
 use native.Mathlib.Omega.{arith}
 use borrow.Author.Needs.{needs}

@@ -1,4 +1,4 @@
--- What the side's words have at the place is the live order (`its-order`). Assumes nothing.
+-- What the side's words have at the place is the live order (`its-order`).
 use mathlib.Core.Path.{_∙_}
 use borrow.Author.Needs.{needs}
 use Rattle.table.proofs.Orders.{stands, its-order}

@@ -1,4 +1,4 @@
--- `book::rehint` is safe: it writes within the hints. Assumes nothing.
+-- `book::rehint` is safe: it writes within the hints.
 use Prim.Native.Nat.{_≤_, _-_}
 use native.Mathlib.Omega.{arith}
 use mathlib.Core.Path.{_≡_}

@@ -1,4 +1,4 @@
--- By the number. Assumes nothing.
+-- By the number.
 use Prim.Native.Nat.{ℕ, zero, suc}
 use mathlib.Core.Path.{_≡_, refl}
 use borrow.Author.Needs.{needs}

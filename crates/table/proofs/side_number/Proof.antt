@@ -1,4 +1,4 @@
--- By the side. Assumes nothing.
+-- By the side.
 use native.Mathlib.Omega.{arith}
 use mathlib.Core.Path.{_≡_, sym}
 use borrow.Author.Needs.{needs}

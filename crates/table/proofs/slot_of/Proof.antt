@@ -1,4 +1,4 @@
--- By which scan found something. Assumes nothing.
+-- By which scan found something.
 use borrow.Author.Needs.{needs}
 use borrow.Author.Tests.{lt-ltb, le-ltb}
 use Rattle.table.proofs.slot_of.Statement.{statement}

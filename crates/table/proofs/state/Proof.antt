@@ -1,4 +1,4 @@
--- The state of the two best keys is the live orders' (`state-is`). Assumes nothing.
+-- The state of the two best keys is the live orders' (`state-is`).
 use borrow.Author.Needs.{needs}
 use Rattle.table.proofs.Quotes.{state-is}
 use Rattle.table.proofs.state.Statement.{statement}

@@ -1,4 +1,4 @@
--- The four words are copied. Assumes nothing.
+-- The four words are copied.
 use Rattle.views.specs.Views.{orderWords}
 use borrow.Author.Needs.{needs}
 use Rattle.views.proofs.put_order.Statement.{statement}

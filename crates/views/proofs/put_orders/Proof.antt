@@ -1,4 +1,4 @@
--- The loop's invariant: the orders before i are done. Assumes nothing.
+-- The loop's invariant: the orders before i are done.
 use Prim.Native.Nat.{_+_, _*_, _-_, _≤_}
 use native.Mathlib.Omega.{arith}
 use mathlib.Core.Path.{_≡_, refl, ap, _∙_}

@@ -1,4 +1,4 @@
--- The number of live orders says whether the buffer has room; what is written is the view of every list of events. Assumes nothing.
+-- The number of live orders says whether the buffer has room; what is written is the view of every list of events.
 use Prim.Native.Nat.{ℕ, _+_, _*_, _-_}
 use native.Mathlib.Omega.{arith}
 use mathlib.Core.Path.{_≡_, sym, ap, _∙_}

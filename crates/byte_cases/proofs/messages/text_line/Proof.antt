@@ -1,4 +1,4 @@
--- The bytes up to the length lie within the array. Assumes nothing.
+-- The bytes up to the length lie within the array.
 use native.Mathlib.Omega.{arith}
 use lib.ListN.{length-take}
 use borrow.Author.Needs.{needs}

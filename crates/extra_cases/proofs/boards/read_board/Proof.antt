@@ -1,4 +1,4 @@
--- The part of the array that was read. Assumes nothing.
+-- The part of the array that was read.
 use native.Mathlib.Omega.{arith}
 use lib.ListN.{length-take}
 use borrow.Author.Needs.{needs}

@@ -1,4 +1,4 @@
--- Each strike lies within the bytes, and the array keeps its length. The measure is the number of strikes left. Assumes nothing.
+-- Each strike lies within the bytes, and the array keeps its length. The measure is the number of strikes left.
 use Prim.Native.Nat.{_-_, _≤_}
 use native.Mathlib.Omega.{arith}
 use mathlib.Core.Path.{_≡_}

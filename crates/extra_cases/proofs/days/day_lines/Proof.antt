@@ -1,4 +1,4 @@
--- Each front of the prices lies within them. The measure is the number of days left. Assumes nothing.
+-- Each front of the prices lies within them. The measure is the number of days left.
 use Prim.Native.Nat.{_-_, _≤_}
 use native.Mathlib.Omega.{arith}
 use mathlib.Core.Path.{_≡_}

@@ -1,4 +1,4 @@
--- The prices lie within the input and the array. Assumes nothing.
+-- The prices lie within the input and the array.
 use native.Mathlib.Omega.{arith}
 use lib.ListN.{length-take}
 use borrow.Author.Needs.{needs}

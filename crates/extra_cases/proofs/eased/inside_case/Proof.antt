@@ -1,4 +1,4 @@
--- The prices and the row's words lie within the input and their arrays. Assumes nothing.
+-- The prices and the row's words lie within the input and their arrays.
 use native.Mathlib.Omega.{arith}
 use lib.ListN.{length-take}
 use borrow.Author.Needs.{needs}

@@ -1,4 +1,4 @@
--- `probe::maker_calls::standing_line` meets its contract. Each used record lies within the array. The measure is the number of records left. Assumes nothing.
+-- `probe::maker_calls::standing_line` meets its contract. Each used record lies within the array. The measure is the number of records left.
 use Prim.Native.Nat.{_-_, _≤_}
 use borrow.Author.Needs.{needs}
 use Rattle.extra_cases.proofs.maker_calls.standing_line.Statement.{statement}
