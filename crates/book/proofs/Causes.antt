@@ -16,8 +16,8 @@ use Rattle.rules.specs.Units.{goodPrice, goodVolume}
 use Rattle.rules.specs.Orders.{isLive, left}
 use Rattle.rules.specs.Causes.{firstNumber, traderCauses}
 use Rattle.rules.proofs.Refusals.{skip, stop, clear}
-use Rattle.table.specs.Table.{slotIn, GoodOrders}
-use Rattle.table.proofs.Slots.{slot-live}
+use Rattle.order_table.specs.Table.{slotIn, GoodOrders}
+use Rattle.order_table.proofs.Slots.{slot-live}
 
 module _ (live : List Order) (good : GoodOrders live) (id slot : ℕ) (at : slot ≡ slotIn id live) (t : Millis) where
   is-live : ltb slot 128 ≡ isLive id live

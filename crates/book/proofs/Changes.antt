@@ -14,13 +14,13 @@ use Rattle.rules.specs.Bounds.{Distinct}
 use Rattle.rules.proofs.Lists.{filter-append, filter-one, kept-in}
 use Rattle.rules.proofs.Members.{or-false, any-none, some-any, getD-in}
 use Rattle.rules.proofs.Orders.{live-at}
-use Rattle.prices.specs.Keys.{keyIn}
-use Rattle.level.specs.CandidateKeys.{changedKey}
-use Rattle.table.specs.Table.{ofSide, GoodOrders}
-use Rattle.table.specs.Internal.{blankOrder}
-use Rattle.table.proofs.Sides.{in-side}
-use Rattle.table.proofs.Orders.{its-side}
-use Rattle.table.proofs.Slots.{Has}
+use Rattle.price_keys.specs.Keys.{keyIn}
+use Rattle.best_level.specs.CandidateKeys.{changedKey}
+use Rattle.order_table.specs.Table.{ofSide, GoodOrders}
+use Rattle.order_table.specs.Internal.{blankOrder}
+use Rattle.order_table.proofs.Sides.{in-side}
+use Rattle.order_table.proofs.Orders.{its-side}
+use Rattle.order_table.proofs.Slots.{Has}
 use Rattle.book.specs.Events.{sideWith}
 
 module _ (id : ℕ) where

@@ -54,7 +54,7 @@ fn widest_of(row: Row, spread: SpreadRule) -> u32
     ensures { λ r. ⌜ r ≡ widestFor row spread ⌝ }
 {
     match spread {
-        SpreadRule::Settled(sp) => prices::widest_for_price(row.a, row.b, sp),
+        SpreadRule::Settled(sp) => price_keys::widest_for_price(row.a, row.b, sp),
         SpreadRule::OfStrike(s) => strike::widest(s),
     }
 }

@@ -26,7 +26,7 @@ use Rattle.record.specs.Fields.{fieldsFor, goodFields, eventBy, readFields}
 use Rattle.record.proofs.Reading.{time-by, tick-by, fields-say}
 use Rattle.book.specs.declared.Sent.{Sent}
 use Rattle.book.specs.Sending.{Sending, SendsRead}
-use Rattle.table.specs.Table.{tableOf, GoodOrders, Holding}
+use Rattle.order_table.specs.Table.{tableOf, GoodOrders, Holding}
 use Rattle.book.specs.Events.{Sends, sentTo}
 use Rattle.clock.specs.declared.Duty.{Duty}
 use Rattle.clock.specs.declared.Clock.{Clock}

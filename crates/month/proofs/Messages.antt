@@ -17,8 +17,8 @@ use Rattle.rules.specs.Book.{answerOf}
 use Rattle.rules.proofs.Answers.{accepted-by}
 use Rattle.rules.proofs.Refusals.{step-accepted}
 use Rattle.quantum.specs.Represents.{quantumIn}
-use Rattle.quantum_messages.specs.declared.AfterMessage.{AfterMessage}
-use Rattle.quantum_messages.specs.Answers as Q
+use Rattle.fix_events.specs.declared.AfterMessage.{AfterMessage}
+use Rattle.fix_events.specs.Answers as Q
 use Rattle.month.specs.declared.Month.{Month}
 use Rattle.month.specs.Represents.{placeIn, shareIn, allowedIn, monthOf, Answered}
 use Rattle.month.specs.Internal.{counted}

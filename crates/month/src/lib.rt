@@ -299,7 +299,7 @@ impl Month {
         ensures { λ r. ⌜ Answered self (B.Message (now (start .entry)) (now (message .entry))) (r .month) (shownAnswer (r .answer)) ⌝ }
     {
         let before = self.quantum;
-        let sent = quantum_messages::message(before, self.running, start, message);
+        let sent = fix_events::message(before, self.running, start, message);
         let answer = sent.answer;
         let taken = sent.quantum;
         match answer {

@@ -13,10 +13,10 @@ use Rattle.rules.specs.Bounds.{EventBounds}
 use Rattle.rules.proofs.Bounds.{event-bounds-more}
 use Rattle.record.specs.declared.Fields.{Fields}
 use Rattle.record.specs.Fields.{fieldsFor}
-use Rattle.table.specs.Table.{Held}
-use Rattle.arrivals.specs.Arrivals.{arrivalsOf, idOf, Follows}
-use Rattle.arrivals.specs.Notes.{rowWords, spreadWords, notesOf}
-use Rattle.arrivals.proofs.Notes.{arrivals-length}
+use Rattle.order_table.specs.Table.{Held}
+use Rattle.order_arrivals.specs.Arrivals.{arrivalsOf, idOf, Follows}
+use Rattle.order_arrivals.specs.Notes.{rowWords, spreadWords, notesOf}
+use Rattle.order_arrivals.proofs.Notes.{arrivals-length}
 use Rattle.quantum.specs.Internal.{Accepts}
 use Rattle.events.proofs.Represents.{good-orders}
 

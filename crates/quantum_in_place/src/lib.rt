@@ -58,13 +58,13 @@ fn step_noted(words: &mut [u32], hints: &mut [u8], f: Fields) -> u32
     requires { ⌜ HoldsQuantum (now words) × (length (now words) ≡ 598) × (length (now hints) ≡ 2048) × SaysEvent f ⌝ }
     ensures { λ r. ⌜ ((e : Event) → f ≡ fieldsFor e → StepsWords (now (words .entry)) e (now (words .exit)) r) × (0 < r → now (hints .exit) ≡ now (hints .entry)) ⌝ }
 {
-    let had = table::count(&words[10..522]);
+    let had = order_table::count(&words[10..522]);
     let refusal = step_front(&mut words[0..522], hints, f);
     if 0 < refusal {
         return refusal;
     }
-    let has = table::count(&words[10..522]);
-    arrivals::note(&mut words[522..586], had, has, f.id);
+    let has = order_table::count(&words[10..522]);
+    order_arrivals::note(&mut words[522..586], had, has, f.id);
     0
 }
 

@@ -6,13 +6,13 @@ ghost use lib.ListN.{length};
 ghost use Rattle.month.specs.Represents.{Reached};
 ghost use Rattle.words.specs.Bytes.{wordsIn};
 ghost use Rattle.replay.specs.Pieces.{Plays, Answers};
+use call_step::Outcome;
+use call_step::Shown;
 use console::field_line;
 use console::number;
 use console::text;
 use month::Month;
-use pieces::Rest;
-use script::Outcome;
-use script::Shown;
+use replay_pieces::Rest;
 
 fn line(shown: Shown) {
     let outcome = shown.outcome;
@@ -20,10 +20,10 @@ fn line(shown: Shown) {
     match outcome {
         Outcome::Accepted => text(b"accepted\n"),
         Outcome::Refused(n) => field_line(b"refused ", n),
-        Outcome::Found(view) => lines::cell_line(view),
-        Outcome::Asked(preview) => lines::asked_line(preview),
-        Outcome::Reported => lines::report_line(report),
-        Outcome::Outlook(outlook) => lines::outlook_line(outlook),
+        Outcome::Found(view) => replay_lines::cell_line(view),
+        Outcome::Asked(preview) => replay_lines::asked_line(preview),
+        Outcome::Reported => replay_lines::report_line(report),
+        Outcome::Outlook(outlook) => replay_lines::outlook_line(outlook),
     }
 }
 
@@ -41,7 +41,7 @@ fn play(from: Month, bytes: &[u8]) -> Played
     let mut month = from;
     let mut at: usize = 0;
     loop {
-        let done = script::block(month, bytes, at);
+        let done = call_step::block(month, bytes, at);
         let next = done.next;
         if next == at {
             return Played { month, words: at };
@@ -61,7 +61,7 @@ fn stopped(word: u64) {
 
 // Whether what is left can't become a call; then the last line says so, with the word at which it begins.
 fn is_last(bytes: &[u8], room: usize, word: u64) -> bool {
-    let rest = pieces::rest_is(bytes, room);
+    let rest = replay_pieces::rest_is(bytes, room);
     match rest {
         Rest::More => false,
         Rest::NoCall => {
@@ -89,7 +89,7 @@ fn answer(month: Month, bytes: &mut [u8], end: usize) -> Played
 {
     let done = play(month, &bytes[..end]);
     let read = done.words;
-    pieces::to_front(bytes, 4 * read, end);
+    replay_pieces::to_front(bytes, 4 * read, end);
     done
 }
 

@@ -67,7 +67,7 @@ unfoldable pub partWords : List Part → List ℕ
 partWords [] = []
 partWords (p ∷ ps) = p .offset ∷ p .length ∷ stateWord (p .state) ∷ partWords ps
 
--- ---- what such a list is, apart from how it is computed; no other list is that (accounts/proofs)
+-- ---- what such a list is, apart from how it is computed; no other list is that (session_account/proofs)
 
 -- from a to n with no gap: each starts where the one in front of it ends, none is empty, and the last ends at n
 abbrev pub Tiles : ℕ → ℕ → List Part → Type 0

@@ -22,7 +22,7 @@ use Rattle.rules.specs.Answers.{numberOf}
 use Rattle.rules.specs.Records.{wordAt, signedOf}
 use Rattle.rules.specs.Session.{shownSession, Ran, Session, session, sessionBytes, ran, front, bufferAfter, oneNumber}
 use Rattle.rules.proofs.Stretches.{pairWords-length}
-use Rattle.pass.specs.Internal.{counted, Passed}
+use Rattle.session_pass.specs.Internal.{counted, Passed}
 use Rattle.session.specs.Internal.{filledBy, numberBy}
 
 -- the pass says how the session ends

@@ -29,11 +29,11 @@ use Rattle.rules.proofs.Kept.{keptAt-now, keptAt-snoc}
 use Rattle.rules.proofs.Stretches.{stretches-ext, stretches-false, stretches-new, stretches-longer}
 use Rattle.rules.proofs.Refusals.{event-passes}
 use Rattle.rules.proofs.Bounds.{event-bounds-none, event-bounds-more}
-use Rattle.marks.proofs.Pairs.{length-snoc, before-in, before-ext}
-use Rattle.pass.proofs.Loop.{not-whole}
-use Rattle.runs.proofs.Walks.{takes}
-use Rattle.runs.proofs.Openings.{cellOf}
-use Rattle.pass.proofs.Runs.{walks, runs-end, session-begun, cell-inside}
+use Rattle.kept_pairs.proofs.Pairs.{length-snoc, before-in, before-ext}
+use Rattle.session_pass.proofs.Loop.{not-whole}
+use Rattle.record_runs.proofs.Walks.{takes}
+use Rattle.record_runs.proofs.Openings.{cellOf}
+use Rattle.session_pass.proofs.Runs.{walks, runs-end, session-begun, cell-inside}
 
 -- what some pairs cost in events: two each, a pair that has begun but has no length yet with them; and one when nothing is kept now
 abbrev cost : ℕ → Bool → Bool → ℕ

@@ -29,11 +29,11 @@ use Rattle.rules.proofs.Lists.{and}
 use Rattle.rules.proofs.Refusals.{passes-call, answer-accepted}
 use Rattle.rules.proofs.Histories.{run-append}
 use Rattle.rules.proofs.Bounds.{row-bounds, after-snoc}
-use Rattle.pass.specs.Internal.{bookWith}
-use Rattle.runs.proofs.Walks.{takes}
-use Rattle.runs.proofs.Openings.{step-send, cellOf, opened}
-use Rattle.pass.proofs.Loop.{not-whole}
-use Rattle.pass.proofs.Runs.{walks, runs-end, closed-cell, closed-weight, session-begun, cell-inside}
+use Rattle.session_pass.specs.Internal.{bookWith}
+use Rattle.record_runs.proofs.Walks.{takes}
+use Rattle.record_runs.proofs.Openings.{step-send, cellOf, opened}
+use Rattle.session_pass.proofs.Loop.{not-whole}
+use Rattle.session_pass.proofs.Runs.{walks, runs-end, closed-cell, closed-weight, session-begun, cell-inside}
 
 -- the book after the events, as their calls leave it
 module _ (place : ℕ) (row : Row) (sp : Steps) where

@@ -39,7 +39,7 @@ fn passes(
     ensures answer { λ r. ⌜ shownSession r ≡ ran (length (now (buffer .entry))) (session paper most (now (row .entry)) sp (now (records .entry))) ⌝ }
     ensures words { λ r. ⌜ now (buffer .exit) ≡ bufferAfter (now (buffer .entry)) (session paper most (now (row .entry)) sp (now (records .entry))) ⌝ }
 {
-    let first = pass::pass(most, row, sp, records, scratch);
+    let first = session_pass::pass(most, row, sp, records, scratch);
     match first {
         SessionAnswer::Refused {
             refusal: _,
@@ -56,7 +56,7 @@ fn passes(
                     place: 0,
                 };
             }
-            pass::pass(most, row, sp, records, buffer);
+            session_pass::pass(most, row, sp, records, buffer);
             first
         }
     }
@@ -142,5 +142,5 @@ pub extern "C" fn quoting_session(head: &[u8], records: &[u8]) -> u64
     ];
     let sp = words::to_steps(words::word_at(head, 28));
     let mut none = [0u32; 1];
-    one_number(pass::pass(4000000, &row, sp, records, &mut none))
+    one_number(session_pass::pass(4000000, &row, sp, records, &mut none))
 }

@@ -8,10 +8,10 @@ use mathlib.Core.List.{List, [], _∷_, _++_}
 use mathlib.Core.Bool.{true}
 use lib.ListN.{length, drop}
 use Rattle.rules.specs.Lists.{if_then_else_}
-use Rattle.makers.specs.declared.Maker.{Maker}
-use Rattle.makers.specs.Calls.{Standing, standing, used, Call, Join, Change, Leave, callOf, after, outcomesFrom}
-use Rattle.makers.specs.Roll.{rollAfter, Stands}
-use Rattle.makers.proofs.Claim.{claim}
+use Rattle.standing_rules.specs.declared.Maker.{Maker}
+use Rattle.standing_rules.specs.Calls.{Standing, standing, used, Call, Join, Change, Leave, callOf, after, outcomesFrom}
+use Rattle.standing_rules.specs.Roll.{rollAfter, Stands}
+use Rattle.standing_rules.proofs.Claim.{claim}
 use Rattle.standing.specs.declared.Ran.{Ran}
 use Rattle.standing.specs.Words.{isCall, readable, callsOf, wordsOf, scriptOf}
 use Rattle.standing.specs.Claim.{ListAnswers, Afresh}

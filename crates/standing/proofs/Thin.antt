@@ -37,15 +37,15 @@ use denote.Triple.Clauses.{Ended, Clauses, closing}
 use denote.Triple.Walked.{says, Stays, stay-slice, stay-none, walkOf, goes-none, goes-slice, ends-at, walked, walk-meets}
 use denote.Exit.{yes, Last, left}
 use denote.Signature.{plain}
-use Rattle.makers.specs.declared.Maker.{Maker}
-use Rattle.makers.specs.declared.Asked.{Asked}
-use Rattle.makers.specs.declared.Answer.{Answer}
-use Rattle.makers.specs.Calls.{standing, Call, callOf, step, answerOf}
-use Rattle.makers.proofs.Maker.Laws as T′
-use Rattle.makers.proofs.Asked as B
-use Rattle.makers.proofs.Asked.Laws as B′
-use Rattle.makers.proofs.Answer as D
-use Rattle.makers.proofs.Answer.Laws as D′
+use Rattle.standing_rules.specs.declared.Maker.{Maker}
+use Rattle.standing_rules.specs.declared.Asked.{Asked}
+use Rattle.standing_rules.specs.declared.Answer.{Answer}
+use Rattle.standing_rules.specs.Calls.{standing, Call, callOf, step, answerOf}
+use Rattle.standing_rules.proofs.Maker.Laws as T′
+use Rattle.standing_rules.proofs.Asked as B
+use Rattle.standing_rules.proofs.Asked.Laws as B′
+use Rattle.standing_rules.proofs.Answer as D
+use Rattle.standing_rules.proofs.Answer.Laws as D′
 use Rattle.standing.proofs.Calling.{on-slice, lends}
 use Rattle.standing.proofs.Machine.{R, ref, slice, asked-mach}
 use Rattle.standing.proofs.apply as apply

@@ -9,7 +9,7 @@ use borrow.Rule.Slice.PartMut.{same-len-mid}
 use Rattle.record.specs.Fields.{readFields}
 use Rattle.record.proofs.Reading.{only-fifteen}
 use Rattle.book.specs.Internal.{AppliedRead}
-use Rattle.table.proofs.Table.{table-length}
+use Rattle.order_table.proofs.Table.{table-length}
 use Rattle.book.proofs.Sendings.{read-number, read-moving, refused-sends, taken-sends}
 use Rattle.book.proofs.send.Statement.{statement}
 use Rattle.book.proofs.send.Tie as tie

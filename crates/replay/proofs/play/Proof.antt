@@ -6,7 +6,7 @@ use borrow.Author.Needs.{needs}
 use lib.ListN.{length}
 use Rattle.words.specs.Bytes.{wordsIn}
 use Rattle.words.proofs.Bytes.{words-length}
-use Rattle.script.proofs.Playing.{Underway, underway, inside, reached, all-read, all-done, nearer, still-underway}
+use Rattle.call_step.proofs.Playing.{Underway, underway, inside, reached, all-read, all-done, nearer, still-underway}
 use Rattle.replay.proofs.play.Statement.{statement}
 use Rattle.replay.proofs.play.Tie as tie
 

@@ -7,7 +7,7 @@ use lib.ListN.{length}
 use lib.Seq.{length-take-le}
 use Rattle.month.specs.declared.Month.{Month}
 use Rattle.month.specs.Represents.{Reached}
-use Rattle.blocks.specs.Reading.{callsOf}
+use Rattle.call_blocks.specs.Reading.{callsOf}
 use Rattle.replay.specs.declared.Played.{Played}
 use Rattle.replay.specs.Pieces.{Plays}
 use borrow.Author.Needs.{needs}
