@@ -1,6 +1,13 @@
 // The best level of a side after one of its orders changed: carried where it still holds, else guessed (next to the old one, or where the
 // order went), else searched; that of a small side by its own search. Document 02, W3: volumes are added up only for a live order whose
 // price is better than every one already found to qualify, and their number is answered (specs/Candidates).
+//
+// The best level is its key, the contracts strictly better and those at it. An event moves both sums by one order's volume before and after.
+// That is what the old meter did, and drifted; here the three words are by contract a function of the live orders. While fewer than M are
+// strictly better and M or more are there with it, the quote stays and nothing is added up. Otherwise the next better key is tried where M
+// or more are strictly better, the next worse one where the depth is below M; only the contracts at that key are added up, since no order
+// is between. A second step is omitted where the contracts at the first are less than an eighth of what is then missing, or too much. The
+// changed order's key is tried where the best level can be there. The search starts from the best price found so far.
 ghost use mathlib.Core.Path.{_≡_};
 ghost use mathlib.Core.Bool.{_&&_, true, false};
 ghost use mathlib.Core.List.{List};

@@ -1,4 +1,8 @@
 // A side's depth in lent columns of keys and volumes, and the search for a best quote.
+//
+// What the search yields is not measured again: every order better than what it finds had its volumes added up, and they were too few, so
+// the most of the sums that were too few is what is before the found price (`short-all`), and the found price's own sum is the depth with
+// those at it. Keeping both sums apart in the inner loop would give the same and cost jumping sessions 23% more instructions.
 ghost use mathlib.Core.Path.{_≡_};
 ghost use Prim.Native.Nat.{_+_, _≤_};
 ghost use lib.Dec.{eqb};

@@ -1,4 +1,4 @@
-// A month in lent words, for C: a fresh one, one call on it, and what stands now, each answered by one number.
+// A month in lent words, for C: a fresh one, one call on it, and its view, each answered by one number.
 use month_view::Viewed;
 use month_words::Called;
 ghost use mathlib.Core.Path.{_≡_};

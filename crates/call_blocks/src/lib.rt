@@ -3,7 +3,7 @@
 // through `word`, `part` and `count`.
 //
 // One more kind of block is one arm of `due_words` and one of `decode`, with a variant of `Decoded` if it says a call that has none; in specs/
-// a clause of `due` and of `callBy`, `callWith`, `wordsOf` and `CallFits`; in `script` an arm of `call`.
+// a clause of `due` and of `callBy`, `callWith`, `wordsOf` and `CallFits`; in `call_step` an arm of `call`.
 ghost use mathlib.Core.Path.{_≡_};
 ghost use Prim.Native.Nat.{_+_, _*_, _/_, _≤_, _<_};
 ghost use lib.ListN.{length, getD, take, drop};

@@ -1,4 +1,5 @@
-// A whole list of calls run from a fresh month, each call's whole answer in twenty words of a lent buffer (answer_words/specs/Words).
+// A list of calls run from a fresh month, each call's answer in twenty words of a lent buffer (answer_words/specs/Words). Demand 3 is about
+// this runner (specs/Demand).
 ghost use Rattle.words.specs.Bytes.{wordsIn};
 ghost use Rattle.call_list.specs.Listing.{ListAnswered};
 use month::Month;

@@ -1,4 +1,7 @@
 // A quantum's duty and its clock (time, kept time, lapses, whether the quote is kept now): opened, running on, at the end, and in words.
+//
+// Time runs on in one function, `onward`. The clock has the number of lapses and whether the millisecond before the present is kept; a lapse
+// starts where the quote is not kept and that millisecond is, or there is none.
 ghost use mathlib.Core.Path.{_≡_};
 ghost use mathlib.Core.List.{List, []};
 ghost use mathlib.Core.Bool.{true, _&&_};

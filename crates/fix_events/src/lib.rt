@@ -1,4 +1,4 @@
-// A FIX message (W11) on a quantum, open or idle: the one or two events that it stands for, both or neither.
+// A FIX message (W11) on a quantum, open or idle: the one or two events that it means, both or neither.
 ghost use mathlib.Core.Path.{_≡_};
 ghost use Prim.Native.Nat.{ℕ};
 ghost use Rattle.rules.specs.declared.Refusal.the-variants.{NoQuantumOpen};

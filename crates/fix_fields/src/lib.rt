@@ -1,4 +1,4 @@
-// Fields of a message.
+// The fields of a message, tag and value, one after the other in its bytes.
 use fix_digits::is_digit;
 ghost use mathlib.Core.Path.{_≡_};
 ghost use Prim.Native.Nat.{_+_, _-_, _<_};

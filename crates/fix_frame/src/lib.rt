@@ -1,4 +1,4 @@
-// The frame of a message: what stands before and behind its fields, with length and sum.
+// The frame of a message: what is before and after its fields, with length and checksum.
 ghost use mathlib.Core.Path.{_≡_};
 ghost use Prim.Native.Nat.{_+_, _≤_, _<_};
 ghost use lib.ListN.{length};

@@ -1,5 +1,5 @@
-// What stands now: the open quantum of a month's words, written into a lent buffer for whoever shows it (specs/Views). The month's words
-// are as they were.
+// The open quantum of a month's words as it is now, written into a lent buffer for whoever shows it (specs/Views). The month's words are as
+// they were.
 ghost use mathlib.Core.Path.{_≡_};
 ghost use mathlib.Core.Bool.{true};
 ghost use mathlib.Core.List.{List};

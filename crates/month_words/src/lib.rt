@@ -1,5 +1,10 @@
 // A month that lives in lent words (month/specs/Words has their layout): `fresh` writes the fresh one, and `call` runs one call, a block
 // of bytes, on it and writes its answer (answer_words/specs/Words).
+//
+// A buffer is judged before the call: words, hints, answer, then the bytes; none of these is a refusal of the book. An event's fields are
+// read off the block's bytes, and `call_blocks::decode` is not asked: by it a tick would take some 75 instructions more. What is read has to
+// be right only where it says an event (`SaysBlock`). `perform`, the call by value, has two callers: with one the compiler would inline it,
+// and every event would pay for its 64 KB frame.
 ghost use mathlib.Core.Path.{_≡_};
 ghost use mathlib.Core.List.{[], _++_};
 ghost use mathlib.Core.Bool.{true};

@@ -1,6 +1,9 @@
 // The live orders' ids in the order in which they were added, in 64 lent words (specs/Arrivals): kept in step with the table after an
-// accepted event, for whoever shows the orders as they came. The table itself has them by side. Behind them stand the row and what the
-// spread limit goes by (specs/Notes), which an open quantum's clock and table do not hold.
+// accepted event, for whoever shows the orders as they came. The table itself has them by side. After them are the row and the terms of the
+// spread limit (specs/Notes), which an open quantum's clock and table do not hold.
+//
+// Whether an order came or went is seen by the number of live orders before and after the event, so the notes need nothing of how an event
+// is judged. They are the month's alone: a session has none.
 ghost use mathlib.Core.Path.{_≡_};
 ghost use mathlib.Core.List.{List, [], _∷_, _++_};
 ghost use Prim.Native.Nat.{_-_, _≤_};

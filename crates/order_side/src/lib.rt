@@ -1,7 +1,6 @@
-// The live orders of one side in 256 lent words (specs/Slots has their layout): found by id, read, added, put in another's place,
-// removed. An order is an `Order` wherever it is taken or handed back; the words are how it is stored. The best level stands among the
-// words too, and is moved by the crate level. A key is a price turned so that the better one has the greater key; 0 is no price (crate
-// prices).
+// The live orders of one side in 256 lent words (specs/Slots has their layout): found by id, read, added, changed, removed. An order is an
+// `Order` wherever it is taken or returned; the words are how it is stored. The best level is among the words too, and is moved by the crate
+// best_level. Prices are keys: the better one is the greater, 0 is no price (crate price_keys).
 ghost use mathlib.Core.Path.{_≡_};
 ghost use mathlib.Core.Bool.{true};
 ghost use mathlib.Core.List.{List};

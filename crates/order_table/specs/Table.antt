@@ -1,4 +1,4 @@
--- The live orders of both sides in 512 words: the buys' 256, then the sells' (crate side).
+-- The live orders of both sides in 512 words: the buys' 256, then the sells' (crate order_side).
 use Prim.Native.Nat.{ℕ, _+_, _-_, _≤_}
 use mathlib.Core.Path.{_≡_}
 use mathlib.Core.List.{List, _++_, map, List·Memᴰ}

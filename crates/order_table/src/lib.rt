@@ -1,5 +1,12 @@
 // The live orders of both sides in 512 lent words (specs/Table has their layout), and what is read off them: an order by its id, the best
 // quotes, the state. `hints` has 2,048 bytes that say where an id was last found; nothing rests on it.
+//
+// Why it is laid out so: a side's orders are at the front of its columns in the order in which they were added, zeros after them, so that
+// the table is a function of the book's list (`sideOf`, `tableOf`) and an event's contract is one equation. The session's loop owns the
+// table and lends it; the month's quantum holds it by value, lends a copy and puts it back.
+//
+// A hint is a byte for each id modulo 2,048 that says where such an id was last found. The word there is compared with the id, and nothing
+// else rests on the hint; otherwise both sides are scanned without branches.
 ghost use mathlib.Core.Path.{_≡_};
 ghost use mathlib.Core.List.{List, []};
 ghost use mathlib.Core.Bool.{_&&_, not};

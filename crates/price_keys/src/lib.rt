@@ -1,4 +1,9 @@
 // Prices as keys, and the spread test on the keys of two best quotes.
+//
+// A key is a price turned so that the better one has the greater key: 1,000,000,001 plus the price for buys, less the price for sells; 0 is
+// no price. So neither side is a case of its own in any sum or search. The spread limit is one number, fixed at open: max(b, a × max(SP, 0)
+// / 100,000), and the test is D against 1 and against it. The definition stays as the paper has it; `keys-law` says that the test on two
+// keys agrees with it.
 ghost use mathlib.Core.Path.{_≡_};
 ghost use mathlib.Core.Bool.{true};
 ghost use Prim.Native.Nat.{_≤_};

@@ -1,5 +1,8 @@
-// An event on the words of an open quantum, in place (quantum/specs/Words has their layout): the table is changed where it stands, and the
+// An event on the words of an open quantum, in place (quantum/specs/Words has their layout): the table is changed where it is, and the
 // clock's words are put back. A tick reads no order, and an amendment leaves the notes.
+//
+// The clock is put back whether an event is taken or not, a tick aside: a refused one leaves the clock and the table as they were, so the
+// five words are written without a test. A tick has a way of its own: it reads neither table nor notes.
 ghost use mathlib.Core.Path.{_≡_};
 ghost use Prim.Native.Nat.{_<_};
 ghost use lib.ListN.{length};

@@ -1,5 +1,9 @@
 // Reads calls from standard input, four bytes a word, low byte first, as they come, and writes a line for each call's answer as soon as its
-// block is whole.
+// block is complete.
+//
+// One read a turn, and no wait for more while there is something to answer. What remains of a piece moves to the front of the buffer, each
+// byte once at most. Past the last word that has come a word is read as 0, so a length that is not known yet must not be judged. Lines are
+// written as they are made, with no buffer: a line must be out before the next read in any case.
 ghost use mathlib.Core.Path.{_≡_};
 ghost use Prim.Native.Nat.{_*_, _≤_};
 ghost use lib.ListN.{length};

@@ -1,4 +1,4 @@
-// A list of calls that comes in pieces: what stands behind the calls of a piece, and what is left of it moved to the front of its buffer.
+// A list of calls that comes in pieces: what follows the calls of a piece, and what remains of it moved to the front of its buffer.
 ghost use mathlib.Core.Path.{_≡_};
 ghost use Prim.Native.Nat.{_-_, _≤_};
 ghost use lib.ListN.{length, take, drop};

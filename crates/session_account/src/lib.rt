@@ -1,5 +1,7 @@
 // The account run: where the time of a session went, as stretches of one state and the milliseconds of each state. Records go through one
 // open quantum, twice where stretches are written, as in a session run.
+//
+// Two passes, as in the session run. The state is worked out before each event and at the end, from the two best keys of the table.
 ghost use mathlib.Core.Path.{_≡_};
 ghost use Prim.Native.Nat.{ℕ, _+_, _≤_};
 ghost use mathlib.Core.Bool.{true};

@@ -1,5 +1,8 @@
 // The best key of a side of at most four orders, without its level: the orders are sorted by five exchanges, and their volumes added up
 // from the best one down until they are enough. So nothing is added up twice, and for no price after the first that qualifies.
+//
+// A side of at most four orders has no sums to carry: this is proved to find the best key, so nothing is measured after it, and the two
+// carried sums of such a side are 0.
 ghost use mathlib.Core.Path.{_≡_};
 ghost use mathlib.Core.Bool.{true};
 ghost use Prim.Native.Nat.{_+_, _*_, _≤_, _%_, min, max};

@@ -1,5 +1,8 @@
 // The standing in an array of 512 records by value, for programs: its front part is lent to `standing::apply`, and the array is handed
 // back. `apply` is proved by a walk of its code, by hand; the three calls over it, and who calls them, need none.
+//
+// It requires that at most 512 records are lent. A function that makes a lent slice of records of its own array needs a walk, and one that
+// calls this crate does not.
 ghost use mathlib.Core.Path.{_≡_};
 ghost use mathlib.Core.List.{_++_};
 ghost use Prim.Native.Nat.{_≤_};

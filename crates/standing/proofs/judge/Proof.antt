@@ -1,5 +1,5 @@
 -- `standing::judge` meets its contract: a walk of its MIR, by hand, with a loop. A turn reads one record, lends the marks, which lie in a local of the walk, to `standing_rules::look_back` and the slice to `scan` (`Calling.antt`), and checks the record.
--- All that the proof knows of the five functions that it calls is that they meet their contracts. That the marks and the neighbours tell what the definitions ask is in `Judging.antt` of `makers`.
+-- All that the proof knows of the five functions that it calls is that they meet their contracts. That the marks and the neighbours tell what the definitions ask is in `Judging.antt` of `standing_rules`.
 use mathlib.Core.Path.{_≡_, refl, sym, ap, _∙_}
 use Prim.Native.Nat.{ℕ, _<_, _≤_, _^_, _-_, _+_, _%_, zero-le, min}
 use native.Mathlib.Omega.{arith}

@@ -1,5 +1,5 @@
 -- `standing::shift` meets its contract: a walk of its MIR, by hand, with a loop. The borrow of the slice is opened once, before the loop, and closed once, after the last store. Between the two the row of records is the list with a hole at i.
--- A turn reads the next record on the way and stores it in the hole. All that the proof knows of `standing_rules::toward`, which says where that is, is that it meets its contract. What the list is on the way is in `Shifting.antt` of `makers`.
+-- A turn reads the next record on the way and stores it in the hole. All that the proof knows of `standing_rules::toward`, which says where that is, is that it meets its contract. What the list is on the way is in `Shifting.antt` of `standing_rules`.
 use mathlib.Core.Path.{_≡_, refl, sym, ap, subst, _∙_}
 use Prim.Native.Nat.{ℕ, _<_, _≤_, _^_, _+_}
 use native.Mathlib.Omega.{arith}

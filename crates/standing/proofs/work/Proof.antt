@@ -1,5 +1,5 @@
 -- `standing::work` meets its contract: a walk of its MIR, by hand, with a branch that returns early. The slice is lent again to `scan` and `shift`; `standing_rules::lesser`, `standing_rules::record_of` and `standing_rules::decide` work by value (`Calling.antt`).
--- All that the proof knows of the five is that they meet their contracts. That what was found and decided is what the call is to do is `works` of `makers`.
+-- All that the proof knows of the five is that they meet their contracts. That what was found and decided is what the call is to do is `works` of `standing_rules`.
 use mathlib.Core.Path.{_≡_, refl, sym, ap, subst, _∙_}
 use Prim.Native.Nat.{ℕ, _<_, _≤_, _^_, min}
 use native.Mathlib.Omega.{arith}
