@@ -28,10 +28,10 @@ from quoting.watch.feeds import Growing, Item, Lines, ListLines, Pieces, Trouble
 
 GRACE = timedelta(seconds=5)  # by which a log may be behind the clock at a quantum's end
 MOST_KEPT = 100_000  # messages in no quantum, kept for opens that are listed later
-SHORT_LIST = 65_536  # bytes of a list that is read anew when it has changed
+SHORT_LIST = 65_536  # bytes of a list that is read again when it has changed
 IN_NONE = "this message is in no quantum of the list; others like it are counted and not shown"
 LATE = "this message came when its quantum was past and the list had gone on; it is not counted"
-CHANGED = "the list was written anew, and this is not the call that was read here; what was read stays, and calls behind it are taken"
+CHANGED = "the list was written again, and this is not the call that was read here; what was read stays, and calls after it are taken"
 BYTES = "messages are put into a text, which says when each quantum starts, and these are bytes"
 
 
