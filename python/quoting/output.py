@@ -1,12 +1,13 @@
 """What the command writes: to standard output, or to a file that is written beside its name and moved there when it is whole."""
 
 import dataclasses
+import errno
 import json
 import os
 import stat
 import sys
 from pathlib import Path
-from typing import Any, Optional, Sequence, Union
+from typing import Any, Iterable, Optional, Sequence, Union
 
 from quoting.reading import STANDARD
 
@@ -39,16 +40,66 @@ def write(name: Optional[str], data: Union[str, bytes]) -> None:
 
 
 def write_file(path: Path, data: bytes) -> None:
-    """Never half a file: what is no plain file (a device, a pipe) is written as it is, any other beside its name and moved."""
+    """Never half a file: a device or a pipe is written directly, any other file is replaced."""
     if path.exists() and not stat.S_ISREG(path.stat().st_mode):
         path.write_bytes(data)
-        return
-    beside = path.with_name(f".{path.name}.{os.getpid()}.part")
+    else:
+        replace_file(path, [data])
+
+
+def target_of(path: Path) -> Path:
+    """The file that a name leads to through its links; it need not exist."""
+    target = Path(os.path.realpath(path))
+    if target.is_symlink():  # realpath gives up at a loop
+        raise OSError(errno.ELOOP, os.strerror(errno.ELOOP), str(path))
+    return target
+
+
+def mode_of(path: Path) -> Optional[int]:
+    """The permissions of a file, None where there is none."""
     try:
-        beside.write_bytes(data)
-        os.replace(beside, path)
+        return stat.S_IMODE(path.stat().st_mode)
+    except FileNotFoundError:
+        return None
+
+
+def replace_file(path: Path, pieces: Iterable[bytes]) -> None:
+    """A whole file or the old one, even after a power cut: written beside its name, synced, then renamed. Links and permissions stay."""
+    target = target_of(path)
+    beside, mode = target.with_name(f".{target.name}.{os.getpid()}.part"), mode_of(target)
+    try:
+        with open(os.open(beside, os.O_WRONLY | os.O_CREAT | os.O_TRUNC | os.O_NOFOLLOW, 0o666 if mode is None else 0o600), "wb") as file:
+            for piece in pieces:
+                file.write(piece)
+            file.flush()
+            if mode is not None:
+                os.fchmod(file.fileno(), mode)
+            os.fsync(file.fileno())
+        os.replace(beside, target)
+        sync_folder(target.parent)
+    except OSError as error:
+        raise named(error, path) from None
     finally:
         beside.unlink(missing_ok=True)
+
+
+def sync_folder(folder: Path) -> None:
+    """So that the rename too is on the disk, where the file system and the folder's permissions allow it."""
+    try:
+        handle = os.open(folder, os.O_RDONLY)
+    except OSError:
+        return
+    try:
+        os.fsync(handle)
+    except OSError:
+        pass
+    finally:
+        os.close(handle)
+
+
+def named(error: OSError, path: Path) -> OSError:
+    """An error of writing, such as a full disk, with the name of its file."""
+    return error if error.errno is None else OSError(error.errno, error.strerror, str(path))
 
 
 def complain(what: str) -> None:
