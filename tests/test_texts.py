@@ -199,7 +199,7 @@ def test_any_bytes(tool, data):
 
 ERRORS = [  # what reads, a text, the line and what is said
     (session, "row 1 1 10000 500 100 1\nsp 0", 1, "row takes expiry quantum L M a b p"),
-    (session, "row 1 1 10000 500 100 1 60%\n\nadd 0 1 buy 1 1", 3, "row and sp stand before"),
+    (session, "row 1 1 10000 500 100 1 60%\n\nadd 0 1 buy 1 1", 3, "row and sp come before"),
     (session, "# a\nrow 1 1 10000 500 100 1 60%\nsp 4_294_967_296", 3, "SP: 4_294_967_296"),
     (session, "row 1 1 0:00:10 500 100 1 60%\nsp 1\nadd 0 1 bid 1 1", 3, "side: 'bid'"),
     (session, "row 1 1 10000 500 100 1 60%\nsp 1\nadd 0 1 buy 1", 3, "add takes t id side"),
@@ -215,7 +215,7 @@ ERRORS = [  # what reads, a text, the line and what is said
     (session, "row 1 1 10000 500 100 1 60\nsp 1", 1, "p: 60 has no unit: write 60% (600 tenths of a percent) or 60 tenths (6%)"),
     (session, "row 1 1 10000 500 100 1 725\nsp 1", 1, "p: 725 has no unit: write 725% (7250 tenths of a percent) or 725 tenths (72.5%)"),
     (calls, "open row 1 1 10000 500 100 1 60 day 1 sp 1", 1, "p: 60 has no unit"),
-    (session, "row 1 1 10000 500 100 1 60%\rsp 1\r\nadd " + 5000 * "9" + " 1 buy 1 1", 3, "t: 9999999999999999..99999999 (5000 signs) does"),
+    (session, "row 1 1 10000 500 100 1 60%\rsp 1\r\nadd " + 5000 * "9" + " 1 buy 1 1", 3, "t: 9999999999999999..99999999 (5000 characters) does"),
     (calls, "tick 1 # \u2028report 1\x0creport 1\x85report 1\nreport 1", 2, "report takes nothing"),
     (calls, "report\u2028", 1, "'report\\u2028' is not known"),
     (calls, "report\nopen 1 1 day 1 sp 1", 2, "open is written"),

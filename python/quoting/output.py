@@ -1,12 +1,13 @@
-"""What the command writes: to standard output, or to a file that is written beside its name and moved there when it is whole."""
+"""What the command writes: to standard output, or to a file, which is written beside its name and moved there when it is complete."""
 
 import dataclasses
+import errno
 import json
 import os
 import stat
 import sys
 from pathlib import Path
-from typing import Any, Optional, Sequence, Union
+from typing import Any, BinaryIO, Optional, Sequence, Union
 
 from quoting.reading import STANDARD
 
@@ -18,7 +19,7 @@ class Closed(Exception):
 
 
 def prepare() -> None:
-    """Signs that the terminal can't show are escaped."""
+    """Characters that the terminal can't show are escaped."""
     for stream in (sys.stdout, sys.stderr):
         if hasattr(stream, "reconfigure"):
             stream.reconfigure(errors="backslashreplace")
@@ -30,31 +31,62 @@ def write(name: Optional[str], data: Union[str, bytes]) -> None:
         write_file(Path(name), data if isinstance(data, bytes) else data.encode("utf-8", "backslashreplace"))
     elif sys.stdout is None:
         raise Closed("standard output is closed")
-    elif isinstance(data, bytes):
-        sys.stdout.buffer.write(data)
-        sys.stdout.buffer.flush()
     else:
-        sys.stdout.write(data)
         sys.stdout.flush()
+        write_all(sys.stdout.buffer, data if isinstance(data, bytes) else data.encode(sys.stdout.encoding, "backslashreplace"))
+
+
+def write_all(stream: BinaryIO, data: bytes) -> None:
+    """Without a buffer (PYTHONUNBUFFERED) a stream may take a part of the bytes only, and Python's own text streams lose the rest."""
+    rest = memoryview(data)
+    while rest:
+        count = stream.write(rest)
+        if count is None:
+            raise BlockingIOError(errno.EAGAIN, os.strerror(errno.EAGAIN))
+        rest = rest[count:]
+    stream.flush()
 
 
 def write_file(path: Path, data: bytes) -> None:
-    """Never half a file: what is no plain file (a device, a pipe) is written as it is, any other beside its name and moved."""
-    if path.exists() and not stat.S_ISREG(path.stat().st_mode):
-        path.write_bytes(data)
-        return
-    beside = path.with_name(f".{path.name}.{os.getpid()}.part")
+    """Never half a file: a device or a pipe is written to directly, any other file is replaced. An error has the file's name, which the
+    system does not give for a failed write."""
     try:
-        beside.write_bytes(data)
+        if path.exists() and not stat.S_ISREG(path.stat().st_mode):
+            path.write_bytes(data)
+        else:
+            replace_file(Path(os.path.realpath(path)), data)
+    except OSError as error:
+        raise OSError(error.errno, error.strerror, str(path)) from None
+
+
+def replace_file(path: Path, data: bytes) -> None:
+    """Writes a new file beside the old one, with its mode, and moves it there when it is on the disk."""
+    beside = path.with_name(f".{path.name[:60]}.{os.urandom(4).hex()}.part")
+    try:
+        with open(beside, "xb") as file:
+            if path.exists():
+                os.fchmod(file.fileno(), stat.S_IMODE(path.stat().st_mode))
+            file.write(data)
+            file.flush()
+            os.fsync(file.fileno())
         os.replace(beside, path)
     finally:
         beside.unlink(missing_ok=True)
 
 
+def printable(text: str) -> str:
+    r"""A text in which the bytes of a file name that are not UTF-8 are escaped.
+
+    >>> printable("\udcff.csv")
+    '\\xff.csv'
+    """
+    return text.encode("utf-8", "surrogateescape").decode("utf-8", "backslashreplace")
+
+
 def complain(what: str) -> None:
     """A sentence on standard error, if there is one."""
     if sys.stderr is not None:
-        sys.stderr.write(f"quoting: {what}\n")
+        sys.stderr.write(f"quoting: {printable(what)}\n")
 
 
 # ---------------------------------------------------------------- tables
@@ -69,7 +101,7 @@ def cell_text(value: object) -> str:
 
 
 def plain_table(heads: Sequence[str], rows: Rows) -> str:
-    """Columns apart by two blanks; numbers stand to the right.
+    """Columns separated by two spaces; numbers are aligned to the right.
 
     >>> print(plain_table(["name", "kept"], [["a", 5], ["bc", 10]]), end="")
     name  kept
@@ -86,12 +118,12 @@ def plain_table(heads: Sequence[str], rows: Rows) -> str:
     return "".join(line + "\n" for line in lines)
 
 
-def table(name: Optional[str], heads: Sequence[str], rows: Rows, behind: str = "") -> None:
-    """A table, by rich where it is a terminal's and rich is there; `behind` are lines under it."""
+def table(name: Optional[str], heads: Sequence[str], rows: Rows, after: str = "") -> None:
+    """A table, by rich on a terminal if it is installed; `after` are lines under it."""
     if is_terminal(name) and rich_table(heads, rows):
-        write(name, behind)
+        write(name, after)
     else:
-        write(name, plain_table(heads, rows) + behind)
+        write(name, plain_table(heads, rows) + after)
 
 
 def rich_table(heads: Sequence[str], rows: Rows) -> bool:

@@ -31,17 +31,11 @@ from quoting.settling import Manner, Settled, Summary, Table
 BATCH = 8  # sessions in a piece of work for a cluster, so that handing it over costs little beside it
 
 
-def count_of(word: str) -> int:
-    if not word.isascii() or not word.isdigit() or not 1 <= int(word[:6]) <= 1_024:
-        raise argparse.ArgumentTypeError(f"{word!r} is not a number of threads from 1 to 1024")
-    return int(word)
-
-
 def add(parser: argparse.ArgumentParser) -> None:
     parser.add_argument("where", metavar="FOLDER|LIST", help="a folder of sessions, or a list of their names; - is a list on standard input")
     parser.add_argument("--resume", action="store_true", help="go on where FILE.part was left off; needs -o")
     most = os.cpu_count() or 1
-    parser.add_argument("--threads", type=count_of, default=most, metavar="N", help=f"sessions at a time ({most}, this machine's processors)")
+    parser.add_argument("--threads", type=inputs.whole_in(1, 1_024), default=most, metavar="N", help=f"sessions at a time ({most}, this machine's processors)")
     parser.add_argument("--scheduler", metavar="ADDRESS", help="the scheduler of a Dask cluster, as tcp://10.0.0.5:8786")
     inputs.add_session(parser)
     inputs.add_output(parser, json=False)
