@@ -32,12 +32,6 @@ from quoting.settling import Manner, Outcome, Summary
 PATIENCE = 300.0  # seconds
 
 
-def count_of(word: str) -> int:
-    if not word.isascii() or not word.isdigit() or not 1 <= int(word[:6]) <= 1_024:
-        raise argparse.ArgumentTypeError(f"{word!r} is not a number of threads from 1 to 1024")
-    return int(word)
-
-
 def seconds_of(word: str) -> float:
     try:
         found = float(word)
@@ -54,7 +48,7 @@ def add(parser: argparse.ArgumentParser) -> None:
     again.add_argument("--resume", action="store_true", help="go on where FILE.part was left off; needs -o")
     again.add_argument("--restart", action="store_true", help="delete the rows in FILE.part, and settle every session again")
     most = os.cpu_count() or 1
-    parser.add_argument("--threads", type=count_of, default=most, metavar="N", help=f"sessions at a time ({most}, this machine's processors)")
+    parser.add_argument("--threads", type=inputs.whole_in(1, 1_024), default=most, metavar="N", help=f"sessions at a time ({most}, this machine's processors)")
     parser.add_argument("--scheduler", metavar="ADDRESS", help="the scheduler of a Dask cluster, as tcp://10.0.0.5:8786")
     help = f"how long the cluster may go without settling anything ({PATIENCE:g}), and a list's pipe without a writer"
     parser.add_argument("--patience", type=seconds_of, default=PATIENCE, metavar="SECONDS", help=help)
