@@ -715,7 +715,7 @@ def test_saved_again(tmp_path):
     assert written("# in place, and longer\n" * 10 + other + "report\n") == ["line 17"]
     assert written(other + "report\nreport\n") == ["line 8"], "in place, and shorter"
     assert written(other) == [fewer, "line 3", "log: line 1", "line 4", "line 5", "line 6"]
-    assert written("") == [fewer] and written(other) == ["line 3", "log: line 1", "line 4", "line 5", "line 6"]
+    assert written("") == [fewer, in_none(1)] and written(other) == ["line 3", "log: line 1", "line 4", "line 5", "line 6"]
     month.list.unlink()
     assert month.read() + month.read() == [("list", "the file has gone away; it is opened again when it is there")]
 

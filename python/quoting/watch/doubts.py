@@ -16,11 +16,12 @@ file ended has not, nor has one that lost its last lines: then a person must dec
 """
 
 import time
-from dataclasses import dataclass
+from dataclasses import dataclass, field
 from typing import Callable, Optional
 
 from quoting.statement.course import Place
 from quoting.statement.figures import thousands
+from quoting.statement.sources import Sent
 from quoting.values import clock
 from quoting.watch.meter import CLOSE, DROP, EVENT_KINDS, OPEN_KINDS, Meter
 from quoting.watch.sentences import counted_calls, place_text
@@ -51,6 +52,14 @@ class Reading:
         if self.opened is not None and self.opened == other.opened and other.time < self.time:
             return f"it ends at {clock(other.time)} of a quantum that was read up to {clock(self.time)}"
         return f"it has {counted_calls(other.calls)}, and {thousands(self.calls)} were read before" if other.calls < self.calls else ""
+
+
+@dataclass
+class Rotated:
+    """Another file has come under the name, and no call of it so far shows whether it goes on where the old one ended."""
+
+    before: Reading  # of the old file
+    calls: list[Sent] = field(default_factory=list)  # of the new one, so far
 
 
 @dataclass

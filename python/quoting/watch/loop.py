@@ -12,7 +12,7 @@ from quoting.statement.sources import Sent
 from quoting.watch import frames
 from quoting.watch.changes import Changes, encoded
 from quoting.watch.clocks import Clock
-from quoting.watch.doubts import PLACED_KINDS, Doubt, Reading, goes_on
+from quoting.watch.doubts import PLACED_KINDS, Doubt, Reading, Rotated, goes_on
 from quoting.watch.feeds import Changed, Feed, Item, Trouble
 from quoting.watch.meter import Meter, refusal
 from quoting.watch.recounting import Recounting
@@ -37,7 +37,7 @@ class Watch:
         self.clients = 0
         self.is_reading = True  # through what was there at the start
         self.doubt: Optional[Doubt] = None  # why the figures are not reliable
-        self.rotated: Optional[Changed] = None  # another file came under the name, and no call of it so far
+        self.rotated: Optional[Rotated] = None  # another file came under the name, and it is not known whether it goes on
         self.differs: Optional[Mapping[str, Any]] = None
         self.made = 0.0  # when the sections were made last
 
@@ -69,33 +69,42 @@ class Watch:
         if isinstance(item, Trouble):
             self.meter.trouble(item, came)
             return
-        if self.rotated is not None and item.block[0] in PLACED_KINDS:
-            self.judge(item)
+        if self.rotated is not None:
+            self.judge(self.rotated, item, came)
+        self.take_call(item, came)
+
+    def take_call(self, item: Sent, came: float) -> None:
         self.recount.call(item, self.meter.take(item, came))
 
     # ------------------------------------------------------------ a feed that has changed
 
     def change(self, item: Changed) -> None:
-        """A rotated file is judged by its first call."""
-        self.rotated = item if item.may_follow else None
+        """A rotated file is judged by its first call that shows where it belongs."""
+        self.rotated = Rotated(Reading.of(self.meter)) if item.may_follow else None
         if item.is_lost:
             self.doubt = Doubt(self.doubt.since if self.doubt else time.time(), item.text, None)
         elif not item.may_follow:
-            self.start_over(item.text)
+            self.start_over(item.text, Reading.of(self.meter))
 
-    def judge(self, first: Sent) -> None:
+    def judge(self, rotated: Rotated, sent: Sent, came: float) -> None:
         """Whether another file under the name goes on where the one before it ended."""
+        if sent.block[0] not in PLACED_KINDS:
+            rotated.calls.append(sent)
+            return
         self.rotated = None
-        call = c.call_of(first.block)
+        call = c.call_of(sent.block)
         place = (call.day, call.words[0], call.words[1]) if isinstance(call, c.Open) and len(call.words) > 1 else None
-        if not goes_on(self.meter, first.block[0], place):
-            self.start_over(REPEATED)
-            self.meter.trouble(Trouble(first.place, REPEATED), self.feed.came)
+        if goes_on(self.meter, sent.block[0], place):
+            return
+        self.start_over(REPEATED, rotated.before)
+        self.meter.trouble(Trouble("", REPEATED), came)
+        for each in rotated.calls:
+            self.take_call(each, came)
 
-    def start_over(self, why: str) -> None:
+    def start_over(self, why: str, before: Reading) -> None:
         """The calls that follow are those of the whole feed: a fresh month and a fresh recount take them."""
         if self.doubt is None:
-            self.doubt = Doubt(time.time(), why, Reading.of(self.meter))
+            self.doubt = Doubt(time.time(), why, before)
         else:
             self.doubt.renew(why)
         self.meter = self.meter.fresh()
