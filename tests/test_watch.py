@@ -54,7 +54,7 @@ def test_first(monkeypatch, most):
     calls, within = blocks_of(text), book.within
     month, due = Month(), 3 + locked + 2  # the locked quotes have lasted a millisecond when the next call comes
     called = [recounter.Called(block, f"call {at}", line(month.block(block))) for at, block in enumerate(calls, start=1)]
-    check = recounter.Check(recounter.shown_by(month, False), recounter.words_of(month))
+    check = recounter.Check(recounter.shown_by(month, False), month.words())
     monkeypatch.setattr(recounter, "MOST_WALKED", most)
     reader = recounter.Recounter()
     assert not [said for each in called[:50] for said in reader.take(each)]
