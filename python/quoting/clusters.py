@@ -4,8 +4,8 @@ Dask gives up a piece of work after several workers ended while they had it, whe
 therefore settled once more, each of them alone in the cluster, so that a row names only the session that is the cause.
 """
 
+import asyncio
 import logging
-from asyncio import CancelledError
 from collections import deque
 from concurrent import futures
 from contextlib import contextmanager
@@ -88,7 +88,7 @@ class Cluster:
         try:
             return self.answer(self.give([name], manner), ())[0]
         except Killed as killed:
-            return Outcome(Settled(name, "unreadable", reason=f"{killed} workers ended while they settled it"), None)
+            return Outcome(Settled(name, "unreadable", reason=f"each worker that settled it ended, {killed} in a row"), None)
 
     def answer(self, piece: Piece, given: Sequence[Piece]) -> list[Outcome]:
         """The outcomes of a piece. Errors of any kind may come from Dask or from a worker."""
@@ -97,9 +97,9 @@ class Cluster:
                 found: list[Outcome] = piece.future.result(timeout=LOOK)
                 self.since, self.is_warned = monotonic(), False
                 return found
-            except (TimeoutError, futures.TimeoutError):
+            except (TimeoutError, asyncio.TimeoutError, futures.TimeoutError):  # one class from Python 3.11 on
                 self.look(piece, given)
-            except (CancelledError, futures.CancelledError):
+            except (asyncio.CancelledError, futures.CancelledError):
                 raise Lost("the connection to the scheduler was lost") from None
             except Exception as error:
                 if type(error).__name__ == "KilledWorker":
@@ -149,5 +149,5 @@ def close(client: Any) -> None:
     """A lost scheduler is not waited for."""
     try:
         client.close(timeout=3)
-    except (Exception, CancelledError):
+    except (Exception, asyncio.CancelledError):
         pass

@@ -59,7 +59,9 @@ def write_file(path: Path, data: bytes) -> None:
 
 
 def target_of(path: Path) -> Path:
-    """The file that a name leads to through its links; it need not exist."""
+    """The file that a name leads to, if it is a link; it need not exist."""
+    if not path.is_symlink():
+        return path
     target = Path(os.path.realpath(path))
     if target.is_symlink():  # realpath gives up at a loop
         raise OSError(errno.ELOOP, os.strerror(errno.ELOOP), str(path))

@@ -1,14 +1,15 @@
 """The part file of `quoting settle`: the rows of a table that is not finished, so that a later run can go on with them.
 
 It has JSON lines and is only appended to. The first line has the options of the run, each `process` line a process that wrote here, and each
-`row` line a row with the stamp (size and times) of its session. Of two rows of one session the later counts. A last line without its line
-end was cut off, and is dropped. The process that writes it has it locked.
+`row` line a row with the stamp (size and times) of its session, and a check sum, so that a damaged figure is not taken over. Of two rows of
+one session the later counts. A last line without its line end was cut off, and is dropped. The process that writes it has it locked.
 """
 
 import fcntl
 import json
 import os
 import socket
+import zlib
 from dataclasses import MISSING, astuple, dataclass, fields
 from datetime import datetime, timezone
 from pathlib import Path
@@ -20,6 +21,7 @@ from quoting.settling import COLUMNS, Manner, Outcome, Settled, Stamp
 
 FORM = 1  # of the part file
 START = b'{"settle": '
+AGAIN = "--restart settles every session again"
 STATUSES = ("settled", "refused", "unreadable")
 
 
@@ -85,6 +87,15 @@ def parsed(line: bytes) -> dict[str, Any]:
     return found if isinstance(found, dict) else {}
 
 
+def row_line(outcome: Outcome) -> bytes:
+    words = astuple(outcome.row)
+    return json_line({"row": words, "stamp": outcome.stamp, "sum": check_sum(words, outcome.stamp)})
+
+
+def check_sum(words: Any, stamp: Any) -> int:
+    return zlib.crc32(json.dumps([words, stamp]).encode())
+
+
 def outcome_of(line: bytes) -> Optional[Outcome]:
     """The row and stamp of a line, None if it is the line of a process. ValueError says what is wrong with it."""
     found = parsed(line)
@@ -98,6 +109,8 @@ def outcome_of(line: bytes) -> Optional[Outcome]:
     row = Settled(*words)
     if row.status not in STATUSES or (row.status == "settled" and not all(word.isascii() and word.isdigit() for word in (row.kept, row.length))):
         raise ValueError("this is not a row of a table")
+    if found.get("sum") != check_sum(words, found.get("stamp")):
+        raise ValueError("this row is damaged: its check sum is wrong")
     return Outcome(row, stamp_in(found.get("stamp")))
 
 
@@ -108,6 +121,12 @@ def stamp_in(given: Any) -> Optional[Stamp]:
 
 
 # ---------------------------------------------------------------- the lock
+
+
+def part_of(path: Path) -> Path:
+    """The part file of a table: beside the file itself, so that all links to it lead to one part file."""
+    target = output.target_of(path)
+    return target.with_name(target.name + ".part")
 
 
 def locked(part: Path, mode: int) -> BinaryIO:
@@ -165,14 +184,13 @@ class Table:
     """The rows of a run: in the part file until all are there, then in the table. If the run breaks off, the part file stays."""
 
     def __init__(self, path: Path, names: Sequence[str], manner: Manner, resume: bool = False, restart: bool = False) -> None:
-        target = output.target_of(path)
-        self.path, self.names, self.part = path, names, target.with_name(target.name + ".part")
+        self.path, self.names, self.part = path, names, part_of(path)
         self.options = manner_words(manner)
         self.head = {"settle": FORM, "version": native.version(), "options": self.options}
         self.places: dict[str, int] = {}  # where the row of each session is
         self.kept: list[Settled] = []
         self.notes: list[str] = []
-        mode = output.mode_of(target)
+        mode = output.mode_of(path)
         self.file = locked(self.part, 0o666 if mode is None else mode | 0o600)
         try:
             self.begin(resume, restart)
@@ -215,29 +233,36 @@ class Table:
 
     def resumed(self, first: bytes) -> int:
         """Takes the rows of an earlier run whose sessions have not changed. The bytes up to the last whole line."""
-        self.check_head(first)
+        head = self.head_in(first)
         found, size = self.entries(len(first))
+        if not found:
+            return 0
+        self.check(head)
         missing = set(found).difference(self.names)
-        if found and len(missing) == len(found):
+        if len(missing) == len(found):
             raise PartError(f"{self.part} has rows of other sessions, such as {min(missing)}: none of them is to be settled now")
         if missing:
             self.notes.append(f"{self.part} has rows of {len(missing)} session(s) that are not to be settled now: they are left out")
         self.take({name: entry for name, entry in found.items() if name not in missing})
         return size
 
-    def check_head(self, first: bytes) -> None:
+    def head_in(self, first: bytes) -> dict[str, Any]:
+        """What the first line says of the run."""
         if first == settling.HEADER.encode():
-            raise PartError(f"{self.part} is of an earlier version, which did not write down its options: --restart settles every session again")
+            raise PartError(f"{self.part} is of an earlier version, which did not write down its options: {AGAIN}")
         head = parsed(first)
         if "settle" not in head:
             raise PartError(f"{self.part} is not a part file of settle: move it away, or choose another -o")
-        for what in ("settle", "version"):
-            if head.get(what) != self.head[what]:
-                raise PartError(f"{self.part} is of version {head.get('version')}, this is {self.head['version']}: --restart settles every session again")
-        if head.get("options") != self.head["options"]:
+        return head
+
+    def check(self, head: dict[str, Any]) -> None:
+        """The rows are to be as this run would make them."""
+        if (head.get("settle"), head.get("version")) != (FORM, self.head["version"]):
+            raise PartError(f"{self.part} is of version {head.get('version')}, and this is {self.head['version']}: {AGAIN}")
+        if head.get("options") != self.options:
             words = head.get("options")
-            before, now = shown(words if isinstance(words, dict) else {}), shown(self.options)
-            raise PartError(f"{self.part} was begun with {before}, and this run has {now}: give the same, or --restart to settle every session again")
+            before = shown(words if isinstance(words, dict) else {})
+            raise PartError(f"{self.part} was begun with {before}, and this run has {shown(self.options)}: give the same options, or {AGAIN}")
 
     def entries(self, size: int) -> tuple[dict[str, Entry], int]:
         """The last row of each session, and the bytes up to the last whole line."""
@@ -248,7 +273,7 @@ class Table:
             try:
                 outcome = outcome_of(line)
             except ValueError as error:
-                raise PartError(f"{self.part}: line {number}: {error}; --restart settles every session again") from None
+                raise PartError(f"{self.part}: line {number}: {error}; {AGAIN}") from None
             if outcome:
                 found[outcome.row.file] = Entry(size, outcome)
             size += len(line)
@@ -276,26 +301,31 @@ class Table:
 
     def write(self, outcome: Outcome) -> None:
         """A row is there at once, so that it outlives whatever ends the run."""
-        self.places[outcome.row.file] = self.file.tell()
-        self.append(json_line({"row": astuple(outcome.row), "stamp": outcome.stamp}))
+        at = self.file.tell()
+        self.append(row_line(outcome))
+        self.places[outcome.row.file] = at
 
     def lines(self) -> Iterator[bytes]:
         """The finished table."""
         yield settling.HEADER.encode()
-        with open(self.part, "rb") as file:
-            for name in self.names:
-                file.seek(self.places[name])
-                outcome = outcome_of(file.readline())
-                assert outcome is not None and outcome.row.file == name
-                yield outcome.row.line.encode()
+        for name in self.names:
+            self.file.seek(self.places[name])
+            outcome = outcome_of(self.file.readline())
+            if outcome is None or outcome.row.file != name:
+                raise PartError(f"{self.part}: another program has changed this file: {AGAIN}")
+            yield outcome.row.line.encode()
 
     def finish(self) -> None:
         """All rows are there: the table takes its place."""
         output.replace_file(self.path, self.lines())
-        self.part.unlink()
+        if is_at(self.file, self.part):
+            self.part.unlink()
 
     def close(self) -> None:
         """A part file without rows is of no use to anyone."""
         if not self.places and is_at(self.file, self.part):
             self.part.unlink()
-        self.file.close()
+        try:
+            self.file.close()
+        except OSError as error:  # a row that could not be written is tried again here
+            raise output.named(error, self.part) from None

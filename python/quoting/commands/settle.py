@@ -22,10 +22,10 @@ from concurrent.futures import ThreadPoolExecutor
 from contextlib import contextmanager
 from pathlib import Path
 from time import monotonic
-from typing import Any, Callable, Iterator, Optional, Sequence
+from typing import Any, Callable, Iterator, Optional, Sequence, Union
 
 from quoting import clusters, inputs, output, settling
-from quoting.parts import PartError, Table
+from quoting.parts import PartError, Table, part_of
 from quoting.reading import STANDARD
 from quoting.settling import Manner, Outcome, Summary
 
@@ -152,15 +152,23 @@ def is_device(path: Path) -> bool:
 
 
 def without_table(names: list[str], path: Optional[Path]) -> list[str]:
-    """The names but the table's own. If a session has the table's name, it would be lost: an error."""
+    """The names but those of the table and its part file, by any path. If the table's file is a session, it would be lost: an error."""
     if path is None or is_device(path):
         return names
-    target = output.target_of(path)
-    places = {os.path.abspath(path), str(target)}
-    rest = [name for name in names if os.path.abspath(name) not in {*places, f"{target}.part"}]
+    own = set(filter(None, (node_of(path), node_of(part_of(path)))))
+    rest = [name for name in names if node_of(name) not in own] if own else names
     if len(rest) < len(names) and path.exists() and not is_table(path):
         raise ValueError(f"{path} is one of the sessions, and the table would replace it: choose another -o")
     return rest
+
+
+def node_of(path: Union[str, Path]) -> Optional[tuple[int, int]]:
+    """What is the same for all names of a file; None where there is no file."""
+    try:
+        found = os.stat(path)
+    except (OSError, ValueError):
+        return None
+    return found.st_dev, found.st_ino
 
 
 def is_table(path: Path) -> bool:
