@@ -71,7 +71,7 @@ def broken_off(here, count, *words):
 # ---------------------------------------------------------------- item 7: options and changed sessions
 
 
-@pytest.mark.parametrize("now", [OTHER, (*ROW, "--start", "1:00:00"), (*ROW, "--format", "csv"), (*ROW, "--step", "0.5"), ()], ids=" ".join)
+@pytest.mark.parametrize("now", [OTHER, (*ROW, "--start", "1:00:00"), (*ROW, "--format", "csv"), (*ROW, "--step", "0.5"), (*ROW, "--complete"), ()], ids=" ".join)
 def test_resume_with_other_options_is_refused_with_both(here, now):
     part = broken_off(here, 3, *ROW)
     before = part.read_bytes()
@@ -79,7 +79,8 @@ def test_resume_with_other_options_is_refused_with_both(here, now):
     assert (status, printed) == (1, "") and "Traceback" not in said
     before_words, now_words = said.split("this run has")
     assert "begun with --row" in before_words and "60%" in before_words and "--sp 2000" in before_words, said
-    assert (" ".join(now[-2:]) if now not in (OTHER, ()) else "70%" if now else "no options") in now_words, said
+    due = {OTHER: "70%", (): "no options", (*ROW, "--complete"): "--complete"}
+    assert due.get(now, " ".join(now[-2:])) in now_words, said
     assert part.read_bytes() == before and not (here / "on.csv").exists()
     assert settle("day", "-o", "on.csv", "--resume", *ROW, cwd=here)[0] == 0
 
@@ -260,6 +261,14 @@ def test_a_list_in_a_pipe_is_read_and_one_without_a_writer_is_not_waited_for(her
     assert status == 1 and "names: nothing was written into this pipe for 1 s" in said and time.monotonic() - began < 20, said
     done = subprocess.run(["bash", "-c", f'{QUOTING} settle <(sleep 0.2; for n in "$PWD"/day/*; do echo "$n"; done) -o on.csv "$@"', "x", *ROW], cwd=here, capture_output=True, text=True)
     assert done.returncode == 0 and done.stdout.startswith("8 sessions"), done.stderr
+
+
+def test_a_list_that_ends_within_a_name_is_refused(here):
+    (here / "list").write_text("day/1.csv\nday/2")
+    status, _, said = settle("list", *ROW, cwd=here)
+    assert status == 1 and "list: line 2: " in said and "no line end" in said, said
+    (here / "list").write_text("day/1.csv\nday/2.csv")
+    assert settle("list", "-o", "on.csv", "--complete", *ROW, cwd=here)[0] == 0 and len(rows_of(here / "on.csv")) == 2
 
 
 # ---------------------------------------------------------------- item 18: damaged and old part files
