@@ -76,7 +76,7 @@ def test_refused():
     text = (EXAMPLES / "document01.session").read_text().replace("add 0 2 sell", "add 0 1 sell")
     done = command.run("sheet", "-", given=text)
     assert (done.status, done.printed) == (1, ""), done
-    assert done.complaint == "quoting: -: line 7: refused 10 at 2: an order with this id is live\n", done.complaint
+    assert done.complaint == "quoting: standard input: line 7: refused 10 at 2: an order with this id is live\n", done.complaint
     calls = command.run("calls", EXAMPLES / "month.calls", "--both")
     assert calls.status == 1 and "refused 4: the cell is filled already" in calls.printed, calls.complaint
     assert calls.printed.endswith("the proved meter and the recount agree\n")
@@ -96,7 +96,7 @@ def test_outlook():
         "need": 4_000, "left": 8_000, "by": 6_000, "full": 6_000, "lapses": None, "rest": False, "lost": False,
         "weight_resting": 0, "weight_keeping": 20_000}, done
     shown = command.run("outlook", "-", "--at", "10:00:02", "--start", "10:00:00", "--lapses", "0", given=text)
-    assert "nothing need be kept until 10:00:02; lapses left 0; the maker may not rest for good" in shown.printed, shown
+    assert "nothing need be kept until 10:00:02; lapses left 0; the maker may not stop quoting yet" in shown.printed, shown
     refused = command.run("outlook", "-", given=text + "cancel 5 9\n")
     assert refused.status == 1 and "line 5: refused 11 at 3: " in refused.complaint, refused
 

@@ -140,7 +140,7 @@ def test_bad_lines(tmp_path):
     said = {item.place: item.text for item in found if isinstance(item, Trouble)}
     assert said["line 2"].startswith("'tock' is not known; a line begins with one of open, strike"), said
     assert said["line 3"] == "this is no text (not UTF-8)"
-    assert said["line 4"] == "add takes t id side price volume, but 4 word(s) follow it"
+    assert said["line 4"] == "add takes t id side price volume, got 4 words: '1 2 buy 3'"
     assert said["line 5"] == said["line 7"] == "these words are not one call"
     options = Options(start=36_000_000, step=reading.Decimal("0.01"))
     found = drained(Steps(tmp_path, data=b"add 10:00:01 1 buy 84.52 5\nadd 9:00:00 1 buy 84.52 5\n").feed(False, options))
@@ -248,7 +248,7 @@ def test_truncated(tmp_path):
     os.truncate(grown.path, 15)
     assert shown(drained(feed)) == [("", said.format(31, 15)), "line 1", "line 2"]
     append(grown.path, b"tick 7\nreport 1\n")
-    assert shown(drained(feed)) == ["line 3", ("line 4", "report takes nothing, but 1 word(s) follow it")]
+    assert shown(drained(feed)) == ["line 3", ("line 4", "report takes nothing, got 1 word: '1'")]
     append(grown.path, b"tick 10 " + b"#" * 5_000_000 + b"\n")
     drained(feed)
     os.truncate(grown.path, 1_200_000)

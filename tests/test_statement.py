@@ -265,16 +265,16 @@ def test_cap(page_of):
 
 def test_short_gaps(page_of):
     gaps = "".join(f"amend {t} 1 {99 if t % 20 else 90} 500\n" for t in range(10, 8_000, 10))
-    page = page_of(f"open row 1 1 100_000 500 100 1 60% day 1 sp 2000\nadd 0 1 buy 99 500\nadd 0 2 sell 101 500\n{gaps}close 0 0")
+    page = page_of(f"open row 1 1 100_000 500 100 1 60% day 1 sp 2000\nadd 0 1 buy 99 500\nadd 0 2 sell 101 500\n{gaps}close 0 0\n")
     lapses = page.articles[1, 1, 1]["lap"]
     assert lapses[0] == ["lapses: 399, no limit"] and lapses[-1] == ["and 392 others, 0:00:03.920 in all"] and len(lapses) == 9, lapses
 
 
 def test_empty_month(page_of):
-    assert page_of("report").tables["sum"][-1][1] == "0 roubles 00 kopecks"
+    assert page_of("report\n").tables["sum"][-1][1] == "0 roubles 00 kopecks"
 
 
-@pytest.mark.parametrize("text", ["start 20261102-10:00:00.000\n", "start 20261102-10:00:00.000\nreport", "start x\n", "start 20261102-10:00:00.000\n" * 2])
+@pytest.mark.parametrize("text", ["start 20261102-10:00:00.000\n", "start 20261102-10:00:00.000\nreport\n", "start x\n", "start 20261102-10:00:00.000\n" * 2])
 def test_wrong_start(tmp_path, text):
     file = tmp_path / "odd.calls"
     file.write_text(text)
@@ -359,7 +359,7 @@ def test_damaged(tmp_path):
     """Whatever a month or a log holds: a page and 0 or 1, or a sentence with the file's name."""
     rng = random.Random(1)
     month, log = ((PROGRAMMES / f"brent.{kind}").read_bytes() for kind in ("month", "log"))
-    month, log = b"\n".join(month.split(b"\n")[:20]), b"\n".join(log.split(b"\n")[:60])
+    month, log = (b"".join(lines.splitlines(keepends=True)[:count]) for lines, count in ((month, 20), (log, 60)))
     pages = 0
     for at in range(DAMAGED):
         files = [bytearray(month), bytearray(log)]

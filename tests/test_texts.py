@@ -199,7 +199,7 @@ def test_any_bytes(tool, data):
 
 ERRORS = [  # what reads, a text, the line and what is said
     (session, "row 1 1 10000 500 100 1\nsp 0", 1, "row takes expiry quantum L M a b p"),
-    (session, "row 1 1 10000 500 100 1 60%\n\nadd 0 1 buy 1 1", 3, "row and sp stand before"),
+    (session, "row 1 1 10000 500 100 1 60%\n\nadd 0 1 buy 1 1", 3, "row and sp come before"),
     (session, "# a\nrow 1 1 10000 500 100 1 60%\nsp 4_294_967_296", 3, "SP: 4_294_967_296"),
     (session, "row 1 1 0:00:10 500 100 1 60%\nsp 1\nadd 0 1 bid 1 1", 3, "side: 'bid'"),
     (session, "row 1 1 10000 500 100 1 60%\nsp 1\nadd 0 1 buy 1", 3, "add takes t id side"),

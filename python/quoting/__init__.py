@@ -5,6 +5,11 @@
 20000
 """
 
+from quoting import entry
+
+if entry.is_run_as_module():  # before any module that the current folder could replace
+    entry.drop_current_folder()
+
 from quoting import fix
 from quoting.accounts import Account, Stretch, account
 from quoting.answers import Accepted, Answer, Asked, Cell, MonthReport, Outlook

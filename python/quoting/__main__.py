@@ -1,8 +1,9 @@
-"""python3 -m quoting"""
+"""The command, as `python3 -m quoting` and the script ./quoting start it."""
 
 import sys
 
-if __name__ == "__main__":
+
+def start() -> None:
     try:
         from quoting.cli import main
 
@@ -11,3 +12,7 @@ if __name__ == "__main__":
         sys.stderr.write("quoting: stopped\n")
         status = 130
     sys.exit(status)
+
+
+if __name__ == "__main__":
+    start()

@@ -44,7 +44,7 @@ def words(rule: Union[Rule, bytes], events: Events, strike: Optional[Strike] = N
     """The words that the library writes: the six states' milliseconds, the number of stretches, three words for each."""
     given = rule if isinstance(rule, Rule) else Rule.of_bytes(ranges.data(rule, "rule"))
     row, spread = ranges.words(given.row.words, "row"), spread_numbers(given.sp, strike)
-    data, size, _alive = lent(events)
+    data, size, _alive = lent(events, given.head)
     most = FRONT + 3 * (-(-size // SIZE) + 1)  # n records make at most n + 1 stretches
     buffer = native.words(most)
     native.call("quoting_account", row, 7, *spread, data, size, buffer, most)

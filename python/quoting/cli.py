@@ -34,11 +34,11 @@ def run(args: argparse.Namespace) -> int:
         return status
     except TextError as error:
         output.complain(error.shown())
-    except BrokenPipeError:
+    except BrokenPipeError as error:
         silence()
-        output.complain("standard output: the reader has gone")
+        output.complain(f"{named(error)}: the reader has gone")
     except OSError as error:
-        output.complain(f"{error.filename or 'standard output'}: {error.strerror or error}")
+        output.complain(f"{named(error)}: {error.strerror or error}")
         silence()
     except KeyboardInterrupt:
         output.complain("stopped")
@@ -49,6 +49,11 @@ def run(args: argparse.Namespace) -> int:
     except (native.Refused, native.Missing, output.Closed, ValueError) as error:
         output.complain(str(error))
     return 1
+
+
+def named(error: OSError) -> str:
+    """The file of an error; errors of every file but standard output have its name."""
+    return os.fsdecode(error.filename) if isinstance(error.filename, (str, bytes)) else "standard output"
 
 
 def silence() -> None:

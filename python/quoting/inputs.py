@@ -1,6 +1,7 @@
-"""Sessions and lists of calls from files, as text, CSV or bytes: told apart by what stands in them, unless it is said."""
+"""Sessions and lists of calls from files, as text, CSV or bytes: which of them a file is shows in its content, unless an option says it."""
 
 import argparse
+from bisect import bisect_right
 from dataclasses import dataclass
 from decimal import Decimal
 from pathlib import Path
@@ -8,11 +9,13 @@ from typing import Callable, Optional
 
 from quoting import calls as c
 from quoting import reading, texts, values
+from quoting.events import SIZE
+from quoting.native import Refused
 from quoting.reading import STANDARD, Options, TextError
 from quoting.rules import HEAD
 
 FORMATS = ("text", "csv", "bytes")
-FRONT = 65_536  # bytes of a file that are looked at to tell what it is
+FRONT = 65_536  # bytes of a file that are read to see what it is
 
 
 class WrongUse(Exception):
@@ -21,11 +24,12 @@ class WrongUse(Exception):
 
 @dataclass(frozen=True)
 class Source:
-    """What a file holds: its name, the meter's bytes, and the text that they come from (None: they were bytes)."""
+    """What a file holds: its name, the meter's bytes, the text that they come from (None: they were bytes), and which of FORMATS it is."""
 
     name: str
     data: bytes
     text: Optional[str] = None
+    form: str = "bytes"
 
     @property
     def stem(self) -> str:
@@ -48,12 +52,19 @@ def step_of(word: str) -> Decimal:
     return Decimal(word)
 
 
-def limit_of(word: str) -> int:
-    """A lapse limit."""
-    try:
-        return values.whole(word, (0, 1_000))
-    except ValueError as error:
-        raise argparse.ArgumentTypeError(str(error)) from None
+def whole_in(low: int, high: int) -> Callable[[str], int]:
+    """The reader of an option that is a whole number from `low` to `high`."""
+
+    def read(word: str) -> int:
+        try:
+            return values.whole(word, (low, high))
+        except ValueError as error:
+            raise argparse.ArgumentTypeError(str(error)) from None
+
+    return read
+
+
+limit_of = whole_in(0, 1_000)  # a lapse limit
 
 
 def add_output(parser: argparse.ArgumentParser, json: bool = True) -> None:
@@ -62,29 +73,34 @@ def add_output(parser: argparse.ArgumentParser, json: bool = True) -> None:
         parser.add_argument("--json", action="store_true", help="write JSON")
 
 
+def add_complete(parser: argparse.ArgumentParser) -> None:
+    parser.add_argument("--complete", action="store_true", help="the file is whole, although its last line has no line end")
+
+
 def add_reading(parser: argparse.ArgumentParser) -> None:
     parser.add_argument("--start", type=start_of, default=0, metavar="H:MM:SS", help="the quantum's start: times h:mm:ss are a wall clock's")
     parser.add_argument("--step", type=step_of, metavar="STEP", help="prices are decimals, in steps of STEP, as 0.01")
+    add_complete(parser)
 
 
 def add_session(parser: argparse.ArgumentParser) -> None:
     """The arguments of a command that reads sessions."""
     add_reading(parser)
     parser.add_argument("--format", choices=FORMATS, help="how the session is written, where its content does not show it")
-    parser.add_argument("--row", metavar="ROW", help='the row of a CSV session without one, as "1 1 8:45:00 1000 150 3 60%%"')
-    parser.add_argument("--sp", metavar="SP", help="the settlement price of a CSV session without one")
+    parser.add_argument("--row", metavar="ROW", help='the row of a session without one, as "1 1 8:45:00 1000 150 3 60%%"')
+    parser.add_argument("--sp", metavar="SP", help="the settlement price of a session without one")
 
 
 def options_of(args: argparse.Namespace) -> Options:
-    return Options(args.start, args.step, getattr(args, "old_months", False))
+    return Options(args.start, args.step, getattr(args, "old_months", False), args.complete)
 
 
 def head_of(args: argparse.Namespace) -> Optional[bytes]:
-    """The leading bytes that --row and --sp are; None where they are not given."""
+    """The leading bytes that --row and --sp make; None where they are not given."""
     if args.row is None and args.sp is None:
         return None
     if args.row is None or args.sp is None:
-        raise WrongUse("--row and --sp are given together")
+        raise WrongUse("--row and --sp go together")
     try:
         row = reading.seven_words(reading.words_of(args.row), options_of(args))
         return HEAD.pack(*row, reading.price(args.sp, "SP", options_of(args)))
@@ -92,35 +108,41 @@ def head_of(args: argparse.Namespace) -> Optional[bytes]:
         raise WrongUse(f"--row and --sp: {error}") from None
 
 
+def check_no_head(args: argparse.Namespace) -> None:
+    if args.row is not None or args.sp is not None:
+        raise WrongUse("--row and --sp go with a session, and this is a list of calls")
+
+
 # ---------------------------------------------------------------- sessions
 
 
 def format_of(name: str, data: bytes) -> str:
-    """A byte 0 stands in no text, and in the bytes of every row."""
-    if b"\0" in data:
+    """One of FORMATS, by the content and the name."""
+    if reading.holds_bytes(data):
         return "bytes"
     return "csv" if name.lower().endswith(".csv") or is_csv(data) else "text"
 
 
 def is_csv(data: bytes) -> bool:
-    """Whether the first line that says something has a comma where the first word ends."""
+    """Whether the first word of the first line that is not empty has a comma."""
     for _, name, _ in reading.lines(data[:FRONT].decode("utf-8-sig", "replace")):
         return "," in name
     return False
 
 
 def session_of(name: str, data: bytes, options: Options = reading.PLAIN, head: Optional[bytes] = None, form: Optional[str] = None) -> Source:
-    """The session of a file's bytes."""
+    """The session of a file's bytes; `head` are the leading bytes that are given with it."""
     form = form or format_of(name, data)
-    if form == "bytes":
-        return Source(name, data)
     try:
-        text = reading.decoded(data)
-        made = texts.csv_bytes(text, options, head) if form == "csv" else texts.session_bytes(text, options)
+        if form == "bytes":
+            texts.check_head(HEAD.unpack(data[: HEAD.size]) if len(data) >= HEAD.size else [None] * 8, head)
+            return Source(name, data)
+        text = reading.whole_text(data, options)
+        made = texts.csv_bytes(text, options, head) if form == "csv" else texts.session_bytes(text, options, head)
     except TextError as error:
         error.file = name
         raise
-    return Source(name, made, text)
+    return Source(name, made, text, form)
 
 
 def session(name: str, args: argparse.Namespace) -> Source:
@@ -129,15 +151,23 @@ def session(name: str, args: argparse.Namespace) -> Source:
 
 
 def line_of_record(source: Source, place: int) -> Optional[int]:
-    """The line of a text at which a session's record stands, counted from 1."""
+    """The line of a text from which a session's record comes, both counted from 1."""
     if source.text is None or place < 1:
         return None
-    if is_csv(source.text.encode()):
-        found = [at for at, line in enumerate(reading.split_lines(source.text), start=1) if any(texts.csv_cells(line))]
-        rows = [at for at in found if texts.csv_cells(reading.split_lines(source.text)[at - 1])[0] not in ("row", "sp")][1:]
-    else:
-        rows = [at for at, name, _ in reading.lines(source.text) if name not in ("row", "sp")]
-    return rows[place - 1] if place <= len(rows) else None
+    sizes = texts.csv_sizes if source.form == "csv" else texts.session_sizes
+    start, end = SIZE * (place - 1), 0
+    for line, size in sizes(source.text):
+        end += size
+        if end > start:
+            return line
+    return None
+
+
+def refusal_text(source: Source, refused: Refused) -> str:
+    """A refusal after the file's name and the line of its record."""
+    name = "standard input" if source.name == STANDARD else source.name
+    line = line_of_record(source, refused.place)
+    return f"{name}: line {line}: {refused}" if line else f"{name}: {refused}"
 
 
 # ---------------------------------------------------------------- lists of calls
@@ -145,7 +175,7 @@ def line_of_record(source: Source, place: int) -> Optional[int]:
 
 @dataclass(frozen=True)
 class Placed:
-    """A block of a list, and the line it comes from (None: the list was bytes)."""
+    """A block of a list, and the line from which it comes (None: the list was bytes)."""
 
     block: bytes
     line: Optional[int]
@@ -174,23 +204,15 @@ def placed(parts: list[Placed]) -> Callable[[int], Optional[int]]:
     """The line from which the byte at a place comes."""
     starts, at = [], 0
     for part in parts:
-        starts.append((at, part.line))
+        starts.append(at)
         at += len(part.block)
-
-    def line_at(place: int) -> Optional[int]:
-        low, high = 0, len(starts)
-        while high - low > 1:
-            middle = (low + high) // 2
-            low, high = (middle, high) if starts[middle][0] <= place else (low, middle)
-        return starts[low][1] if starts else None
-
-    return line_at
+    return lambda place: parts[bisect_right(starts, place) - 1].line if parts else None
 
 
 def calls_parts(name: str, data: bytes, options: Options = reading.PLAIN) -> list[Placed]:
     """The bytes of a list, in parts with their lines where it is a text."""
     try:
-        return [Placed(data, None)] if b"\0" in data else text_parts(reading.decoded(data), options)
+        return [Placed(data, None)] if reading.holds_bytes(data) else text_parts(reading.whole_text(data, options), options)
     except TextError as error:
         error.file = name
         raise

@@ -1,12 +1,13 @@
-"""What the command writes: to standard output, or to a file that is written beside its name and moved there when it is whole."""
+"""What the command writes: to standard output, or to a file, which is written beside its name and moved there when it is complete."""
 
 import dataclasses
+import errno
 import json
 import os
 import stat
 import sys
 from pathlib import Path
-from typing import Any, Optional, Sequence, Union
+from typing import Any, BinaryIO, Iterable, Optional, Sequence, Union
 
 from quoting.reading import STANDARD
 
@@ -18,7 +19,7 @@ class Closed(Exception):
 
 
 def prepare() -> None:
-    """Signs that the terminal can't show are escaped."""
+    """Characters that the terminal can't show are escaped."""
     for stream in (sys.stdout, sys.stderr):
         if hasattr(stream, "reconfigure"):
             stream.reconfigure(errors="backslashreplace")
@@ -30,31 +31,101 @@ def write(name: Optional[str], data: Union[str, bytes]) -> None:
         write_file(Path(name), data if isinstance(data, bytes) else data.encode("utf-8", "backslashreplace"))
     elif sys.stdout is None:
         raise Closed("standard output is closed")
-    elif isinstance(data, bytes):
-        sys.stdout.buffer.write(data)
-        sys.stdout.buffer.flush()
     else:
-        sys.stdout.write(data)
         sys.stdout.flush()
+        write_all(sys.stdout.buffer, data if isinstance(data, bytes) else data.encode(sys.stdout.encoding, "backslashreplace"))
+
+
+def write_all(stream: BinaryIO, data: bytes) -> None:
+    """Without a buffer (PYTHONUNBUFFERED) a stream may take a part of the bytes only, and Python's own text streams lose the rest."""
+    rest = memoryview(data)
+    while rest:
+        count = stream.write(rest)
+        if count is None:
+            raise BlockingIOError(errno.EAGAIN, os.strerror(errno.EAGAIN))
+        rest = rest[count:]
+    stream.flush()
 
 
 def write_file(path: Path, data: bytes) -> None:
-    """Never half a file: what is no plain file (a device, a pipe) is written as it is, any other beside its name and moved."""
-    if path.exists() and not stat.S_ISREG(path.stat().st_mode):
-        path.write_bytes(data)
+    """Never half a file: a device or a pipe is written directly, any other file is replaced."""
+    if not path.exists() or stat.S_ISREG(path.stat().st_mode):
+        replace_file(path, [data])
         return
-    beside = path.with_name(f".{path.name}.{os.getpid()}.part")
     try:
-        beside.write_bytes(data)
-        os.replace(beside, path)
+        path.write_bytes(data)
+    except OSError as error:
+        raise named(error, path) from None
+
+
+def target_of(path: Path) -> Path:
+    """The file that a name leads to through its links; it need not exist."""
+    target = Path(os.path.realpath(path))
+    if target.is_symlink():  # realpath gives up at a loop
+        raise OSError(errno.ELOOP, os.strerror(errno.ELOOP), str(path))
+    return target
+
+
+def mode_of(path: Path) -> Optional[int]:
+    """The permissions of a file, None where there is none."""
+    try:
+        return stat.S_IMODE(path.stat().st_mode)
+    except FileNotFoundError:
+        return None
+
+
+def replace_file(path: Path, pieces: Iterable[bytes]) -> None:
+    """A whole file or the old one, even after a power cut: written beside its name, synced, then renamed. Links and permissions stay."""
+    target = target_of(path)
+    beside, mode = target.with_name(f".{target.name[:60]}.{os.getpid()}.part"), mode_of(target)
+    try:
+        with open(os.open(beside, os.O_WRONLY | os.O_CREAT | os.O_TRUNC | os.O_NOFOLLOW, 0o666 if mode is None else 0o600), "wb") as file:
+            for piece in pieces:
+                file.write(piece)
+            file.flush()
+            if mode is not None:
+                os.fchmod(file.fileno(), mode)
+            os.fsync(file.fileno())
+        os.replace(beside, target)
+        sync_folder(target.parent)
+    except OSError as error:
+        raise named(error, path) from None
     finally:
         beside.unlink(missing_ok=True)
+
+
+def sync_folder(folder: Path) -> None:
+    """So that the rename too is on the disk, where the file system and the folder's permissions allow it."""
+    try:
+        handle = os.open(folder, os.O_RDONLY)
+    except OSError:
+        return
+    try:
+        os.fsync(handle)
+    except OSError:
+        pass
+    finally:
+        os.close(handle)
+
+
+def named(error: OSError, path: Path) -> OSError:
+    """An error of writing, such as a full disk, with the name of its file."""
+    return error if error.errno is None else OSError(error.errno, error.strerror, str(path))
+
+
+def printable(text: str) -> str:
+    r"""A text in which the bytes of a file name that are not UTF-8 are escaped.
+
+    >>> printable("\udcff.csv")
+    '\\xff.csv'
+    """
+    return text.encode("utf-8", "surrogateescape").decode("utf-8", "backslashreplace")
 
 
 def complain(what: str) -> None:
     """A sentence on standard error, if there is one."""
     if sys.stderr is not None:
-        sys.stderr.write(f"quoting: {what}\n")
+        sys.stderr.write(f"quoting: {printable(what)}\n")
 
 
 # ---------------------------------------------------------------- tables
@@ -69,7 +140,7 @@ def cell_text(value: object) -> str:
 
 
 def plain_table(heads: Sequence[str], rows: Rows) -> str:
-    """Columns apart by two blanks; numbers stand to the right.
+    """Columns separated by two spaces; numbers are aligned to the right.
 
     >>> print(plain_table(["name", "kept"], [["a", 5], ["bc", 10]]), end="")
     name  kept
@@ -86,12 +157,12 @@ def plain_table(heads: Sequence[str], rows: Rows) -> str:
     return "".join(line + "\n" for line in lines)
 
 
-def table(name: Optional[str], heads: Sequence[str], rows: Rows, behind: str = "") -> None:
-    """A table, by rich where it is a terminal's and rich is there; `behind` are lines under it."""
+def table(name: Optional[str], heads: Sequence[str], rows: Rows, after: str = "") -> None:
+    """A table, by rich on a terminal if it is installed; `after` are lines under it."""
     if is_terminal(name) and rich_table(heads, rows):
-        write(name, behind)
+        write(name, after)
     else:
-        write(name, plain_table(heads, rows) + behind)
+        write(name, plain_table(heads, rows) + after)
 
 
 def rich_table(heads: Sequence[str], rows: Rows) -> bool:

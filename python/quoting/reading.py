@@ -1,7 +1,8 @@
 r"""The one reader of all texts: files, lines, words, fields, and errors with file and line.
 
-A line ends at LF, CRLF or CR and nowhere else. Words are apart by blanks and tabs; what follows a # is a comment. A byte order mark at
-the front is passed over.
+A line ends at LF, CRLF or CR and nowhere else. Words are separated by spaces and tabs; what follows a # is a comment. A byte order mark
+at the front is skipped. A file whose last line has no line end may have been cut short there, and `cancel 3000 11` cut short may read
+`cancel 3000 1`: such a file is refused unless it is said to be complete.
 
 >>> list(lines("row 1\t2 # a\u2028comment\r\n\rsp 3"))
 [(1, 'row', ['1', '2']), (3, 'sp', ['3'])]
@@ -31,7 +32,7 @@ class TextError(Exception):
     file: Optional[str] = None
 
     def shown(self) -> str:
-        """The message behind its file and line."""
+        """The message after its file and line."""
         file = "standard input" if self.file == STANDARD else self.file
         line = f"line {self.line}" if self.line else None
         return ": ".join([part for part in (file, line) if part] + [str(self)])
@@ -39,11 +40,13 @@ class TextError(Exception):
 
 @dataclass(frozen=True)
 class Options:
-    """How times, prices and shares are read: from a wall clock's start, in steps of a decimal, and with p in percent as before W6."""
+    """How times, prices and shares are read: from a wall clock's start, in steps of a decimal, and with p in percent as before W6.
+    `complete` says that a file is whole although its last line has no line end."""
 
     start: int = 0
     step: Optional[Decimal] = None
     old_months: bool = False
+    complete: bool = False
 
 
 PLAIN = Options()
@@ -54,20 +57,51 @@ PLAIN = Options()
 
 def read_bytes(name: str) -> bytes:
     """All of a file, or of standard input for -."""
-    if name != STANDARD:
-        return Path(name).read_bytes()
-    if sys.stdin is None:
+    if name == STANDARD and sys.stdin is None:
         raise failed("standard input is closed", name)
-    return sys.stdin.buffer.read()
+    try:
+        return sys.stdin.buffer.read() if name == STANDARD else Path(name).read_bytes()
+    except OSError as error:  # one that comes while reading has no name
+        raise OSError(error.errno, error.strerror, "standard input" if name == STANDARD else name) from None
+
+
+def is_utf16(data: bytes) -> bool:
+    """By the byte order mark, or by two characters of ASCII at the front. Bytes of a session or of calls begin with a small word, and so
+    never like this."""
+    one, two, three, four = data[:4] if len(data) >= 4 else bytes(4)
+    marked = data[:2] in (b"\xff\xfe", b"\xfe\xff")
+    return marked or bool(one and three and not two and not four) or bool(two and four and not one and not three)
+
+
+def holds_bytes(data: bytes) -> bool:
+    """Whether a file holds the meter's bytes and no text: its first word, an expiry or the kind of a call, is small, so that one of its
+    four bytes is 0. A text has no byte 0; one that has, further on, is damaged."""
+    return b"\0" in data[:4] and not is_utf16(data)
 
 
 def decoded(data: bytes, file: Optional[str] = None) -> str:
     """The text of a file's bytes."""
+    if is_utf16(data):
+        raise failed("this text is UTF-16: save it as UTF-8", file)
     try:
-        return data.decode("utf-8-sig")
+        text = data.decode("utf-8-sig")
     except UnicodeDecodeError as error:
         before = LINE_END.findall(data[: error.start].decode("latin-1"))
         raise failed("this is no text (not UTF-8)", file, len(before) + 1) from None
+    if "\0" in text:
+        before = LINE_END.findall(text[: text.index("\0")])
+        raise failed("a byte 0 is here: no text has one", file, len(before) + 1)
+    return text
+
+
+def whole_text(data: bytes, options: Options = PLAIN, file: Optional[str] = None) -> str:
+    """The text of a file's bytes, which is refused where it ends within a line. A comment at its end may lack the line end."""
+    text = decoded(data, file)
+    last = text[max(text.rfind("\n"), text.rfind("\r")) + 1 :]
+    if words_of(last) and not options.complete:
+        what = f"{values.brief(last)!r} has no line end, so the file may be cut short here: end the line, or give --complete if the file is whole"
+        raise failed(what, file, len(LINE_END.findall(text)) + 1)
+    return text
 
 
 def failed(what: str, file: Optional[str] = None, line: Optional[int] = None) -> TextError:
@@ -89,7 +123,7 @@ def words_of(line: str) -> list[str]:
 
 
 def lines(text: str) -> Iterator[tuple[int, str, list[str]]]:
-    """Each line that says something: its number, its first word, the words behind it."""
+    """Each line that is not empty: its number, its first word, the words after it."""
     for at, line in enumerate(split_lines(text), start=1):
         words = words_of(line)
         if words:
@@ -97,7 +131,7 @@ def lines(text: str) -> Iterator[tuple[int, str, list[str]]]:
 
 
 def read_by_lines(text: str, take: Callable[[str, list[str]], None]) -> None:
-    """Hands each line to `take`; an error leaves with the number of its line."""
+    """Gives each line to `take`; an error gets the number of its line."""
     for at, name, words in lines(text):
         try:
             take(name, words)
@@ -110,8 +144,18 @@ def columns(name: str, words: list[str], names: str) -> dict[str, str]:
     """The words under their columns' names."""
     due = names.split()
     if len(words) != len(due):
-        raise TextError(f"{name} takes {' '.join(due) or 'nothing'}, but {len(words)} word(s) follow it")
+        raise TextError(f"{name} takes {' '.join(due) or 'nothing'}, got {counted(words)}")
     return dict(zip(due, words))
+
+
+def counted(words: list[str]) -> str:
+    """The words as a message has them.
+
+    >>> counted(["1", "2"]), counted([])
+    ("2 words: '1 2'", 'no word')
+    """
+    count = f"{len(words)} word{'s' * (len(words) != 1)}"
+    return f"{count}: {values.brief(' '.join(words))!r}" if words else "no word"
 
 
 # ---------------------------------------------------------------- fields
@@ -125,7 +169,7 @@ def number(word: str, span: values.Span, what: str) -> int:
 
 
 def time(word: str, what: str = "t", start: int = 0) -> int:
-    """Milliseconds from the quantum's start. A wall clock's start is taken off a time h:mm:ss, and not off milliseconds."""
+    """Milliseconds from the quantum's start. A wall clock's start is subtracted from a time h:mm:ss, and not from milliseconds."""
     try:
         found = values.milliseconds(word)
     except ValueError as error:
@@ -173,7 +217,7 @@ def seven_words(words: list[str], options: Options = PLAIN) -> list[int]:
     """The seven words of a row."""
     count = len(words) - (words[7:8] == ["tenths"])
     if count != 7:
-        raise TextError(f"row takes expiry quantum L M a b p, but {count} word(s) follow it")
+        raise TextError(f"row takes expiry quantum L M a b p, got {counted(words)}")
     return row_words(words, options)
 
 

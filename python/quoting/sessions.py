@@ -67,19 +67,20 @@ def session(rule: Union[Rule, bytes], events: Events) -> Session:
     """Runs one session. `events` are a list of events, a text of CSV, bytes of records, or a numpy array of `events.dtype()`, whose
     memory is read without a copy. A refusal is raised as `Refused`; its place is the record counted from 1."""
     head = rule.head if isinstance(rule, Rule) else ranges.data(rule, "rule")
-    data, size, _alive = lent(events)
+    data, size, _alive = lent(events, head)
     most = FRONT + 2 * ((-(-size // lists.SIZE) + 1) // 2)  # a run of n records has at most (n + 1) / 2 kept stretches
     buffer = native.words(most)
     native.call("quoting_session_pairs", head, len(head), data, size, buffer, most)
     return Session(Rule.of_bytes(head[: HEAD.size]), buffer)
 
 
-def lent(events: Events) -> tuple[Any, int, Any]:
-    """The records as the library takes them, their bytes, and what must live meanwhile."""
+def lent(events: Events, head: bytes) -> tuple[Any, int, Any]:
+    """The records as the library takes them, their size in bytes, and the object whose memory they are. A CSV text that has a row and SP
+    of its own must have those of the leading bytes."""
     if hasattr(events, "__array_interface__"):
         return array_lent(events)
     if isinstance(events, str):
-        data = texts.csv_bytes(events, head=b"")
+        data = texts.csv_bytes(events, head=head)[len(head) :]
     elif isinstance(events, (bytes, bytearray, memoryview)):
         data = ranges.data(events, "events")
     else:

@@ -12,11 +12,11 @@ open row 1 1 10000 500 100 1 60% day 1 sp 2000 lapses none
 
 import re
 from dataclasses import astuple, dataclass
-from typing import Any, Callable, Optional
+from typing import Any, Callable, Iterator, Optional, Sequence
 
 from quoting import calls as c
 from quoting import fix, reading, values
-from quoting.events import KINDS, SIDES, Add, Amend, Cancel, Deal, Event, Tick, event_of, record, split
+from quoting.events import KINDS, SIDES, SIZE, Add, Amend, Cancel, Deal, Event, Tick, event_of, record, split
 from quoting.reading import PLAIN, Options, TextError
 from quoting.rules import COLUMNS, HEAD
 
@@ -62,55 +62,105 @@ def hex_bytes(words: list[str]) -> bytes:
 # ---------------------------------------------------------------- a session
 
 
-class SessionReader:
-    """Gathers the items of a session's text in the order in which bytes want them."""
+@dataclass
+class Head:
+    """The row and SP of a session: those that its text has, and the leading bytes that are given with it (--row and --sp, or a rule).
+    Where both are there they must be the same."""
 
-    def __init__(self, options: Options = PLAIN) -> None:
-        self.options = options
-        self.row: Optional[list[int]] = None
-        self.sp: Optional[int] = None
+    options: Options = PLAIN
+    given: Optional[bytes] = None
+    row: Optional[list[int]] = None
+    sp: Optional[int] = None
+
+    def take_row(self, words: list[str]) -> None:
+        if self.row is not None:
+            raise TextError("this is a second row: a session has one")
+        self.row = reading.seven_words(words, self.options)
+        check_head([*self.row, None], self.given)
+
+    def take_sp(self, words: list[str]) -> None:
+        if self.sp is not None:
+            raise TextError("this is a second sp: a session has one")
+        self.sp = reading.price(reading.columns("sp", words, "SP")["SP"], "SP", self.options)
+        check_head([None] * 7 + [self.sp], self.given)
+
+    def data(self) -> bytes:
+        if self.given is not None:
+            return self.given
+        if self.row is None:
+            raise TextError("there is no row")
+        if self.sp is None:
+            raise TextError("there is no sp")
+        return HEAD.pack(*self.row, self.sp)
+
+
+def check_head(found: Sequence[Optional[int]], given: Optional[bytes]) -> None:
+    """Compares what a file says of the row's seven words and SP (None: nothing) with the leading bytes that are given with it."""
+    if given is None or len(given) != HEAD.size:  # the library refuses leading bytes of another size
+        return
+    *row, sp = HEAD.unpack(given)
+    for what, own, other in (("row", list(found[:7]), row), ("sp", [found[7]], [sp])):
+        if own != other and None not in own:
+            shown = [reading.row_text([word for word in words if word is not None]) for words in (own, other)]
+            raise TextError(f"the file's {what} is {shown[0]}, but the {what} given with it is {shown[1]}: give the file's own, or none")
+
+
+class SessionReader:
+    """Collects the items of a session's text in the order in which the bytes have them."""
+
+    def __init__(self, options: Options = PLAIN, given: Optional[bytes] = None) -> None:
+        self.options, self.head = options, Head(options, given)
         self.rest: list[bytes] = []
 
     def take(self, name: str, words: list[str]) -> None:
+        head = self.head
         if name == "row":
-            if self.row is not None or self.rest:
-                raise TextError("row stands once, before all else")
-            self.row = reading.seven_words(words, self.options)
+            if self.rest:
+                raise TextError("row comes before everything else")
+            head.take_row(words)
         elif name == "sp":
-            if self.row is None or self.sp is not None or self.rest:
-                raise TextError("sp stands once, straight behind row")
-            self.sp = reading.price(reading.columns("sp", words, "SP")["SP"], "SP", self.options)
+            if self.rest or head.row is None:
+                raise TextError("sp comes directly after row")
+            head.take_sp(words)
         elif name == "bytes":
-            if self.row is not None and self.sp is None:
-                raise TextError("sp is missing between row and this line")
-            self.rest.append(hex_bytes(words))
+            self.take_bytes(words)
         elif name in EVENT_COLUMNS:
-            if self.sp is None:
-                raise TextError("row and sp stand before the first event")
+            if head.sp is None and (head.row is not None or head.given is None):
+                raise TextError("row and sp come before the first event")
             self.rest.append(record(event(name, words, self.options)))
         else:
             known = ", ".join(["row", "sp", *EVENT_COLUMNS, "bytes"])
             raise TextError(f"{values.brief(name)!r} is not known; a line begins with one of {known}")
 
+    def take_bytes(self, words: list[str]) -> None:
+        if self.head.row is not None and self.head.sp is None:
+            raise TextError("sp is missing between row and this line")
+        if self.head.row is None and self.head.given is not None:
+            raise TextError("bytes without a row before them are a whole session: --row and --sp do not go with them")
+        self.rest.append(hex_bytes(words))
+
     def data(self) -> bytes:
-        if self.row is None and self.rest:
-            return b"".join(self.rest)  # only bytes as they stand
-        return head_bytes(self.row, self.sp) + b"".join(self.rest)
+        if self.head.row is None and self.head.given is None and self.rest:
+            return b"".join(self.rest)  # only lines `bytes`: the session's bytes as they are
+        return self.head.data() + b"".join(self.rest)
 
 
-def head_bytes(row: Optional[list[int]], sp: Optional[int]) -> bytes:
-    if row is None:
-        raise TextError("there is no row")
-    if sp is None:
-        raise TextError("there is no sp")
-    return HEAD.pack(*row, sp)
-
-
-def session_bytes(text: str, options: Options = PLAIN) -> bytes:
-    """The bytes of a session's text."""
-    reader = SessionReader(options)
+def session_bytes(text: str, options: Options = PLAIN, given: Optional[bytes] = None) -> bytes:
+    """The bytes of a session's text; `given` are its leading bytes where the text has no row and sp."""
+    reader = SessionReader(options, given)
     reading.read_by_lines(text, reader.take)
     return reader.data()
+
+
+def session_sizes(text: str) -> Iterator[tuple[int, int]]:
+    """The line of each part of a session's text, and its bytes after the leading ones, for a text that can be read. Only lines `bytes`
+    have the leading bytes in them."""
+    before = HEAD.size if next((name for _, name, _ in reading.lines(text)), "") == "bytes" else 0
+    for at, name, words in reading.lines(text):
+        if name not in ("row", "sp"):
+            size = len(hex_bytes(words)) if name == "bytes" else SIZE
+            yield at, max(0, size - before)
+            before = max(0, before - size)
 
 
 def session_text(data: bytes) -> str:
@@ -135,30 +185,29 @@ class CsvReader:
     """Lines `row,..` and `sp,..` first, if at all, then the columns' names, then an event a line."""
 
     options: Options
-    row: Optional[list[int]] = None
-    sp: Optional[int] = None
+    head: Head
     names: Optional[list[str]] = None
 
     def take(self, cells: list[str]) -> bytes:
         if self.names is not None:
             return record(self.event(cells))
         if cells[0] == "row":
-            self.row = reading.seven_words(cells[1:], self.options)
+            self.head.take_row(cells[1:])
         elif cells[0] == "sp":
-            self.sp = reading.price(reading.columns("sp", cells[1:], "SP")["SP"], "SP", self.options)
+            self.head.take_sp(cells[1:])
         else:
             self.names = self.header(cells)
         return b""
 
     def header(self, cells: list[str]) -> list[str]:
         if sorted(cells) != sorted(CSV_COLUMNS):
-            raise TextError(f"the columns are {','.join(CSV_COLUMNS)}, in any order, and this line names {','.join(map(values.brief, cells))}")
+            raise TextError(f"the columns are {','.join(CSV_COLUMNS)}, in any order, got {','.join(map(values.brief, cells))}")
         return cells
 
     def event(self, cells: list[str]) -> Event:
         names = self.names or []
         if len(cells) != len(names):
-            raise TextError(f"{len(cells)} fields, but there are {len(names)} columns")
+            raise TextError(f"there are {len(names)} columns, got {len(cells)} fields")
         given = dict(zip(names, cells))
         kind = given.pop("kind")
         if kind not in EVENT_COLUMNS:
@@ -166,23 +215,23 @@ class CsvReader:
         taken = EVENT_COLUMNS[kind].split()
         more = [name for name, cell in given.items() if cell and name not in taken]
         if more:
-            raise TextError(f"{more[0]}: a {kind} takes none, but {values.brief(given[more[0]])!r} stands here")
+            raise TextError(f"{'an' if kind[0] == 'a' else 'a'} {kind} has no {more[0]}, got {values.brief(given[more[0]])!r}")
         return event(kind, [given[name] for name in taken], self.options)
 
 
 def csv_cells(line: str) -> list[str]:
-    """The fields of a line, quotes around them taken off."""
+    """The fields of a line, without the quotes around them."""
     cells = [cell.strip(" \t") for cell in line.split("#", 1)[0].split(",")]
     return [cell[1:-1] if len(cell) > 1 and cell[0] == cell[-1] == '"' else cell for cell in cells]
 
 
 def csv_bytes(text: str, options: Options = PLAIN, head: Optional[bytes] = None) -> bytes:
-    """The bytes of a session in CSV; `head` are its leading bytes where the file has no row and sp.
+    """The bytes of a session in CSV; `head` are its leading bytes where the text has no row and sp.
 
     >>> len(csv_bytes('row,1,1,10_000,500,100,1,60%\\nsp,2000\\nt,kind,id,side,price,volume\\n0,add,1,buy,99,500\\n'))
     52
     """
-    reader, out = CsvReader(options), []
+    reader, out = CsvReader(options, Head(options, head)), []
     for at, line in enumerate(reading.split_lines(text), start=1):
         cells = csv_cells(line)
         try:
@@ -192,12 +241,22 @@ def csv_bytes(text: str, options: Options = PLAIN, head: Optional[bytes] = None)
             raise
     if reader.names is None:
         raise TextError(f"there is no line with the columns {','.join(CSV_COLUMNS)}")
-    return (head_bytes(reader.row, reader.sp) if head is None else head) + b"".join(out)
+    return reader.head.data() + b"".join(out)
+
+
+def csv_sizes(text: str) -> Iterator[tuple[int, int]]:
+    """The line and the bytes of each event of a session in CSV, for a text that can be read."""
+    named = False
+    for at, line in enumerate(reading.split_lines(text), start=1):
+        cells = csv_cells(line)
+        if named and any(cells):
+            yield at, SIZE
+        named = named or any(cells) and cells[0] not in ("row", "sp")
 
 
 # ---------------------------------------------------------------- messages in a text
 
-FRAME = "frame"  # stands for 8, 9 and 10
+FRAME = "frame"  # in place of the fields 8, 9 and 10
 NO_BYTES = "-"
 SIGN = re.compile(r"\\x([0-9a-fA-F]{2})|\\([|\\])|([!-\[\]-~])")
 
@@ -210,7 +269,7 @@ def message_bytes(word: str) -> bytes:
     while at < len(word):
         sign = SIGN.match(word, at)
         if sign is None:
-            raise TextError(f"{word[at:at + 4]!r}: write | for byte 1, \\| and \\\\ for those signs, \\xNN for the rest")
+            raise TextError(f"{word[at:at + 4]!r}: write | for byte 1, \\| and \\\\ for those characters, \\xNN for the rest")
         hexed, escaped, plain = sign.groups()
         out += bytes.fromhex(hexed) if hexed else b"\1" if plain == "|" else (escaped or plain).encode()
         at = sign.end()
@@ -236,7 +295,7 @@ def message_call(words: list[str]) -> c.Message:
 
 
 def message_line(call: c.Message) -> str:
-    """With `frame` where 8, 9 and 10 are as they would be worked out."""
+    """With `frame` where 8, 9 and 10 are as they would be computed."""
     start, shown = message_text(call.start), message_text(call.bytes)
     body = call.bytes.split(fix.END, 2)[-1][:-7]  # the field 10 has seven bytes
     if fix.framed(body) == call.bytes:
@@ -257,19 +316,19 @@ SHAPES = {"open": "sp SP", "strike": "a A difference N days N b B"}
 
 def open_call(name: str, words: list[str], options: Options) -> c.Open:
     """`open`, or `strike` with four numbers in place of SP."""
-    told = ["sp"] if name == "open" else list(STRIKE)
+    names = ["sp"] if name == "open" else list(STRIKE)
     limit = c.NO_LIMIT
     if words[-2:-1] == ["lapses"]:
         limit = c.NO_LIMIT if words[-1] == "none" else reading.number(words[-1], values.WORD, "lapses")
         words = words[:-2]
-    behind = 2 + 2 * len(told)  # words from `day` on
-    if len(words) < 1 + behind or words[0] != "row" or words[-behind::2] != ["day", *told]:
+    tail = 2 + 2 * len(names)  # words from `day` on
+    if len(words) < 1 + tail or words[0] != "row" or words[-tail::2] != ["day", *names]:
         raise TextError(f"{name} is written: {name} row WORDS.. day DAY {SHAPES[name]} lapses LIMIT|none")
-    row = reading.row_words(words[1:-behind], options)
-    day = reading.number(words[1 - behind], values.WORD, "day")
+    row = reading.row_words(words[1:-tail], options)
+    day = reading.number(words[1 - tail], values.WORD, "day")
     if name == "open":
         return c.Open(row, day, reading.price(words[-1], "SP", options), limit)
-    numbers = [reading.number(word, values.WORD, what) for what, word in zip(told, words[3 - behind :: 2])]
+    numbers = [reading.number(word, values.WORD, what) for what, word in zip(names, words[3 - tail :: 2])]
     return c.Open(row, day, c.Strike(*numbers), limit)
 
 
@@ -327,12 +386,12 @@ def calls_bytes(text: str, options: Options = PLAIN) -> bytes:
 def call_line(each: c.Call) -> str:
     """The line of a call."""
     if isinstance(each, c.Open):
-        told = f"sp {each.spread}"
+        spread = f"sp {each.spread}"
         if isinstance(each.spread, c.Strike):
-            told = " ".join(f"{name} {number}" for name, number in zip(STRIKE, astuple(each.spread)))
+            spread = " ".join(f"{name} {number}" for name, number in zip(STRIKE, astuple(each.spread)))
         name = "strike" if isinstance(each.spread, c.Strike) else "open"
         limit = "none" if each.lapses == c.NO_LIMIT else each.lapses
-        return " ".join(filter(None, [f"{name} row", reading.row_text(list(each.words)), f"day {each.day} {told} lapses {limit}"]))
+        return " ".join(filter(None, [f"{name} row", reading.row_text(list(each.words)), f"day {each.day} {spread} lapses {limit}"]))
     if isinstance(each, c.Message):
         return message_line(each)
     if isinstance(each, c.Commit):
@@ -345,7 +404,7 @@ def words_line(data: bytes) -> str:
 
 
 def block_line(data: bytes) -> str:
-    """The line of a block; one whose filling is not 0 has its words, so that they come back."""
+    """The line of a block. One whose filling is not 0 is written by its words, so that the same bytes are read back."""
     found = c.call_of(data)
     return call_line(found) if found is not None and c.block(found) == data else words_line(data)
 

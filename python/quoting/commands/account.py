@@ -42,8 +42,7 @@ def run(args: argparse.Namespace) -> int:
     try:
         found = account(source.data[: HEAD.size], source.data[HEAD.size :])
     except Refused as refused:
-        line = inputs.line_of_record(source, refused.place)
-        output.complain(f"{source.name}: {f'line {line}: ' if line else ''}{refused}")
+        output.complain(inputs.refusal_text(source, refused))
         return 1
     agreed = both.agreement(lines(found), both.account_lines(source.data)) if args.both else ""
     if args.json:

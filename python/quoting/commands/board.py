@@ -28,14 +28,15 @@ def add(parser: argparse.ArgumentParser) -> None:
     parser.add_argument("second", metavar="SECOND", type=percent_of, help="the share of all together, in percent")
     parser.add_argument("files", metavar="FILE", nargs="*", default=["-"], help="strikes, or - for standard input")
     parser.add_argument("--both", action="store_true", help="say whether the recount's verdict is the same")
+    inputs.add_complete(parser)
     inputs.add_output(parser)
 
 
-def strikes_of(names: list[str]) -> list[boards.Strike]:
+def strikes_of(names: list[str], options: reading.Options) -> list[boards.Strike]:
     found = []
     for name in names:
         try:
-            found += boards.read(reading.decoded(reading.read_bytes(name)), "input" if name == reading.STANDARD else Path(name).stem)
+            found += boards.read(reading.whole_text(reading.read_bytes(name), options), "input" if name == reading.STANDARD else Path(name).stem)
             boards.check_names(found)
         except reading.TextError as error:
             error.file = name
@@ -44,7 +45,7 @@ def strikes_of(names: list[str]) -> list[boards.Strike]:
 
 
 def run(args: argparse.Namespace) -> int:
-    strikes = strikes_of(args.files)
+    strikes = strikes_of(args.files, reading.Options(complete=args.complete))
     met = boards.verdict(args.first, args.second, strikes)
     lines = boards.lines(args.first, args.second, strikes)
     said = f"board {verdict_text(met)}"

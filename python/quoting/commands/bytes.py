@@ -9,7 +9,7 @@ examples:
 
 import argparse
 
-from quoting import inputs, output, reading, texts
+from quoting import inputs, output, reading
 
 
 def add(parser: argparse.ArgumentParser) -> None:
@@ -26,15 +26,11 @@ def kind_of(text: str) -> str:
 
 
 def run(args: argparse.Namespace) -> int:
-    data = reading.read_bytes(args.file)
-    try:
-        text = reading.decoded(data)
-        if (args.kind or kind_of(text)) == "session":
-            made = inputs.session_of(args.file, data, inputs.options_of(args), inputs.head_of(args), args.format).data
-        else:
-            made = texts.calls_bytes(text, inputs.options_of(args))
-    except reading.TextError as error:
-        error.file = args.file
-        raise
+    data, options = reading.read_bytes(args.file), inputs.options_of(args)
+    if (args.kind or kind_of(reading.decoded(data, args.file))) == "session":
+        made = inputs.session_of(args.file, data, options, inputs.head_of(args), args.format).data
+    else:
+        inputs.check_no_head(args)
+        made = b"".join(part.block for part in inputs.calls_parts(args.file, data, options))
     output.write(args.output, made)
     return 0

@@ -1,7 +1,7 @@
-"""How a quantum stands that is still running: whether the maker may rest.
+"""The outlook on a quantum that is still running: whether the maker may stop quoting.
 
-The session is what has happened so far; the time is its last event's, or --at. Says how much must still be kept and how much is left,
-until when nothing need be kept, the lapses left of --lapses, and the weight if nothing more is kept and if all that is left is.
+The session is what has happened so far; the time is its last event's, or --at. Says how much of the remaining time must still be kept,
+until when nothing need be kept, the lapses left of --lapses, and the weight if no more time is kept and if all of it is.
 
 examples:
   quoting outlook morning.session --at 5:30:00 --lapses 2
@@ -49,11 +49,11 @@ def lines(found: Outlook, start: int) -> list[str]:
     until = "never" if found.by is None else clock(start + found.by)
     full = "is out of reach" if found.full is None else f"needs {clock(found.full)}"
     lapses = "over their limit" if found.lapses == OVER else "without limit" if found.lapses is None else f"left {found.lapses}"
-    state = "the quantum is lost" if found.lost else "the maker may rest" if found.rest else "the maker may not rest for good"
+    state = "the quantum is lost" if found.lost else "the maker may stop quoting" if found.rest else "the maker may not stop quoting yet"
     return [
-        f"must still be kept {clock(found.need)}, of {clock(found.left)} that are left; the full weight {full}",
+        f"{clock(found.need)} of the remaining {clock(found.left)} must still be kept; the full weight {full}",
         f"nothing need be kept until {until}; lapses {lapses}; {state}",
-        f"weight {found.weight_resting} if nothing more is kept, {found.weight_keeping} if all that is left is",
+        f"weight {found.weight_resting} if no more time is kept, {found.weight_keeping} if all the remaining time is",
     ]
 
 
@@ -63,8 +63,7 @@ def run(args: argparse.Namespace) -> int:
     try:
         found = outlook(source, at, args.lapses)
     except Refused as refused:
-        line = inputs.line_of_record(source, refused.place)
-        output.complain(f"{source.name}: {f'line {line}: ' if line else ''}{refused}")
+        output.complain(inputs.refusal_text(source, refused))
         return 1
     shown = output.json_text(found) if args.json else "".join(line + "\n" for line in lines(found, args.start))
     output.write(args.output, shown)

@@ -11,6 +11,7 @@ examples:
 import argparse
 
 from quoting import inputs, output
+from quoting.native import Refused
 from quoting.picture import picture
 
 
@@ -23,5 +24,10 @@ def add(parser: argparse.ArgumentParser) -> None:
 
 def run(args: argparse.Namespace) -> int:
     source = inputs.session(args.file, args)
-    output.write(args.output, picture(source.stem, source.data, args.lapses))
+    try:
+        drawn = picture(output.printable(source.stem), source.data, args.lapses)
+    except Refused as refused:
+        output.complain(inputs.refusal_text(source, refused))
+        return 1
+    output.write(args.output, drawn)
     return 0

@@ -11,7 +11,7 @@ from quoting import inputs, output, refusals
 
 
 def add(parser: argparse.ArgumentParser) -> None:
-    parser.add_argument("number", metavar="N", nargs="?", type=int, choices=range(1, 27), help="1 to 26")
+    parser.add_argument("number", metavar="N", nargs="?", type=inputs.whole_in(1, 26), help="1 to 26")
     inputs.add_output(parser)
 
 

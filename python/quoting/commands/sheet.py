@@ -58,12 +58,11 @@ def show(args: argparse.Namespace, done: Session, agreed: str) -> None:
 
 def refuse(args: argparse.Namespace, source: inputs.Source, refused: Refused) -> int:
     """The refusal with the record's place and line."""
-    at = inputs.line_of_record(source, refused.place)
     if args.json:
-        output.write(args.output, output.json_text({"refused": {**vars(refused), "line": at}}))
+        line = inputs.line_of_record(source, refused.place)
+        output.write(args.output, output.json_text({"refused": {**vars(refused), "line": line}}))
     agreed = both.agreement([f"refused {refused.number} at {refused.place}"], both.session_lines(source.data)) if args.both else ""
-    where = f"{source.name}: line {at}: " if at else f"{source.name}: "
-    output.complain(f"{where}{refused}")
+    output.complain(inputs.refusal_text(source, refused))
     if agreed:
         output.complain(agreed.strip())
     return 1

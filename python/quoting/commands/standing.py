@@ -15,6 +15,7 @@ from quoting import both, inputs, output, reading, standings
 def add(parser: argparse.ArgumentParser) -> None:
     parser.add_argument("file", metavar="FILE", nargs="?", default="-", help="a list of calls, or - for standard input")
     parser.add_argument("--both", action="store_true", help="say whether the recount's standing is the same")
+    inputs.add_complete(parser)
     inputs.add_output(parser)
 
 
@@ -27,7 +28,7 @@ def theirs(given: standings.Calls) -> list[str]:
 
 def run(args: argparse.Namespace) -> int:
     try:
-        given = standings.read(reading.decoded(reading.read_bytes(args.file)))
+        given = standings.read(reading.whole_text(reading.read_bytes(args.file), reading.Options(complete=args.complete)))
     except reading.TextError as error:
         error.file = args.file
         raise

@@ -1,4 +1,4 @@
-"""The bytes of a session or of a list of calls as text; a text is written anew.
+"""The bytes of a session or of a list of calls as text; a text is written again in its plain form.
 
 With --old-months the share p is in percent, as it was before it was counted in tenths of a percent: it is multiplied by ten, in bytes
 as in a text's bare numbers.
@@ -60,19 +60,16 @@ def old_block(block: bytes) -> bytes:
     return c.block(replace(call, words=words))
 
 
-def of_bytes(kind: str, data: bytes, is_old: bool) -> str:
-    if kind == "session":
-        return texts.session_text(old_session(data) if is_old else data)
-    return texts.calls_text(old_calls(data) if is_old else data)
-
-
 def run(args: argparse.Namespace) -> int:
     data, options = reading.read_bytes(args.file), inputs.options_of(args)
-    if b"\0" in data or args.format == "bytes":
-        written = of_bytes(args.kind or bytes_kind(data), data, args.old_months)
-    elif (args.kind or kind_of(reading.decoded(data, args.file))) == "session":
-        written = texts.session_text(inputs.session_of(args.file, data, options, inputs.head_of(args), args.format).data)
+    is_bytes = args.format == "bytes" or args.format is None and reading.holds_bytes(data)
+    kind = args.kind or (bytes_kind(data) if is_bytes else kind_of(reading.decoded(data, args.file)))
+    if kind == "session":
+        made = inputs.session_of(args.file, data, options, inputs.head_of(args), "bytes" if is_bytes else args.format).data
+        written = texts.session_text(old_session(made) if is_bytes and args.old_months else made)
     else:
-        written = texts.calls_text(b"".join(part.block for part in inputs.calls_parts(args.file, data, options)))
+        inputs.check_no_head(args)
+        made = data if is_bytes else b"".join(part.block for part in inputs.calls_parts(args.file, data, options))
+        written = texts.calls_text(old_calls(made) if is_bytes and args.old_months else made)
     output.write(args.output, written)
     return 0

@@ -27,6 +27,7 @@ def add(parser: argparse.ArgumentParser) -> None:
     parser.add_argument("file", metavar="FILE", nargs="?", default="-", help="settlement prices, or - for standard input")
     parser.add_argument("--picture", action="store_true", help="a picture (SVG)")
     parser.add_argument("--both", action="store_true", help="say whether the recount's reading of the next day is the same")
+    inputs.add_complete(parser)
     inputs.add_output(parser)
 
 
@@ -37,7 +38,7 @@ def rows(days: list[Day], judged: Judged) -> list[list[object]]:
 
 def run(args: argparse.Namespace) -> int:
     try:
-        days = volatiles.read(reading.decoded(reading.read_bytes(args.file)))
+        days = volatiles.read(reading.whole_text(reading.read_bytes(args.file), reading.Options(complete=args.complete)))
     except reading.TextError as error:
         error.file = args.file
         raise

@@ -45,12 +45,6 @@ PORT = 8470
 PACKAGES = {"starlette": "python3-starlette", "uvicorn": "python3-uvicorn", "websockets": "python3-websockets"}
 
 
-def port_of(word: str) -> int:
-    if not word.isascii() or not word.isdigit() or len(word.lstrip("0")) > 5 or int(word) > 65_535:
-        raise argparse.ArgumentTypeError(f"{word!r} is not a port from 0 to 65535")
-    return int(word)
-
-
 def number_of(word: str) -> float:
     try:
         found = float(word)
@@ -87,7 +81,7 @@ def add(parser: argparse.ArgumentParser) -> None:
     parser.add_argument(
         "--silence", type=number_of, default=60.0, metavar="SECONDS", help="how long a feed may be silent in an open quantum before "
         "the page calls it broken off (60; 0: as long as it likes)")
-    parser.add_argument("--port", type=port_of, default=PORT, help=f"the port of the page ({PORT}; 0: any that is free)")
+    parser.add_argument("--port", type=inputs.whole_in(0, 65_535), default=PORT, help=f"the port of the page ({PORT}; 0: any that is free)")
     parser.add_argument("--listen", metavar="ADDRESS", help="serve on this address of the machine too, with a token in the link")
     parser.add_argument("--title", help="what is watched, as the page names it (the file's name)")
     parser.set_defaults(parser=parser)

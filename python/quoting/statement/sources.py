@@ -218,8 +218,8 @@ def span_for(each: logs.Sorted, spans: list[Span]) -> Optional[Span]:
 def from_list(name: str, options: Options, log_names: Sequence[str] = (), chosen: Owner = NOBODY) -> Listed:
     """The calls of a list of any form. Of the logs the chosen account is read; the chosen symbol is that of quanta that name none."""
     data = reading.read_bytes(name)
-    if b"\0" not in data:
-        return text_list(name, reading.decoded(data, name), options, log_names, chosen)
+    if not reading.holds_bytes(data):
+        return text_list(name, reading.whole_text(data, options, name), options, log_names, chosen)
     if log_names:
         raise reading.failed("messages are put into a text, which says when each quantum starts, and these are bytes", name)
     found = inputs.calls_of(name, data, options)
@@ -241,11 +241,11 @@ class Charged:
     lapses: int = c.NO_LIMIT
 
 
-def charges_of(path: Path) -> dict[tuple[int, ...], Charged]:
+def charges_of(path: Path, options: Options) -> dict[tuple[int, ...], Charged]:
     """A file of charges: day,expiry,quantum,active,passive, and lapses where there is a limit."""
     found: dict[tuple[int, ...], Charged] = {}
     header: Optional[list[str]] = None
-    for at, line in enumerate(reading.split_lines(reading.decoded(path.read_bytes(), str(path))), start=1):
+    for at, line in enumerate(reading.split_lines(reading.whole_text(path.read_bytes(), options, str(path))), start=1):
         cells = texts.csv_cells(line)
         if not any(cells):
             continue
@@ -260,7 +260,7 @@ def charges_of(path: Path) -> dict[tuple[int, ...], Charged]:
             error.line, error.file = at, str(path)
             raise
         if cell in found:
-            raise reading.failed("this day, expiry and quantum stand here twice", str(path), at)
+            raise reading.failed("this day, expiry and quantum are here twice", str(path), at)
         found[cell] = charged
     return found
 
@@ -290,21 +290,21 @@ def session_calls(path: Path, day: int, charged: Charged, options: Options) -> l
 
 
 def from_sessions(folder: str, charges: Optional[str], options: Options) -> Listed:
-    """The sessions of a folder, named DAY-EXPIRY-QUANTUM with .session, .csv, .bin or .txt behind it, in that order."""
-    told = charges_of(Path(charges) if charges else Path(folder) / CHARGES)
+    """The sessions of a folder, named DAY-EXPIRY-QUANTUM with the ending .session, .csv, .bin or .txt, in that order."""
+    charged = charges_of(Path(charges) if charges else Path(folder) / CHARGES, options)
     listed, cells = Listed(folder), set()
     named = [(path, NAME.fullmatch(path.name)) for path in Path(folder).iterdir() if path.is_file() and not path.name.startswith(".")]
     listed.left += [f"{path}: not named DAY-EXPIRY-QUANTUM" for path, name in sorted(named) if name is None and path.name != CHARGES]
     for cell, path in sorted((tuple(map(int, name.groups()[:3])), path) for path, name in named if name is not None):
-        if cell in cells or cell not in told:
+        if cell in cells or cell not in charged:
             what = "a second file of this cell" if cell in cells else "the file of charges has no line for it"
             raise reading.failed(what, str(path))
         cells.add(cell)
-        made = session_calls(path, cell[0], told[cell], options)
+        made = session_calls(path, cell[0], charged[cell], options)
         opened = c.call_of(made[0].block)
         assert isinstance(opened, c.Open)
         if tuple(opened.words[:2]) != cell[1:]:
             raise reading.failed(f"its row has expiry {opened.words[0]} and quantum {opened.words[1]}", str(path))
         listed.calls += made
-    listed.left += [f"charges of day {d}, expiry {e}, quantum {q}: there is no session" for d, e, q in sorted(set(told) - cells)]
+    listed.left += [f"charges of day {d}, expiry {e}, quantum {q}: there is no session" for d, e, q in sorted(set(charged) - cells)]
     return listed
