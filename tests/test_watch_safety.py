@@ -233,6 +233,9 @@ def test_bytes_that_are_no_call_make_the_figures_unreliable(watched):
     feed.path.write_bytes(c.block(c.Report()) + c.pack([0]))
     band = doubted(feed.read())
     assert band["sub"].startswith("Stopped at word 2") and "can't be read again" in band["why"], band
+    feed.path.write_text(OPEN + QUOTES + DEAL)
+    reliable(feed.read())
+    assert feed.orders == {1: 2000, 2: 3000}, "the whole feed was written again"
 
 
 def test_a_line_that_broke_off_makes_the_figures_unreliable(watched, tmp_path):
@@ -285,7 +288,9 @@ def test_the_page_says_in_its_largest_type_since_when_figures_are_not_reliable(t
                          ".map(each => [parseFloat(getComputedStyle(each).fontSize), each.dataset.figure])")
         assert max(sizes, key=lambda size: size[0])[1] == "band-head", max(sizes, key=lambda size: size[0])
         page.shoot("doubt")
-        path.write_text(whole + "tick 0:30:01\n")
+        saved = path.with_suffix(".swap")
+        saved.write_text(whole + "tick 0:30:01\n")
+        saved.rename(path)
         page.until("it is reliable again", lambda seen: seen["band"] != "doubt" and seen["readings_kind"] == "agree")
         page.leave()
 

@@ -38,7 +38,7 @@ def encoded(value: Any) -> str:
 
 
 class Changes:
-    """The newest sections with the version at which each last changed. The day alone is told by what a page lacks of it."""
+    """The newest sections with the version at which each last changed. Of the day a page gets what it lacks."""
 
     def __init__(self) -> None:
         self.version = 0

@@ -1,6 +1,6 @@
 """The course of the open quantum: which state held when, as the library's states change at events.
 
-Of several events at one time the last one counts, and a state that lasted no millisecond leaves nothing behind. What is kept of it does not
+Of several events at one time the last one counts, and a state that lasted no millisecond leaves no trace. What is kept of it does not
 grow with the number of events: at most 1,500 parts of the quantum's time, and the newest stretches.
 
 >>> course = Course(10_000)
@@ -57,7 +57,7 @@ class Course:
         self._count = 0
 
     def note(self, time: int, state: int, bid: Optional[int], ask: Optional[int]) -> None:
-        """What stands from an event's time on."""
+        """The state and the best quotes from an event's time on."""
         if time > self.time:
             self._pass(time)
         if state != self.state:
@@ -81,7 +81,7 @@ class Course:
             self._fill(last, time - last * width)
 
     def _fill(self, number: int, time: int) -> None:
-        """What stood for so long within a part."""
+        """Adds the state and the quotes that lasted so long within a part."""
         if number == len(self.parts):
             self.parts.append([number, *[None] * 6, *[0] * STATES])
         part = self.parts[number]

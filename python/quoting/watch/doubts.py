@@ -17,7 +17,7 @@ file ended has not, nor has one that lost its last lines: then a person must dec
 
 import time
 from dataclasses import dataclass, field
-from typing import Callable, Optional
+from typing import Optional
 
 from quoting.statement.course import Place
 from quoting.statement.figures import thousands
@@ -64,35 +64,33 @@ class Rotated:
 
 @dataclass
 class Doubt:
-    """Since when the figures are not reliable, and why. `before` is the last reading that was; None where the feed can't be read again."""
+    """Since when the figures are not reliable, and why; `before` is the last reading that was."""
 
     since: float  # time.time()
-    why: str
-    before: Optional[Reading]
-    until: float = 0.0  # by `monotonic`, when a file must have been written again
+    before: Reading
+    why: str = ""
+    is_lost: bool = False  # the feed can't be read again
     missing: str = ""  # what the new reading lacks
-    is_final: bool = False
-    monotonic: Callable[[], float] = time.monotonic
+    until: float = 0.0  # by time.monotonic(), when a file must have been written again
+    is_final: bool = False  # no call that comes makes the figures reliable again
 
-    def __post_init__(self) -> None:
-        self.renew(self.why)
-
-    def renew(self, why: str) -> None:
-        """The feed has changed again."""
-        self.why, self.until, self.is_final = why, self.monotonic() + SETTLING, self.before is None
+    def renew(self, why: str, is_lost: bool) -> None:
+        """The feed has changed, or changed again."""
+        self.why, self.is_lost, self.missing = why, is_lost, ""
+        self.until, self.is_final = time.monotonic() + SETTLING, is_lost
 
     def is_over(self, meter: Meter) -> bool:
-        """Whether a reading that has come to the file's end is reliable; after some seconds it is no longer, whatever is added."""
-        if self.is_final or self.before is None:
+        """Whether a reading that has come to the file's end is reliable. After some seconds nothing that is added makes it so."""
+        if self.is_final:
             return False
         self.missing = self.before.lacking(Reading.of(meter))
-        self.is_final = bool(self.missing) and self.monotonic() > self.until
+        self.is_final = bool(self.missing) and time.monotonic() > self.until
         return not self.missing
 
     def text(self, calls: int) -> str:
         """What is done about it."""
-        if self.before is None:
-            return "The feed can't be read again here: start quoting watch again."
+        if self.is_lost:
+            return "What is lost can't be read again here: start quoting watch again, with the whole feed."
         if not self.missing:
             return f"The feed is being read again from its start: {counted_calls(calls)} so far."
         more = "" if self.is_final else " More may follow."

@@ -488,11 +488,11 @@ class CallsFeed(Pieces):
             data = self.front + data
             self.front = data
             if len(data) >= 4:
-                self.told(data)
+                self.know(data)
         if self.front is None:
             yield from self.blocks.take(data) if self.text is None else of_lines(self.text, self.lines.take(data))
 
-    def told(self, data: bytes) -> None:
+    def know(self, data: bytes) -> None:
         """What the file is."""
         self.front, self.text = None, None if b"\0" in data[:4] else ListLines(self.options)
 
@@ -500,7 +500,7 @@ class CallsFeed(Pieces):
         """An unfinished call first, then what has happened."""
         if self.front and turn.kind in ("end", "broken"):
             front = self.front
-            self.told(front)
+            self.know(front)
             yield from self.took(front)
         is_whole = not (self.front or self.lines.rest or self.lines.skipped or self.blocks.rest)
         if self.text is not None:

@@ -23,7 +23,7 @@ STATE_KEYS = [KEYS[state] for state in STATES]
 SHORT = {CROSSED: "crossed"}  # beside the headline there is little room
 MOST_ORDERS = 64
 FULL = 800  # thousandths of the length: the full weight's share
-ALERT = 300.0  # seconds for which the newest problem stands under the band
+ALERT = 300.0  # seconds for which the newest problem is shown under the band
 MARKS = 10  # at most so many marks of the hour
 
 WAITING = {"kind": "waiting", "head": "The recount has not answered yet", "text": ""}
@@ -54,7 +54,7 @@ class Status:
     @property
     def is_still(self) -> bool:
         """No time goes on after the last event: nothing is known of it."""
-        return self.feed in ("broken", "ended")
+        return self.feed in ("broken", "ended") or self.doubt is not None
 
 
 def sections(meter: Meter, now: int, status: Status) -> dict[str, Any]:
@@ -299,7 +299,7 @@ def stretches(meter: Meter, shown: Optional[Shown]) -> Section:
     times, now = meter.opened.times, shown.report.time
 
     def row(each: Stretch) -> Section:
-        runs = each.end == now  # its end moves on, so it is told to the second
+        runs = each.end == now  # its end moves on, so it is shown to the second
         length = s.had(each.end - each.start) if runs else clock(each.end - each.start)
         to = "now" if runs else times.exact(each.end)
         return {"from": times.exact(each.start), "to": to, "length": length, "key": STATE_KEYS[each.state], "word": STATES[each.state]}
@@ -359,7 +359,7 @@ def marks(opened: Opened) -> list[list[Any]]:
 
 
 def month(meter: Meter) -> Section:
-    """The statement's grid; made anew only if a call has altered a cell, or which quantum is open."""
+    """The statement's grid; made again only if a call has altered a cell, or which quantum is open."""
     if meter.made is None or meter.made[0] != meter.altered:
         meter.made = meter.altered, month_made(meter)
     return meter.made[1]

@@ -23,7 +23,7 @@ FRAME = 0.1  # seconds between two states that are shown
 REPEATED = "the file was saved again, and its first call does not follow what was read; the feed is read again from its start"
 RELIABLE = "the feed was read again from its start and has all that was read before: the figures are reliable again"
 UNRELIABLE = "No answers while the figures are not reliable."
-SAYS_NOTHING = {"kind": "absent", "head": "Agreement says nothing now", "text": "both readings have the same file"}
+SAYS_NOTHING = {"kind": "absent", "head": "Agreement says nothing now", "text": "since both readings read the same file"}
 
 
 class Watch:
@@ -82,9 +82,14 @@ class Watch:
         """A rotated file is judged by its first call that shows where it belongs."""
         self.rotated = Rotated(Reading.of(self.meter)) if item.may_follow else None
         if item.is_lost:
-            self.doubt = Doubt(self.doubt.since if self.doubt else time.time(), item.text, None)
+            self.doubtful(item.text, Reading.of(self.meter), True)
         elif not item.may_follow:
             self.start_over(item.text, Reading.of(self.meter))
+
+    def doubtful(self, why: str, before: Reading, is_lost: bool) -> None:
+        """The figures are not reliable from now on, or still not."""
+        self.doubt = self.doubt or Doubt(time.time(), before)
+        self.doubt.renew(why, is_lost)
 
     def judge(self, rotated: Rotated, sent: Sent, came: float) -> None:
         """Whether another file under the name goes on where the one before it ended."""
@@ -103,10 +108,7 @@ class Watch:
 
     def start_over(self, why: str, before: Reading) -> None:
         """The calls that follow are those of the whole feed: a fresh month and a fresh recount take them."""
-        if self.doubt is None:
-            self.doubt = Doubt(time.time(), why, before)
-        else:
-            self.doubt.renew(why)
+        self.doubtful(why, before, False)
         self.meter = self.meter.fresh()
         self.recount.end()
         self.recount = Recounting()

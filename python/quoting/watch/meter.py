@@ -100,7 +100,7 @@ class Meter:
         self.opened: Optional[Opened] = None
         self.course: Optional[Course] = None
         self.times = Times()  # of the quantum that was opened last
-        self.opens = 0  # accepted so far: tells one quantum's course from another's
+        self.opens = 0  # accepted so far: distinguishes one quantum's course from another's
         self.came = 0.0  # when the last call that was accepted in the open quantum was read
         self.closed: Optional[Place] = None  # the cell that was filled last
         self.problems: deque[Problem] = deque(maxlen=LISTED)
@@ -173,7 +173,7 @@ class Meter:
         self.times = Times(offset_of(start), " UTC", True) if start else Times(self.day_start, "", bool(self.day_start))
         self.opened = Opened(place, length, start, self.times)
 
-    # ------------------------------------------------------------ what stands
+    # ------------------------------------------------------------ what is shown
 
     @property
     def last(self) -> int:

@@ -1,7 +1,7 @@
 """A finished feed played at a multiple of its own pace: a feed, and the clock that goes with it.
 
 In a quantum time runs from 0 at its open. An event comes when its time has come, a close or a drop when the quantum's length has gone,
-every other call at once; between a close and the next open there is a second of real time. A month of its own tells which calls are
+every other call at once; between a close and the next open there is a second of real time. A month of its own shows which calls are
 accepted, since a refused open starts no time.
 """
 
@@ -31,7 +31,7 @@ class Playing:
         self.feed, self.speed, self.monotonic = feed, speed, monotonic
         self.month = Month()
         self.waiting: deque[Item] = deque()
-        self.troubles: list[Item] = []  # behind the last call
+        self.troubles: list[Item] = []  # after the last call
         self.next: Optional[Sent] = None
         self.due = AT_ONCE  # when the next call comes
         self.zero: Optional[float] = None  # when the open quantum was opened

@@ -167,7 +167,7 @@ class Recounter:
 
     def first_parting(self) -> Optional[Parted]:
         """From the last agreement on both readings go through the calls again: one by one, or where that is too much work halving, which
-        names a call behind which they differ and before which they do not."""
+        names a call after which they differ and before which they do not."""
         events = len(self.book.quoting.events) if self.book.quoting else 0
         if len(self.since) * (events + 1) <= MOST_WALKED:
             return self.walked(0, len(self.since))

@@ -112,7 +112,7 @@ Lost whatever comes
 Nothing can be kept: the spread limit is below 1.
 It will be failed, weight 0.
 
-Where the start is not known, or is told in UTC, it is said:
+Where the start is not known, or is in UTC, the band says so:
 
 >>> said(18_531_798, "kept", 6_650_202, 24_849_798, None, None, 3, times=Times())
 keep
@@ -174,7 +174,7 @@ class Times:
     """
 
     offset: int = 0  # time of day of its start, in milliseconds
-    zone: str = ""  # behind the times of the band, where they are not those of a clock on the wall
+    zone: str = ""  # after the times of the band, where they are not those of a clock on the wall
     known: bool = False
 
     def _of_day(self, ms: int) -> str:
@@ -251,7 +251,7 @@ def band(m: Moment) -> Band:
         return Band("lost", "Lost whatever comes", lost_by(m), LOST)
     if o.left == 0:
         return Band("rest", "You may rest", "Met even if nothing more is kept.", "Its time is over: nothing is left to be kept.")
-    # The outlook tells of a rest that begins now. A quote that came back in this millisecond would have to go in it again.
+    # The outlook is about a rest that begins now. A quote that came back in this millisecond would have to go in it again.
     is_back = m.going and m.is_kept and o.lapses == 0
     if is_back or (o.by == m.now and not o.rest):
         return keep_all(m)
@@ -259,7 +259,7 @@ def band(m: Moment) -> Band:
 
 
 def joined(m: Moment, *parts: str) -> str:
-    """The sentences of a band's last line, where moments were told: with the note that says what they count from."""
+    """The sentences of a band's last line, where moments were written: with the note that says what they count from."""
     return " ".join(filter(None, [*parts, "" if m.times.known else FROM_START]))
 
 

@@ -108,10 +108,10 @@ def files_of(folder: Path, token: Optional[str]) -> dict[str, tuple[bytes, str]]
 def ask_of(text: str) -> dict[str, Any]:
     """The fields of an ask; whatever else is sent is unwanted."""
     try:
-        told = json.loads(text)
+        given = json.loads(text)
     except (ValueError, RecursionError):
         raise Unwanted(UNREAD) from None
-    asked = told.get("ask") if isinstance(told, dict) and len(told) == 1 else None
+    asked = given.get("ask") if isinstance(given, dict) and len(given) == 1 else None
     if not isinstance(asked, dict) or set(asked) != {"n", "t", "id", "price", "volume"}:
         raise Unwanted(UNWANTED)
     number, *fields = (asked[name] for name in ("n", "t", "id", "price", "volume"))

@@ -26,7 +26,7 @@ export function paintForm(open) {
   proposeAmendment();
 }
 
-// The order that was picked stays picked; where it is gone it stands there as gone, and an ask about it is refused.
+// The order that was picked stays picked; where it is gone it is listed as gone, and an ask about it is refused.
 function fillChoices(orders) {
   const select = $("ask").elements.id, picked = form.edited.has("id") ? select.value : "";
   const choices = orders.map(order => [String(order.id), `${order.id} ${order.side}`]);
@@ -38,7 +38,7 @@ function fillChoices(orders) {
   select.replaceChildren(...choices.map(([id, text]) => new Option(text, id, false, id === before)));
 }
 
-// The last buy order is proposed, the one behind which the bid falls away.
+// The last buy order is proposed, the one after which the bid falls away.
 function lastBuy(orders) {
   return String((orders.findLast(order => order.side === "buy") ?? orders.at(-1))?.id ?? "");
 }
@@ -49,7 +49,7 @@ function proposeAmendment() {
   for (const name of ["price", "volume"]) propose(ask[name], String(order[name]).replaceAll(",", ""));
 }
 
-// Until a field is edited it follows, but not under the hand; one that was emptied shows in grey what it stands for.
+// Until a field is edited it follows, but not under the hand; one that was emptied shows its value in grey.
 function propose(field, due) {
   if (field.placeholder !== due) field.placeholder = due;
   if (!form.edited.has(field.name) && field.value !== due && document.activeElement !== field) field.value = due;

@@ -14,7 +14,7 @@ function lowered(text) {
   return text.charAt(0).toLowerCase() + text.slice(1);
 }
 
-// Without the meter nothing is known; what it said last is told as of then.
+// Without the meter nothing is known; what it said last is shown as of then.
 function awayBand() {
   const was = shown.band, clock = shown.head?.clock.replace(/^last /, "") || link.since;
   const isTold = was && ["rest", "keep", "hold", "lost"].includes(was.kind);

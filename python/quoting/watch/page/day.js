@@ -8,7 +8,7 @@ import { labelsOf, layLabels, paintMarks, priceText } from "./labels.js";
 
 const RARE = .05, MOST_CUT = 3;   // the share of the time that may be cut off, if it is so many times as far away as the rest is wide
 
-// Where everything stands: x by the time, y by the price.
+// Where everything is: x by the time, y by the price.
 function geometry(info, columns, width) {
   const narrow = width < 500, height = narrow ? 330 : 430, strip = height - 62, scale = priceScale(columns, info);
   const left = Math.max(44, 12 + 7.3 * Math.max(...[scale.low, scale.high].map(price => priceText(info, Math.round(price)).length)));

@@ -28,7 +28,7 @@ export function counted(count) {
   return typeof count === "number" ? count.toLocaleString("en-GB") : String(count);
 }
 
-// Nothing is written that stands there already: what has not changed costs no layout and keeps a selection.
+// Nothing is written that is there already: what has not changed costs no layout and keeps a selection.
 export function say(element, text) {
   const due = text ?? "", only = element.firstChild;
   if (element.textContent === due) return;
@@ -56,14 +56,14 @@ export function setSign(svg, key) {
   put(svg.firstElementChild, "href", `#s-${key}`);
 }
 
-// Thousandths stand small behind the figure, in the same element, so that it reads as one.
+// Thousandths are small, after the figure, in the same element, so that it reads as one.
 export function sayFine(element, value, fine) {
   if (element.children.length !== 2) element.replaceChildren(make("span"), make("span", "ms"));
   say(element.firstChild, value);
   say(element.lastChild, fine);
 }
 
-// As many rows as there are items; rows that stand there are filled anew, not replaced.
+// As many rows as there are items; rows that are there are filled again, not replaced.
 export function fillRows(body, items, build, fill) {
   while (body.children.length > items.length) body.lastElementChild.remove();
   while (body.children.length < items.length) body.append(build(body.children.length));

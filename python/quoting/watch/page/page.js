@@ -1,6 +1,6 @@
 /* The live page. It computes no figure of the meter: it places the texts that the server sends, and draws.
 
-Every figure stands in an element of its own, found by document.querySelector('[data-figure="NAME"]'):
+Every figure is in an element of its own, found by document.querySelector('[data-figure="NAME"]'):
   name, what, clock                          the line above everything
   band-head, band-sub, band-why              the answer; #hero has its kind as a class (rest keep hold lost none broken reading stop)
                                              and as data-kind, where a lost connection is "away"

@@ -27,7 +27,7 @@ export function paintOpen(open) {
   paintForm(open);
 }
 
-// No figure of a quantum that is closed is left behind, hidden or not.
+// No figure of a quantum that is closed is left, hidden or not.
 function forgetOpen() {
   for (const id of ["tiles", "account", "ahead", "orders"]) $(id).replaceChildren();
   const names = ["account-gone", "share", "required", "required-time", "full", "full-time", "orders-note"];
@@ -49,7 +49,7 @@ function paintBar(bar) {
   say($("reach-said"), bar.out_of_reach ? "Part of the time is out of reach." : "");
   const width = $("bar").clientWidth, ends = [bar.kept, bar.reach].map(end => Math.round(end * 500));
   const laid = JSON.stringify([width, bar.required, bar.full, bar.labels, ends, bar.out_of_reach]);
-  if ($("bar").laid === laid) return;   // labels are measured anew only when one could touch another
+  if ($("bar").laid === laid) return;   // labels are measured again only when one could touch another
   $("bar").laid = laid;
   layTopLabels(bar, width);
   layUnderLabels(bar, width);
@@ -59,7 +59,7 @@ const GAP = 8;   // between labels
 
 // Wordings of the required share's label and of the full weight's, from the fullest to the barest.
 const WORDINGS = [["", ""], ["brief", "brief"], ["brief", "bare"], ["bare", "bare"]];
-const SIDES = [[true, false], [false, false], [true, true], [false, true]];   // whether each stands before its mark
+const SIDES = [[true, false], [false, false], [true, true], [false, true]];   // whether each is before its mark
 
 // The first wording, and the first sides for it, with which both fit and do not touch.
 function layTopLabels(bar, width) {
@@ -111,7 +111,7 @@ function paintTiles(open) {
   });
 }
 
-// "to 20,000": the figure behind the word is as big as the one before it.
+// "to 20,000": the figure after the word is as big as the one before it.
 function sayUnit(element, unit) {
   if (element.textContent === (unit ?? "")) return;
   const found = /^to ([\d,]+)$/.exec(unit ?? "");

@@ -1,4 +1,4 @@
-// What has come: the newest of each section, and which of them are to be drawn anew.
+// What has come: the newest of each section, and which of them are to be drawn again.
 
 export const shown = {};   // the newest of each section
 const changed = new Set();   // sections to be drawn

@@ -17,7 +17,7 @@ export function piecesOf(columns) {
   return loneLapses(pieces);
 }
 
-// A short lapse that stands alone within a kept stretch is drawn in full height, so that it is seen; where many follow one another their
+// A short lapse that is alone within a kept stretch is drawn in full height, so that it is seen; where many follow one another their
 // shares are drawn. At most two columns that are not of one state, with kept ones or none on both sides, are such a lapse.
 function loneLapses(pieces) {
   for (let first = 0, next; first < pieces.length; first = next + 1) {
