@@ -402,4 +402,4 @@ def test_a_name_that_is_not_utf_8_is_shown_escaped(tmp_path):
 @pytest.mark.parametrize("port", ["0000099999999", "65536", "000000065536", "-1", "٣"])
 def test_a_port_that_is_none_gives_a_sentence(port):
     done = command.run("watch", "--calls", EXAMPLES / "watch.calls", f"--port={port}")
-    assert done.status == 2 and f"{port!r} is not a port from 0 to 65535" in done.complaint and "Traceback" not in done.complaint, done
+    assert done.status == 2 and "argument --port: " in done.complaint and port in done.complaint and "Traceback" not in done.complaint, done
