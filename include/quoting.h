@@ -21,6 +21,11 @@
  * Nothing else is asked of the caller: whatever numbers, bytes and words are handed over, each call ends and answers as is said here. That
  * is proved of every call but quoting_refusal_text and quoting_version, which are plain C.
  *
+ * Words that are no month's. On entry quoting_month_call and quoting_month_view test the few words that all others rest on: the place of the
+ * open cell is below 186, L is not 0, and there are 64 orders at most. Words that fail are refused by 3 at place 1 and nothing is written;
+ * that, and that a month's words always pass, is proved. Damaged words may pass. What is then answered and left in the words, the hints and
+ * the buffer is free, but nothing outside the lent buffers is touched, and nothing traps: this is tested (tests/foreign_words.c), not proved.
+ *
  * A row is seven words: expiry (1 or 2), quantum (0 to 2), L (a multiple of 1,000 from 1,000 to 86,400,000), M (1 to 100,000), a (0 to
  * 100,000), b (0 to 1,000,000) and p in tenths of a percent (1 to 799): 600 is 60%, and 60 is 6%, which is met with a tenth of the time that
  * 60% asks for. A price is signed, in two's complement where it is a word.
@@ -314,7 +319,8 @@ uint64_t quoting_month_fresh(uint32_t *words, size_t words_length);
  *             11 whether it is failed whatever comes; 12 and 13 the weight if nothing more is kept, and if all that is left is
  *
  * Answers the number of words written, QUOTING_ANSWER_WORDS. Refused, with nothing changed, by
- *    3  the bytes are not one block of a call: of another kind, cut short, with an add's side other than 1 or 2, or with more behind it
+ *    3  at place 0, the bytes are not one block of a call: of another kind, cut short, with an add's side other than 1 or 2, or with more
+ *       behind it; else at place 1, there are QUOTING_MONTH_WORDS words and they are no month's
  *   16  at place 1, words_length is below QUOTING_MONTH_WORDS; at place 2, hints_length is below QUOTING_HINT_BYTES; at place 3,
  *       answer_length is below QUOTING_ANSWER_WORDS; the first of them that applies
  */
@@ -333,6 +339,7 @@ uint64_t quoting_month_call(
  *            buy, 2 sell), price, volume
  *
  * Answers the number of words written, 0 with no quantum open. Refused, with nothing changed, by
+ *    3  at place 1, there are QUOTING_MONTH_WORDS words and they are no month's
  *   16  at place 1, words_length is below QUOTING_MONTH_WORDS; at place 2, buffer_length is below 17 and four for each live order
  */
 uint64_t quoting_month_view(const uint32_t *words, size_t words_length, uint32_t *buffer, size_t buffer_length);

@@ -372,19 +372,20 @@ static void try_pairs(int m, long count) {
     }
 }
 
-/* A group of trials in a process of its own: a stray write may end it, and is then named as well. */
+/* A group of trials, in a process of its own where no tool watches: a stray write may end it, and is then named as well. */
 static void try_group(int m, uint32_t part) {
     enum { WORDS = 32, PAIRS = 500 };
     now->month = month_names[m];
-    pid_t child = fork();
+    pid_t child = plain ? 0 : fork();
     if (child == 0) {
         seed = turn = 1000 * m + part;
-        alarm(120);
+        alarm(300);
         if (part * WORDS < MONTH) {
             try_single(m, part * WORDS, (part + 1) * WORDS);
         } else {
             try_pairs(m, PAIRS);
         }
+        if (plain) return;
         _exit(0);
     }
     int status;

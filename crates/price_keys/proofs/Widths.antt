@@ -1,19 +1,19 @@
--- A local's bits read as a number that is not negative; a price's key and a key's price, worked out modulo 2^32.
-use Prim.Native.Nat.{ℕ, _+_, _-_, _%_, _≤_, _<_}
+-- What a local's bits are read as: a number that is not negative, a price's key and a key's price.
+use Prim.Native.Nat.{ℕ, zero, suc, _+_, _-_, _≤_}
 use native.Mathlib.Omega.{arith}
-use mathlib.Core.Path.{_≡_, refl, sym, _∙_}
-use mathlib.Core.Bool.{Bool, true, false, true≢false, false≢true}
-use borrow.Author.Tests.{le-leb, leb-true, leb-false, lt-ltb, le-ltb}
-use lib.Dec.{T, leb}
-use lib.IntN.{ℤ, pos, negsuc, natAbs}
+use mathlib.Core.Path.{_≡_, refl, sym, ap, _∙_}
+use mathlib.Core.Bool.{Bool, true, false, cond, true≢false, false≢true}
+use borrow.Author.Tests.{le-leb, lt-leb, le-ltb, ltb-true, ltb-false}
+use lib.Dec.{T, ltb, leb}
+use lib.IntN.{ℤ, pos, negsuc, subℕ, _+ℤ_, _-ℤ_, natAbs}
 use lib.Signed.{leZ, nonNeg, natAbs-le}
 use mir.Syntax.{w32}
 use mir.Val.{Fits, SFits, ofZ, toZ}
 use mir.ValLaws.{toZ-ofZ}
+use Rattle.rules.specs.declared.Side.{Side}
 use Rattle.rules.specs.declared.Side.the-variants.{Buy, Sell}
 use Rattle.rules.specs.Lists.{if_then_else_}
 use Rattle.rules.specs.Units.{goodPrice}
-use Rattle.rules.specs.Records.{signedOf, unsignedOf}
 use Rattle.price_keys.specs.Widest.{positivePart}
 use Rattle.price_keys.specs.Keys.{keyOf, priceAt}
 use Rattle.price_keys.proofs.Keys.{positive-most, negative-most}
@@ -35,48 +35,94 @@ pub no-positive : (z : ℤ) → leZ (pos 0) z ≡ false → 0 ≡ positivePart z
 no-positive (pos n) e = absurd (true≢false (sym (le-leb 0 n (omega arith)) ∙ e))
 no-positive (negsuc n) e = refl
 
--- ---- a price's key, worked out of its word modulo 2^32
+-- ---- a price's key
 
-pub bid-word : (p : ℤ) → goodPrice p ≡ true → (1000000001 + unsignedOf p) % 4294967296 ≡ keyOf Buy p
-unfolding keyOf unsignedOf
-bid-word (pos n) h = omega (arith, positive-most n h)
-bid-word (negsuc n) h = omega (arith, negative-most n h)
+-- a sum or a difference of naturals that is not negative
+less : (a b : ℕ) → b ≤ a → subℕ a b ≡ pos (a - b)
+less a b h = rw (le-ltb a b h) refl
 
-pub ask-word : (p : ℤ) → goodPrice p ≡ true → (5294967297 - unsignedOf p) % 4294967296 ≡ keyOf Sell p
-unfolding keyOf unsignedOf
-ask-word (pos n) h = omega (arith, positive-most n h)
-ask-word (negsuc n) h = omega (arith, negative-most n h)
+pub key-sum : (p : ℤ) → goodPrice p ≡ true → pos 1000000001 +ℤ p ≡ pos (keyOf Buy p)
+unfolding keyOf
+key-sum (pos n) e = refl
+key-sum (negsuc n) e =
+    let h : n ≤ 999999999 = negative-most n e in
+    let k : 1000000001 - suc n ≡ 1000000000 - n = omega arith in
+    less 1000000001 (suc n) (omega arith) ∙ ap pos k
 
--- ---- a key's price, in two's complement
+pub key-difference : (p : ℤ) → goodPrice p ≡ true → pos 1000000001 -ℤ p ≡ pos (keyOf Sell p)
+unfolding keyOf
+key-difference (pos zero) e = refl
+key-difference (pos (suc n)) e =
+    let h : suc n ≤ 1000000000 = positive-most (suc n) e in
+    less 1000000001 (suc n) (omega arith)
+key-difference (negsuc n) e =
+    let k : 1000000001 + suc n ≡ 1000000002 + n = omega arith in
+    ap pos k
 
-signed-small : (w n : ℕ) → w ≡ n → n < 2147483648 → signedOf w ≡ pos n
-unfolding signedOf
-signed-small w n e h = rw (lt-ltb w 2147483648 (omega (arith, e, h)), e) refl
+-- a number worked out of a price is a key
+module _ (f : ℤ → ℤ) (p : ℤ) (k : ℕ) (h : SFits w32 p) (e : f p ≡ pos k) (m : k ≤ 2000000001) where
+  pub key-signed : SFits w32 (f (toZ w32 (ofZ w32 p)))
+  key-signed = rw (toZ-ofZ w32 p h, e) (record { sfits = omega arith })
 
-signed-great : (w n : ℕ) → w + n ≡ 4294967295 → 2147483648 ≤ w → signedOf w ≡ negsuc n
-unfolding signedOf
-signed-great w n e h =
-    let d : 4294967295 - w ≡ n = omega (arith, e) in
-    rw (le-ltb w 2147483648 h, d) refl
+  key-read : toZ w32 (ofZ w32 (f (toZ w32 (ofZ w32 p)))) ≡ pos k
+  key-read = rw (toZ-ofZ w32 p h, e) (toZ-ofZ w32 (pos k) (record { sfits = omega arith }))
 
-pub bid-price : (k : ℕ) → k ≤ 2000000001 → signedOf ((k + 3294967295) % 4294967296) ≡ priceAt Buy k
+  pub key-unsigned : T (nonNeg (toZ w32 (ofZ w32 (f (toZ w32 (ofZ w32 p)))))) × Fits w32 (natAbs (toZ w32 (ofZ w32 (f (toZ w32 (ofZ w32 p))))))
+  key-unsigned = rw key-read (tt, record { fits = omega arith })
+
+  pub key-is : natAbs (toZ w32 (ofZ w32 (f (toZ w32 (ofZ w32 p))))) ≡ k
+  key-is = rw key-read refl
+
+-- ---- a key's price
+
+price-up : (k : ℕ) → pos k -ℤ pos 1000000001 ≡ priceAt Buy k
 unfolding priceAt
-bid-price k h = go (leb 1000000001 k) refl
+price-up k = go (ltb k 1000000001) refl
   where
-    go : (t : Bool) → leb 1000000001 k ≡ t
-        → signedOf ((k + 3294967295) % 4294967296) ≡ (if t then pos (k - 1000000001) else negsuc (1000000000 - k))
-    go true e = signed-small _ (k - 1000000001) (omega (arith, leb-true 1000000001 k e)) (omega (arith, h))
-    go false e =
-        let l = leb-false 1000000001 k e in
-        signed-great _ (1000000000 - k) (omega (arith, l)) (omega (arith, l))
+    go : (t : Bool) → ltb k 1000000001 ≡ t
+        → cond t (negsuc (1000000001 - suc k)) (pos (k - 1000000001)) ≡ (if leb 1000000001 k then pos (k - 1000000001) else negsuc (1000000000 - k))
+    go true e =
+        let d : 1000000001 - suc k ≡ 1000000000 - k = omega arith in
+        rw (lt-leb 1000000001 k (ltb-true k 1000000001 e)) (ap negsuc d)
+    go false e = rw (le-leb 1000000001 k (ltb-false k 1000000001 e)) refl
 
-pub ask-price : (k : ℕ) → k ≤ 2000000001 → signedOf ((5294967297 - k) % 4294967296) ≡ priceAt Sell k
+price-down : (k : ℕ) → pos 1000000001 -ℤ pos k ≡ priceAt Sell k
 unfolding priceAt
-ask-price k h = go (leb k 1000000001) refl
+price-down zero = refl
+price-down (suc k) = go (ltb 1000000001 (suc k)) refl
   where
-    go : (t : Bool) → leb k 1000000001 ≡ t
-        → signedOf ((5294967297 - k) % 4294967296) ≡ (if t then pos (1000000001 - k) else negsuc (k - 1000000002))
-    go true e = signed-small _ (1000000001 - k) (omega (arith, leb-true k 1000000001 e)) (omega arith)
-    go false e =
-        let l = leb-false k 1000000001 e in
-        signed-great _ (k - 1000000002) (omega (arith, l, h)) (omega (arith, l, h))
+    go : (t : Bool) → ltb 1000000001 (suc k) ≡ t
+        → cond t (negsuc (suc k - 1000000002)) (pos (1000000001 - suc k))
+        ≡ (if leb (suc k) 1000000001 then pos (1000000001 - suc k) else negsuc (suc k - 1000000002))
+    go true e = rw (lt-leb (suc k) 1000000001 (ltb-true 1000000001 (suc k) e)) refl
+    go false e = rw (le-leb (suc k) 1000000001 (ltb-false 1000000001 (suc k) e)) refl
+
+price-small : (side : Side) (k : ℕ) → k ≤ 2000000001 → SFits w32 (priceAt side k)
+unfolding priceAt
+price-small Buy k h = go (leb 1000000001 k)
+  where
+    go : (t : Bool) → SFits w32 (if t then pos (k - 1000000001) else negsuc (1000000000 - k))
+    go true = record { sfits = omega arith }
+    go false = record { sfits = omega arith }
+price-small Sell k h = go (leb k 1000000001)
+  where
+    go : (t : Bool) → SFits w32 (if t then pos (1000000001 - k) else negsuc (k - 1000000002))
+    go true = record { sfits = omega arith }
+    go false = record { sfits = omega arith }
+
+key-as-signed : (k : ℕ) → k ≤ 2000000001 → toZ w32 k ≡ pos k
+key-as-signed k h = toZ-ofZ w32 (pos k) (record { sfits = omega arith })
+
+-- a number worked out of a key is its price
+module _ (k : ℕ) (m : k ≤ 2000000001) where
+  pub bid-signed : SFits w32 (toZ w32 k -ℤ pos 1000000001)
+  bid-signed = rw (key-as-signed k m, price-up k) (price-small Buy k m)
+
+  pub ask-signed : SFits w32 (pos 1000000001 -ℤ toZ w32 k)
+  ask-signed = rw (key-as-signed k m, price-down k) (price-small Sell k m)
+
+  pub bid-is : toZ w32 (ofZ w32 (toZ w32 k -ℤ pos 1000000001)) ≡ priceAt Buy k
+  bid-is = rw (key-as-signed k m, price-up k) (toZ-ofZ w32 (priceAt Buy k) (price-small Buy k m))
+
+  pub ask-is : toZ w32 (ofZ w32 (pos 1000000001 -ℤ toZ w32 k)) ≡ priceAt Sell k
+  ask-is = rw (key-as-signed k m, price-down k) (toZ-ofZ w32 (priceAt Sell k) (price-small Sell k m))

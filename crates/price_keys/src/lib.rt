@@ -22,16 +22,14 @@ use rules::Steps;
 
 // ---- keys
 
-// The key of a price: the better price has the greater one. Like the price of a key it is worked out modulo 2^32, on the price's word in
-// two's complement: the same for a price in its range, and defined for any other.
+// The key of a price: the better price has the greater one.
 pub fn key_of(side: Side, price: Steps) -> u32
     requires { ⌜ goodPrice (price .0) ≡ true ⌝ }
     ensures { λ r. ⌜ r ≡ keyOf side (price .0) ⌝ }
 {
-    let word = numbers::wide(words::from_steps(price));
     match side {
-        Side::Buy => numbers::low(1000000001 + word),
-        Side::Sell => numbers::low(5294967297 - word),
+        Side::Buy => (1000000001 + price.0) as u32,
+        Side::Sell => (1000000001 - price.0) as u32,
     }
 }
 
@@ -40,10 +38,9 @@ pub fn price_at(side: Side, key: u32) -> Steps
     requires { ⌜ key ≤ 2000000001 ⌝ }
     ensures { λ r. ⌜ r ≡ steps (priceAt side key) ⌝ }
 {
-    let word = numbers::wide(key);
     match side {
-        Side::Buy => words::to_steps(numbers::low(word + 3294967295)),
-        Side::Sell => words::to_steps(numbers::low(5294967297 - word)),
+        Side::Buy => Steps(key as i32 - 1000000001),
+        Side::Sell => Steps(1000000001 - key as i32),
     }
 }
 
