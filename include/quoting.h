@@ -31,7 +31,7 @@
 #include <stddef.h>
 #include <stdint.h>
 
-#define QUOTING_VERSION "1.2.0"
+#define QUOTING_VERSION "1.3.0"
 
 /* The longest FIX message that quoting_fix_write writes, in bytes, and the words of one that quoting_fix reads. */
 #define QUOTING_FIX_BYTES 114

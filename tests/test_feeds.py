@@ -19,7 +19,7 @@ from quoting.statement import sources
 from quoting.statement.sources import Sent
 from quoting.watch import feeds, messages
 from quoting.watch.clocks import FeedClock, WallClock
-from quoting.watch.feeds import CallsFeed, Trouble
+from quoting.watch.feeds import CallsFeed, Changed, Trouble
 from quoting.watch.messages import MessagesFeed
 from quoting.watch.playing import Playing
 from tests import command
@@ -119,6 +119,7 @@ def test_any_pieces(tmp_path):
             append(grown.path, data[at : at + size])
             found += feed.read()
             at += size
+        append(grown.path, b"\n")
         grown.path.rename(grown.path.with_suffix(".old"))
         grown.path.write_bytes(b"report\n")
         found += drained(feed) + drained(feed)
@@ -160,14 +161,14 @@ def test_starts(tmp_path):
 
 
 def test_long_lines(tmp_path):
-    """A line over a mebibyte is said once, before its end has come, and passed over to its end."""
+    """A line over a mebibyte is said once, before its end has come, and skipped to its end."""
     grown = Steps(tmp_path, data=b"tick 1\n")
     feed = grown.feed()
     assert shown(drained(feed)) == ["line 1"]
     append(grown.path, b"#" * feeds.LONGEST_LINE)
     assert not drained(feed)
     append(grown.path, b"#" * 3)
-    assert shown(drained(feed)) == [("line 2", "this line has over 1,048,576 bytes and is passed over to its end")]
+    assert shown(drained(feed)) == [("line 2", "this line has over 1,048,576 bytes and is skipped to its end")]
     append(grown.path, b"tick 5" * 400_000)
     assert not drained(feed)
     append(grown.path, b"\ntick 3\n")
@@ -198,8 +199,8 @@ def test_blocks(tmp_path):
         for follow in (True, False):
             items = drained(stopped.feed(follow))
             assert items[:-1] == found, wrong
-            text = f"stopped at word {word}: no call stands there, and nothing behind it is read"
-            assert items[-1] == Trouble("", text), (wrong, items[-1])
+            text = f"stopped at word {word}: there is no call there, and nothing after it is read"
+            assert items[-1] == Changed("", text, is_lost=True), (wrong, items[-1])
     feed = stopped.feed()
     drained(feed)
     append(stopped.path, c.block(c.Report()))
@@ -239,29 +240,29 @@ def test_bounded_read(tmp_path):
 
 
 def test_truncated(tmp_path):
-    """A file that was cut is read from its new end, with its lines counted; what stood unfinished is dropped."""
+    """A file that was truncated is read again from its start, whatever kind it is now; an unfinished line is dropped."""
     grown = Steps(tmp_path, data=b"tick 1\ntick 2\r\ntick 3\rtick 4\nti")
     feed = grown.feed()
     drained(feed)
-    said = "the file was cut: it had {} bytes and has {}; reading goes on from its new end"
+    said = "the file was truncated: it had {} bytes and has {}; the feed is read again from its start"
     os.truncate(grown.path, 15)
-    assert shown(drained(feed)) == [("", said.format(31, 15))]
+    assert shown(drained(feed)) == [("", said.format(31, 15)), "line 1", "line 2"]
     append(grown.path, b"tick 7\nreport 1\n")
     assert shown(drained(feed)) == ["line 3", ("line 4", "report takes nothing, got 1 word: '1'")]
     append(grown.path, b"tick 10 " + b"#" * 5_000_000 + b"\n")
     drained(feed)
     os.truncate(grown.path, 1_200_000)
-    assert shown(drained(feed)) == [("", said.format("5,000,040", "1,200,000"))]
+    assert shown(drained(feed))[:4] == [("", said.format("5,000,040", "1,200,000")), "line 1", "line 2", "line 3"]
     os.truncate(grown.path, 0)
-    assert shown(drained(feed)) == [("", said.format("1,200,000", 0))]
+    assert shown(drained(feed)) == [("", said.format("1,200,000", 0))] and feed.count == 0
     append(grown.path, c.block(c.Report()))
-    assert shown(drained(feed)) == ["call 1"], "a file that was cut to nothing may be of another kind"
+    assert shown(drained(feed)) == ["call 1"], "a file that was truncated to nothing may be of another kind"
     append(grown.path, c.block(Tick(1)) + c.block(Tick(1))[:5])
     drained(feed)
     os.truncate(grown.path, 4)
-    assert shown(drained(feed)) == [("", said.format(17, 4))]
+    assert shown(drained(feed)) == [("", said.format(17, 4)), "call 1"]
     append(grown.path, c.block(c.Drop()) + c.pack([0]))
-    assert shown(drained(feed)) == ["call 3", ("", f"stopped at word 3: {feeds.NO_CALL}")]
+    assert shown(drained(feed)) == ["call 2", ("", f"stopped at word 3: {feeds.NO_CALL}")]
     short = Steps(tmp_path, "other", b"ti")
     feed = short.feed()
     drained(feed)
@@ -271,7 +272,7 @@ def test_truncated(tmp_path):
     assert shown(drained(feed)) == ["line 1"]
 
 
-TURNED = ("", "the file was turned over: its name is another file now; it is read from its beginning")
+ROTATED = ("", "the file was rotated: its name is another file now; it is read from its start")
 
 
 def test_rotated(tmp_path):
@@ -287,15 +288,15 @@ def test_rotated(tmp_path):
     append(old, "tick 3\nrep")
     assert shown(drained(feed) + drained(feed)) == ["line 3"]
     append(grown.path, "tick 1\n")
-    append(old, "ort")
-    assert shown(drained(feed) + drained(feed)) == ["line 4", TURNED, "line 1"]
+    append(old, "ort\n")
+    assert shown(drained(feed) + drained(feed)) == ["line 4", ROTATED, "line 1"]
     append(old, "tick 5\n")
     append(grown.path, "tick 2\n")
     assert shown(drained(feed)) == ["line 2"]
     other = Steps(tmp_path, "fresh", c.block(c.Report()))
     other.path.rename(grown.path)
-    assert shown(drained(feed) + drained(feed)) == [TURNED, "call 1"]
-    assert feed.count == 7 + 7 + 7 + 6 + 7 + 7 + 4
+    assert shown(drained(feed) + drained(feed)) == [ROTATED, "call 1"]
+    assert feed.count == 7 + 7 + 7 + 7 + 7 + 7 + 4
 
 
 def test_file_that_goes_away(tmp_path):
@@ -315,7 +316,7 @@ def test_file_that_goes_away(tmp_path):
     grown.path.unlink()
     assert shown(drained(feed) + drained(feed)) == [gone]
     grown.path.write_bytes(b"report\n")
-    back = ("", "the file is there again, as another one; it is read from its beginning")
+    back = ("", "the file is there again, as another one; it is read from its start")
     assert shown(drained(feed) + drained(feed)) == [back, "line 1"]
     grown.path.unlink()
     grown.path.mkdir()
@@ -334,7 +335,7 @@ def test_unreadable(tmp_path):
         os.close(feed.growing.descriptor)
         feed.growing.descriptor = os.open(tmp_path, os.O_RDONLY)  # a directory's descriptor is one that can't be read
         found = shown(drained(feed))
-        back = [("", "the file is there again, as another one; it is read from its beginning"), "line 1"]
+        back = [("", "the file is there again, as another one; it is read from its start"), "line 1"]
         assert found == [("", "the file can't be read: Is a directory; it is tried again"), *(back if follow else [])], found
         assert feed.ended == (None if follow else "end")
 
@@ -549,7 +550,7 @@ def test_months():
         due = sources.from_list(calls, PLAIN, [log])
         feed = MessagesFeed(log, calls, PLAIN, None, FeedClock(), False)
         found = drained(feed)
-        assert sent_of(found) == due.calls and feed.ended == "end" and feed.passed_over == 0, name
+        assert sent_of(found) == due.calls and feed.ended == "end" and feed.skipped == 0, name
         assert [f"{item.place}: {item.text}" for item in found if isinstance(item, Trouble)] == due.left and len(due.left) == 1, due.left
         assert feed.count == sum(os.path.getsize(file) for file in (calls, log)) and feed.name == log
 
@@ -594,7 +595,7 @@ def test_any_months(tmp_path):
         due = sources.from_list(str(month.list), PLAIN, [str(month.log)])
         found, in_no_quantum = drained(month.feed), len(due.left) - 1
         assert sent_of(found) == due.calls and due.left[-1].endswith("refused 20: 9, the length, does not follow 8"), due.left[-1]
-        assert month.feed.passed_over == in_no_quantum and month.feed.ended == "end"
+        assert month.feed.skipped == in_no_quantum and month.feed.ended == "end"
         assert len(found) - len(due.calls) == 1 + min(1, in_no_quantum), "one trouble for all messages in no quantum"
         left += in_no_quantum
     assert left > 100, left
@@ -629,7 +630,7 @@ def test_time(tmp_path):
     assert found[0] == "log: line 2" and found[1][0] == "log: line 3" and found[1][1].startswith("refused 20: the checksum (10) is "), found
     assert month.more(message(4, "10:00:10.001")) == [in_none(4), "line 3"]
     late = ("log: line 5", "this message came when its quantum was past and the list had gone on; it is not counted")
-    assert month.more(message(5, "10:00:09.000"), message(6, "10:00:15.000")) == [late] and month.feed.passed_over == 3, month.feed.passed_over
+    assert month.more(message(5, "10:00:09.000"), message(6, "10:00:15.000")) == [late] and month.feed.skipped == 3, month.feed.skipped
     assert month.more(message(7, None)) == [(late[0].replace("5", "7"), late[1])], "it goes where the one before it went"
     assert month.more(message(8, "10:00:20.000")) == ["line 5", "log: line 8"]
     month.clock.time = at("10:00:35")
@@ -664,16 +665,16 @@ def test_clock(tmp_path):
     times = [f"10:00:0{second}.000" for second in range(10)] * 2_000
     month = Month(tmp_path, quantum("10:00:00.000"), log_of(*(message(id, time) for id, time in enumerate(times))), moment=at("23:00:00"))
     found = month.read()
-    assert len(found) == 20_002 and found[-1] == "line 3" and month.feed.passed_over == 0, (len(found), found[-2:])
+    assert len(found) == 20_002 and found[-1] == "line 3" and month.feed.skipped == 0, (len(found), found[-2:])
 
 
 def test_listed_later(tmp_path):
     """An open that is written behind its messages gets them; the command's start stands for an open without one."""
     month = Month(tmp_path, "", log_of(message(1, "10:00:01.000"), message(2, "10:00:30.000"), message(3, None)))
     assert month.read() == [in_none(1)]
-    assert month.feed.passed_over == 3
+    assert month.feed.skipped == 3
     assert month.listed("report\n" + quantum("10:00:00.000").rsplit("\n", 2)[0]) == ["line 1"], "the last line has no end so far"
-    assert month.listed("\n") == ["line 3", "log: line 1"] and month.feed.passed_over == 2
+    assert month.listed("\n") == ["line 3", "log: line 1"] and month.feed.skipped == 2
     assert month.more(message(4, "10:00:09.000")) == ["log: line 4"], "it stays open while nothing is listed behind it"
     assert month.listed("close 1 2\n") == ["line 4"]
     assert month.feed.count == month.list.stat().st_size + month.log.stat().st_size
@@ -688,10 +689,12 @@ def test_listed_later(tmp_path):
 
 
 def test_saved_again(tmp_path):
-    """The list may be saved from an editor: calls that were read before are passed over, and one that is another now is said once."""
+    """The list may be saved from an editor: calls that were read before are skipped. Where one is another call now, or is gone, both files
+    are read again from their starts."""
     first = "# a month\n" + quantum("10:00:00.000").rsplit("close", 1)[0]
     month = Month(tmp_path, first + "clsoe 1 2\n", moment=at("10:00:01"))
     assert [each if isinstance(each, str) else each[0] for each in month.read()] == ["list: line 4", "line 3"]
+    assert month.more(message(1, "10:00:01.000")) == ["log: line 1"]
     month.clock.time = at("10:01:00")
 
     def replaced(text):
@@ -700,31 +703,32 @@ def test_saved_again(tmp_path):
         other.rename(month.list)
         return month.read() + month.read()
 
+    def written(text):
+        month.list.write_text(text)
+        return month.read()
+
     assert replaced("# and a line more\n" + first + "close 1 2\n") == ["line 5"]
-    month.list.write_text("")
-    assert month.read() == []
-    month.list.write_text(first + "close 1 2\nreport\n")
-    assert month.read() == ["line 5"]
-    changed = replaced(first.replace("day 1", "day 2") + "close 3 4\nreport\nreport\n")
-    assert [each if isinstance(each, str) else each[0] for each in changed] == ["list: line 3", "line 6"], changed
-    same = first.replace("day 1", "day 2") + "close 3 4\nreport\nreport\n"
-    month.list.write_text("# in place, and longer\n" * 10 + same + "report\n")
-    assert [each if isinstance(each, str) else each[0] for each in month.read()] == ["list: line 13", "line 17"]
-    month.list.write_text(same + "report\nreport\n")
-    assert [each if isinstance(each, str) else each[0] for each in month.read()] == ["list: line 3", "line 8"], "in place, and shorter"
+    assert written(first + "close 1 2\nreport\n") == ["line 5"], "in place"
+    changed, fewer = ("list: line 3", messages.OTHER_CALL), ("list", messages.FEWER_CALLS)
+    other = first.replace("day 1", "day 2") + "close 3 4\nreport\nreport\n"
+    assert replaced(other) == [changed, "line 3", "log: line 1", "line 4", "line 5", "line 6"]
+    assert written("# in place, and longer\n" * 10 + other + "report\n") == ["line 17"]
+    assert written(other + "report\nreport\n") == ["line 8"], "in place, and shorter"
+    assert written(other) == [fewer, "line 3", "log: line 1", "line 4", "line 5", "line 6"]
+    assert written("") == [fewer, in_none(1)] and written(other) == ["line 3", "log: line 1", "line 4", "line 5", "line 6"]
     month.list.unlink()
     assert month.read() + month.read() == [("list", "the file has gone away; it is opened again when it is there")]
 
 
 def test_log_ends(tmp_path):
-    """A log that was cut or turned over goes on; raw messages without line ends come as they are whole; a broken pipe closes nothing."""
+    """A log that was truncated is read again, a rotated one goes on; raw messages without line ends come as they are whole; a broken pipe closes nothing."""
     month = Month(tmp_path, quantum("10:00:00.000"), moment=at("10:00:01"))
     assert month.more(message(1, "10:00:00.000"), message(2, "10:00:01.000")) == ["line 2", "log: line 1", "log: line 2"]
     os.truncate(month.log, month.log.stat().st_size // 2)
     assert month.read()[0][0] == "log"
     assert month.more(message(3, "10:00:02.000")) == ["log: line 2"]
     month.log.rename(month.log.with_suffix(".1"))
-    assert month.more(message(4, "10:00:03.000")) + month.read() == [("log", TURNED[1]), "log: line 1"]
+    assert month.more(message(4, "10:00:03.000")) + month.read() == [("log", ROTATED[1]), "log: line 1"]
     raw = message(5, "10:00:04.000") + message(6, "10:00:05.000")
     sizes = [size * len(raw) // 2 for size in range(6)]
     for byte in raw[:-1]:

@@ -617,7 +617,7 @@ def test_ask_texts():
         (("9:00:00", "1", "8446", "1000"), f"at: 9:00:00 is before the quantum's start, 10:00:00; expected is {time_due}."),
         (("noon", "1", "8446", "1000"), f"at: 'noon' is not a number; expected is {time_due}."),
         (("15:00", "1", "8446", "1000"), f"at: '15:00' is not a time h:mm:ss; expected is {time_due}."),
-        (("15:00:01", "", "8446", "1000"), "order: nothing stands there; expected is the id of a live order."),
+        (("15:00:01", "", "8446", "1000"), "order: nothing is given; expected is the id of a live order."),
         (("15:00:01", "1", "84.46", "1000"), "price: '84.46' is not a number; expected is a price."),
         (("15:00:01", "1", "84,46", "1000"), "price: '84,46' is not a number; expected is a price."),
         (("15:00:01", "1", "8446", "5e3"), "contracts: '5e3' is not a number; expected is a whole number of contracts."),
@@ -661,9 +661,9 @@ def test_problems():
     meter.trouble(Trouble("brent.log: line 7", "this is no message"), CAME + 300)
     assert frames.sections(meter, 0, frames.Status(wall=CAME + 301))["alert"] == {
         "head": "brent.log: line 7: not read, the rest goes on.", "text": "This is no message."}
-    meter.trouble(Trouble("", "the file was cut"), CAME + 300)
+    meter.trouble(Trouble("", "the file was rotated"), CAME + 300)
     shown = frames.sections(meter, 0, frames.Status(wall=CAME + 301))
-    assert shown["alert"]["head"].startswith("The feed at ") and shown["alert"]["text"] == "The file was cut."
+    assert shown["alert"]["head"].startswith("The feed at ") and shown["alert"]["text"] == "The file was rotated."
     for _ in range(100):
         meter.trouble(Trouble("line 9", "again"), CAME)
     shown = frames.sections(meter, 0, frames.Status(wall=CAME))["problems"]

@@ -14,7 +14,7 @@ from quoting.native import Refused
 from quoting.values import Tenths
 
 WORDS = 20
-OVER = -1  # lapses left, where there were too many
+OVER = -1  # as the number of lapses that remain: there were too many
 
 
 @dataclass(frozen=True)

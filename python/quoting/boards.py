@@ -1,4 +1,4 @@
-"""A board of strikes: its text, and a table of what each strike and all together kept, are due and lack."""
+"""A board of strikes: its text, and a table of the time that each strike and all together kept, must keep and still lack."""
 
 from dataclasses import dataclass, replace
 from typing import Iterator, Optional
@@ -15,7 +15,7 @@ SHARES = range(1, 101)
 
 @dataclass(frozen=True)
 class Strike:
-    """A strike's closed quantum, and the line that it stands on."""
+    """A strike's closed quantum, and the number of its line."""
 
     name: str
     kept: int
@@ -64,7 +64,7 @@ def read(text: str, file: str) -> list[Strike]:
 
 
 def check_names(strikes: list[Strike]) -> None:
-    """A strike stands once on a board."""
+    """Each strike of a board has its own name."""
     seen: set[str] = set()
     for strike in strikes:
         if strike.name in seen:
@@ -78,7 +78,7 @@ def check_names(strikes: list[Strike]) -> None:
 
 
 def causes(first: int, second: int, strikes: list[Strike]) -> Iterator[str]:
-    """What may be behind refusal 18, each in a few words."""
+    """The possible causes of refusal 18, each in a few words."""
     yield from (f"a share of {share} is not 1 to 100" for share in (first, second) if share not in SHARES)
     if not strikes:
         yield "no strike"
@@ -94,7 +94,7 @@ def causes(first: int, second: int, strikes: list[Strike]) -> Iterator[str]:
 
 
 def verdict(first: int, second: int, strikes: list[Strike]) -> bool:
-    """Whether the board is met, by the library; a refusal has its causes behind it."""
+    """Whether the board is met, by the library; a refusal says its causes."""
     check_names(strikes)
     try:
         return board([(strike.kept, strike.length) for strike in strikes], first, second)

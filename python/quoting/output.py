@@ -7,7 +7,7 @@ import os
 import stat
 import sys
 from pathlib import Path
-from typing import Any, BinaryIO, Optional, Sequence, Union
+from typing import Any, BinaryIO, Iterable, Optional, Sequence, Union
 
 from quoting.reading import STANDARD
 
@@ -48,30 +48,69 @@ def write_all(stream: BinaryIO, data: bytes) -> None:
 
 
 def write_file(path: Path, data: bytes) -> None:
-    """Never half a file: a device or a pipe is written to directly, any other file is replaced. An error has the file's name, which the
-    system does not give for a failed write."""
+    """Never half a file: a device or a pipe is written directly, any other file is replaced."""
+    if not path.exists() or stat.S_ISREG(path.stat().st_mode):
+        replace_file(path, [data])
+        return
     try:
-        if path.exists() and not stat.S_ISREG(path.stat().st_mode):
-            path.write_bytes(data)
-        else:
-            replace_file(Path(os.path.realpath(path)), data)
+        path.write_bytes(data)
     except OSError as error:
-        raise OSError(error.errno, error.strerror, str(path)) from None
+        raise named(error, path) from None
 
 
-def replace_file(path: Path, data: bytes) -> None:
-    """Writes a new file beside the old one, with its mode, and moves it there when it is on the disk."""
-    beside = path.with_name(f".{path.name[:60]}.{os.urandom(4).hex()}.part")
+def target_of(path: Path) -> Path:
+    """The file that a name leads to through its links; it need not exist."""
+    target = Path(os.path.realpath(path))
+    if target.is_symlink():  # realpath gives up at a loop
+        raise OSError(errno.ELOOP, os.strerror(errno.ELOOP), str(path))
+    return target
+
+
+def mode_of(path: Path) -> Optional[int]:
+    """The permissions of a file, None where there is none."""
     try:
-        with open(beside, "xb") as file:
-            if path.exists():
-                os.fchmod(file.fileno(), stat.S_IMODE(path.stat().st_mode))
-            file.write(data)
+        return stat.S_IMODE(path.stat().st_mode)
+    except FileNotFoundError:
+        return None
+
+
+def replace_file(path: Path, pieces: Iterable[bytes]) -> None:
+    """A whole file or the old one, even after a power cut: written beside its name, synced, then renamed. Links and permissions stay."""
+    target = target_of(path)
+    beside, mode = target.with_name(f".{target.name[:60]}.{os.getpid()}.part"), mode_of(target)
+    try:
+        with open(os.open(beside, os.O_WRONLY | os.O_CREAT | os.O_TRUNC | os.O_NOFOLLOW, 0o666 if mode is None else 0o600), "wb") as file:
+            for piece in pieces:
+                file.write(piece)
             file.flush()
+            if mode is not None:
+                os.fchmod(file.fileno(), mode)
             os.fsync(file.fileno())
-        os.replace(beside, path)
+        os.replace(beside, target)
+        sync_folder(target.parent)
+    except OSError as error:
+        raise named(error, path) from None
     finally:
         beside.unlink(missing_ok=True)
+
+
+def sync_folder(folder: Path) -> None:
+    """So that the rename too is on the disk, where the file system and the folder's permissions allow it."""
+    try:
+        handle = os.open(folder, os.O_RDONLY)
+    except OSError:
+        return
+    try:
+        os.fsync(handle)
+    except OSError:
+        pass
+    finally:
+        os.close(handle)
+
+
+def named(error: OSError, path: Path) -> OSError:
+    """An error of writing, such as a full disk, with the name of its file."""
+    return error if error.errno is None else OSError(error.errno, error.strerror, str(path))
 
 
 def printable(text: str) -> str:

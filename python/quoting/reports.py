@@ -110,13 +110,15 @@ class Reports:
         """What the exchange answered."""
         return [(what, count) for what, count in self.in_order() if what not in (Omission.NEVER_RESTS, Omission.OTHER)]
 
+    def answers_text(self) -> str:
+        return joined([what.counted(count) for what, count in self.answers])
+
     def sentence(self) -> str:
         """How much is left out, what that means for the figures, and what to do; empty where nothing is."""
         unrested, others, parts = self.counts[Omission.NEVER_RESTS], self.counts[Omission.OTHER], []
         if self.answers:
             is_one = sum(count for _, count in self.answers) == 1
-            named = joined([what.counted(count) for what, count in self.answers])
-            parts.append(f"{named} (35=8, 9, 3, j) {'is' if is_one else 'are'} not in the figures. {OVERSTATED}")
+            parts.append(f"{self.answers_text()} (35=8, 9, 3, j) {'is' if is_one else 'are'} not in the figures. {OVERSTATED}")
         if unrested:
             what = "is left out, since it never rests" if unrested == 1 else "are left out, since they never rest"
             parts.append(f"{Omission.NEVER_RESTS.counted(unrested)} (59=3, 4) {what}.")

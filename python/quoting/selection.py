@@ -73,7 +73,7 @@ class Owners:
         """The owner with what the order of that id says."""
         known = {each for each in self.orders.get(id or b"", ()) if each.fits(owner)}
         if len(known) > 1:
-            raise ValueError(f"order {text_of(id)} may be one of several: {listed(Counter(map(owner_text, known)))}")
+            raise ValueError(f"order {text_of(id)} may be one of several: {', '.join(sorted(map(owner_text, known)))}")
         return owner.or_else(known.pop()) if known else owner
 
 
@@ -91,7 +91,7 @@ def listed(counts: "Counter[str]") -> str:
     >>> listed(Counter({"BR-1.27": 12, "none": 1}))
     'BR-1.27 (12 messages), none (1 message)'
     """
-    shown = [f"{name} ({count} message{'s' * (count != 1)})" for name, count in counts.most_common(MOST_LISTED)]
+    shown = [f"{name} ({count:,} message{'s' * (count != 1)})" for name, count in counts.most_common(MOST_LISTED)]
     more = len(counts) - len(shown)
     return ", ".join(shown) + (f" and {more} more" if more else "")
 

@@ -1,15 +1,16 @@
 """Many sessions settled at once: one row a session, in the order of their names, whatever is finished first.
 
-Only a few sessions are held at a time, so a folder may be far larger than the memory. What can't be read or is refused is a row too.
+Only a few sessions are in memory at a time, so a folder may be far larger than the memory. A file that can't be read, or is refused, is a row too.
 """
 
-import csv
+import os
+import select
+import stat
 from collections import deque
-from contextlib import closing
 from dataclasses import astuple, dataclass, fields, replace
 from itertools import islice
 from pathlib import Path
-from typing import Any, BinaryIO, Callable, Iterable, Iterator, Optional, Protocol, Sequence
+from typing import Any, Callable, Iterable, Iterator, Optional, Protocol, Sequence
 
 from quoting import accounts, inputs, native, reading
 from quoting.answers import verdict_text
@@ -97,29 +98,101 @@ HEADER = csv_line(COLUMNS)
 # ---------------------------------------------------------------- the names
 
 
-def names_of(where: str) -> list[str]:
-    """The sessions of a folder, sorted by name, or those that a list names, one a line, as they stand there."""
+def names_of(where: str, patience: float) -> list[str]:
+    """The sessions of a folder, sorted by name, or those that a list names, one a line, in its order. There is at least one."""
     path = Path(where)
-    if path.is_dir():
-        return sorted(str(each) for each in path.iterdir() if each.is_file() and not each.name.startswith("."))
-    listed = reading.decoded(reading.read_bytes(where), where)
+    if where != reading.STANDARD and path.is_dir():
+        return names_in(where)
+    listed = reading.decoded(list_bytes(where, patience), where)
     base = Path() if where == reading.STANDARD else path.parent
-    return [str(base / line.strip(" \t")) for line in reading.split_lines(listed) if line.strip(" \t") and not line.startswith("#")]
+    names = [str(base / line.strip(" \t")) for line in reading.split_lines(listed) if line.strip(" \t") and not line.startswith("#")]
+    if not names:
+        raise reading.failed("this list names no session", where)
+    return names
+
+
+def names_in(folder: str) -> list[str]:
+    """Whatever is in a folder but its folders and hidden files. Broken links and pipes are named too: each becomes a row."""
+    found = [os.path.join(folder, name) for name in os.listdir(folder) if not name.startswith(".")]
+    names = sorted(str(Path(name)) for name in found if not os.path.isdir(name))
+    if not names:
+        inside = len(found)
+        raise reading.failed("this folder has no sessions" + (f"; the {inside} folder(s) in it are not searched" if inside else ""), folder)
+    return names
+
+
+def list_bytes(where: str, patience: float) -> bytes:
+    """All of a list. A pipe may be one, if some process opens it for writing in time."""
+    if where == reading.STANDARD:
+        return reading.read_bytes(where)
+    kind = kind_of(os.stat(where).st_mode)
+    if kind == PIPE:
+        return pipe_bytes(where, patience)
+    if kind:
+        raise reading.failed(f"this is {kind}, not a list", where)
+    return reading.read_bytes(where)
+
+
+def pipe_bytes(where: str, patience: float) -> bytes:
+    """All that is written into a pipe."""
+    with open(os.open(where, os.O_RDONLY | os.O_NONBLOCK), "rb") as pipe:
+        waiting = select.poll()
+        waiting.register(pipe, select.POLLIN | select.POLLHUP)
+        if not waiting.poll(1_000 * patience):
+            raise reading.failed(f"nothing was written into this pipe for {patience:g} s", where)
+        os.set_blocking(pipe.fileno(), True)
+        return pipe.read()
 
 
 # ---------------------------------------------------------------- one session
 
 
-def content(name: str) -> bytes:
-    """A file's bytes, no more of them than a session can have."""
-    with open(name, "rb") as file:
+Stamp = tuple[int, int, int]  # a file's size, and when its content (mtime) and anything about it (ctime) last changed, in nanoseconds
+
+
+@dataclass(frozen=True)
+class Outcome:
+    """A row, and the stamp of the file that was read for it (None: it could not be read)."""
+
+    row: Settled
+    stamp: Optional[Stamp]
+
+
+PIPE = "a pipe (FIFO)"
+KINDS = ((stat.S_ISDIR, "a folder"), (stat.S_ISFIFO, PIPE), (stat.S_ISSOCK, "a socket"), (stat.S_ISCHR, "a device"), (stat.S_ISBLK, "a device"))
+
+
+def kind_of(mode: int) -> Optional[str]:
+    """What a name is of, if it is not a regular file."""
+    return next((kind for is_one, kind in KINDS if is_one(mode)), None)
+
+
+def stamp_in(state: os.stat_result) -> Stamp:
+    return state.st_size, state.st_mtime_ns, state.st_ctime_ns
+
+
+def stamp_of(name: str) -> Optional[Stamp]:
+    """The stamp of a file as it is now."""
+    try:
+        return stamp_in(os.stat(name))
+    except (OSError, ValueError):
+        return None
+
+
+def content(name: str) -> tuple[bytes, Stamp]:
+    """A file's bytes, no more of them than a session can have, and its stamp from before they were read."""
+    kind = kind_of(os.stat(name).st_mode)
+    if kind:
+        raise reading.failed(f"this is {kind}, not a regular file", name)
+    with open(os.open(name, os.O_RDONLY | os.O_NONBLOCK), "rb") as file:  # if it has become a pipe meanwhile, the open does not wait
+        stamp = stamp_in(os.fstat(file.fileno()))
         front = file.read(FRONT)
         if b"\0" in front:
-            return front + file.read(LONGEST - len(front))
+            return front + file.read(LONGEST - len(front)), stamp
         data = front + file.read(LONGEST_TEXT)
     if len(data) > LONGEST_TEXT:
         raise reading.failed(f"this text is longer than {LONGEST_TEXT:,} bytes", name)
-    return data
+    return data, stamp
 
 
 def lapses_of(done: Session) -> int:
@@ -132,21 +205,36 @@ def lapses_of(done: Session) -> int:
     return count + 1 - int(starts_at_once) - int(ends_late)
 
 
-def settle(name: str, manner: Manner = Manner()) -> Settled:
+def settle(name: str, manner: Manner = Manner()) -> Outcome:
     """A session's row; whatever is wrong with the file is in it."""
     try:
-        source = inputs.session_of(name, content(name), manner.options, manner.head, manner.form)
+        data, stamp = content(name)
+    except (OSError, ValueError, TextError, MemoryError) as error:
+        return Outcome(unreadable(name, error), None)
+    return Outcome(row_of(name, data, manner), stamp)
+
+
+def row_of(name: str, data: bytes, manner: Manner) -> Settled:
+    """The row of a session's bytes."""
+    try:
+        source = inputs.session_of(name, data, manner.options, manner.head, manner.form)
         head, events = source.data[: HEAD.size], source.data[HEAD.size :]
         done, states = session(head, events), accounts.totals(head, events)
     except Refused as refused:
         return Settled(name, "refused", refusal=str(refused.number), place=place_of(source, refused), reason=refused.sentence)
-    except TextError as error:
-        return Settled(name, "unreadable", place=f"line {error.line}" if error.line else "", reason=str(error))
-    except (OSError, ValueError) as error:
-        return Settled(name, "unreadable", reason=getattr(error, "strerror", None) or str(error))
+    except (OSError, ValueError, TextError, MemoryError) as error:
+        return unreadable(name, error)
     share = part_text(done.kept, done.length)
     figures = [done.kept, done.length, share, verdict_text(done.met), done.weight, lapses_of(done)]
     return Settled(name, "settled", *map(str, [*figures, *list(states.values())[1:]]))
+
+
+def unreadable(name: str, error: Exception) -> Settled:
+    if isinstance(error, TextError):
+        return Settled(name, "unreadable", place=f"line {error.line}" if error.line else "", reason=str(error))
+    if isinstance(error, MemoryError):
+        return Settled(name, "unreadable", reason="there is not enough memory for it")
+    return Settled(name, "unreadable", reason=getattr(error, "strerror", None) or str(error))
 
 
 def place_of(source: inputs.Source, refused: Refused) -> str:
@@ -156,7 +244,7 @@ def place_of(source: inputs.Source, refused: Refused) -> str:
     return f"{record}, line {line}" if line else record
 
 
-def settle_all(names: Sequence[str], manner: Manner) -> list[Settled]:
+def outcomes(names: Sequence[str], manner: Manner) -> list[Outcome]:
     return [settle(name, manner) for name in names]
 
 
@@ -168,14 +256,14 @@ class Answering(Protocol):
 
 
 class Workers(Protocol):
-    """Threads of this process (concurrent.futures), or a Dask cluster's client: both take work so."""
+    """Threads of this process, as concurrent.futures has them."""
 
     def submit(self, work: Callable[..., Any], /, *given: Any) -> Answering: ...
 
 
-def renamed(row: Settled, name: str) -> Settled:
-    """A row under the name that the caller knows its session by."""
-    return replace(row, file=name)
+def renamed(outcome: Outcome, name: str) -> Outcome:
+    """An outcome under the name that the caller knows its session by."""
+    return replace(outcome, row=replace(outcome.row, file=name))
 
 
 def batches(names: Iterable[str], size: int) -> Iterator[list[str]]:
@@ -185,64 +273,15 @@ def batches(names: Iterable[str], size: int) -> Iterator[list[str]]:
         yield batch
 
 
-def rows(workers: Workers, names: Iterable[str], manner: Manner, ahead: int, size: int = 1) -> Iterator[Settled]:
-    """The rows in the order of the names; at most `ahead` pieces of work are given out and not yet taken back."""
+def rows(workers: Workers, names: Iterable[str], manner: Manner, ahead: int) -> Iterator[Outcome]:
+    """The outcomes in the order of the names; at most `ahead` sessions are given out and not yet taken back."""
     given: deque[Answering] = deque()
-    for batch in batches(names, size):
-        given.append(workers.submit(settle_all, batch, manner))
+    for name in names:
+        given.append(workers.submit(settle, name, manner))
         if len(given) >= ahead:
-            yield from given.popleft().result()
+            yield given.popleft().result()
     while given:
-        yield from given.popleft().result()
-
-
-# ---------------------------------------------------------------- the table, written as it grows
-
-
-def standing(path: Path, names: Sequence[str]) -> tuple[int, int]:
-    """How many leading names have their row in a table that was left off, and the bytes up to there. A row that was cut is none."""
-    if not path.exists():
-        return 0, 0
-    with closing(open(path, "rb")) as file:
-        if file.readline().decode("utf-8", "replace") != HEADER:
-            return 0, 0
-        count, size = 0, file.tell()
-        for name, line in zip(names, file):
-            if not line.endswith(b"\n") or not line.decode("utf-8", "replace").startswith(csv_field(name) + ","):
-                break
-            count, size = count + 1, size + len(line)
-    return count, size
-
-
-class Table:
-    """The rows beside their file (NAME.part), moved there when all are written; left off, they stay for --resume."""
-
-    def __init__(self, path: Path, names: Sequence[str], resume: bool) -> None:
-        self.path, self.part = path, path.with_name(path.name + ".part")
-        if resume and path.exists() and not self.part.exists():
-            self.part.write_bytes(path.read_bytes())  # a whole table: only what came after it is to do
-        self.done, size = standing(self.part, names) if resume else (0, 0)
-        self.file: BinaryIO = open(self.part, "r+b" if size else "wb")
-        self.file.truncate(size)
-        self.file.seek(size)
-        if not size:
-            self.file.write(HEADER.encode())
-
-    def old(self) -> Iterator[Settled]:
-        """The rows that stood there."""
-        with open(self.part, encoding="utf-8", newline="") as file:
-            for words in islice(csv.reader(file), 1, 1 + self.done):
-                yield Settled(*words)
-
-    def write(self, row: Settled) -> None:
-        """A row is there at once, so that it outlives whatever ends the run."""
-        self.file.write(row.line.encode())
-        self.file.flush()
-
-    def close(self, whole: bool) -> None:
-        self.file.close()
-        if whole:
-            self.part.replace(self.path)
+        yield given.popleft().result()
 
 
 # ---------------------------------------------------------------- the summary

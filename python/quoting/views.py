@@ -1,4 +1,4 @@
-"""What stands now: the open quantum of a month, as the library shows it."""
+"""The open quantum of a month now, as the library shows it."""
 
 from dataclasses import dataclass
 from typing import Optional, Sequence, Union
@@ -36,12 +36,12 @@ class View:
 
 def view_of(words: Sequence[int]) -> View:
     """The view that the library's words say."""
-    by_strike, *told = words[8:13]
+    by_strike, *limit = words[8:13]
     orders = (words[at : at + 4] for at in range(HEAD_WORDS, HEAD_WORDS + 4 * words[16], 4))
     return View(
         words[0],
         Row.of_words(words[1:8]),
-        Strike(*told) if by_strike else signed(told[0]),
+        Strike(*limit) if by_strike else signed(limit[0]),
         None if words[13] == NO_LIMIT else words[13],
         words[14],
         STATES[words[15]],

@@ -45,11 +45,11 @@ def read(text: str) -> list[Day]:
     return days
 
 
-# ---------------------------------------------------------------- judged
+# ---------------------------------------------------------------- checked
 
 
 def judge(prices: list[int], threshold: int) -> Judged:
-    """What the meter says of each day, by the prices before it."""
+    """Each day's sigma, and whether it is inside a period, by the prices before it."""
     found, inside = [sigma(prices[: day + 1]) for day in range(len(prices))], []
     for day in range(len(prices) + 1):
         try:
@@ -69,7 +69,7 @@ def last_line(judged: Judged) -> str:
 
 
 def stretches(flags: list[bool]) -> list[tuple[int, int]]:
-    """(first, behind the last) of each run of true.
+    """(first, one after the last) of each run of true.
 
     >>> stretches([False, True, True, False, True])
     [(1, 3), (4, 5)]
@@ -80,7 +80,7 @@ def stretches(flags: list[bool]) -> list[tuple[int, int]]:
 
 
 class Plot:
-    """Where days and sigmas stand."""
+    """Where days and sigmas are in the picture."""
 
     def __init__(self, count: int, top: int) -> None:
         self.count, self.top = count, top
@@ -99,7 +99,7 @@ def draw_grid(d: Drawing, plot: Plot) -> None:
 
 
 def draw_days(d: Drawing, plot: Plot, days: list[Day]) -> None:
-    """Names of days as far apart as they are wide."""
+    """Names of days, as many as there is room for."""
     wide = max([drawing.text_width(drawing.short(day.name, 14), 12) for day in days], default=0)
     most = max(1, int((RIGHT - LEFT) / (max(wide, 40) + BETWEEN)))
     for day in range(0, plot.count, drawing.rounded_step(plot.count, min(10, most))):
@@ -126,8 +126,8 @@ def picture(name: str, days: list[Day], threshold: int, judged: Judged) -> str:
     d, found = Drawing(WIDTH, HEIGHT), stretches(judged.inside or [])
     top = max([threshold, *(s for s in judged.sigmas if s is not None), 1]) * 21 // 20 + 1
     plot = Plot(len(days) + 1, top)
-    for first, behind in found:
-        d.rect(plot.x(first), TOP, plot.x(behind) - plot.x(first), BOTTOM - TOP, PERIOD)
+    for first, after in found:
+        d.rect(plot.x(first), TOP, plot.x(after) - plot.x(first), BOTTOM - TOP, PERIOD)
     draw_grid(d, plot)
     draw_days(d, plot, days)
     draw_sigmas(d, plot, judged)

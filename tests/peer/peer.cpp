@@ -1,4 +1,4 @@
-// QuickFIX as the other side of a line. tests/peer/peer.py gives the orders and compares.
+// QuickFIX as the other side of a line. tests/test_peer.py gives the orders and compares.
 //
 //     peer make       orders on standard input, a message that QuickFIX makes of each, in hex digits
 //     peer parse      messages in hex digits, what QuickFIX reads of each, its checks of length and checksum on

@@ -1,10 +1,11 @@
 """Draws the crates as crates.txt lists them: `python3 tools/dev/crates_picture.py`, which writes docs/crates.svg.
 
-A band is a group of crates.txt, the first one at the bottom. Under a crate's name stand the crates that it rests on,
-without those that one of these rests on already.
+A band is a group of crates.txt, the first one at the bottom. Each box lists its direct dependencies; transitive ones are omitted. With
+`--check` the picture is only compared, and the status is 1 where it is another.
 """
 
 import argparse
+import sys
 import textwrap
 from dataclasses import dataclass, field
 from html import escape
@@ -27,7 +28,7 @@ class Group:
 
 
 def listed(text: str) -> tuple[list[Group], dict[str, list[str]]]:
-    """The groups in their order, and what each crate names behind its colon."""
+    """The groups in their order, and what each crate names after its colon."""
     groups: list[Group] = []
     needs: dict[str, list[str]] = {}
     in_comment = False
@@ -46,7 +47,7 @@ def listed(text: str) -> tuple[list[Group], dict[str, list[str]]]:
 
 
 def below(needs: dict[str, list[str]]) -> dict[str, set[str]]:
-    """All that each crate rests on; crates.txt has a crate behind what it needs."""
+    """All that each crate rests on; crates.txt has a crate after what it needs."""
     all_of: dict[str, set[str]] = {}
     for name, named in needs.items():
         all_of[name] = set(named).union(*(all_of[need] for need in named))
@@ -103,7 +104,7 @@ def picture(text: str) -> str:
         y += height + GAP
     head = (
         f'<svg xmlns="http://www.w3.org/2000/svg" viewBox="0 0 {WIDTH} {y + GAP}" font-family="sans-serif">\n'
-        "<title>The crates, each above what it rests on</title>\n"
+        "<title>The crates, each above its dependencies</title>\n"
         "<style>.box{fill:#fff;stroke:#777}.name{font-size:13px;font-weight:bold;text-anchor:middle}"
         ".long{font-size:10px}"
         ".small{font-size:10.5px;fill:#444;text-anchor:middle}.title{font-size:15px;font-weight:bold;fill:#333}</style>\n"
@@ -113,9 +114,14 @@ def picture(text: str) -> str:
 
 
 def main() -> None:
-    argparse.ArgumentParser(description=__doc__, formatter_class=argparse.RawDescriptionHelpFormatter).parse_args()
-    text = (ROOT / "crates.txt").read_text(encoding="utf-8")
-    (ROOT / "docs" / "crates.svg").write_text(picture(text), encoding="utf-8")
+    parser = argparse.ArgumentParser(description=__doc__, formatter_class=argparse.RawDescriptionHelpFormatter)
+    parser.add_argument("--check", action="store_true", help="only compare")
+    check = parser.parse_args().check
+    drawn, page = picture((ROOT / "crates.txt").read_text(encoding="utf-8")), ROOT / "docs" / "crates.svg"
+    if not check:
+        page.write_text(drawn, encoding="utf-8")
+    elif page.read_text(encoding="utf-8") != drawn:
+        sys.exit("docs/crates.svg shows other crates: run python3 tools/dev/crates_picture.py")
 
 
 if __name__ == "__main__":

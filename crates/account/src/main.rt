@@ -1,11 +1,11 @@
 // Prints where the time of one session went: 32 leading bytes and the records from standard input, 1,600 records at most.
-use accounts::AccountAnswer;
-use accounts::Times;
 use console::field;
 use console::field_line;
 use console::text;
 use rules::Millis;
 use rules::SpreadRule;
+use session_account::AccountAnswer;
+use session_account::Times;
 
 fn refused(cause: u32, place: u32) {
     field(b"refused ", cause);
@@ -76,14 +76,14 @@ fn account(input: &[u8]) {
     let sp = words::to_steps(words::word_at(input, 28));
     let spread = SpreadRule::Settled(sp);
     let mut buffer = [0u32; 4803];
-    let answer = accounts::run_within(1600, &row, spread, &input[32..], &mut buffer);
+    let answer = session_account::run_within(1600, &row, spread, &input[32..], &mut buffer);
     match answer {
         AccountAnswer::Refused { refusal, place } => refused(rules::number(refusal), place),
         AccountAnswer::Finished {
             times,
             stretches: _,
         } => {
-            let n = accounts::filled(answer);
+            let n = session_account::filled(answer);
             stretches(&buffer[..n]);
             totals(times);
         }

@@ -1,4 +1,4 @@
--- A board's answer by the tests of its numbers, and that two different answers never show the same. Assumes nothing.
+-- A board's answer by the tests of its numbers, and that two different answers never show the same.
 use Prim.Native.Nat.{ℕ, _*_, _%_, _≤_, _<_}
 use native.Mathlib.Omega.{arith}
 use native.Mathlib.Nat.{mul-le-mul}

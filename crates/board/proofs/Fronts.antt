@@ -1,4 +1,4 @@
--- A test of every element, and a sum, along the front of a list. Assumes nothing.
+-- A test of every element, and a sum, along the front of a list.
 use Prim.Native.Nat.{ℕ, _+_, _<_}
 use native.Mathlib.Omega.{arith}
 use native.Mathlib.Numerals.{add-one}

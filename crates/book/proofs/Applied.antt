@@ -1,4 +1,4 @@
--- The answer to an event, and the table that it leaves: refused, accepted without a change, or accepted with one. Assumes nothing.
+-- The answer to an event, and the table that it leaves: refused, accepted without a change, or accepted with one.
 use Prim.Native.Nat.{ℕ, suc, _+_, _*_, _-_, _/_, _%_, _≤_, _<_}
 use native.Mathlib.Omega.{arith}
 use mathlib.Core.Path.{_≡_, refl, sym, ap, _∙_, subst}
@@ -22,24 +22,24 @@ use Rattle.rules.proofs.Members.{length-filter}
 use Rattle.rules.proofs.Orders.{cancel-at, deal-all}
 use Rattle.rules.proofs.Bounds.{volume-bounds}
 use Rattle.rules.proofs.Refusals.{trader-passes}
-use Rattle.prices.specs.Keys.{keyIn}
-use Rattle.prices.proofs.Keys.{key-least, key-most}
-use Rattle.level.specs.CandidateKeys.{changedKey}
-use Rattle.side.specs.declared.Change.{Change}
-use Rattle.side.specs.Slots.{Slot, blankSlot, slotOf, sideOf, keptIn, GoodSlots}
-use Rattle.side.specs.Internal.{Changed, Sized, HasOrder, Added, Put, Removed, Grows}
-use Rattle.side.proofs.Words.{words-length, count-is}
-use Rattle.side.proofs.Changes.{changed-added, changed-amended, changed-removed, GoodSlot, good-added, good-amended, good-removed, grows-none, grows-added, grows-amended, grows-removed}
+use Rattle.price_keys.specs.Keys.{keyIn}
+use Rattle.price_keys.proofs.Keys.{key-least, key-most}
+use Rattle.best_level.specs.CandidateKeys.{changedKey}
+use Rattle.order_side.specs.declared.Change.{Change}
+use Rattle.order_side.specs.Slots.{Slot, blankSlot, slotOf, sideOf, keptIn, GoodSlots}
+use Rattle.order_side.specs.Internal.{Changed, Sized, HasOrder, Added, Put, Removed, Grows}
+use Rattle.order_side.proofs.Words.{words-length, count-is}
+use Rattle.order_side.proofs.Changes.{changed-added, changed-amended, changed-removed, GoodSlot, good-added, good-amended, good-removed, grows-none, grows-added, grows-amended, grows-removed}
 use Rattle.book.specs.declared.Answer.{Answer}
-use Rattle.table.specs.Table.{ofSide, slotsIn, sideIn, tableOf, slotIn, GoodOrders}
+use Rattle.order_table.specs.Table.{ofSide, slotsIn, sideIn, tableOf, slotIn, GoodOrders}
 use Rattle.book.specs.Events.{idOf, sideFor, changedBy, sentTo}
-use Rattle.table.specs.Internal.{sideAt, other, Numbers, blankOrder, orderIn, joined, Represents, Placed}
+use Rattle.order_table.specs.Internal.{sideAt, other, Numbers, blankOrder, orderIn, joined, Represents, Placed}
 use Rattle.book.specs.Internal.{orderWith, addOf, appliedTo, answer, noChange, Applied}
 use Rattle.book.proofs.Sides.{names}
-use Rattle.table.proofs.Slots.{Has, position}
-use Rattle.table.proofs.Table.{joined-length, joined-at, half-length, part-is, put-is, part-sized, part-count}
-use Rattle.table.proofs.Orders as O
-use Rattle.table.proofs.Orders.{good-slots, its-side, its-price, its-volume, lent, putBack}
+use Rattle.order_table.proofs.Slots.{Has, position}
+use Rattle.order_table.proofs.Table.{joined-length, joined-at, half-length, part-is, put-is, part-sized, part-count}
+use Rattle.order_table.proofs.Orders as O
+use Rattle.order_table.proofs.Orders.{good-slots, its-side, its-price, its-volume, lent, putBack}
 use Rattle.book.proofs.Events.{added, added-changes, added-other, others-stay, amended, cancelled, dealt-some, slots-set, changed-key, cancelled-key}
 use Rattle.book.proofs.Changes.{side-with}
 

@@ -1,4 +1,4 @@
--- What the fields of a record say, by their kind. Assumes nothing.
+-- What the fields of a record say, by their kind.
 use Prim.Native.Nat.{ℕ, zero, suc, _≤_}
 use native.Mathlib.Omega.{arith}
 use mathlib.Core.Path.{_≡_, refl, sym, ap, _∙_}

@@ -1,4 +1,4 @@
--- The trader's causes, read off an id's slot, the tests of ranges, the number of orders and what is left of an order. Assumes nothing.
+-- The trader's causes, read off an id's slot, the tests of ranges, the number of orders and what is left of an order.
 use Prim.Native.Nat.{ℕ, _≤_, _<_}
 use mathlib.Core.Path.{_≡_, sym, ap, _∙_}
 use mathlib.Core.List.{List}
@@ -16,8 +16,8 @@ use Rattle.rules.specs.Units.{goodPrice, goodVolume}
 use Rattle.rules.specs.Orders.{isLive, left}
 use Rattle.rules.specs.Causes.{firstNumber, traderCauses}
 use Rattle.rules.proofs.Refusals.{skip, stop, clear}
-use Rattle.table.specs.Table.{slotIn, GoodOrders}
-use Rattle.table.proofs.Slots.{slot-live}
+use Rattle.order_table.specs.Table.{slotIn, GoodOrders}
+use Rattle.order_table.proofs.Slots.{slot-live}
 
 module _ (live : List Order) (good : GoodOrders live) (id slot : ℕ) (at : slot ≡ slotIn id live) (t : Millis) where
   is-live : ltb slot 128 ≡ isLive id live

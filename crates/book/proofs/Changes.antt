@@ -1,12 +1,11 @@
 -- The side of an event that names a live order, and the key of the order that an event added or changed.
 use Prim.Native.Nat.{ℕ, zero, suc}
-use native.Mathlib.Omega.{arith}
 use native.Mathlib.Nat.{not-suc-le-zero, le-of-suc-le-suc}
 use mathlib.Core.Path.{_≡_, refl, sym, ap, _∙_}
 use mathlib.Core.List.{List, [], _∷_, _++_, List·Memᴰ, List·Memᴰ·head, List·Memᴰ·tail}
 use mathlib.Core.Bool.{Bool, true, false, not, true≢false}
 use borrow.Author.Tests.{eqb-true}
-use lib.ListN.{length, getD, set}
+use lib.ListN.{set}
 use Rattle.rules.specs.declared.Side.{Side}
 use Rattle.rules.specs.declared.Order.{Order}
 use Rattle.rules.specs.Lists.{if_then_else_, any, filter}
@@ -15,13 +14,13 @@ use Rattle.rules.specs.Bounds.{Distinct}
 use Rattle.rules.proofs.Lists.{filter-append, filter-one, kept-in}
 use Rattle.rules.proofs.Members.{or-false, any-none, some-any, getD-in}
 use Rattle.rules.proofs.Orders.{live-at}
-use Rattle.prices.specs.Keys.{keyIn}
-use Rattle.level.specs.CandidateKeys.{changedKey}
-use Rattle.table.specs.Table.{ofSide, GoodOrders}
-use Rattle.table.specs.Internal.{blankOrder}
-use Rattle.table.proofs.Sides.{in-side}
-use Rattle.table.proofs.Orders.{its-side}
-use Rattle.table.proofs.Slots.{Has}
+use Rattle.price_keys.specs.Keys.{keyIn}
+use Rattle.best_level.specs.CandidateKeys.{changedKey}
+use Rattle.order_table.specs.Table.{ofSide, GoodOrders}
+use Rattle.order_table.specs.Internal.{blankOrder}
+use Rattle.order_table.proofs.Sides.{in-side}
+use Rattle.order_table.proofs.Orders.{its-side}
+use Rattle.order_table.proofs.Slots.{Has}
 use Rattle.book.specs.Events.{sideWith}
 
 module _ (id : ℕ) where

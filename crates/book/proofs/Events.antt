@@ -1,4 +1,4 @@
--- What an accepted event does to the slots of a side, and that they stay within their bounds. Assumes nothing.
+-- What an accepted event does to the slots of a side, and that they stay within their bounds.
 use Prim.Native.Nat.{ℕ, suc, _-_, _≤_, _<_}
 use native.Mathlib.Omega.{arith}
 use mathlib.Core.Path.{_≡_, refl, sym, ap, _∙_}
@@ -21,18 +21,18 @@ use Rattle.rules.specs.Quotes.{same}
 use Rattle.rules.proofs.Members.{any-filter, getD-in}
 use Rattle.rules.proofs.Orders.{amend-at, cancel-at, deal-some, left-at}
 use Rattle.rules.proofs.Bounds.{volume-bounds}
-use Rattle.prices.specs.Keys.{keyOf, keyIn}
-use Rattle.level.specs.CandidateKeys.{changedKey}
-use Rattle.side.specs.Slots.{Slot, slot, slotOf}
-use Rattle.side.proofs.Lists.{map-set, map-take, map-drop}
-use Rattle.table.specs.Table.{ofSide, slotsIn, GoodOrders}
-use Rattle.table.specs.Internal.{other, blankOrder}
+use Rattle.price_keys.specs.Keys.{keyOf, keyIn}
+use Rattle.best_level.specs.CandidateKeys.{changedKey}
+use Rattle.order_side.specs.Slots.{Slot, slot, slotOf}
+use Rattle.order_side.proofs.Lists.{map-set, map-take, map-drop}
+use Rattle.order_table.specs.Table.{ofSide, slotsIn, GoodOrders}
+use Rattle.order_table.specs.Internal.{other, blankOrder}
 use Rattle.book.specs.Events.{idOf, changedBy}
 use Rattle.book.specs.Internal.{orderWith}
 use Rattle.book.proofs.Changes.{added-key, set-key, removed-key}
-use Rattle.table.proofs.Sides.{other-unlive, distinct-side, in-side}
+use Rattle.order_table.proofs.Sides.{other-unlive, distinct-side, in-side}
 use Rattle.book.proofs.Sides.{names, side-add, side-named, unnamed}
-use Rattle.table.proofs.Slots.{Has}
+use Rattle.order_table.proofs.Slots.{Has}
 
 -- ---- one order more
 

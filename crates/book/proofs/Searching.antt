@@ -14,7 +14,7 @@ use Rattle.rules.proofs.Refusals.{passed}
 use Rattle.record.specs.declared.Fields.{Fields}
 use Rattle.record.specs.Fields.{readFields}
 use Rattle.book.specs.declared.Sent.{Sent}
-use Rattle.table.specs.Table.{tableOf, GoodOrders}
+use Rattle.order_table.specs.Table.{tableOf, GoodOrders}
 use Rattle.book.specs.Sending.{sumsBetween, Sending, SendsRead}
 use Rattle.book.specs.Searching.{AcceptedAfter, Accepted, nextSums}
 

@@ -1,7 +1,7 @@
--- The table after an event: with the best level of its side moved, it stands for the orders after it. Assumes nothing.
+-- The table after an event: with the best level of its side moved, it stands for the orders after it.
 use Prim.Native.Nat.{ℕ, zero, suc, _≤_, _<_}
 use native.Mathlib.Omega.{arith}
-use mathlib.Core.Path.{_≡_, refl, sym, ap, _∙_, subst}
+use mathlib.Core.Path.{_≡_, refl, sym, ap, _∙_}
 use mathlib.Core.Bool.{Bool, true, false}
 use mathlib.Core.List.{List, map, map-map}
 use lib.ListN.{length}
@@ -13,31 +13,31 @@ use Rattle.rules.specs.Lists.{if_then_else_}
 use Rattle.rules.specs.Orders.{hasId, apply}
 use Rattle.rules.specs.Answers.{Outcome, accepted, refused}
 use Rattle.rules.specs.Kept.{ordersKeep}
-use Rattle.prices.specs.Widest.{WidestFor}
+use Rattle.price_keys.specs.Widest.{WidestFor}
 use Rattle.rules.specs.declared.Side.{Side}
 use Rattle.rules.specs.declared.Side.the-variants.{Buy, Sell}
 use Rattle.rules.specs.Search.{sumsFor}
 use Rattle.rules.proofs.Lists.{kept-in}
-use Rattle.quote.specs.Levels.{enough}
-use Rattle.quote.specs.Sums.{keySums}
-use Rattle.side.specs.Slots.{Slot, slotOf, sideOf, keysOf, volumesOf, bestKeyIn, keptIn}
-use Rattle.level.specs.declared.Requoted.{Requoted}
-use Rattle.level.specs.Candidates.{keysIn, volumesIn, candidates}
-use Rattle.level.specs.CandidateKeys.{changedKey, candidateKeys}
-use Rattle.level.specs.Requotes.{sumsIn, Requotes}
-use Rattle.level.proofs.Candidates.{candidate-sums}
-use Rattle.side.specs.Internal.{StaleLevel}
-use Rattle.side.proofs.Words.{words-length}
+use Rattle.best_quote.specs.Levels.{enough}
+use Rattle.best_quote.specs.Sums.{keySums}
+use Rattle.order_side.specs.Slots.{Slot, slotOf, sideOf, keysOf, volumesOf, bestKeyIn, keptIn}
+use Rattle.best_level.specs.declared.Requoted.{Requoted}
+use Rattle.best_level.specs.Candidates.{keysIn, volumesIn, candidates}
+use Rattle.best_level.specs.CandidateKeys.{changedKey, candidateKeys}
+use Rattle.best_level.specs.Requotes.{sumsIn, Requotes}
+use Rattle.best_level.proofs.Candidates.{candidate-sums}
+use Rattle.order_side.specs.Internal.{StaleLevel}
+use Rattle.order_side.proofs.Words.{words-length}
 use Rattle.book.specs.declared.Answer.{Answer}
-use Rattle.table.specs.Table.{ofSide, slotsIn, sideIn, tableOf, GoodOrders}
+use Rattle.order_table.specs.Table.{ofSide, slotsIn, sideIn, tableOf, GoodOrders}
 use Rattle.book.specs.Events.{idOf, changedBy, sentTo}
 use Rattle.book.specs.Sending.{sumsBetween, SendsRead}
-use Rattle.table.specs.Internal.{sideAt, other, joined}
+use Rattle.order_table.specs.Internal.{sideAt, other, joined}
 use Rattle.book.specs.Internal.{appliedTo, answer, noChange, Applied, AppliedRead, keepsBy}
-use Rattle.table.proofs.Table.{joined-part, joined-put}
-use Rattle.table.proofs.Orders.{good-slots}
-use Rattle.table.proofs.Quotes.{keeps-is, same-keeps, slots-orders}
-use Rattle.table.proofs.Orders.{lent, putBack}
+use Rattle.order_table.proofs.Table.{joined-part, joined-put}
+use Rattle.order_table.proofs.Orders.{good-slots}
+use Rattle.order_table.proofs.Quotes.{keeps-is, same-keeps, slots-orders}
+use Rattle.order_table.proofs.Orders.{lent, putBack}
 
 -- the two halves by the number of either
 both-halves : (n minimum : ℕ) (live : List Order) → n < 2 → joined n (sideIn minimum (sideAt n) live) (sideIn minimum (other (sideAt n)) live) ≡ tableOf minimum live

@@ -1,4 +1,4 @@
--- How each event changes the orders of one side. Assumes nothing.
+-- How each event changes the orders of one side.
 use Prim.Native.Nat.{ℕ, _-_}
 use mathlib.Core.Path.{_≡_, refl, ap, _∙_}
 use mathlib.Core.List.{List, [], _∷_, _++_, map, List·Memᴰ}
@@ -19,7 +19,7 @@ use Rattle.rules.proofs.Lists.{filter-append, filter-one}
 use Rattle.rules.proofs.Members.{none-any, filter-all, map-same}
 use Rattle.rules.proofs.Orders.{amended-other, lessened-other}
 use Rattle.rules.proofs.Bounds.{volume-bounds}
-use Rattle.table.specs.Table.{ofSide}
+use Rattle.order_table.specs.Table.{ofSide}
 
 -- ---- two lists of one: those that pass, and the others
 

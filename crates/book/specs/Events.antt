@@ -10,7 +10,7 @@ use Rattle.rules.specs.declared.Event.the-variants.{Add, Amend, Cancel, Deal, T
 use Rattle.rules.specs.Lists.{if_then_else_, filter}
 use Rattle.rules.specs.Orders.{hasId, apply}
 use Rattle.rules.specs.Causes.{firstNumber, traderCauses}
-use Rattle.table.specs.Table.{tableOf, GoodOrders}
+use Rattle.order_table.specs.Table.{tableOf, GoodOrders}
 
 -- the id of the order that an event adds or names; a tick names none, and the table is not asked
 abbrev pub idOf : Event → ℕ

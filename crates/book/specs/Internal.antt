@@ -17,13 +17,13 @@ use Rattle.rules.specs.Causes.{firstNumber, traderCauses}
 use Rattle.rules.specs.Lists.{if_then_else_, within}
 use Rattle.rules.specs.Answers.{Outcome, accepted, refused}
 use Rattle.record.specs.declared.Fields.{Fields}
-use Rattle.prices.specs.Widest.{keysKeep}
-use Rattle.side.specs.Slots.{sideOf, keptIn, GoodSlots}
-use Rattle.side.specs.declared.Change.{Change}
-use Rattle.side.specs.Internal.{change, Changed, Grows}
-use Rattle.level.specs.CandidateKeys.{changedKey}
-use Rattle.table.specs.Table.{ofSide, slotsIn, sideIn}
-use Rattle.table.specs.Internal.{sideAt, other, joined}
+use Rattle.price_keys.specs.Widest.{keysKeep}
+use Rattle.order_side.specs.Slots.{sideOf, keptIn, GoodSlots}
+use Rattle.order_side.specs.declared.Change.{Change}
+use Rattle.order_side.specs.Internal.{change, Changed, Grows}
+use Rattle.best_level.specs.CandidateKeys.{changedKey}
+use Rattle.order_table.specs.Table.{ofSide, slotsIn, sideIn}
+use Rattle.order_table.specs.Internal.{sideAt, other, joined}
 use Rattle.book.specs.declared.Answer.{Answer}
 use Rattle.book.specs.Events.{sideFor, changedBy, sentTo}
 

@@ -13,14 +13,14 @@ use Rattle.rules.specs.Orders.{apply}
 use Rattle.rules.specs.Answers.{Outcome, accepted, refused}
 use Rattle.rules.specs.Kept.{ordersKeep}
 use Rattle.rules.specs.Search.{sumsFor}
-use Rattle.prices.specs.Widest.{WidestFor}
-use Rattle.level.specs.Candidates.{candidates}
+use Rattle.price_keys.specs.Widest.{WidestFor}
+use Rattle.best_level.specs.Candidates.{candidates}
 use Rattle.book.specs.declared.Sent.{Sent}
-use Rattle.table.specs.Table.{ofSide, tableOf, GoodOrders}
+use Rattle.order_table.specs.Table.{ofSide, tableOf, GoodOrders}
 use Rattle.book.specs.Events.{sideFor, changedBy, sentTo, Sends}
 
 -- Document 02, W3: for how many orders volumes are added up at an accepted event, with the live orders before it and after it. It is the
--- number for the candidates for the best quote of the event's side (crates/level), each of which is a live order of that side after it.
+-- number for the candidates for the best quote of the event's side (crates/best_level), each of which is a live order of that side after it.
 unfoldable pub sumsBetween : ℕ → Event → List Order → List Order → ℕ
 sumsBetween minimum e before after =
     let side = sideFor before e in

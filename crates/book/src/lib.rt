@@ -12,21 +12,21 @@ ghost use Rattle.rules.specs.declared.Event.the-variants.{Amend, Cancel, Deal};
 ghost use Rattle.rules.specs.declared.Side.the-variants.{Buy, Sell};
 ghost use Rattle.rules.specs.Lists.{if_then_else_, within};
 ghost use Rattle.rules.specs.Units.{goodPrice, goodVolume};
-ghost use Rattle.table.specs.Table.{slotIn, Held, Holding};
-ghost use Rattle.table.specs.Internal.{Represents, Located};
+ghost use Rattle.order_table.specs.Table.{slotIn, Held, Holding};
+ghost use Rattle.order_table.specs.Internal.{Represents, Located};
 ghost use Rattle.record.specs.Fields.{readFields};
 ghost use Rattle.book.specs.Sending.{SendsRead};
 ghost use Rattle.book.specs.Internal.{addOf, orderWith, orderBy, Lessens, answer, noChange, Applied, AppliedRead, keepsBy};
 use numbers::both;
+use order_side::BEST;
+use order_side::COUNT;
+use order_side::Change;
+use order_side::WORDS;
 use record::Fields;
 use rules::Contracts;
 use rules::Order;
 use rules::Side;
 use rules::Steps;
-use side::BEST;
-use side::COUNT;
-use side::Change;
-use side::WORDS;
 
 // The answer to an event: the refusal's number; or 0, and what changes on which side, buys 0 and sells 1.
 struct Answer {
@@ -81,14 +81,14 @@ fn add(table: &mut [u32], hints: &mut [u8], slot: usize, order: Order) -> Answer
         return refused(10);
     }
     if in_range(price, volume) {
-        if 64 <= table::count(table) {
+        if 64 <= order_table::count(table) {
             return refused(13);
         }
-        let s = table::side_number(side);
-        table::note(hints, order.id, 64 * s + table[WORDS * s + COUNT] as usize);
+        let s = order_table::side_number(side);
+        order_table::note(hints, order.id, 64 * s + table[WORDS * s + COUNT] as usize);
         return done(
             s,
-            side::add(&mut table[WORDS * s..WORDS * s + WORDS], order),
+            order_side::add(&mut table[WORDS * s..WORDS * s + WORDS], order),
         );
     }
     refused(12)
@@ -124,12 +124,12 @@ fn amend(
         return refused(11);
     }
     if in_range(price, volume) {
-        let order = table::order_in(table, slot);
+        let order = order_table::order_in(table, slot);
         let s = slot / 64;
-        table::note(hints, id, slot);
+        order_table::note(hints, id, slot);
         return done(
             s,
-            side::put(
+            order_side::put(
                 &mut table[WORDS * s..WORDS * s + WORDS],
                 slot % 64,
                 renewed(order, price, volume),
@@ -149,12 +149,12 @@ fn cancel(table: &mut [u32], hints: &mut [u8], slot: usize) -> Answer
     }
     let s = slot / 64;
     let place = slot % 64;
-    let change = side::remove(
+    let change = order_side::remove(
         &mut table[WORDS * s..WORDS * s + WORDS],
-        table::side_at(s),
+        order_table::side_at(s),
         place,
     );
-    table::rehint(table, hints, s, place);
+    order_table::rehint(table, hints, s, place);
     done(s, change)
 }
 
@@ -167,7 +167,7 @@ fn deal(table: &mut [u32], hints: &mut [u8], id: u32, slot: usize, volume: Contr
         return refused(11);
     }
     if ranges::volume(volume) {
-        let order = table::order_in(table, slot);
+        let order = order_table::order_in(table, slot);
         let price = order.price;
         let held = order.volume.0;
         let dealt = volume.0;
@@ -178,10 +178,10 @@ fn deal(table: &mut [u32], hints: &mut [u8], id: u32, slot: usize, volume: Contr
             return cancel(table, hints, slot);
         }
         let s = slot / 64;
-        table::note(hints, id, slot);
+        order_table::note(hints, id, slot);
         return done(
             s,
-            side::put(
+            order_side::put(
                 &mut table[WORDS * s..WORDS * s + WORDS],
                 slot % 64,
                 renewed(order, price, Contracts(held - dealt)),
@@ -249,7 +249,7 @@ fn changed(table: &mut [u32], hints: &mut [u8], f: Fields) -> Answer
     let kind = f.kind;
     let price = f.price;
     let volume = f.volume;
-    let slot = table::find(table, hints, f.id);
+    let slot = order_table::find(table, hints, f.id);
     if kind == 3 {
         return amend(table, hints, f.id, slot, price, volume);
     }
@@ -273,7 +273,7 @@ fn keeps_after(table: &[u32], widest: u32, keeping: u32, moves: bool) -> u32
     ensures { λ r. ⌜ r ≡ (if moves then keepsBy widest (now (table .entry)) else keeping) ⌝ }
 {
     if moves {
-        return prices::keys_keep(widest, table[BEST], table[WORDS + BEST]);
+        return price_keys::keys_keep(widest, table[BEST], table[WORDS + BEST]);
     }
     keeping
 }
@@ -302,8 +302,8 @@ pub fn send(
         };
     }
     let s = answer.s;
-    let side = table::side_at(s);
-    let requoted = level::requote(
+    let side = order_table::side_at(s);
+    let requoted = best_level::requote(
         &mut table[WORDS * s..WORDS * s + WORDS],
         side,
         answer.change,

@@ -1,4 +1,4 @@
--- The cell that a day, an expiry and a quantum name. Assumes nothing.
+-- The cell that a day, an expiry and a quantum name.
 use Prim.Native.Nat.{ℕ}
 use mathlib.Core.Path.{_≡_, refl, ap, sym, _∙_}
 use mathlib.Core.Bool.{Bool, true, false}

@@ -1,4 +1,4 @@
--- From the clock to the accepted events that it stands for, and back. Assumes nothing.
+-- From the clock to the accepted events that it stands for, and back.
 use Prim.Native.Nat.{ℕ, zero, suc, _+_, _*_, _-_, _≤_, _<_}
 use mathlib.Core.Path.{_≡_, refl, ap, sym, _∙_}
 use mathlib.Core.Bool.{Bool, true, false, _||_}
@@ -24,8 +24,8 @@ use Rattle.rules.proofs.Orders.{live-snoc, present-snoc}
 use Rattle.rules.proofs.Kept.{kept-onward, kept-snoc, kept-le}
 use Rattle.rules.proofs.Lapses.{lapsesBelow-le, lapses-onward, before-onward, lapses-snoc, before-snoc}
 use Rattle.strike.proofs.Rounding.{strike-law}
-use Rattle.prices.specs.Widest.{WidestFor}
-use Rattle.prices.proofs.Spread.{widest-law}
+use Rattle.price_keys.specs.Widest.{WidestFor}
+use Rattle.price_keys.proofs.Spread.{widest-law}
 use Rattle.clock.specs.declared.Duty.{Duty}
 use Rattle.clock.specs.declared.Clock.{Clock}
 use Rattle.clock.specs.Clocks.{widestFor, dutyOf, clockOf, Onward, startingBy, ranOn}

@@ -1,4 +1,4 @@
--- A duty and a clock read back from their words. Assumes nothing.
+-- A duty and a clock read back from their words.
 use Prim.Native.Nat.{ℕ}
 use mathlib.Core.Path.{_≡_}
 use mathlib.Core.List.{List}

@@ -15,7 +15,7 @@ use Rattle.rules.specs.Kept.{ordersKeep, keptAt, keptBelow}
 use Rattle.rules.specs.Runs.{before}
 use Rattle.rules.specs.Lapses.{lapsesBelow}
 use Rattle.strike.specs.Widest.{widestOfStrike}
-use Rattle.prices.specs.Widest.{widestOf}
+use Rattle.price_keys.specs.Widest.{widestOf}
 use Rattle.clock.specs.declared.Duty.{Duty}
 use Rattle.clock.specs.declared.Clock.{Clock}
 

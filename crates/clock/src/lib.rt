@@ -1,4 +1,7 @@
 // A quantum's duty and its clock (time, kept time, lapses, whether the quote is kept now): opened, running on, at the end, and in words.
+//
+// Time runs on in one function, `onward`. The clock has the number of lapses and whether the millisecond before the present is kept; a lapse
+// starts where the quote is not kept and that millisecond is, or there is none.
 ghost use mathlib.Core.Path.{_≡_};
 ghost use mathlib.Core.List.{List, []};
 ghost use mathlib.Core.Bool.{true, _&&_};
@@ -54,7 +57,7 @@ fn widest_of(row: Row, spread: SpreadRule) -> u32
     ensures { λ r. ⌜ r ≡ widestFor row spread ⌝ }
 {
     match spread {
-        SpreadRule::Settled(sp) => prices::widest_for_price(row.a, row.b, sp),
+        SpreadRule::Settled(sp) => price_keys::widest_for_price(row.a, row.b, sp),
         SpreadRule::OfStrike(s) => strike::widest(s),
     }
 }
@@ -94,9 +97,9 @@ fn starting(clock: Clock) -> u32
     ensures { λ r. ⌜ (r ≡ startingBy clock) × (r ≤ 1) ⌝ }
 {
     if clock.time.0 == 0 {
-        return 1 - clock.keeps;
+        return numbers::difference(1, clock.keeps);
     }
-    (1 - clock.keeps) * clock.last
+    numbers::product(numbers::difference(1, clock.keeps), clock.last)
 }
 
 // Time runs on to t: the quotes of before count up to there, as kept time or as a lapse.
@@ -106,10 +109,10 @@ pub fn onward(clock: Clock, t: Millis, keeps: u32) -> Clock
 {
     let time = clock.time;
     let kept = clock.kept;
-    let more = clock.keeps * (t.0 - time.0);
-    let total = Millis(kept.0 + more);
+    let more = numbers::product(clock.keeps, numbers::difference(t.0, time.0));
+    let total = Millis(numbers::sum(kept.0, more));
     if time.0 < t.0 {
-        let lapses = clock.lapses + starting(clock);
+        let lapses = numbers::sum(clock.lapses, starting(clock));
         return Clock {
             time: t,
             kept: total,

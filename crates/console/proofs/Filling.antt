@@ -1,4 +1,4 @@
--- A slice that is filled from its front by a function of the place. Assumes nothing.
+-- A slice that is filled from its front by a function of the place.
 use Prim.Native.Nat.{ℕ, suc, _+_, _≤_, _<_}
 use native.Mathlib.Omega.{arith}
 use native.Mathlib.Numerals.{add-one}

@@ -1,5 +1,4 @@
 -- Cells of milliseconds that are kept or not, whatever the reason: the best that may follow is that all is kept, and how many are needed.
--- Assumes nothing.
 use Prim.Native.Nat.{ℕ, zero, suc, _+_, _-_, _*_, _≤_, _<_}
 use native.Mathlib.Nat.{lt-irrefl, lt-of-lt-of-le, lt-of-not-le}
 use native.Mathlib.Omega.{arith}
@@ -11,7 +10,7 @@ use borrow.Author.Tests.{leb-true, leb-false, le-leb, lt-leb, lt-ltb, le-ltb}
 use Rattle.rules.specs.declared.Row.{Row}
 use Rattle.rules.specs.declared.Opening.{Opening}
 use Rattle.rules.specs.declared.LapsesLeft.the-variants.{Unlimited, Over, Left}
-use Rattle.rules.specs.Lists.{if_then_else_, count}
+use Rattle.rules.specs.Lists.{if_then_else_, countBelow}
 use Rattle.rules.specs.Terms.{paper}
 use Rattle.rules.specs.Units.{millis, kopecks}
 use Rattle.rules.specs.Runs.{before}
@@ -92,7 +91,7 @@ module _ (row : Row) (opening : Opening) (p q : ℕ → Bool) (t s : ℕ) (onwar
       go true e = kept-from m (leb-true s m e)
       go false e = sym (agree m (leb-false s m e)) ∙ h
 
-  pub kept-more : (n : ℕ) → count q n ≤ count (restingTill p t s) n
+  pub kept-more : (n : ℕ) → countBelow q n ≤ countBelow (restingTill p t s) n
   kept-more n = count-more q (restingTill p t s) n (λ m l. kept-then m)
 
   -- a lapse that begins there, begins then too
@@ -112,25 +111,25 @@ module _ (row : Row) (opening : Opening) (p q : ℕ → Bool) (t s : ℕ) (onwar
   pub best-is-keeping : cellMet paper (cellOf row opening q) ≡ true → cellMet paper (cellOf row opening (restingTill p t s)) ≡ true
   best-is-keeping h =
       let n = row .length .0 in
-      let (share, few) = both (met paper (count q n) n (row .share)) (withinLapseLimit (opening .allowed) (length (lapses q n))) h in
+      let (share, few) = both (met paper (countBelow q n) n (row .share)) (withinLapseLimit (opening .allowed) (length (lapses q n))) h in
       let starts = count-more (lapseStarts (restingTill p t s)) (lapseStarts q) n (λ m l. begins-then m) in
       let a = lapses-counted (restingTill p t s) n in
       let b = lapses-counted q n in
-      and (met-more (count q n) (count (restingTill p t s) n) n (row .share) (kept-more n) share)
+      and (met-more (countBelow q n) (countBelow (restingTill p t s) n) n (row .share) (kept-more n) share)
       (within-fewer (opening .allowed) (length (lapses (restingTill p t s) n)) (length (lapses q n)) (omega arith) few)
 
 -- the milliseconds from t on, counted apart
-pub count-from : (q : ℕ → Bool) (t d : ℕ) → count q (t + d) ≡ count q t + count (λ (i : ℕ). q (t + i)) d
-unfolding count
-count-from q t zero = let e : t + 0 ≡ t = omega arith in ap (count q) e ∙ omega arith
+pub count-from : (q : ℕ → Bool) (t d : ℕ) → countBelow q (t + d) ≡ countBelow q t + countBelow (λ (i : ℕ). q (t + i)) d
+unfolding countBelow
+count-from q t zero = let e : t + 0 ≡ t = omega arith in ap (countBelow q) e ∙ omega arith
 count-from q t (suc d) =
     let e : t + suc d ≡ suc (t + d) = omega arith in
     let ih = count-from q t d in
-    ap (count q) e ∙ omega (arith, ih)
+    ap (countBelow q) e ∙ omega (arith, ih)
 
 -- all of them, where each passes
-pub count-all : (q : ℕ → Bool) (n : ℕ) → ((m : ℕ) → m < n → q m ≡ true) → count q n ≡ n
-unfolding count
+pub count-all : (q : ℕ → Bool) (n : ℕ) → ((m : ℕ) → m < n → q m ≡ true) → countBelow q n ≡ n
+unfolding countBelow
 count-all q zero h = refl
 count-all q (suc n) h = rw (h n (omega arith)) (let ih = count-all q n (λ m l. h m (omega arith)) in omega arith)
 
@@ -145,24 +144,24 @@ same-test a b c d f g = go (leb c d) refl
 -- ---- lapses begun by t
 
 module _ (p q : ℕ → Bool) (t : ℕ) (same : (m : ℕ) → m < t → q m ≡ p m) where
-  starts-same : count (lapseStarts q) t ≡ count (lapseStarts p) t
+  starts-same : countBelow (lapseStarts q) t ≡ countBelow (lapseStarts p) t
   starts-same =
       count-ext (lapseStarts q) (lapseStarts p) t
       (λ m l i. not (same m l i) && (eqb m 0 || before-same p q t m same (omega arith) i))
 
   -- they stay, and those that begin later are added
-  pub lapses-added : (d : ℕ) → length (lapses q (t + d)) ≡ length (lapses p t) + count (λ (i : ℕ). lapseStarts q (t + i)) d
+  pub lapses-added : (d : ℕ) → length (lapses q (t + d)) ≡ length (lapses p t) + countBelow (λ (i : ℕ). lapseStarts q (t + i)) d
   lapses-added d =
       lapses-counted q (t + d)
       ∙ count-from (lapseStarts q) t d
-      ∙ ap (λ (n : ℕ). n + count (λ (i : ℕ). lapseStarts q (t + i)) d) (starts-same ∙ sym (lapses-counted p t))
+      ∙ ap (λ (n : ℕ). n + countBelow (λ (i : ℕ). lapseStarts q (t + i)) d) (starts-same ∙ sym (lapses-counted p t))
 
   -- and are all, where everything from t on is kept
   pub lapses-kept : (d : ℕ) → ((m : ℕ) → t ≤ m → m < t + d → q m ≡ true) → length (lapses q (t + d)) ≡ length (lapses p t)
   lapses-kept d h =
       lapses-counted q (t + d)
       ∙ count-stretch (lapseStarts q) t d false (λ m l u. ap (λ (b : Bool). not b && begins q m) (h m l u))
-      ∙ (let e : count (lapseStarts q) t + 0 ≡ count (lapseStarts q) t = omega arith in e)
+      ∙ (let e : countBelow (lapseStarts q) t + 0 ≡ countBelow (lapseStarts q) t = omega arith in e)
       ∙ starts-same
       ∙ sym (lapses-counted p t)
 

@@ -1,4 +1,4 @@
--- Events that follow: they change nothing below the present; all live orders can be cancelled, and a quote put again. Assumes nothing.
+-- Events that follow: they change nothing below the present; all live orders can be cancelled, and a quote put again.
 use Prim.Native.Nat.{ℕ, zero, suc, _+_, _-_, _*_, _^_, _≤_, _<_}
 use native.Mathlib.Omega.{arith}
 use mathlib.Core.Path.{_≡_, refl, sym, ap, _∙_, subst}

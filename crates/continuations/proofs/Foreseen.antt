@@ -1,5 +1,5 @@
 -- The outlook's answers hold of every list of events and a close that the book accepts. The cell that they leave is worked out from the
--- milliseconds that are kept then, which are those of before below the present. Assumes nothing.
+-- milliseconds that are kept then, which are those of before below the present.
 use Prim.Native.Nat.{ℕ, _+_, _-_, _≤_, _<_}
 use native.Mathlib.Omega.{arith}
 use mathlib.Core.Path.{_≡_, refl, sym, ap, _∙_, subst}
@@ -17,7 +17,7 @@ use Rattle.rules.specs.declared.Opening.{Opening}
 use Rattle.rules.specs.declared.Row.{Row}
 use Rattle.rules.specs.declared.Cell.{Cell}
 use Rattle.rules.specs.declared.Event.{Event}
-use Rattle.rules.specs.Lists.{if_then_else_, count}
+use Rattle.rules.specs.Lists.{if_then_else_, countBelow}
 use Rattle.rules.specs.Terms.{paper}
 use Rattle.rules.specs.Units.{millis, kopecks, goodCharge}
 use Rattle.rules.specs.Cells.{blankCell, cellAt}
@@ -264,20 +264,20 @@ module _ (b : Book) (place : ℕ) (row : Row) (opening : Opening) (events : List
   -- ---- how many are needed
 
   split : (more : List Event) → InTurn row events more
-      → count (then′ more) whole ≡ keptBelow row (opening .spread) events t + keptOfRest row (opening .spread) events more
+      → countBelow (then′ more) whole ≡ keptBelow row (opening .spread) events t + keptOfRest row (opening .spread) events more
   unfolding keptBelow
   split more p =
       let all : whole ≡ t + (whole - t) = omega (arith, ends) in
-      ap (count (then′ more)) all
+      ap (countBelow (then′ more)) all
       ∙ count-from (then′ more) t (whole - t)
-      ∙ ap (λ (n : ℕ). n + count (λ (d : ℕ). then′ more (t + d)) (whole - t)) (count-ext (then′ more) kept t (λ m l. turn-below row (opening .spread) events more p m l))
+      ∙ ap (λ (n : ℕ). n + countBelow (λ (d : ℕ). then′ more (t + d)) (whole - t)) (count-ext (then′ more) kept t (λ m l. turn-below row (opening .spread) events more p m l))
 
   -- the share alone decides, where lapses do not
   by-share : (more : List Event) → InTurn row events more → cellMet paper (cellOf row opening (then′ more)) ≡ true
       → met paper (keptBelow row (opening .spread) events t + keptOfRest row (opening .spread) events more) whole (row .share) ≡ true
   by-share more p h =
       ap (λ (n : ℕ). met paper n whole (row .share)) (sym (split more p))
-      ∙ both (met paper (count (then′ more) whole) whole (row .share)) (withinLapseLimit (opening .allowed) _) h .0
+      ∙ both (met paper (countBelow (then′ more) whole) whole (row .share)) (withinLapseLimit (opening .allowed) _) h .0
 
   by-share-alone : (more : List Event) → InTurn row events more → withinLapseLimit (opening .allowed) (length (lapses (then′ more) whole)) ≡ true
       → met paper (keptBelow row (opening .spread) events t + keptOfRest row (opening .spread) events more) whole (row .share) ≡ true
@@ -319,8 +319,8 @@ module _ (b : Book) (place : ℕ) (row : Row) (opening : Opening) (events : List
   no-heavier more p =
       let same : ((m : ℕ) → m < t → then′ more m ≡ kept m) = λ m l. turn-below row (opening .spread) events more p m l in
       let nothing : ((m : ℕ) → t ≤ m → m < t → then′ more m ≡ false) = λ m l u. absurd (omega (arith, l, u)) in
-      weighs-more (cellMet paper (cellOf row opening (then′ more))) (cellMet paper (cellOf row opening (restingTill kept t t))) (count (then′ more) whole)
-      (count (restingTill kept t t) whole) whole (row .share) some (good .share-most)
+      weighs-more (cellMet paper (cellOf row opening (then′ more))) (cellMet paper (cellOf row opening (restingTill kept t t))) (countBelow (then′ more) whole)
+      (countBelow (restingTill kept t t) whole) whole (row .share) some (good .share-most)
       (kept-more row opening kept (then′ more) t t (omega arith) same nothing whole)
       (best-is-keeping row opening kept (then′ more) t t (omega arith) same nothing)
 
@@ -425,8 +425,8 @@ module _ (b : Book) (place : ℕ) (row : Row) (opening : Opening) (events : List
   shown : (more : List Event) → InTurn row events more → cellWeight paper (cellOf row opening (then′ more)) ≡ fullWeight → may-full ≡ true
   shown more p h =
       let enough = full-lacks more p h in
-      let verdict = full-verdict (cellMet paper (cellOf row opening (then′ more))) (count (then′ more) whole) whole (row .share) h in
-      let few = both (met paper (count (then′ more) whole) whole (row .share)) _ verdict .1 in
+      let verdict = full-verdict (cellMet paper (cellOf row opening (then′ more))) (countBelow (then′ more) whole) whole (row .share) h in
+      let few = both (met paper (countBelow (then′ more) whole) whole (row .share)) _ verdict .1 in
       let most = count-le (λ (d : ℕ). then′ more (t + d)) (whole - t) in
       and
       (and (le-leb lacks (whole - t) (omega (arith, enough, most)))

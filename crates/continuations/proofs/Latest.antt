@@ -1,4 +1,4 @@
--- The latest number that passes a test: it passes and none after it does, or none passes. Assumes nothing.
+-- The latest number that passes a test: it passes and none after it does, or none passes.
 use Prim.Native.Nat.{ℕ, zero, suc, _+_, _≤_, _<_}
 use native.Mathlib.Omega.{arith}
 use mathlib.Core.Path.{_≡_, refl, sym, ap, _∙_}

@@ -20,7 +20,7 @@ use Rattle.rules.specs.declared.Event.{Event}
 use Rattle.rules.specs.declared.Event.the-variants.{Add, Cancel}
 use Rattle.rules.specs.declared.Side.the-variants.{Buy, Sell}
 use Rattle.rules.specs.declared.Outlook.{Outlook}
-use Rattle.rules.specs.Lists.{count}
+use Rattle.rules.specs.Lists.{countBelow}
 use Rattle.rules.specs.Terms.{paper}
 use Rattle.rules.specs.Units.{millis, steps, kopecks}
 use Rattle.rules.specs.Cells.{cellAt}
@@ -48,12 +48,12 @@ keptThen row spread events more m = keptAt row spread (events ++ more) m
 -- how many of the remaining milliseconds are kept: those from the present time to L
 abbrev pub keptOfRest : Row → SpreadRule → List Event → List Event → ℕ
 keptOfRest row spread events more =
-    count (λ (d : ℕ). keptThen row spread events more (present events + d)) (row .length .0 - present events)
+    countBelow (λ (d : ℕ). keptThen row spread events more (present events + d)) (row .length .0 - present events)
 
 -- how many lapses begin at the remaining milliseconds
 abbrev pub lapsesOfRest : Row → SpreadRule → List Event → List Event → ℕ
 lapsesOfRest row spread events more =
-    count (λ (d : ℕ). lapseStarts (keptThen row spread events more) (present events + d)) (row .length .0 - present events)
+    countBelow (λ (d : ℕ). lapseStarts (keptThen row spread events more) (present events + d)) (row .length .0 - present events)
 
 -- whether so many are not too many
 abbrev pub mayLapse : LapsesLeft → ℕ → Bool

@@ -1,5 +1,5 @@
 -- What an eased row is to the plain book: an open with it is refused exactly when the one with the row as it was is, by the same number; an
--- accepted one notes the altered row, and the quantum's events are noted, its time kept and its cell closed by that row. Assumes nothing.
+-- accepted one notes the altered row, and the quantum's events are noted, its time kept and its cell closed by that row.
 use Prim.Native.Nat.{ℕ}
 use mathlib.Core.Path.{_≡_, refl, sym, ap, _∙_}
 use mathlib.Core.List.{List, [], _∷_, _++_, map}

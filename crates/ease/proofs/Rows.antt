@@ -1,4 +1,4 @@
--- A row in range is so test by test; an eased one is in range again, whatever the terms; and the limits are refusal 2's. Assumes nothing.
+-- A row in range is so test by test; an eased one is in range again, whatever the terms; and the limits are refusal 2's.
 use Prim.Native.Nat.{ℕ, _+_, _*_, _/_, min, _≤_}
 use native.Mathlib.Omega.{arith}
 use mathlib.Core.Path.{_≡_, refl}

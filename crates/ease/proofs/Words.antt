@@ -1,4 +1,4 @@
--- The lent words: what a row that is read is known for, and the words after easing. Assumes nothing.
+-- The lent words: what a row that is read is known for, and the words after easing.
 use Prim.Native.Nat.{ℕ}
 use native.Mathlib.Omega.{arith}
 use mathlib.Core.Path.{_≡_, refl, sym, ap}

@@ -1,4 +1,4 @@
--- What refuses an event has a number from 8 to 14. Assumes nothing.
+-- What refuses an event has a number from 8 to 14.
 use Prim.Native.Nat.{ℕ, _≤_, _<_}
 use native.Mathlib.Omega.{arith}
 use mathlib.Core.List.{List, [], _∷_}

@@ -1,4 +1,4 @@
--- From the duty, the clock and the table to the accepted events that they stand for, and back. Assumes nothing.
+-- From the duty, the clock and the table to the accepted events that they stand for, and back.
 use Prim.Native.Nat.{ℕ, suc, _≤_, _<_}
 use mathlib.Core.Path.{_≡_, refl, ap, sym, _∙_}
 use mathlib.Core.List.{List}
@@ -16,8 +16,8 @@ use Rattle.rules.specs.Causes.{firstNumber, traderCauses, eventCauses, eventRef
 use Rattle.rules.specs.Bounds.{EventBounds}
 use Rattle.rules.proofs.Orders.{live-snoc}
 use Rattle.rules.proofs.Refusals.{skip, stop}
-use Rattle.prices.specs.Widest.{WidestFor}
-use Rattle.table.specs.Table.{tableOf, GoodOrders}
+use Rattle.price_keys.specs.Widest.{WidestFor}
+use Rattle.order_table.specs.Table.{tableOf, GoodOrders}
 use Rattle.clock.specs.declared.Duty.{Duty}
 use Rattle.clock.specs.declared.Clock.{Clock}
 use Rattle.clock.specs.Clocks.{dutyOf, clockOf, ranOn}

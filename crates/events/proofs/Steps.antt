@@ -1,4 +1,4 @@
--- What an event promises of the clock and the table, where it is refused and where it is taken. Assumes nothing.
+-- What an event promises of the clock and the table, where it is refused and where it is taken.
 use Prim.Native.Nat.{ℕ, zero, suc, _≤_, _<_}
 use mathlib.Core.Path.{_≡_, refl, ap, sym, _∙_, subst}
 use mathlib.Core.Bool.{Bool, true, false, _&&_}
@@ -26,7 +26,7 @@ use Rattle.record.specs.Fields.{fieldsFor, goodFields, eventBy, readFields}
 use Rattle.record.proofs.Reading.{time-by, tick-by, fields-say}
 use Rattle.book.specs.declared.Sent.{Sent}
 use Rattle.book.specs.Sending.{Sending, SendsRead}
-use Rattle.table.specs.Table.{tableOf, GoodOrders, Holding}
+use Rattle.order_table.specs.Table.{tableOf, GoodOrders, Holding}
 use Rattle.book.specs.Events.{Sends, sentTo}
 use Rattle.clock.specs.declared.Duty.{Duty}
 use Rattle.clock.specs.declared.Clock.{Clock}

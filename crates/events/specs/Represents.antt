@@ -10,7 +10,7 @@ use Rattle.rules.specs.Orders.{live}
 use Rattle.rules.specs.Answers.{Outcome, accepted, refused}
 use Rattle.rules.specs.Causes.{eventRefusal}
 use Rattle.rules.specs.Bounds.{EventBounds}
-use Rattle.table.specs.Table.{tableOf}
+use Rattle.order_table.specs.Table.{tableOf}
 use Rattle.clock.specs.declared.Duty.{Duty}
 use Rattle.clock.specs.declared.Clock.{Clock}
 use Rattle.clock.specs.Clocks.{dutyOf, clockOf}

@@ -1,5 +1,8 @@
 // An event of an open quantum, by the fields of its record, on a lent table: its causes in the order of their numbers, the orders, the
 // clock.
+//
+// The session and the month share this function. What the session's loop carries holds numbers only: a bool or an enum beside words costs
+// some 30 instructions a record. A refusal is its number here (0 where none); it becomes a `Refusal` after the loop (`rules::refusal_of`).
 ghost use mathlib.Core.Path.{_≡_};
 ghost use Prim.Native.Nat.{_<_};
 ghost use Rattle.record.specs.Fields.{readFields};

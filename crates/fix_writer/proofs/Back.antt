@@ -1,4 +1,4 @@
--- A message that is written reads back. Assumes nothing.
+-- A message that is written reads back.
 use Prim.Native.Nat.{ℕ, _+_, _/_, _%_}
 use native.Mathlib.Omega.{arith}
 use mathlib.Core.Path.{_≡_, refl, ap, _∙_}
@@ -17,7 +17,7 @@ use Rattle.rules.specs.Dates.{form, timeIn}
 use Rattle.rules.specs.Fields.{Field, fieldsBytes, goodTag, fieldsOf, sameBytes, valuesOf}
 use Rattle.rules.specs.Frame.{versionTag, lengthTag, typeTag, checksumTag, version, Kind, new, cancel, replace, kindText, kindIn, isNumber, lengthRight, checksumRight, isFrameTag, behind, endingOf, goodFrame, framedBy, framed, framedIn, bodyIn}
 use Rattle.rules.specs.Messages.{idTag, origTag, sideTag, volumeTag, priceTag, timeTag, Message, newOrder, cancelOrder, replaceOrder, messageOf, readable, readBody, readMessage, fieldWith, termsFields, writtenFields, kindOf, timeOf, withTime, countedBy, messageBytes}
-use Rattle.fields.proofs.Pieces.{clear, clear-cons}
+use Rattle.fix_fields.proofs.Pieces.{clear, clear-cons}
 use Rattle.fix_writer.specs.Claims.{NumbersFit, ReadsBack}
 use Rattle.fix_writer.specs.Internal.{isSome, isTime}
 use Rattle.fix_writer.proofs.Fields.{Sound, AllSound, all-none, all-more, all-again, sound-append, same-again, digits-clear, form-clear}

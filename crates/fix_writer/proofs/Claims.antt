@@ -1,4 +1,4 @@
--- What is claimed of the messages that are written holds. Assumes nothing.
+-- What is claimed of the messages that are written holds.
 use Rattle.fix_writer.specs.Claims.{Claims}
 use Rattle.fix_writer.proofs.Back.{reads-back}
 use Rattle.fix_writer.proofs.Lengths.{at-most-114, the-longest}

@@ -1,4 +1,4 @@
--- The digits that are written of a number: how many, and that they say the number. Assumes nothing.
+-- The digits that are written of a number: how many, and that they say the number.
 use Prim.Native.Nat.{ℕ, zero, suc, _+_, _*_, _-_, _/_, _%_, _≤_, _<_}
 use native.Mathlib.Omega.{arith}
 use mathlib.Core.Path.{_≡_, refl, ap}
@@ -11,7 +11,7 @@ use lib.ListN.{length, length-append}
 use Rattle.rules.specs.Lists.{if_then_else_}
 use Rattle.rules.specs.Widths.{Word}
 use Rattle.rules.specs.Digits.{isDigit, allDigits, numberFrom, decimalBy, decimalOf}
-use Rattle.digits.proofs.Numbers.{both}
+use Rattle.fix_digits.proofs.Numbers.{both}
 
 -- ---- a number below ten has one digit; another has those of its tenth, and its last
 same-bound : (k j n : ℕ) → n < k → n < j → decimalBy k n ≡ decimalBy j n

@@ -1,4 +1,4 @@
--- Fields that are written are read again. Assumes nothing.
+-- Fields that are written are read again.
 use Prim.Native.Nat.{ℕ}
 use native.Mathlib.Omega.{arith}
 use mathlib.Core.Path.{_≡_, refl, sym, ap, _∙_}
@@ -11,8 +11,8 @@ use Rattle.rules.specs.Lists.{if_then_else_}
 use Rattle.rules.specs.Digits.{isDigit, allDigits}
 use Rattle.rules.specs.Dates.{fitsPlace, hasForm}
 use Rattle.rules.specs.Fields.{Field, fieldBytes, fieldsBytes, splitField, goodTag, goodValue, goodField, fieldOf, addField, pieces, fieldsIn, fieldsOf, sameBytes}
-use Rattle.digits.proofs.Numbers.{both, digit-from, digit-to}
-use Rattle.fields.proofs.Pieces.{clear, clear-cons, clear-append, clear-head, clear-tail, one-field}
+use Rattle.fix_digits.proofs.Numbers.{both, digit-from, digit-to}
+use Rattle.fix_fields.proofs.Pieces.{clear, clear-cons, clear-append, clear-head, clear-tail, one-field}
 
 -- ---- no byte 1 in digits, nor in a time
 pub digits-clear : (l : List ℕ) → allDigits l ≡ true → clear l ≡ true

@@ -1,4 +1,4 @@
--- The frame laid around the fields, and the text that is answered. Assumes nothing.
+-- The frame laid around the fields, and the text that is answered.
 use Prim.Native.Nat.{ℕ, _-_, _%_, _≤_}
 use native.Mathlib.Omega.{arith}
 use mathlib.Core.Path.{_≡_, refl, sym, ap, subst, _∙_}
@@ -18,7 +18,7 @@ use Rattle.rules.specs.Dates.{form, hasForm, partsOf, goodDate, goodClock, time
 use Rattle.rules.specs.Fields.{Field, fieldBytes, fieldsBytes}
 use Rattle.rules.specs.Frame.{versionTag, lengthTag, typeTag, checksumTag, version, new, cancel, replace, kindText}
 use Rattle.rules.specs.Messages.{Message, newOrder, cancelOrder, replaceOrder, idTag, origTag, timeTag, termsFields, kindOf, timeOf, fieldWith, writtenFields, checkedBy, countedBy, messageBytes, writtenBy, writeMessage}
-use Rattle.dates.proofs.Forms.{form-length}
+use Rattle.fix_dates.proofs.Forms.{form-length}
 use Rattle.fix_writer.specs.declared.MessageText.{MessageText}
 use Rattle.fix_writer.specs.Answers.{Writes}
 use Rattle.fix_writer.specs.Internal.{Laid, headBytes, tailBytes, framedBytes, textOf, emptyText, isSome, isTime}

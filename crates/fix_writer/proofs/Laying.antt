@@ -1,4 +1,4 @@
--- Bytes laid over others, one piece behind the other. Assumes nothing.
+-- Bytes laid over others, one piece behind the other.
 use Prim.Native.Nat.{ℕ, zero, suc, _+_, _-_, _≤_, _<_}
 use native.Mathlib.Nat.{add-assoc}
 use native.Mathlib.Numerals.{add-one}

@@ -1,4 +1,4 @@
--- How long a message is that is written. Assumes nothing.
+-- How long a message is that is written.
 use Prim.Native.Nat.{ℕ, suc, _+_, _≤_, _<_}
 use native.Mathlib.Omega.{arith}
 use mathlib.Core.Path.{_≡_, refl, ap, _∙_}

@@ -1,4 +1,4 @@
--- Numbers in digits, laid digit by digit. Assumes nothing.
+-- Numbers in digits, laid digit by digit.
 use Prim.Native.Nat.{ℕ, suc, _+_, _-_, _/_, _%_, _≤_, _<_}
 use native.Mathlib.Omega.{arith}
 use mathlib.Core.Path.{_≡_, sym, ap, _∙_}

@@ -1,4 +1,4 @@
--- The values that are written are read again. Assumes nothing.
+-- The values that are written are read again.
 use Prim.Native.Nat.{ℕ, suc, _≤_, _<_}
 use native.Mathlib.Omega.{arith}
 use mathlib.Core.Path.{_≡_, refl, ap, _∙_}
@@ -14,8 +14,8 @@ use Rattle.rules.specs.Widths.{Word, SignedWord}
 use Rattle.rules.specs.Digits.{isDigit, allDigits, numberFrom, inDigits, wordWithin, wordIn, positive, negative, stepsIn, decimalOf, signedDecimal}
 use Rattle.rules.specs.Fields.{sameBytes, goodValue}
 use Rattle.rules.specs.Messages.{sideIn, sideText}
-use Rattle.digits.proofs.Numbers.{both, digit-from}
-use Rattle.fields.proofs.Pieces.{clear, clear-cons}
+use Rattle.fix_digits.proofs.Numbers.{both, digit-from}
+use Rattle.fix_fields.proofs.Pieces.{clear, clear-cons}
 use Rattle.fix_writer.proofs.Decimals.{all-digits, number-is, at-least-one}
 use Rattle.fix_writer.proofs.Fields.{digits-clear}
 

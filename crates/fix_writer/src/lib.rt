@@ -1,5 +1,5 @@
 // FIX 4.4: NewOrderSingle, OrderCancelRequest and OrderCancelReplaceRequest, written as bytes with no other tags.
-use dates::Time;
+use fix_dates::Time;
 use rules::Contracts;
 use rules::Side;
 use rules::Steps;
@@ -170,7 +170,7 @@ fn closed(body: [u8; 114], end: usize) -> MessageText
 {
     let mut bytes = body;
     put_head(&mut bytes, end - 15);
-    let sum = digits::byte_sum(&bytes[..end]);
+    let sum = fix_digits::byte_sum(&bytes[..end]);
     let length = put_tail(&mut bytes, end, sum);
     MessageText {
         good: true,
@@ -192,7 +192,7 @@ fn refused() -> MessageText
 fn time_good(sixty: &[u8]) -> bool
     ensures { λ r. ⌜ r ≡ isTime (now (sixty .entry)) ⌝ }
 {
-    match dates::time_in(sixty) {
+    match fix_dates::time_in(sixty) {
         Time::At(_) => true,
         Time::Not => false,
     }

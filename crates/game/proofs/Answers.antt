@@ -1,4 +1,4 @@
--- The answer by the test of the numbers, and that two different answers never show the same. Assumes nothing.
+-- The answer by the test of the numbers, and that two different answers never show the same.
 use Prim.Native.Nat.{ℕ}
 use mathlib.Core.Path.{_≡_, refl, sym, ap}
 use mathlib.Core.Bool.{true, false, _||_}

@@ -1,5 +1,4 @@
 -- One minute of the game in the closed form: what the maker's way gets him at each answer, and what the taker's leaves at each quote.
--- Assumes nothing.
 use Prim.Native.Nat.{ℕ, suc, _+_, _-_, _/_, _≤_, _<_, min}
 use mathlib.Core.Path.{_≡_, ap, _∙_}
 use mathlib.Core.Bool.{Bool, true, false}

@@ -1,4 +1,4 @@
--- The laws of a play: its length, and that it keeps to both stocks, whatever the two choose. Assumes nothing.
+-- The laws of a play: its length, and that it keeps to both stocks, whatever the two choose.
 use Prim.Native.Nat.{ℕ, zero, suc, _+_, _≤_, _<_}
 use mathlib.Core.Path.{_≡_, refl, ap}
 use mathlib.Core.List.{[], _∷_}

@@ -1,4 +1,4 @@
--- The recurrence of the game has the closed form. Assumes nothing.
+-- The recurrence of the game has the closed form.
 use Prim.Native.Nat.{ℕ, zero, suc, _+_, _-_, _≤_, _<_, max}
 use mathlib.Core.Path.{_≡_, refl, sym}
 use mathlib.Core.Bool.{Bool, true, false}

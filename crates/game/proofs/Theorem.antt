@@ -1,4 +1,4 @@
--- The theorem of the game: the value is what the maker can force, by two ways that are given. Assumes nothing.
+-- The theorem of the game: the value is what the maker can force, by two ways that are given.
 use Prim.Native.Nat.{ℕ, zero, suc, _+_, _-_, _≤_, _<_}
 use mathlib.Core.Path.{_≡_, refl, sym}
 use mathlib.Core.List.{[], _∷_}

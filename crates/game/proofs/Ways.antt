@@ -1,4 +1,4 @@
--- The two ways never choose what the rules do not allow, and what their choices say of the stocks. Assumes nothing.
+-- The two ways never choose what the rules do not allow, and what their choices say of the stocks.
 use Prim.Native.Nat.{ℕ, _+_, _-_, _≤_}
 use mathlib.Core.Path.{_≡_, refl, sym, _∙_}
 use mathlib.Core.Bool.{Bool, true, false, _&&_}

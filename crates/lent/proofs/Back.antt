@@ -1,4 +1,4 @@
--- The words of values read back. Assumes nothing.
+-- The words of values read back.
 use Prim.Native.Nat.{ℕ, zero, suc, _+_, _*_, _≤_, _<_}
 use native.Mathlib.Numerals.{add-one}
 use native.Mathlib.Omega.{arith}

@@ -1,4 +1,4 @@
--- Words stored one by one, copied, and lent in part. Assumes nothing.
+-- Words stored one by one, copied, and lent in part.
 use Prim.Native.Nat.{ℕ, _+_, _<_}
 use native.Mathlib.Numerals.{add-one}
 use native.Mathlib.Omega.{arith}

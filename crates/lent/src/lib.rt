@@ -1,5 +1,5 @@
-// Values in words that a caller lends: a truth value, a number of 64 bits in two words, a cell in ten, the month's 186 cells one behind
-// the other; and words copied. Each is written whole and read back, at fixed places.
+// Values in words that a caller lends: a truth value, a number of 64 bits in two words, a cell in ten, the month's 186 cells one after the
+// other; and words copied. Each is written at fixed places and read back.
 ghost use mathlib.Core.Path.{_≡_};
 ghost use mathlib.Core.List.{List};
 ghost use Prim.Native.Nat.{_+_, _*_};

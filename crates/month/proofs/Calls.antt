@@ -1,4 +1,4 @@
--- Each call of the month, refusal by refusal and accepted, over the month's fields. Assumes nothing.
+-- Each call of the month, refusal by refusal and accepted, over the month's fields.
 use Prim.Native.Nat.{ℕ, zero}
 use mathlib.Core.Path.{_≡_, refl, ap, sym, _∙_, subst}
 use mathlib.Core.Bool.{Bool, true, false, not, _&&_}
@@ -20,7 +20,7 @@ use Rattle.rules.specs.declared.Answer.the-variants.{Accepted, Refused}
 use Rattle.rules.specs.declared.Refusal.{Refusal}
 use Rattle.rules.specs.declared.Quote.{Quote}
 use Rattle.rules.specs.declared.Outlook.{Outlook}
-use Rattle.rules.specs.Lists.{within, filter, count}
+use Rattle.rules.specs.Lists.{within, filter, countBelow}
 use Rattle.rules.specs.Terms.{paper}
 use Rattle.rules.specs.Units.{millis, steps, kopecks}
 use Rattle.rules.specs.Rows.{rowOf, goodRowFor}
@@ -371,7 +371,7 @@ record Shows (r : Running) (time kept : Millis) (lapses orders : ℕ) (bid ask :
 
 shows : (r : Running) (q : Quantum) (time kept : Millis) (lapses orders : ℕ) (bid ask : Quote) → RunningBounds paper r → q ≡ quantumIn r
     → ReadOff q time kept lapses orders bid ask → Shows r time kept lapses orders bid ask
-unfolding quantumOf clockOf present timeFrom live applyAll keptBelow count best lead filter lapsesBelow lapsesOf stretches
+unfolding quantumOf clockOf present timeFrom live applyAll keptBelow countBelow best lead filter lapsesBelow lapsesOf stretches
 shows Idle q time kept lapses orders bid ask g is h =
     record {
       time-shown = h .time-is ∙ ap (λ (x : Quantum). x .clock .time) is;

@@ -1,4 +1,4 @@
--- The month's fields and the book that it stands for. Assumes nothing.
+-- The month's fields and the book that it stands for.
 use Prim.Native.Nat.{ℕ, _<_}
 use mathlib.Core.Path.{_≡_, refl, ap, sym, _∙_, subst}
 use mathlib.Core.Bool.{true, false, false≢true}
@@ -23,9 +23,9 @@ use Rattle.rules.proofs.Members.{getD-in}
 use Rattle.rules.proofs.Bounds.{bounds, read-bounds}
 use Rattle.quantum.specs.declared.Quantum.{Quantum}
 use Rattle.quantum.specs.Represents as S
-use Rattle.quantum_messages.specs.Answers as Q
-use Rattle.quantum_messages.specs.Answers.{EventsBounded, InBook}
-use Rattle.quantum_messages.proofs.Answers.{quantum-reached as reached}
+use Rattle.fix_events.specs.Answers as Q
+use Rattle.fix_events.specs.Answers.{EventsBounded, InBook}
+use Rattle.fix_events.proofs.Answers.{quantum-reached as reached}
 use Rattle.quantum.specs.Represents.{quantumOf}
 use Rattle.month.specs.declared.Month.{Month}
 use Rattle.quantum.specs.Represents.{quantumIn}

@@ -1,4 +1,4 @@
--- The words of a month, written part by part and read back. Assumes nothing.
+-- The words of a month, written part by part and read back.
 use Prim.Native.Nat.{ℕ, _+_, _*_, _<_}
 use native.Mathlib.Omega.{arith}
 use mathlib.Core.Path.{_≡_, refl, sym, ap, _∙_}

@@ -1,4 +1,8 @@
 // The month and its calls. Each takes the month by value and hands back the month after it.
+//
+// Calls that show nothing end in one function where they are accepted, in another where they are refused (`accepted`, `refused`); the count
+// of W5 is moved in the first. A commit works its amend out on a copy and looks at the ticket only where that is accepted, so amend's own
+// refusals come first by construction.
 ghost use mathlib.Core.Path.{_≡_};
 ghost use mathlib.Core.List.{List, [], _++_};
 ghost use mathlib.Core.Bool.{true};
@@ -299,7 +303,7 @@ impl Month {
         ensures { λ r. ⌜ Answered self (B.Message (now (start .entry)) (now (message .entry))) (r .month) (shownAnswer (r .answer)) ⌝ }
     {
         let before = self.quantum;
-        let sent = quantum_messages::message(before, self.running, start, message);
+        let sent = fix_events::message(before, self.running, start, message);
         let answer = sent.answer;
         let taken = sent.quantum;
         match answer {

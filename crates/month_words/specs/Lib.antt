@@ -1,3 +1,4 @@
+-- What a call on a month in lent words promises.
+pub mod Calling
+-- What its functions promise to each other.
 pub mod Internal
-pub mod Months
-pub mod Views

@@ -1,4 +1,4 @@
--- The greatest number that passes, up to a bound, and the greater of two. Assumes nothing.
+-- The greatest number that passes, up to a bound, and the greater of two.
 use Prim.Native.Nat.{ℕ, zero, suc, _≤_, _<_, max}
 use native.Mathlib.Omega.{arith}
 use mathlib.Core.Path.{_≡_, refl, sym, ap, _∙_}

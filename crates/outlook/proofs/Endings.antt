@@ -1,4 +1,4 @@
--- The cells at the quantum's end: their bounds, and that they are those of the definition. Assumes nothing.
+-- The cells at the quantum's end: their bounds, and that they are those of the definition.
 use Prim.Native.Nat.{ℕ, zero, suc, _+_, _-_, _*_, _≤_}
 use native.Mathlib.Omega.{arith}
 use mathlib.Core.Path.{_≡_, refl, ap, _∙_}

@@ -1,4 +1,4 @@
--- What `rest` and `lost` say of the other answers. Assumes nothing.
+-- What `rest` and `lost` say of the other answers.
 use Prim.Native.Nat.{ℕ, _-_, _*_, _≤_}
 use native.Mathlib.Nat.{mul-le-mul}
 use native.Mathlib.Omega.{arith}

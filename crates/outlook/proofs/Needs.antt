@@ -1,4 +1,4 @@
--- How many must still be kept: the least number that reaches the share. Assumes nothing.
+-- How many must still be kept: the least number that reaches the share.
 use Prim.Native.Nat.{ℕ, _+_, _-_, _*_, _/_, _≤_}
 use native.Mathlib.Nat.{mul-le-mul-right}
 use native.Mathlib.Omega.{arith}

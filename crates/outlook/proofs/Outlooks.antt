@@ -1,4 +1,4 @@
--- What the fields of the duty and the clock give is the outlook of the definition. Assumes nothing.
+-- What the fields of the duty and the clock give is the outlook of the definition.
 use Prim.Native.Nat.{ℕ, _-_, _≤_}
 use native.Mathlib.Omega.{arith}
 use mathlib.Core.Path.{_≡_, sym, ap, _∙_}
@@ -165,16 +165,17 @@ module _ {duty : Duty} {clock : Clock} {share allowed : ℕ} {resting keeping : 
       ≡ byWorked duty clock share (leb 1 (duty .widest)) (endingCell duty clock 0 share allowed) (endingCell duty clock 1 share allowed)
   by-called = λ i. byOf (met-resting i) (able i) (waiting i) (clock .time) (duty .length) (c .need-is i)
 
-  pub called : (by fully : Possible) (left-lapses : LapsesLeft) (lost : Bool) (weight : ℕ)
+  pub called : (left : ℕ) (by fully : Possible) (left-lapses : LapsesLeft) (lost : Bool) (weight : ℕ)
+      → left ≡ duty .length .0 - clock .time .0
       → by ≡ byOf (resting .met) possible waits (clock .time) (duty .length) need
-      → fully ≡ fullOf full (duty .length .0 - clock .time .0) within (leb 1 (duty .widest))
+      → fully ≡ fullOf full left within (leb 1 (duty .widest))
       → left-lapses ≡ lapsesLeft allowed (clock .lapses)
       → lost ≡ isNever by
       → weight ≡ (if leb 1 (duty .widest) then keeping .weight else resting .weight)
       → _≡_ {A = Outlook}
       (record {
         need = millis need;
-        left = millis (duty .length .0 - clock .time .0);
+        left = millis left;
         by = by;
         full = fully;
         lapses = left-lapses;
@@ -184,12 +185,12 @@ module _ {duty : Duty} {clock : Clock} {share allowed : ℕ} {resting keeping : 
         keeping = weight;
       })
       (worked duty clock share allowed (leb 1 (duty .widest)) (endingCell duty clock 0 share allowed) (endingCell duty clock 1 share allowed))
-  called by fully left-lapses lost weight b f l n w = λ i.
+  called left by fully left-lapses lost weight d b f l n w = λ i.
       record {
         need = millis (c .need-is i);
-        left = millis (duty .length .0 - clock .time .0);
+        left = millis (d i);
         by = (b ∙ by-called) i;
-        full = (f ∙ (λ j. fullOf (c .full-is j) (duty .length .0 - clock .time .0) (c .within-is j) (leb 1 (duty .widest)))) i;
+        full = (f ∙ (λ j. fullOf (c .full-is j) (d j) (c .within-is j) (leb 1 (duty .widest)))) i;
         lapses = l i;
         rest = met-resting i;
         lost = (n ∙ ap isNever (b ∙ by-called)) i;

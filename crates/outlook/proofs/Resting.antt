@@ -1,4 +1,4 @@
--- Kept time and lapses where nothing is kept from a time t up to s, and everything from s on. Assumes nothing.
+-- Kept time and lapses where nothing is kept from a time t up to s, and everything from s on.
 use Prim.Native.Nat.{ℕ, zero, suc, _+_, _-_, _≤_, _<_}
 use native.Mathlib.Omega.{arith}
 use mathlib.Core.Path.{_≡_, refl, ap, _∙_}
@@ -6,7 +6,7 @@ use mathlib.Core.Bool.{Bool, true, false}
 use lib.Dec.{ltb}
 use lib.ListN.{length}
 use borrow.Author.Tests.{le-leb, lt-leb, lt-ltb, le-ltb, ltb-true, ltb-false, ne-eqb}
-use Rattle.rules.specs.Lists.{if_then_else_, count}
+use Rattle.rules.specs.Lists.{if_then_else_, countBelow}
 use Rattle.rules.specs.Runs.{before}
 use Rattle.rules.specs.Lapses.{lapses, begins, lapseStarts}
 use Rattle.rules.specs.Outlook.{restingTill}
@@ -28,15 +28,15 @@ module _ (kept : ℕ → Bool) (t s : ℕ) where
 
   -- ---- kept time
 
-  pub resting-count : (n : ℕ) → t ≤ s → s ≤ n → count (restingTill kept t s) n ≡ count kept t + (n - s)
+  pub resting-count : (n : ℕ) → t ≤ s → s ≤ n → countBelow (restingTill kept t s) n ≡ countBelow kept t + (n - s)
   resting-count n h k =
       let p = restingTill kept t s in
-      let below : count p t ≡ count kept t = count-ext p kept t earlier in
-      let rest : count p (t + (s - t)) ≡ count p t + 0 = count-stretch p t (s - t) false (λ m l u. rests m l (omega arith)) in
-      let more : count p (s + (n - s)) ≡ count p s + (n - s) = count-stretch p s (n - s) true (λ m l u. keeps m (omega arith) l) in
+      let below : countBelow p t ≡ countBelow kept t = count-ext p kept t earlier in
+      let rest : countBelow p (t + (s - t)) ≡ countBelow p t + 0 = count-stretch p t (s - t) false (λ m l u. rests m l (omega arith)) in
+      let more : countBelow p (s + (n - s)) ≡ countBelow p s + (n - s) = count-stretch p s (n - s) true (λ m l u. keeps m (omega arith) l) in
       let to-s : t + (s - t) ≡ s = omega arith in
       let to-n : s + (n - s) ≡ n = omega arith in
-      omega (arith, ap (count p) to-s, ap (count p) to-n)
+      omega (arith, ap (countBelow p) to-s, ap (countBelow p) to-n)
 
   -- ---- lapses
 
@@ -61,24 +61,24 @@ module _ (kept : ℕ → Bool) (t s : ℕ) where
   starts-keeping m l u = rw (keeps m l u) refl
 
   starts-resting-count : (b : Bool) → ltb t s ≡ b → t ≤ s
-      → count (lapseStarts (restingTill kept t s)) s ≡ count (lapseStarts kept) t + (if b then oneIf (begins kept t) else 0)
+      → countBelow (lapseStarts (restingTill kept t s)) s ≡ countBelow (lapseStarts kept) t + (if b then oneIf (begins kept t) else 0)
   starts-resting-count true e h =
       let p = lapseStarts (restingTill kept t s) in
       let later = ltb-true t s e in
-      let below : count p t ≡ count (lapseStarts kept) t = count-ext p (lapseStarts kept) t starts-earlier in
-      let one : count p (t + 1) ≡ count p t + oneIf (begins kept t) = count-stretch p t 1 (begins kept t) (λ m l u. at m (omega arith)) in
-      let rest : count p (t + 1 + (s - (t + 1))) ≡ count p (t + 1) + 0 =
+      let below : countBelow p t ≡ countBelow (lapseStarts kept) t = count-ext p (lapseStarts kept) t starts-earlier in
+      let one : countBelow p (t + 1) ≡ countBelow p t + oneIf (begins kept t) = count-stretch p t 1 (begins kept t) (λ m l u. at m (omega arith)) in
+      let rest : countBelow p (t + 1 + (s - (t + 1))) ≡ countBelow p (t + 1) + 0 =
       count-stretch p (t + 1) (s - (t + 1)) false (λ m l u. starts-resting m (omega arith) (omega arith)) in
       let to-s : t + 1 + (s - (t + 1)) ≡ s = omega arith in
-      omega (arith, ap (count p) to-s)
+      omega (arith, ap (countBelow p) to-s)
     where
       at : (m : ℕ) → m ≡ t → lapseStarts (restingTill kept t s) m ≡ begins kept t
       at m f = ap (lapseStarts (restingTill kept t s)) f ∙ starts-now (ltb-true t s e)
   starts-resting-count false e h =
       let p = lapseStarts (restingTill kept t s) in
-      let below : count p t ≡ count (lapseStarts kept) t = count-ext p (lapseStarts kept) t starts-earlier in
+      let below : countBelow p t ≡ countBelow (lapseStarts kept) t = count-ext p (lapseStarts kept) t starts-earlier in
       let same : t ≡ s = omega (arith, ltb-false t s e) in
-      omega (arith, ap (count p) same)
+      omega (arith, ap (countBelow p) same)
 
   -- one more where resting takes any time and begins one
   pub resting-lapses : (n : ℕ) → t ≤ s → s ≤ n
@@ -87,6 +87,6 @@ module _ (kept : ℕ → Bool) (t s : ℕ) where
       let q = restingTill kept t s in
       let p = lapseStarts q in
       let start = starts-resting-count (ltb t s) refl h in
-      let more : count p (s + (n - s)) ≡ count p s + 0 = count-stretch p s (n - s) false (λ m l u. starts-keeping m (omega arith) l) in
+      let more : countBelow p (s + (n - s)) ≡ countBelow p s + 0 = count-stretch p s (n - s) false (λ m l u. starts-keeping m (omega arith) l) in
       let to-n : s + (n - s) ≡ n = omega arith in
-      omega (arith, lapses-counted q n, lapses-counted kept t, ap (count p) to-n)
+      omega (arith, lapses-counted q n, lapses-counted kept t, ap (countBelow p) to-n)

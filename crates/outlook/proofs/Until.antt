@@ -1,4 +1,4 @@
--- Until when the maker may rest, by numbers: `byOf` is the latest time whose rest leaves a met cell. Assumes nothing.
+-- Until when the maker may rest, by numbers: `byOf` is the latest time whose rest leaves a met cell.
 use Prim.Native.Nat.{ℕ, _+_, _-_, _≤_, _<_}
 use native.Mathlib.Omega.{arith}
 use mathlib.Core.Path.{_≡_, refl, sym, ap, _∙_}

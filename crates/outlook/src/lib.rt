@@ -67,7 +67,7 @@ fn needed(kept: Millis, length: Millis, share: u32) -> u32
     ensures { λ r. ⌜ r ≡ needOf paper (kept .0) (length .0) share ⌝ }
 {
     let product = numbers::wide(share) * numbers::wide(length.0);
-    let least = ((product + 999) / 1000) as u32;
+    let least = numbers::low((product + 999) / 1000);
     less(least, kept.0)
 }
 
@@ -148,7 +148,7 @@ pub fn of(duty: Duty, clock: Clock, share: u32, allowed: u32) -> Outlook
     let end = duty.length;
     let now = clock.time;
     let kept = clock.kept;
-    let left = Millis(end.0 - now.0);
+    let left = Millis(less(end.0, now.0));
     let can = 1 <= duty.widest;
     let resting = ending(duty, clock, 0, share, allowed);
     let keeping = ending(duty, clock, 1, share, allowed);

@@ -1,4 +1,4 @@
--- Counting along the days, and along an array. Assumes nothing.
+-- Counting along the days, and along an array.
 use Prim.Native.Nat.{ℕ, _+_, _-_, _*_, _/_, _<_, min}
 use native.Mathlib.Omega.{arith}
 use native.Mathlib.Numerals.{add-one}

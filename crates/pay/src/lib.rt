@@ -67,16 +67,23 @@ fn too_many(counts: [u32; 6]) -> bool
     false
 }
 
+// A charge, in the 37 bits that its range needs: so that what the cells earn fits 64 bits, whatever words a caller lends.
+fn charge(k: Kopecks) -> u64
+    requires { ⌜ k .0 ≤ 100000000000 ⌝ }
+    ensures { λ r. ⌜ r ≡ k .0 ⌝ }
+{
+    k.0 % 137438953472
+}
+
 // (2A + 3P) × w of a filled cell, 0 of a blank one.
 fn earned(cell: Cell) -> u64
     requires { ⌜ (cell .filled ≡ true → CellBounds paper cell) ⌝ }
     ensures { λ r. ⌜ (r ≡ P.earned paper cell) × (r ≤ 10000000000000000) ⌝ }
 {
-    let filled = cell.filled;
-    if filled {
+    if verdict::is_filled(cell) {
         let active = cell.active;
         let passive = cell.passive;
-        let charges = 2 * active.0 + 3 * passive.0;
+        let charges = 2 * charge(active) + 3 * charge(passive);
         charges * (verdict::weight(cell) as u64)
     } else {
         0

@@ -1,11 +1,11 @@
 // The account run on a lent buffer: the case `15 n fill m`, m row words, `0 SP` or `1 a difference days b`, then records.
-use accounts::AccountAnswer;
-use accounts::Times;
 use console::field;
 use console::field_line;
 use console::words_line;
 use rules::SpreadRule;
 use rules::Strike;
+use session_account::AccountAnswer;
+use session_account::Times;
 ghost use Prim.Native.Nat.{_+_, _*_, _≤_};
 ghost use mathlib.Core.Path.{_≡_};
 ghost use lib.ListN.{length};
@@ -40,7 +40,7 @@ fn account_line(answer: AccountAnswer) {
 }
 
 fn account_call(row: &[u32], spread: SpreadRule, records: &[u8], buffer: &mut [u32]) {
-    let answer = accounts::run(row, spread, records, buffer);
+    let answer = session_account::run(row, spread, records, buffer);
     account_line(answer);
     words_line(b"buffer", buffer);
 }

@@ -133,10 +133,10 @@ fn row_case(input: &[u8]) -> bool {
 fn other_case(kind: u32, input: &[u8]) -> bool
     requires { ⌜ 4 ≤ length (now input) ⌝ }
 {
-    if byte_cases::is_message_kind(kind) {
-        return byte_cases::message_case(kind, input);
+    if probe_bytes::is_message_kind(kind) {
+        return probe_bytes::message_case(kind, input);
     }
-    extra_cases::case(kind, input)
+    probe_extras::case(kind, input)
 }
 
 // Whether the input is a case; where it is, its lines are written.
@@ -152,7 +152,7 @@ fn run_case(input: &[u8]) -> bool {
         return row_case(input);
     }
     if kind == 3 {
-        byte_cases::record_case(&input[4..]);
+        probe_bytes::record_case(&input[4..]);
         return true;
     }
     if kind == 15 {

@@ -1,4 +1,4 @@
--- From the clock and the table to the quantum that holds them, and the numbers that refuse an event. Assumes nothing.
+-- From the clock and the table to the quantum that holds them, and the numbers that refuse an event.
 use Prim.Native.Nat.{ℕ, zero, suc, _≤_, _<_}
 use mathlib.Core.Path.{_≡_, refl, ap, sym, _∙_}
 use mathlib.Core.List.{List, [], _∷_, _++_}
@@ -13,8 +13,8 @@ use Rattle.rules.specs.Answers.{Outcome, Reply, refused, outcomeBy, done, numbe
 use Rattle.rules.specs.Orders.{live, applyAll}
 use Rattle.rules.specs.Causes.{eventRefusal}
 use Rattle.rules.specs.Bounds.{EventBounds}
-use Rattle.table.specs.Table.{tableOf, Held}
-use Rattle.arrivals.specs.Notes.{notesOf}
+use Rattle.order_table.specs.Table.{tableOf, Held}
+use Rattle.order_arrivals.specs.Notes.{notesOf}
 use Rattle.clock.specs.declared.Duty.{Duty}
 use Rattle.clock.specs.declared.Clock.{Clock}
 use Rattle.events.specs.declared.Stepped.{Stepped}

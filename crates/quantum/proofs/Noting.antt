@@ -1,4 +1,4 @@
--- The notes after an accepted event, by the tables before and after it. Assumes nothing.
+-- The notes after an accepted event, by the tables before and after it.
 use Prim.Native.Nat.{ℕ}
 use mathlib.Core.Path.{_≡_, refl, ap, _∙_}
 use mathlib.Core.List.{List, [], _∷_, _++_}
@@ -13,10 +13,10 @@ use Rattle.rules.specs.Bounds.{EventBounds}
 use Rattle.rules.proofs.Bounds.{event-bounds-more}
 use Rattle.record.specs.declared.Fields.{Fields}
 use Rattle.record.specs.Fields.{fieldsFor}
-use Rattle.table.specs.Table.{Held}
-use Rattle.arrivals.specs.Arrivals.{arrivalsOf, idOf, Follows}
-use Rattle.arrivals.specs.Notes.{rowWords, spreadWords, notesOf}
-use Rattle.arrivals.proofs.Notes.{arrivals-length}
+use Rattle.order_table.specs.Table.{Held}
+use Rattle.order_arrivals.specs.Arrivals.{arrivalsOf, idOf, Follows}
+use Rattle.order_arrivals.specs.Notes.{rowWords, spreadWords, notesOf}
+use Rattle.order_arrivals.proofs.Notes.{arrivals-length}
 use Rattle.quantum.specs.Internal.{Accepts}
 use Rattle.events.proofs.Represents.{good-orders}
 

@@ -1,4 +1,4 @@
--- The words of a quantum, written part by part and read back. Assumes nothing.
+-- The words of a quantum, written part by part and read back.
 use Prim.Native.Nat.{ℕ, zero, suc}
 use native.Mathlib.Omega.{arith}
 use mathlib.Core.Path.{_≡_, refl, sym, ap, _∙_, subst}
@@ -11,9 +11,9 @@ use Rattle.rules.specs.declared.Event.{Event}
 use Rattle.rules.specs.Causes.{eventRefusal}
 use Rattle.rules.specs.Bounds.{EventBounds}
 use Rattle.rules.proofs.Bounds.{event-bounds-more}
-use Rattle.table.proofs.Table.{held-length}
+use Rattle.order_table.proofs.Table.{held-length}
 use Rattle.rules.specs.Orders.{live}
-use Rattle.arrivals.proofs.Notes.{notes-length}
+use Rattle.order_arrivals.proofs.Notes.{notes-length}
 use Rattle.lent.proofs.Parts.{next-part}
 use Rattle.quantum.specs.declared.Quantum.{Quantum}
 use Rattle.clock.proofs.Words.{duty-back, clock-back}

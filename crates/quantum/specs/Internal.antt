@@ -8,7 +8,7 @@ use Rattle.rules.specs.declared.Event.{Event}
 use Rattle.rules.specs.Orders.{live}
 use Rattle.rules.specs.Causes.{eventRefusal}
 use Rattle.rules.specs.Bounds.{EventBounds}
-use Rattle.arrivals.specs.Notes.{notesOf}
+use Rattle.order_arrivals.specs.Notes.{notesOf}
 use Rattle.events.specs.Represents.{tableAfter}
 
 -- an accepted event's tables before and after it, and the notes before it

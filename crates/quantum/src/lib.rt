@@ -17,7 +17,7 @@ ghost use Rattle.rules.specs.Lapses.{lapsesBelow};
 ghost use Rattle.rules.specs.Calls.{Idle};
 ghost use Rattle.rules.specs.Causes.{goodSpreadRule};
 ghost use Rattle.rules.specs.Bounds.{EventBounds};
-ghost use Rattle.arrivals.specs.Notes.{notesOf};
+ghost use Rattle.order_arrivals.specs.Notes.{notesOf};
 ghost use Rattle.quantum.specs.Represents.{quantumOf, quantumIn, Reached, Answered};
 ghost use Rattle.quantum.specs.declared.Quantum.{Quantum};
 ghost use Rattle.quantum.specs.Words.{quantumWords, Sized};
@@ -55,10 +55,10 @@ fn noted(old: [u32; 512], new: [u32; 512], notes: [u32; 76], e: Event) -> [u32; 
     ensures { λ r. ⌜ ((row : Row) (sp : SpreadRule) (events : List Event) → Accepts row sp events e old new notes → r ≡ notesOf row sp (liveOrders (events ++ (e ∷ [])))) ⌝ }
 {
     let f = record::event_fields(e);
-    let had = table::count(&old);
-    let has = table::count(&new);
+    let had = order_table::count(&old);
+    let has = order_table::count(&new);
     let mut next = notes;
-    arrivals::note(&mut next[0..64], had, has, f.id);
+    order_arrivals::note(&mut next[0..64], had, has, f.id);
     next
 }
 
@@ -103,8 +103,8 @@ impl Quantum {
     {
         let duty = clock::duty_of(row, spread);
         let clock = clock::started();
-        let table = table::empty();
-        let notes = arrivals::opened(row, spread);
+        let table = order_table::empty();
+        let notes = order_arrivals::opened(row, spread);
         Quantum {
             duty,
             clock,
@@ -199,7 +199,7 @@ impl Quantum {
         ensures { λ r. ⌜ ((row : Row) (sp : SpreadRule) (events : List Event) → EventBounds row events → self ≡ quantumOf row sp events → r ≡ bestQuote side (row .minimum .0) (liveOrders events)) ⌝ }
     {
         let table = self.table;
-        table::best(&table, side)
+        order_table::best(&table, side)
     }
 
     pub fn best_bid(self) -> Quote
@@ -222,7 +222,7 @@ impl Quantum {
         ensures { λ r. ⌜ ((row : Row) (sp : SpreadRule) (events : List Event) → EventBounds row events → self ≡ quantumOf row sp events → r ≡ any (λ (o : Order). hasId id o && not (same side (o .side))) (liveOrders events)) ⌝ }
     {
         let table = self.table;
-        table::on_other_side(&table, side, id)
+        order_table::on_other_side(&table, side, id)
     }
 
     pub fn live(self) -> u32
@@ -230,7 +230,7 @@ impl Quantum {
         ensures { λ r. ⌜ ((row : Row) (sp : SpreadRule) (events : List Event) → EventBounds row events → self ≡ quantumOf row sp events → r ≡ length (liveOrders events)) ⌝ }
     {
         let table = self.table;
-        table::count(&table)
+        order_table::count(&table)
     }
 
     // Its 598 words: the duty's, the clock's, two zeros, the table's, the notes'.

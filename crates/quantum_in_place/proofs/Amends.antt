@@ -1,4 +1,4 @@
--- An accepted amendment leaves as many orders as there were, with their ids, and so the notes. Assumes nothing.
+-- An accepted amendment leaves as many orders as there were, with their ids, and so the notes.
 use Prim.Native.Nat.{ℕ, zero, suc}
 use native.Mathlib.Omega.{arith}
 use mathlib.Core.Path.{_≡_, refl, ap, _∙_}
@@ -15,9 +15,9 @@ use Rattle.rules.specs.Causes.{eventRefusal}
 use Rattle.rules.specs.Bounds.{EventBounds}
 use Rattle.rules.proofs.Orders.{live-snoc}
 use Rattle.record.specs.Fields.{fieldsFor}
-use Rattle.arrivals.specs.Arrivals.{arrivalsOf, idOf}
-use Rattle.arrivals.specs.Notes.{rowWords, spreadWords, notesOf}
-use Rattle.arrivals.proofs.Effects.{as-many}
+use Rattle.order_arrivals.specs.Arrivals.{arrivalsOf, idOf}
+use Rattle.order_arrivals.specs.Notes.{rowWords, spreadWords, notesOf}
+use Rattle.order_arrivals.proofs.Effects.{as-many}
 use Rattle.events.specs.Represents.{taken}
 
 as-long : (orders : List Order) (e : Event) → fieldsFor e .kind ≡ 3 → length (apply orders e) ≡ length orders

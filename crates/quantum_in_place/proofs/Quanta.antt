@@ -1,4 +1,4 @@
--- An event on the words of an open quantum: the table in place, then the clock. Assumes nothing.
+-- An event on the words of an open quantum: the table in place, then the clock.
 use Prim.Native.Nat.{ℕ, _+_, _≤_}
 use native.Mathlib.Omega.{arith}
 use mathlib.Core.Path.{_≡_, refl, ap, _∙_}

@@ -1,4 +1,4 @@
--- A tick on the words of an open quantum: too early, past the end, or the clock runs on and all else stays. Assumes nothing.
+-- A tick on the words of an open quantum: too early, past the end, or the clock runs on and all else stays.
 use Prim.Native.Nat.{ℕ, suc, _≤_, _<_}
 use native.Mathlib.Omega.{arith}
 use mathlib.Core.Path.{_≡_, refl, sym, ap, _∙_}
@@ -18,8 +18,8 @@ use Rattle.rules.specs.Bounds.{EventBounds}
 use Rattle.rules.proofs.Orders.{live-snoc}
 use Rattle.record.specs.declared.Fields.{Fields}
 use Rattle.record.specs.Fields.{fieldsFor}
-use Rattle.table.specs.Table.{tableOf}
-use Rattle.arrivals.specs.Notes.{notesOf}
+use Rattle.order_table.specs.Table.{tableOf}
+use Rattle.order_arrivals.specs.Notes.{notesOf}
 use Rattle.clock.specs.declared.Duty.{Duty}
 use Rattle.clock.specs.declared.Clock.{Clock}
 use Rattle.clock.specs.Clocks.{dutyOf, clockOf, Onward, ranOn}

@@ -1,4 +1,4 @@
--- An event on all the words of an open quantum, from what it does to those before its notes. Assumes nothing.
+-- An event on all the words of an open quantum, from what it does to those before its notes.
 use Prim.Native.Nat.{ℕ, zero, suc, _≤_, _<_}
 use native.Mathlib.Omega.{arith}
 use mathlib.Core.Path.{_≡_, refl, sym, ap, _∙_, subst}
@@ -14,9 +14,9 @@ use Rattle.rules.specs.Causes.{eventRefusal}
 use Rattle.rules.specs.Bounds.{EventBounds}
 use Rattle.record.specs.declared.Fields.{Fields}
 use Rattle.record.specs.Fields.{fieldsFor}
-use Rattle.table.specs.Table.{tableOf, Held, GoodOrders}
-use Rattle.arrivals.specs.Arrivals.{arrivalsOf, Follows}
-use Rattle.arrivals.specs.Notes.{notesOf}
+use Rattle.order_table.specs.Table.{tableOf, Held, GoodOrders}
+use Rattle.order_arrivals.specs.Arrivals.{arrivalsOf, Follows}
+use Rattle.order_arrivals.specs.Notes.{notesOf}
 use Rattle.quantum.specs.declared.Quantum.{Quantum}
 use Rattle.events.specs.Represents.{tableAfter, taken}
 use Rattle.quantum.specs.Represents.{quantumOf}

@@ -1,5 +1,8 @@
-// An event on the words of an open quantum, in place (quantum/specs/Words has their layout): the table is changed where it stands, and the
+// An event on the words of an open quantum, in place (quantum/specs/Words has their layout): the table is changed where it is, and the
 // clock's words are put back. A tick reads no order, and an amendment leaves the notes.
+//
+// The clock is put back whether an event is taken or not, a tick aside: a refused one leaves the clock and the table as they were, so the
+// five words are written without a test. A tick has a way of its own: it reads neither table nor notes.
 ghost use mathlib.Core.Path.{_≡_};
 ghost use Prim.Native.Nat.{_<_};
 ghost use lib.ListN.{length};
@@ -58,13 +61,13 @@ fn step_noted(words: &mut [u32], hints: &mut [u8], f: Fields) -> u32
     requires { ⌜ HoldsQuantum (now words) × (length (now words) ≡ 598) × (length (now hints) ≡ 2048) × SaysEvent f ⌝ }
     ensures { λ r. ⌜ ((e : Event) → f ≡ fieldsFor e → StepsWords (now (words .entry)) e (now (words .exit)) r) × (0 < r → now (hints .exit) ≡ now (hints .entry)) ⌝ }
 {
-    let had = table::count(&words[10..522]);
+    let had = order_table::count(&words[10..522]);
     let refusal = step_front(&mut words[0..522], hints, f);
     if 0 < refusal {
         return refusal;
     }
-    let has = table::count(&words[10..522]);
-    arrivals::note(&mut words[522..586], had, has, f.id);
+    let has = order_table::count(&words[10..522]);
+    order_arrivals::note(&mut words[522..586], had, has, f.id);
     0
 }
 

@@ -1,5 +1,5 @@
 -- Demand 3 of `quoting_calls`, for every list of calls whose numbers fit their types and whose bytes are below the limit: whatever the call
--- promises on those bytes, with a buffer that has room, each call is made and answered from scratch (`demand-3` in crates/lists/proofs has
+-- promises on those bytes, with a buffer that has room, each call is made and answered from scratch (`demand-3` in crates/call_list/proofs has
 -- the rest).
 use Prim.Native.Nat.{ℕ, _*_, _≤_, _<_}
 use native.Mathlib.Omega.{arith}
@@ -12,10 +12,10 @@ use Rattle.rules.specs.Answers.{accepted, refused}
 use Rattle.rules.specs.Calls.{Call}
 use Rattle.words.specs.Bytes.{wordsIn}
 use Rattle.words.proofs.Back.{bytes-length}
-use Rattle.blocks.specs.Reading.{callsOf}
-use Rattle.blocks.specs.Writing.{scriptOf, AllFit}
-use Rattle.lists.specs.Demand.{bytesFor, FromScratch}
-use Rattle.lists.proofs.Demand.{calls-said, from-scratch}
+use Rattle.call_blocks.specs.Reading.{callsOf}
+use Rattle.call_blocks.specs.Writing.{scriptOf, AllFit}
+use Rattle.call_list.specs.Demand.{bytesFor, FromScratch}
+use Rattle.call_list.proofs.Demand.{calls-said, from-scratch}
 use Rattle.quoting.specs.Lists.{answeredCalls, callsNumber, callsBuffer, AnswersCalls}
 
 module _ (calls : List Call) (h : AllFit calls) (below : 4 * length (scriptOf calls) < 17179869184) where

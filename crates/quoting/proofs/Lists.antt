@@ -1,4 +1,4 @@
--- A list of calls, as the number that is answered. Assumes nothing.
+-- A list of calls, as the number that is answered.
 use Prim.Native.Nat.{ℕ, _*_, _≤_, _<_}
 use mathlib.Core.Path.{_≡_, refl, sym, ap, _∙_}
 use mathlib.Core.Bool.{Bool, true, false, not}
@@ -9,10 +9,10 @@ use Rattle.rules.specs.Lists.{if_then_else_}
 use Rattle.rules.specs.Answers.{accepted, refused}
 use Rattle.rules.specs.Calls.{Call}
 use Rattle.words.specs.Bytes.{wordsIn}
-use Rattle.blocks.specs.Reading.{callsOf, wordsRead}
-use Rattle.lists.specs.declared.Listed.{Listed}
-use Rattle.lists.specs.Listing.{answersOf, ListAnswered}
-use Rattle.buffers.specs.Answers.{refusedNumber, valueNumber}
+use Rattle.call_blocks.specs.Reading.{callsOf, wordsRead}
+use Rattle.call_list.specs.declared.Listed.{Listed}
+use Rattle.call_list.specs.Listing.{answersOf, ListAnswered}
+use Rattle.c_answers.specs.Answers.{refusedNumber, valueNumber}
 use Rattle.quoting.specs.Lists.{answeredCalls, callsNumber, callsBuffer, AnswersCalls, wordsOutcome}
 
 module _ (bytes before : List ℕ) (r : ℕ) where

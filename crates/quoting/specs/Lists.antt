@@ -9,9 +9,9 @@ use Rattle.rules.specs.Lists.{if_then_else_}
 use Rattle.rules.specs.Answers.{Outcome, accepted, refused}
 use Rattle.rules.specs.Calls.{Call}
 use Rattle.words.specs.Bytes.{wordsIn}
-use Rattle.blocks.specs.Reading.{callsOf, wordsRead}
-use Rattle.lists.specs.Listing.{answersOf}
-use Rattle.buffers.specs.Answers.{refusedNumber}
+use Rattle.call_blocks.specs.Reading.{callsOf, wordsRead}
+use Rattle.call_list.specs.Listing.{answersOf}
+use Rattle.c_answers.specs.Answers.{refusedNumber}
 
 -- a list of so many bytes has more words, and could have more calls, than can be answered: 3
 abbrev pub tooMany : ℕ → Bool

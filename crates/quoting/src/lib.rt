@@ -1,9 +1,9 @@
 // The library for programs in C. Each call takes numbers and lent slices, requires nothing of its caller but that a month's words are what
 // these calls left, and answers by one number and by what it leaves in a lent buffer: a refused call leaves each as it was.
 // include/quoting.h says word for word what each one does.
-use makers::Maker;
+use standing_rules::Maker;
 ghost use mathlib.Core.Path.{_≡_};
-ghost use mathlib.Core.Bool.{not};
+ghost use mathlib.Core.Bool.{true, not};
 ghost use mathlib.Core.List.{[]};
 ghost use Prim.Native.Nat.{_≤_};
 ghost use lib.Dec.{eqb};
@@ -21,17 +21,18 @@ ghost use Rattle.game.specs.Answers.{safeMinutes};
 ghost use Rattle.sigma.specs.Sigmas.{lastSigma};
 ghost use Rattle.volatile.specs.Answers.{insideOf};
 ghost use Rattle.ease.specs.Easing.{easedIf};
-ghost use Rattle.buffers.specs.Answers.{valueNumber, testNumber, Fills};
-ghost use Rattle.messages.specs.Messages.{readWords, messageFor, textFor};
-ghost use Rattle.extras.specs.Extras.{weighed, sigmaWords, spreadFor};
-ghost use Rattle.pairs.specs.Sessions.{FillsPairs};
-ghost use Rattle.account_words.specs.Accounts.{strikeOf, ruleOf, FillsAccount};
-ghost use Rattle.month_words.specs.Months.{CallsMonth};
+ghost use Rattle.c_answers.specs.Answers.{valueNumber, testNumber, Fills};
+ghost use Rattle.c_fix.specs.Messages.{readWords, messageFor, textFor};
+ghost use Rattle.c_others.specs.Extras.{weighed, sigmaWords, spreadFor};
+ghost use Rattle.c_session.specs.Sessions.{FillsPairs};
+ghost use Rattle.c_account.specs.Accounts.{strikeOf, ruleOf, FillsAccount};
+ghost use Rattle.c_month.specs.Months.{CallsMonth};
 ghost use Rattle.quoting.specs.Lists.{AnswersCalls, wordsOutcome};
-ghost use Rattle.standings.specs.Standings.{AnswersStanding};
-ghost use Rattle.makers.specs.Calls.{standing};
+ghost use Rattle.c_standing.specs.Standings.{AnswersStanding};
+ghost use Rattle.standing_rules.specs.Calls.{standing};
 ghost use Rattle.month.specs.Words.{wordsAfter, HoldsMonth};
-ghost use Rattle.month_words.specs.Views.{ViewsMonth};
+ghost use Rattle.month_in_place.specs.Entry.{mayBeMonth};
+ghost use Rattle.c_month.specs.Views.{ViewsMonth};
 
 // ---- rows and weights
 
@@ -40,7 +41,7 @@ ghost use Rattle.month_words.specs.Views.{ViewsMonth};
 pub extern "C" fn quoting_weight(kept: u32, length: u32, share: u32) -> u64
     ensures { λ r. ⌜ r ≡ valueNumber (weighed kept length share) ⌝ }
 {
-    extras::weight_number(kept, length, share)
+    c_others::weight_number(kept, length, share)
 }
 
 // The row for an expiry and a quantum from two tables of rows, seven words or none.
@@ -55,7 +56,7 @@ pub extern "C" fn quoting_choose_row<'r, 'b>(
 ) -> u64
     ensures { λ r. ⌜ Fills (accepted (chosenRow (not (eqb «is_holiday» 0)) expiry quantum (now (usual .entry)) (now (holiday .entry)))) (now (buffer .entry)) (now (buffer .exit)) r ⌝ }
 {
-    extras::fill_row(usual, holiday, is_holiday, expiry, quantum, buffer)
+    c_others::fill_row(usual, holiday, is_holiday, expiry, quantum, buffer)
 }
 
 // ---- boards, volatile days, the game
@@ -65,7 +66,7 @@ pub extern "C" fn quoting_choose_row<'r, 'b>(
 pub extern "C" fn quoting_board(strikes: &[[u32; 2]], first: u32, second: u32) -> u64
     ensures { λ r. ⌜ r ≡ testNumber (judged first second (now (strikes .entry))) ⌝ }
 {
-    extras::board_met(strikes, first, second)
+    c_others::board_met(strikes, first, second)
 }
 
 // The sigma of the last price's day, one word or none.
@@ -73,7 +74,7 @@ pub extern "C" fn quoting_board(strikes: &[[u32; 2]], first: u32, second: u32) -
 pub extern "C" fn quoting_sigma(prices: &[i32], buffer: &mut [u32]) -> u64
     ensures { λ r. ⌜ Fills (accepted (sigmaWords (lastSigma (now (prices .entry))))) (now (buffer .entry)) (now (buffer .exit)) r ⌝ }
 {
-    extras::last_sigma(prices, buffer)
+    c_others::last_sigma(prices, buffer)
 }
 
 // Whether the day after the last price is inside a period.
@@ -81,7 +82,7 @@ pub extern "C" fn quoting_sigma(prices: &[i32], buffer: &mut [u32]) -> u64
 pub extern "C" fn quoting_volatile(prices: &[i32], threshold: u32) -> u64
     ensures { λ r. ⌜ r ≡ testNumber (insideOf (now (prices .entry)) threshold) ⌝ }
 {
-    extras::day_inside(prices, threshold)
+    c_others::day_inside(prices, threshold)
 }
 
 // The same, and the lent row eased where it is.
@@ -90,7 +91,7 @@ pub extern "C" fn quoting_ease(row: &mut [u32], strike: u32, prices: &[i32], thr
     ensures number { λ r. ⌜ r ≡ testNumber (insideOf (now (prices .entry)) threshold) ⌝ }
     ensures words { λ _. ⌜ now (row .exit) ≡ easedIf (insideOf (now (prices .entry)) threshold) (spreadFor strike) (now (row .entry)) ⌝ }
 {
-    extras::ease_row(row, strike, prices, threshold)
+    c_others::ease_row(row, strike, prices, threshold)
 }
 
 // G of m minutes, h doubles and k knocks.
@@ -98,7 +99,7 @@ pub extern "C" fn quoting_ease(row: &mut [u32], strike: u32, prices: &[i32], thr
 pub extern "C" fn quoting_safe_minutes(m: u32, h: u32, k: u32) -> u64
     ensures { λ r. ⌜ r ≡ valueNumber (safeMinutes m h k) ⌝ }
 {
-    extras::safe_minutes(m, h, k)
+    c_others::safe_minutes(m, h, k)
 }
 
 // ---- FIX messages
@@ -108,7 +109,7 @@ pub extern "C" fn quoting_safe_minutes(m: u32, h: u32, k: u32) -> u64
 pub extern "C" fn quoting_fix(bytes: &[u8], buffer: &mut [u32]) -> u64
     ensures { λ r. ⌜ Fills (readWords (readMessage (now (bytes .entry)))) (now (buffer .entry)) (now (buffer .exit)) r ⌝ }
 {
-    messages::read_words(bytes, buffer)
+    c_fix::read_words(bytes, buffer)
 }
 
 // The bytes of a message that words say, with the bytes of its 60.
@@ -116,7 +117,7 @@ pub extern "C" fn quoting_fix(bytes: &[u8], buffer: &mut [u32]) -> u64
 pub extern "C" fn quoting_fix_write(fields: &[u32], sixty: &[u8], text: &mut [u8]) -> u64
     ensures { λ r. ⌜ Fills (textFor (messageFor (now (fields .entry)) (now (sixty .entry)))) (now (text .entry)) (now (text .exit)) r ⌝ }
 {
-    messages::write_text(fields, sixty, text)
+    c_fix::write_text(fields, sixty, text)
 }
 
 // ---- sessions, and where their time went
@@ -134,7 +135,7 @@ pub extern "C" fn quoting_session(head: &[u8], records: &[u8]) -> u64
 pub extern "C" fn quoting_session_pairs(head: &[u8], records: &[u8], buffer: &mut [u32]) -> u64
     ensures { λ r. ⌜ FillsPairs (sessionBytes paper mostRecords (now (head .entry)) (now (records .entry))) (now (buffer .entry)) (now (buffer .exit)) r ⌝ }
 {
-    pairs::session_pairs(head, records, buffer)
+    c_session::session_pairs(head, records, buffer)
 }
 
 // The milliseconds of each state, the number of stretches of one state, and the stretches. SP is in two's complement.
@@ -152,7 +153,7 @@ pub extern "C" fn quoting_account(
 ) -> u64
     ensures { λ r. ⌜ FillsAccount (account paper mostRecords (now (row .entry)) (ruleOf strike (steps (signedOf sp)) (strikeOf a difference days b)) (now (records .entry))) (now (buffer .entry)) (now (buffer .exit)) r ⌝ }
 {
-    account_words::session_account(row, strike, sp, a, difference, days, b, records, buffer)
+    c_account::session_account(row, strike, sp, a, difference, days, b, records, buffer)
 }
 
 // ---- months in lent words
@@ -162,7 +163,7 @@ pub extern "C" fn quoting_account(
 pub extern "C" fn quoting_month_fresh(words: &mut [u32]) -> u64
     ensures { λ r. ⌜ Fills (accepted (wordsAfter [])) (now (words .entry)) (now (words .exit)) r ⌝ }
 {
-    month_words::fresh(words)
+    c_month::fresh(words)
 }
 
 // One call on the month whose words these are.
@@ -173,19 +174,19 @@ pub extern "C" fn quoting_month_call(
     call: &[u8],
     answer: &mut [u32],
 ) -> u64
-    requires { ⌜ (2464 ≤ length (now words) → HoldsMonth (now words)) ⌝ }
+    requires { ⌜ (2464 ≤ length (now words) → mayBeMonth (now words) ≡ true → HoldsMonth (now words)) ⌝ }
     ensures { λ r. ⌜ CallsMonth (now (words .entry)) (now (hints .entry)) (now (answer .entry)) (now (call .entry)) (now (words .exit)) (now (hints .exit)) (now (answer .exit)) r ⌝ }
 {
-    month_words::call(words, hints, call, answer)
+    c_month::call(words, hints, call, answer)
 }
 
 // The open quantum of the month whose words these are.
 #[no_mangle]
 pub extern "C" fn quoting_month_view(words: &[u32], buffer: &mut [u32]) -> u64
-    requires { ⌜ (2464 ≤ length (now words) → HoldsMonth (now words)) ⌝ }
+    requires { ⌜ (2464 ≤ length (now words) → mayBeMonth (now words) ≡ true → HoldsMonth (now words)) ⌝ }
     ensures { λ r. ⌜ ViewsMonth (now (words .entry)) (now (buffer .entry)) (now (buffer .exit)) r ⌝ }
 {
-    month_words::view(words, buffer)
+    c_month::view(words, buffer)
 }
 
 // ---- lists of calls
@@ -196,11 +197,11 @@ pub extern "C" fn quoting_calls(calls: &[u8], answers: &mut [u32]) -> u64
     ensures { λ r. ⌜ AnswersCalls (now (calls .entry)) (now (answers .entry)) (now (answers .exit)) r ⌝ }
 {
     if 17179869184 <= calls.len() {
-        return buffers::refused(3);
+        return c_answers::refused(3);
     }
-    let list = lists::run(calls, answers);
+    let list = call_list::run(calls, answers);
     if !list.fits {
-        return buffers::refused(16);
+        return c_answers::refused(16);
     }
     list.calls as u64
 }
@@ -211,9 +212,9 @@ pub extern "C" fn quoting_calls_words(calls: &[u8]) -> u64
     ensures { λ r. ⌜ r ≡ valueNumber (wordsOutcome (now (calls .entry))) ⌝ }
 {
     if 17179869184 <= calls.len() {
-        return buffers::refused(3);
+        return c_answers::refused(3);
     }
-    let list = blocks::measure(calls);
+    let list = call_blocks::measure(calls);
     list.words as u64
 }
 
@@ -231,5 +232,5 @@ pub extern "C" fn quoting_standing(
     ensures { λ r. ⌜ AnswersStanding (now (calls .entry)) (standing (now (records .entry)) count) (now (outcomes .entry)) (now (records .exit)) (now (outcomes .exit)) r ⌝ }
 {
     let ran = standing::run(records, count, calls, outcomes);
-    standings::standing_number(calls, ran)
+    c_standing::standing_number(calls, ran)
 }

@@ -9,7 +9,7 @@ use Rattle.rules.specs.Book.{after}
 use Rattle.month.specs.declared.Month.{Month}
 use Rattle.month.specs.Represents.{monthOf}
 use Rattle.words.specs.Bytes.{wordsIn}
-use Rattle.blocks.specs.Reading.{callsOf, wordsRead}
+use Rattle.call_blocks.specs.Reading.{callsOf, wordsRead}
 use Rattle.replay.specs.declared.Played.{Played}
 
 -- All calls of the words ran: for every list of calls that led to the month, the one left is the month of that list with these behind it.

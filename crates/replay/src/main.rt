@@ -1,18 +1,22 @@
 // Reads calls from standard input, four bytes a word, low byte first, as they come, and writes a line for each call's answer as soon as its
-// block is whole.
+// block is complete.
+//
+// One read a turn, and no wait for more while there is something to answer. What remains of a piece moves to the front of the buffer, each
+// byte once at most. Past the last word that has come a word is read as 0, so a length that is not known yet must not be judged. Lines are
+// written as they are made, with no buffer: a line must be out before the next read in any case.
 ghost use mathlib.Core.Path.{_≡_};
 ghost use Prim.Native.Nat.{_*_, _≤_};
 ghost use lib.ListN.{length};
 ghost use Rattle.month.specs.Represents.{Reached};
 ghost use Rattle.words.specs.Bytes.{wordsIn};
 ghost use Rattle.replay.specs.Pieces.{Plays, Answers};
+use call_step::Outcome;
+use call_step::Shown;
 use console::field_line;
 use console::number;
 use console::text;
 use month::Month;
-use pieces::Rest;
-use script::Outcome;
-use script::Shown;
+use replay_pieces::Rest;
 
 fn line(shown: Shown) {
     let outcome = shown.outcome;
@@ -20,10 +24,10 @@ fn line(shown: Shown) {
     match outcome {
         Outcome::Accepted => text(b"accepted\n"),
         Outcome::Refused(n) => field_line(b"refused ", n),
-        Outcome::Found(view) => lines::cell_line(view),
-        Outcome::Asked(preview) => lines::asked_line(preview),
-        Outcome::Reported => lines::report_line(report),
-        Outcome::Outlook(outlook) => lines::outlook_line(outlook),
+        Outcome::Found(view) => replay_lines::cell_line(view),
+        Outcome::Asked(preview) => replay_lines::asked_line(preview),
+        Outcome::Reported => replay_lines::report_line(report),
+        Outcome::Outlook(outlook) => replay_lines::outlook_line(outlook),
     }
 }
 
@@ -41,7 +45,7 @@ fn play(from: Month, bytes: &[u8]) -> Played
     let mut month = from;
     let mut at: usize = 0;
     loop {
-        let done = script::block(month, bytes, at);
+        let done = call_step::block(month, bytes, at);
         let next = done.next;
         if next == at {
             return Played { month, words: at };
@@ -61,7 +65,7 @@ fn stopped(word: u64) {
 
 // Whether what is left can't become a call; then the last line says so, with the word at which it begins.
 fn is_last(bytes: &[u8], room: usize, word: u64) -> bool {
-    let rest = pieces::rest_is(bytes, room);
+    let rest = replay_pieces::rest_is(bytes, room);
     match rest {
         Rest::More => false,
         Rest::NoCall => {
@@ -89,7 +93,7 @@ fn answer(month: Month, bytes: &mut [u8], end: usize) -> Played
 {
     let done = play(month, &bytes[..end]);
     let read = done.words;
-    pieces::to_front(bytes, 4 * read, end);
+    replay_pieces::to_front(bytes, 4 * read, end);
     done
 }
 

@@ -1,5 +1,5 @@
 -- The theorem: messages replaced by their calls leave the same book. The events of an accepted message pass in turn, so each is accepted
--- on the book after those before it. Assumes nothing.
+-- on the book after those before it.
 use Prim.Native.Nat.{ℕ, zero, suc}
 use mathlib.Core.Path.{_≡_, refl, sym, ap, _∙_, subst}
 use mathlib.Core.List.{List, [], _∷_, _++_, append-assoc, append-nil}

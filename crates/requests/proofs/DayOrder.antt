@@ -1,6 +1,6 @@
 -- The theorem: whole quanta filled in another order leave the same book. A whole quantum that is not refused does one thing to the book,
 -- told by its own calls alone: it puts a filled cell into a blank place. So each place holds the cell of the quantum that names it, in
--- whatever order they came. Assumes nothing.
+-- whatever order they came.
 use Prim.Native.Nat.{ℕ, zero, suc, _+_, _≤_, _<_}
 use native.Mathlib.Omega.{arith}
 use mathlib.Core.Path.{_≡_, refl, sym, ap, _∙_, subst}

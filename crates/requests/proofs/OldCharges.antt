@@ -1,5 +1,5 @@
 -- The theorem: a larger greatest charge changes nothing for a list with no charge past the old one. The terms' greatest charge is read by
--- refusal 3 alone. Assumes nothing.
+-- refusal 3 alone.
 use Prim.Native.Nat.{ℕ, zero, suc, _≤_}
 use native.Mathlib.Omega.{arith}
 use mathlib.Core.Path.{_≡_, refl, sym, ap, _∙_, subst}

@@ -1,5 +1,5 @@
 -- The theorem about old months: with p multiplied by ten, the terms in tenths of a percent answer each call as the terms in percent did.
--- One relation between the two books, equal but that p is ten times as large, holds from call to call. Assumes nothing.
+-- One relation between the two books, equal but that p is ten times as large, holds from call to call.
 use Prim.Native.Nat.{ℕ, zero, suc, _+_, _-_, _*_, _/_, _^_, _≤_, _<_, min}
 use native.Mathlib.Omega.{arith}
 use mathlib.Core.Path.{_≡_, refl, sym, ap, _∙_}
@@ -20,7 +20,7 @@ use Rattle.rules.specs.declared.SpreadRule.{SpreadRule}
 use Rattle.rules.specs.declared.SpreadRule.the-variants.{Settled, OfStrike}
 use Rattle.rules.specs.declared.Event.{Event}
 use Rattle.rules.specs.declared.Amendment.{Amendment}
-use Rattle.rules.specs.Lists.{if_then_else_, within, sum, count, below, any, howMany, All}
+use Rattle.rules.specs.Lists.{if_then_else_, within, sum, countBelow, below, any, howMany, All}
 use Rattle.rules.specs.Units.{millis, contracts, kopecks, goodCharge}
 use Rattle.rules.specs.Rows.{goodExpiry, goodQuantum, goodLength, rowOf, goodRow, asRead, goodRowFor}
 use Rattle.rules.specs.Cells.{blankCell, goodCell, placeOf, cellAt, series}
@@ -112,7 +112,7 @@ kept-at-same row spread events = λ i m. quotes-same row spread (bestBid row (li
 
 kept-same : (row : Row) (spread : SpreadRule) (events : List Event) (n : ℕ) → keptBelow (tenfoldRow row) spread events n ≡ keptBelow row spread events n
 unfolding keptBelow
-kept-same row spread events n = ap (λ (p : ℕ → Bool). count p n) (kept-at-same row spread events)
+kept-same row spread events n = ap (λ (p : ℕ → Bool). countBelow p n) (kept-at-same row spread events)
 
 lapses-same : (row : Row) (spread : SpreadRule) (events : List Event) (n : ℕ) → lapsesBelow (tenfoldRow row) spread events n ≡ lapsesBelow row spread events n
 unfolding lapsesBelow

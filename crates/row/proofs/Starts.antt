@@ -1,4 +1,4 @@
--- The first row of a table by its number, and the start of the part that is chosen, case by case. Assumes nothing.
+-- The first row of a table by its number, and the start of the part that is chosen, case by case.
 use Prim.Native.Nat.{ℕ, _/_, _<_}
 use mathlib.Core.Path.{_≡_, refl, sym}
 use mathlib.Core.List.{List, [], _∷_, map}

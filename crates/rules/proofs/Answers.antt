@@ -1,4 +1,4 @@
--- Two different answers never show the same number and values. Assumes nothing.
+-- Two different answers never show the same number and values.
 use Prim.Native.Nat.{ℕ, zero, suc}
 use native.Mathlib.Omega.{arith}
 use mathlib.Core.Path.{_≡_, refl, sym, ap, _∙_}
@@ -24,7 +24,8 @@ use Rattle.rules.specs.declared.RecordRead.{RecordRead}
 use Rattle.rules.specs.declared.RecordRead.the-variants as E
 use Rattle.rules.specs.declared.SessionAnswer.{SessionAnswer}
 use Rattle.rules.specs.declared.SessionAnswer.the-variants as S
-use Rattle.rules.specs.Answers.{numberOf, Outcome, accepted, refused, outcomeBy, cell, asked, report, outlook, shownAnswer, shownLooked, shownAsked, shownReport, shownOutlook, shownRow, shownRecord, shownSession, finished, stopped}
+use Rattle.rules.specs.Answers.{numberOf, Outcome, accepted, refused, outcomeBy, cell, asked, report, outlook, shownAnswer, shownLooked, shownAsked, shownReport, shownOutlook, shownRow, shownRecord}
+use Rattle.rules.specs.Session.{shownSession, Ran}
 
 -- ---- a refusal's number names it
 
@@ -158,7 +159,7 @@ record-shown (E.Refused r) (E.Refused s) e = ap E.Refused (number-names r s (sam
 
 -- ---- session runs
 
-never-finished : (k w n r p : ℕ) → finished k w n ≡ stopped r p → ⊥
+never-finished : (k w n r p : ℕ) → Ran.accepted k w n ≡ Ran.refused r p → ⊥
 never-finished k w n r p e = let z : _≡_ {A = ℕ} 0 1 = cc in omega arith
 
 pub session-shown : (a b : SessionAnswer) → shownSession a ≡ shownSession b → a ≡ b

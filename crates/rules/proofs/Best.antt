@@ -1,4 +1,4 @@
--- What `best` means, and when it stays. Assumes nothing.
+-- What `best` means, and when it stays.
 use Prim.Native.Nat.{ℕ, _+_}
 use native.Mathlib.Omega.{arith}
 use mathlib.Core.Path.{_≡_, refl, sym, ap, _∙_, subst, fun-ext}

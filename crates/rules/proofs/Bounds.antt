@@ -1,4 +1,4 @@
--- The plain book keeps its bounds after every list of calls, and an open quantum's events keep theirs. Assumes nothing.
+-- The plain book keeps its bounds after every list of calls, and an open quantum's events keep theirs.
 use Prim.Native.Nat.{ℕ, zero, suc, _%_, _≤_}
 use native.Mathlib.Omega.{arith}
 use mathlib.Core.Path.{_≡_, refl, sym, ap, _∙_, subst}

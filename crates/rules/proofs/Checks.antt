@@ -1,6 +1,6 @@
--- C1 to C12 and the unmarked checks follow from the definitions: one computation over their list. Assumes nothing.
+-- C1 to C12 and the unmarked checks follow from the definitions: one computation over their list.
 use mathlib.Core.Path.{_≡_, refl}
-use Rattle.rules.specs.Lists.{sum, count, below, filter, any, howMany}
+use Rattle.rules.specs.Lists.{sum, countBelow, below, filter, any, howMany}
 use Rattle.rules.specs.Cells.{series}
 use Rattle.rules.specs.Orders.{apply, applyAll, live}
 use Rattle.rules.specs.Quotes.{depth, qualifies, lead, best}
@@ -12,5 +12,5 @@ use Rattle.rules.specs.Stretches.{grown, stretches}
 use Rattle.rules.specs.Checks.{checks, allFound, allPrinted, failing}
 
 pub paper-checks : allFound checks ≡ allPrinted checks
-unfolding sum count below filter any howMany series apply applyAll live depth qualifies lead best halfBelow strikeWithin quotesKeep ordersKeep upTo keptAt keptBelow met weightMet weight cellFailed failures allFailures earned fee failing withinLapseLimit lapses lapsesBelow grown stretches
+unfolding sum countBelow below filter any howMany series apply applyAll live depth qualifies lead best halfBelow strikeWithin quotesKeep ordersKeep upTo keptAt keptBelow met weightMet weight cellFailed failures allFailures earned fee failing withinLapseLimit lapses lapsesBelow grown stretches
 paper-checks = refl

@@ -1,4 +1,4 @@
--- The first of a table's full rows that passes, found by its index. Assumes nothing.
+-- The first of a table's full rows that passes, found by its index.
 use Prim.Native.Nat.{ℕ, zero, suc, _/_, _<_}
 use mathlib.Core.Path.{_≡_, refl, sym, _∙_}
 use mathlib.Core.List.{List, [], _∷_, _++_, map, map-append}
@@ -8,7 +8,7 @@ use native.Mathlib.Omega.{arith}
 use native.Mathlib.Nat.{eq-or-lt-of-le}
 use lib.ListN.{length}
 use Rattle.rules.specs.Lists.{if_then_else_, below, firstOr}
-use Rattle.rules.specs.Choosing.{rowWords, isFor, rows, firstRow, orElse, chosenRow}
+use Rattle.rules.specs.Choosing.{rowWords, isFor, rows, firstRow, orIfEmpty, chosenRow}
 
 module _ {A : Type 0} where
   first-append : (p : A → Bool) (other : A) (xs ys : List A) → firstOr other p (xs ++ ys) ≡ firstOr (firstOr other p ys) p xs
@@ -59,11 +59,11 @@ module _ (expiry quantum : ℕ) (table : List ℕ) where
   row-at k l h e = first-at (isFor expiry quantum) (rowWords table) [] k (length table / 7) l h e
 
 -- a row that is there, and the other where it is empty
-there : (row other : List ℕ) → (length row ≡ 0 → ⊥) → orElse row other ≡ row
+there : (row other : List ℕ) → (length row ≡ 0 → ⊥) → orIfEmpty row other ≡ row
 there [] other h = absurd (h refl)
 there (w ∷ ws) other h = refl
 
-missing : (row other : List ℕ) → length row ≡ 0 → orElse row other ≡ other
+missing : (row other : List ℕ) → length row ≡ 0 → orIfEmpty row other ≡ other
 missing [] other h = refl
 missing (w ∷ ws) other h = absurd (omega arith)
 

@@ -1,6 +1,6 @@
 -- The theorem: of all lists of pairs, sorted by offset, lengths at least 1, that cover the numbers that pass and no others, the
 -- stretches are the one with the fewest pairs. None has fewer: where a stretch starts, a pair starts. One in which two pairs overlap or
--- touch has more: the two joined, it is a list with one pair less. One in which none do is ours. Assumes nothing.
+-- touch has more: the two joined, it is a list with one pair less. One in which none do is ours.
 use Prim.Native.Nat.{ℕ, zero, suc, _+_, _-_, _≤_, _<_, max}
 use native.Mathlib.Omega.{arith}
 use lib.ListN.{length, length-append}
@@ -13,7 +13,7 @@ use borrow.Author.Tests.{lt-ltb, leb-true, leb-false, ltb-true, ltb-false, eq-eq
 use Rattle.rules.specs.declared.Row.{Row}
 use Rattle.rules.specs.declared.SpreadRule.{SpreadRule}
 use Rattle.rules.specs.declared.Event.{Event}
-use Rattle.rules.specs.Lists.{if_then_else_, any, count}
+use Rattle.rules.specs.Lists.{if_then_else_, any, countBelow}
 use Rattle.rules.specs.Kept.{keptAt}
 use Rattle.rules.specs.Stretches.{Stretch, stretch, stretches, keptStretches}
 use Rattle.rules.specs.Runs.{end, Apart, holds, covers, before}
@@ -53,8 +53,8 @@ module _ (p : ℕ → Bool) (n : ℕ) where
       let same = stretches-false p n 1 (only false e) in
       omega (arith, ap (λ (k : ℕ). length (stretches p k)) next, ap length same)
 
-pub stretches-starts : (p : ℕ → Bool) (n : ℕ) → length (stretches p n) ≡ count (starts p) n
-unfolding stretches count
+pub stretches-starts : (p : ℕ → Bool) (n : ℕ) → length (stretches p n) ≡ countBelow (starts p) n
+unfolding stretches countBelow
 stretches-starts p zero = refl
 stretches-starts p (suc n) = one-more p n (p n) (before p n) refl refl ∙ ap (λ (k : ℕ). k + (if starts p n then 1 else 0)) (stretches-starts p n)
 
@@ -65,7 +65,7 @@ abbrev startsAt : List Stretch → ℕ → Bool
 startsAt ss m = any (λ (s : Stretch). eqb (s .offset) m) ss
 
 -- no more such numbers than pairs
-few-starts : (ss : List Stretch) (n : ℕ) → count (startsAt ss) n ≤ length ss
+few-starts : (ss : List Stretch) (n : ℕ) → countBelow (startsAt ss) n ≤ length ss
 unfolding any
 few-starts [] n = omega (arith, count-none (startsAt []) n (λ m l. refl))
 few-starts (s ∷ ss) n = omega (arith, count-or (eqb (s .offset)) (startsAt ss) n, count-is (s .offset) n, few-starts ss n)

@@ -1,4 +1,4 @@
--- Lists of calls one after the other, and events that pass in turn: each is accepted on the book after those before it. Assumes nothing.
+-- Lists of calls one after the other, and events that pass in turn: each is accepted on the book after those before it.
 use Prim.Native.Nat.{ℕ, zero}
 use mathlib.Core.Path.{_≡_, refl, sym, ap, _∙_, subst}
 use mathlib.Core.List.{List, [], _∷_, _++_, map, append-assoc, append-nil}

@@ -1,5 +1,5 @@
 -- Laws of kept time: events at or before a millisecond are all seen at it, a later one is not; a locked or crossed quote is never
--- kept. Assumes nothing.
+-- kept.
 use Prim.Native.Nat.{ℕ, zero, suc, _+_, _-_, _≤_, _<_}
 use native.Mathlib.Omega.{arith}
 use mathlib.Core.Path.{_≡_, refl, ap, _∙_}
@@ -15,7 +15,7 @@ use Rattle.rules.specs.declared.Quote.the-variants.{At}
 use Rattle.rules.specs.declared.Row.{Row}
 use Rattle.rules.specs.declared.SpreadRule.{SpreadRule}
 use Rattle.rules.specs.declared.Event.{Event}
-use Rattle.rules.specs.Lists.{if_then_else_, filter, count}
+use Rattle.rules.specs.Lists.{if_then_else_, filter, countBelow}
 use Rattle.rules.specs.Orders.{live, timeOf, timeFrom, present}
 use Rattle.rules.specs.Kept.{gap, spreadKeeps, bestBid, bestAsk, quotesKeep, ordersKeep, upTo, keptAt, keptBelow}
 use Rattle.rules.specs.Bounds.{Ordered}
@@ -104,7 +104,7 @@ module _ (row : Row) (sp : SpreadRule) (es : List Event) where
   unfolding keptBelow
   kept-onward o t h =
       let to : t ≡ present es + (t - present es) = omega arith in
-      ap (count (keptAt row sp es)) to
+      ap (countBelow (keptAt row sp es)) to
       ∙ count-stretch (keptAt row sp es) (present es) (t - present es) (ordersKeep row sp (live es)) (λ m l u. keptAt-now o m l)
 
   -- an event changes nothing below its own time

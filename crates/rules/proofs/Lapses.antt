@@ -1,4 +1,4 @@
--- Lapses: what they are, how a person counts them, and how their number grows as time runs on. Assumes nothing.
+-- Lapses: what they are, how a person counts them, and how their number grows as time runs on.
 use Prim.Native.Nat.{ℕ, zero, suc, _+_, _-_, _≤_, _<_}
 use native.Mathlib.Omega.{arith}
 use mathlib.Core.Path.{_≡_, refl, ap, _∙_}
@@ -9,7 +9,7 @@ use lib.ListN.{length, length-append}
 use Rattle.rules.specs.declared.Row.{Row}
 use Rattle.rules.specs.declared.SpreadRule.{SpreadRule}
 use Rattle.rules.specs.declared.Event.{Event}
-use Rattle.rules.specs.Lists.{if_then_else_, count}
+use Rattle.rules.specs.Lists.{if_then_else_, countBelow}
 use Rattle.rules.specs.Orders.{live, timeOf, present}
 use Rattle.rules.specs.Kept.{ordersKeep, keptAt}
 use Rattle.rules.specs.Stretches.{stretch, stretches}
@@ -39,7 +39,7 @@ module _ (p : ℕ → Bool) where
       go false = refl
 
   -- as many as there are first milliseconds of one
-  pub lapses-counted : (n : ℕ) → length (lapses p n) ≡ count (lapseStarts p) n
+  pub lapses-counted : (n : ℕ) → length (lapses p n) ≡ countBelow (lapseStarts p) n
   unfolding lapses
   lapses-counted n =
       stretches-starts (missing p) n

@@ -1,4 +1,4 @@
--- Laws of `filter` and `sum`. Assumes nothing.
+-- Laws of `filter` and `sum`.
 use Prim.Native.Nat.{ℕ, _+_}
 use native.Mathlib.Omega.{arith}
 use mathlib.Core.Path.{_≡_, refl, sym, ap, _∙_}

@@ -1,4 +1,4 @@
--- Laws of `any`, `filter`, `map` and `set` by what is in the list, for any test. Assumes nothing.
+-- Laws of `any`, `filter`, `map` and `set` by what is in the list, for any test.
 use Prim.Native.Nat.{ℕ, zero, suc, _≤_, _<_}
 use native.Mathlib.Omega.{arith}
 use native.Mathlib.Nat.{not-suc-le-zero, le-of-suc-le-suc}

@@ -1,5 +1,4 @@
 -- Laws of the live orders: one more event; what each event does to their number, ids, prices and volumes; and what it does by position.
--- Assumes nothing.
 use Prim.Native.Nat.{ℕ, zero, suc, _-_, _≤_, _<_}
 use native.Mathlib.Omega.{arith}
 use native.Mathlib.Nat.{not-suc-le-zero, le-of-suc-le-suc}

@@ -1,5 +1,5 @@
 -- Laws of event records, up to the round trip at the end: an event that is written and read is the same event, and a record that is
--- read and written is the same record. Assumes nothing.
+-- read and written is the same record.
 use Prim.Native.Nat.{ℕ, zero, suc, _+_, _-_, _*_, _/_, _%_, _≤_, _<_}
 use native.Mathlib.Omega.{arith}
 use mathlib.Core.Path.{_≡_, refl, sym, ap, _∙_}

@@ -1,5 +1,5 @@
 -- Laws of `firstNumber`; what an accepted event or call has passed, cause by cause, and that what has passed is accepted; the book's step and
--- answer by the refusal. Assumes nothing.
+-- answer by the refusal.
 use Prim.Native.Nat.{ℕ, zero, suc, _≤_, _<_}
 use native.Mathlib.Omega.{arith}
 use mathlib.Core.Path.{_≡_, refl, sym, ap, _∙_}

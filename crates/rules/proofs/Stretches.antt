@@ -1,4 +1,4 @@
--- The stretches of a test below a bound, for any test: what they are, that no other list is that, and how they grow. Assumes nothing.
+-- The stretches of a test below a bound, for any test: what they are, that no other list is that, and how they grow.
 use Prim.Native.Nat.{ℕ, zero, suc, _+_, _*_, _≤_, _<_}
 use native.Mathlib.Omega.{arith}
 use lib.ListN.{length}
@@ -10,7 +10,7 @@ use borrow.Author.Tests.{le-leb, lt-leb, leb-true, leb-false, lt-ltb, le-ltb, lt
 use Rattle.rules.specs.declared.Row.{Row}
 use Rattle.rules.specs.declared.SpreadRule.{SpreadRule}
 use Rattle.rules.specs.declared.Event.{Event}
-use Rattle.rules.specs.Lists.{if_then_else_, any, sum, count}
+use Rattle.rules.specs.Lists.{if_then_else_, any, sum, countBelow}
 use Rattle.rules.specs.Kept.{keptAt, keptBelow}
 use Rattle.rules.specs.Stretches.{Stretch, stretch, grown, grownIf, stretches, keptStretches, pairWords}
 use Rattle.rules.specs.Runs.{end, lengthOf, Apart, Inside, holds, covers, Runs, before, endsAt, lengthened, extended}
@@ -150,7 +150,7 @@ grown-covered p n m ss false e h = rw (h, ltb-next m n) (go (eqb m n) refl)
     go false f = refl
 
 grown-runs : (p : ℕ → Bool) (n : ℕ) (ss : List Stretch) (b : Bool) → p n ≡ b → Runs p n ss → Runs p (suc n) (grownIf b n ss)
-unfolding count
+unfolding countBelow
 grown-runs p n ss true e h =
     record {
       apart = grown-apart 0 n ss (omega arith) (h .apart) (h .inside);
@@ -167,7 +167,7 @@ grown-runs p n ss false e h =
     }
 
 pub stretches-run : (p : ℕ → Bool) (n : ℕ) → Runs p n (stretches p n)
-unfolding stretches covers any sum count
+unfolding stretches covers any sum countBelow
 stretches-run p zero = record { apart = tt; inside = tt; covered = λ m. rw (le-ltb m 0 (omega arith)) refl; total = refl }
 stretches-run p (suc n) = grown-runs p n (stretches p n) (p n) refl (stretches-run p n)
 

@@ -1,4 +1,4 @@
--- Document 02, W7: the weight depends on K and L only through f. Assumes nothing.
+-- Document 02, W7: the weight depends on K and L only through f.
 use Prim.Native.Nat.{ℕ, _*_, _≤_}
 use native.Mathlib.Nat.{one-mul, le-div-iff-mul-le}
 use native.Mathlib.Omega.{arith}

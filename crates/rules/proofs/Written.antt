@@ -1,5 +1,4 @@
--- What a session run to its end writes: the kept stretches of its records' events, word by word. So its pairs are the fewest. Assumes
--- nothing.
+-- What a session run to its end writes: the kept stretches of its records' events, word by word. So its pairs are the fewest.
 use Prim.Native.Nat.{ℕ, zero, suc, _*_}
 use native.Mathlib.Omega.{arith}
 use mathlib.Core.Path.{_≡_, refl, sym, ap, _∙_}
@@ -18,13 +17,13 @@ use Rattle.rules.specs.Terms.{Terms}
 use Rattle.rules.specs.Rows.{rowOf}
 use Rattle.rules.specs.Cells.{placeOf}
 use Rattle.rules.specs.Stretches.{Stretch, keptStretches, pairWords}
-use Rattle.rules.specs.Answers.{Outcome, accepted, refused, finished, stopped}
+use Rattle.rules.specs.Answers.{Outcome, accepted, refused}
 use Rattle.rules.specs.Calls.{Open, Send, Running, Quoting, Book, freshBook}
 use Rattle.rules.specs.Causes.{refusalOf}
 use Rattle.rules.specs.Changes.{noted, changed}
 use Rattle.rules.specs.Book.{step}
 use Rattle.rules.specs.Records.{goodRecord, eventOf, fieldsOf, readRecord}
-use Rattle.rules.specs.Session.{Session, whole, halted, recordsOf, stretchesIn, withoutLapseLimit, unless, readRefusal, recordRefusal, readStep, closing, runRecords, session, isShort, ran, front, bufferAfter}
+use Rattle.rules.specs.Session.{Ran, Session, recordsOf, stretchesIn, withoutLapseLimit, unless, readRefusal, recordRefusal, readStep, closing, runRecords, session, isShort, ran, front, bufferAfter}
 use Rattle.rules.specs.Fewest.{FewestKept, pairsIn, FewestWritten}
 use Rattle.rules.proofs.Refusals.{step-accepted}
 use Rattle.rules.proofs.Stretches.{pairWords-length}
@@ -42,7 +41,7 @@ unread bytes n e = go (goodRecord bytes) e
     go false e = cc
 
 -- a run that goes on to its end is not stopped here
-unless-whole : (n place : ℕ) (next : Session) (k w : ℕ) (ss : List Stretch) → unless n place next ≡ whole k w ss → (n ≡ 0) × (next ≡ whole k w ss)
+unless-whole : (n place : ℕ) (next : Session) (k w : ℕ) (ss : List Stretch) → unless n place next ≡ Session.accepted k w ss → (n ≡ 0) × (next ≡ Session.accepted k w ss)
 unless-whole zero place next k w ss e = (refl, e)
 unless-whole (suc n) place next k w ss e = let z : _≡_ {A = ℕ} 0 1 = cc in absurd (omega arith)
 
@@ -59,7 +58,7 @@ module _ (terms : Terms) (most cell : ℕ) (row : Row) (sp : Steps) (k w : ℕ) 
   unfolding changed
   sent place events e b h z = ap (λ (c : Book). c .running) (step-accepted terms b (Send e) z) ∙ ap (λ (r : Running). noted r e) h
 
-  ending : (b : Book) → closing terms cell b ≡ whole k w ss → stretchesIn (b .running) ≡ ss
+  ending : (b : Book) → closing terms cell b ≡ Session.accepted k w ss → stretchesIn (b .running) ≡ ss
   unfolding closing
   ending b e = cc
 
@@ -68,7 +67,7 @@ module _ (terms : Terms) (most cell : ℕ) (row : Row) (sp : Steps) (k w : ℕ) 
   not-past false n e = e
 
   runs-kept : (rs : List (List ℕ)) (place at : ℕ) (b : Book) (events : List Event) → b .running ≡ Quoting at row (withoutLapseLimit sp) events
-      → runRecords terms most cell place b rs ≡ whole k w ss → KeptPairs row sp events rs ss
+      → runRecords terms most cell place b rs ≡ Session.accepted k w ss → KeptPairs row sp events rs ss
   unfolding runRecords recordRefusal
   runs-kept [] place at b events h e =
       record {
@@ -81,8 +80,8 @@ module _ (terms : Terms) (most cell : ℕ) (row : Row) (sp : Steps) (k w : ℕ) 
       go (readRecord r) refl (not-past (ltb most place) (readRefusal terms (readRecord r) b) none) next
       (λ b′ more h′ e′. runs-kept rs (suc place) at b′ more h′ e′)
     where
-      go : (o : Outcome Event) → readRecord r ≡ o → readRefusal terms o b ≡ 0 → runRecords terms most cell (suc place) (readStep terms o b) rs ≡ whole k w ss
-          → ((b′ : Book) (more : List Event) → b′ .running ≡ Quoting at row (withoutLapseLimit sp) more → runRecords terms most cell (suc place) b′ rs ≡ whole k w ss → KeptPairs row sp more rs ss)
+      go : (o : Outcome Event) → readRecord r ≡ o → readRefusal terms o b ≡ 0 → runRecords terms most cell (suc place) (readStep terms o b) rs ≡ Session.accepted k w ss
+          → ((b′ : Book) (more : List Event) → b′ .running ≡ Quoting at row (withoutLapseLimit sp) more → runRecords terms most cell (suc place) b′ rs ≡ Session.accepted k w ss → KeptPairs row sp more rs ss)
           → KeptPairs row sp events (r ∷ rs) ss
       go (refused n) o z next on = absurd (let f = unread r n o in omega arith)
       go (accepted x) o z next on =
@@ -99,7 +98,7 @@ module _ (terms : Terms) (most : ℕ) (words : List ℕ) (sp : Steps) (bytes : L
   unfolding changed
   opened z = ap (λ (c : Book). c .running) (step-accepted terms freshBook (Open words 1 (withoutLapseLimit sp)) z)
 
-  session-kept : (k w : ℕ) (ss : List Stretch) → session terms most words sp bytes ≡ whole k w ss → KeptPairs (rowOf words) sp [] (recordsOf bytes) ss
+  session-kept : (k w : ℕ) (ss : List Stretch) → session terms most words sp bytes ≡ Session.accepted k w ss → KeptPairs (rowOf words) sp [] (recordsOf bytes) ss
   unfolding session
   session-kept k w ss e =
       let cell = placeOf 1 (rowOf words .expiry) (rowOf words .quantum) in
@@ -118,18 +117,18 @@ record Done (n : ℕ) (s : Session) (pairs : ℕ) : Type 0 where
   kept : ℕ
   weight : ℕ
   stretches : List Stretch
-  ends : s ≡ whole kept weight stretches
+  ends : s ≡ Session.accepted kept weight stretches
   number : length stretches ≡ pairs
   words : front n s ≡ pairWords stretches
 
-done : (n : ℕ) (s : Session) (k w pairs : ℕ) → ran n s ≡ finished k w pairs → Done n s pairs
+done : (n : ℕ) (s : Session) (k w pairs : ℕ) → ran n s ≡ Ran.accepted k w pairs → Done n s pairs
 unfolding ran front
-done n (whole a b ss) k w pairs e = go (isShort n ss) refl e
+done n (Session.accepted a b ss) k w pairs e = go (isShort n ss) refl e
   where
-    go : (short : Bool) → isShort n ss ≡ short → (if short then stopped 16 0 else finished a b (length ss)) ≡ finished k w pairs → Done n (whole a b ss) pairs
+    go : (short : Bool) → isShort n ss ≡ short → (if short then Ran.refused 16 0 else Ran.accepted a b (length ss)) ≡ Ran.accepted k w pairs → Done n (Session.accepted a b ss) pairs
     go true f e = let z : _≡_ {A = ℕ} 0 1 = cc in absurd (omega arith)
     go false f e = record { kept = a; weight = b; stretches = ss; ends = refl; number = cc; words = rw f refl }
-done n (halted a b) k w pairs e = let z : _≡_ {A = ℕ} 0 1 = cc in absurd (omega arith)
+done n (Session.refused a b) k w pairs e = let z : _≡_ {A = ℕ} 0 1 = cc in absurd (omega arith)
 
 -- ---- the theorem, of words
 
@@ -137,7 +136,7 @@ fewest-too : (row : Row) (sp : SpreadRule) (events : List Event) (ss ts : List S
 fewest-too row sp events ss ts e h = rw (← e) h
 
 module _ (terms : Terms) (most : ℕ) (words : List ℕ) (sp : Steps) (bytes : List ℕ) (n k w pairs : ℕ)
-    (h : ran n (session terms most words sp bytes) ≡ finished k w pairs) where
+    (h : ran n (session terms most words sp bytes) ≡ Ran.accepted k w pairs) where
   -- as many words as twice the pairs
   front-length : length (front n (session terms most words sp bytes)) ≡ 2 * pairs
   front-length =
@@ -163,7 +162,7 @@ module _ (terms : Terms) (most : ℕ) (words : List ℕ) (sp : Steps) (bytes : L
       starts-fewest (front n s) (ap (λ (m : ℕ). take m (front n s)) (sym front-length) ∙ take-length (front n s))
 
 pub buffer-fewest : (terms : Terms) (most : ℕ) (words : List ℕ) (sp : Steps) (bytes buffer : List ℕ) (k w pairs : ℕ)
-    → ran (length buffer) (session terms most words sp bytes) ≡ finished k w pairs
+    → ran (length buffer) (session terms most words sp bytes) ≡ Ran.accepted k w pairs
     → FewestWritten words sp bytes pairs (bufferAfter buffer (session terms most words sp bytes))
 unfolding bufferAfter
 buffer-fewest terms most words sp bytes buffer k w pairs h =

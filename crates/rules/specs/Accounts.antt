@@ -11,7 +11,7 @@ use Rattle.rules.specs.declared.Row.{Row}
 use Rattle.rules.specs.declared.SpreadRule.{SpreadRule}
 use Rattle.rules.specs.declared.Opening.{Opening}
 use Rattle.rules.specs.declared.Event.{Event}
-use Rattle.rules.specs.Lists.{if_then_else_, filter, count, All}
+use Rattle.rules.specs.Lists.{if_then_else_, filter, countBelow, All}
 use Rattle.rules.specs.Terms.{Terms}
 use Rattle.rules.specs.States.{State, kept, noBid, noAsk, neither, crossed, wide, stateWord, isKept, stateAt}
 use Rattle.rules.specs.Stretches.{Stretch, stretch}
@@ -56,7 +56,7 @@ abbrev pub inState : (ℕ → State) → State → ℕ → Bool
 inState f s m = sameState (f m) s
 
 unfoldable pub timeIn : (ℕ → State) → ℕ → State → ℕ
-timeIn f n s = count (inState f s) n
+timeIn f n s = countBelow (inState f s) n
 
 unfoldable pub totals : (ℕ → State) → ℕ → List ℕ
 totals f n =
@@ -67,7 +67,7 @@ unfoldable pub partWords : List Part → List ℕ
 partWords [] = []
 partWords (p ∷ ps) = p .offset ∷ p .length ∷ stateWord (p .state) ∷ partWords ps
 
--- ---- what such a list is, apart from how it is computed; no other list is that (accounts/proofs)
+-- ---- what such a list is, apart from how it is computed; no other list is that (session_account/proofs)
 
 -- from a to n with no gap: each starts where the one in front of it ends, none is empty, and the last ends at n
 abbrev pub Tiles : ℕ → ℕ → List Part → Type 0
@@ -109,13 +109,13 @@ lostParts ps = joinedUp (λ (s : State). not (isKept s)) [] ps
 
 -- how a run ends: the milliseconds of each state and the stretches; or a refusal's number and place
 pub data Account : Type 0 where
-  accounted : List ℕ → List Part → Account
-  halted : ℕ → ℕ → Account
+  accepted : List ℕ → List Part → Account
+  refused : ℕ → ℕ → Account
 
 -- as stopped by a refusal at a place, or going on where there is none
 abbrev pub accountUnless : ℕ → ℕ → Account → Account
 accountUnless zero place next = next
-accountUnless (suc n) place next = halted (suc n) place
+accountUnless (suc n) place next = Account.refused (suc n) place
 
 -- document 02, W1: "Session runs use 65,535."
 abbrev pub noLimit : SpreadRule → Opening
@@ -123,10 +123,10 @@ noLimit spread = record { spread = spread; allowed = noLapseLimit }
 
 -- of the open quantum, from 0 to L
 unfoldable pub accountOf : Row → SpreadRule → List Event → Account
-accountOf row spread events = accounted (totals (stateAt row spread events) (row .length .0)) (parts (stateAt row spread events) (row .length .0))
+accountOf row spread events = Account.accepted (totals (stateAt row spread events) (row .length .0)) (parts (stateAt row spread events) (row .length .0))
 
 abbrev pub accountIn : Running → Account
-accountIn Idle = accounted [] []
+accountIn Idle = Account.accepted [] []
 accountIn (Quoting place row opening events) = accountOf row (opening .spread) events
 
 module _ (terms : Terms) where
@@ -147,21 +147,21 @@ module _ (terms : Terms) where
 
 -- what the run answers
 pub data AccountRan : Type 0 where
-  reckoned : List ℕ → ℕ → AccountRan
-  stoppedAt : ℕ → ℕ → AccountRan
+  accepted : List ℕ → ℕ → AccountRan
+  refused : ℕ → ℕ → AccountRan
 
 abbrev pub tooShort : ℕ → List Part → Bool
 tooShort n ps = ltb n (3 * length ps)
 
 -- the milliseconds of each state and the number of stretches
 unfoldable pub accountRan : ℕ → Account → AccountRan
-accountRan n (accounted times ps) = if tooShort n ps then stoppedAt 16 0 else reckoned times (length ps)
-accountRan n (halted number place) = stoppedAt number place
+accountRan n (Account.accepted times ps) = if tooShort n ps then AccountRan.refused 16 0 else AccountRan.accepted times (length ps)
+accountRan n (Account.refused number place) = AccountRan.refused number place
 
 -- what is written to the front of the buffer: nothing on a refusal
 unfoldable pub accountFront : ℕ → Account → List ℕ
-accountFront n (accounted times ps) = if tooShort n ps then [] else partWords ps
-accountFront n (halted number place) = []
+accountFront n (Account.accepted times ps) = if tooShort n ps then [] else partWords ps
+accountFront n (Account.refused number place) = []
 
 -- "The rest of the buffer keeps its contents."
 unfoldable pub accountBuffer : List ℕ → Account → List ℕ

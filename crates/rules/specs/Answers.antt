@@ -21,8 +21,6 @@ use Rattle.rules.specs.declared.RowRead.{RowRead}
 use Rattle.rules.specs.declared.RowRead.the-variants as R
 use Rattle.rules.specs.declared.RecordRead.{RecordRead}
 use Rattle.rules.specs.declared.RecordRead.the-variants as E
-use Rattle.rules.specs.declared.SessionAnswer.{SessionAnswer}
-use Rattle.rules.specs.declared.SessionAnswer.the-variants as S
 
 abbrev pub numberOf : Refusal → ℕ
 -- the table keeper: row not seven words (or leading bytes not 32); a word outside its range
@@ -104,12 +102,3 @@ shownRow (R.Refused r) = refused (numberOf r)
 abbrev pub shownRecord : RecordRead → Outcome Event
 shownRecord (E.Read e) = accepted e
 shownRecord (E.Refused r) = refused (numberOf r)
-
--- a session run: K, w and the number of pairs, or a refusal's number and place
-pub data Ran : Type 0 where
-  finished : ℕ → ℕ → ℕ → Ran
-  stopped : ℕ → ℕ → Ran
-
-abbrev pub shownSession : SessionAnswer → Ran
-shownSession (S.Finished kept weight pairs) = finished (kept .0) weight pairs
-shownSession (S.Refused r place) = stopped (numberOf r) place

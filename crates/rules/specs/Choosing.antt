@@ -23,12 +23,12 @@ unfoldable pub firstRow : ℕ → ℕ → List ℕ → List ℕ
 firstRow expiry quantum table = firstOr [] (isFor expiry quantum) (rows table)
 
 -- a row, or the other part where it is empty
-abbrev pub orElse : List ℕ → List ℕ → List ℕ
-orElse [] other = other
-orElse (w ∷ ws) other = w ∷ ws
+abbrev pub orIfEmpty : List ℕ → List ℕ → List ℕ
+orIfEmpty [] other = other
+orIfEmpty (w ∷ ws) other = w ∷ ws
 
 -- "On a holiday the answer is the part of the holiday table ..; if it has none, or on other days, that part of the usual table; if none
 -- there, an empty part."
 unfoldable pub chosenRow : Bool → ℕ → ℕ → List ℕ → List ℕ → List ℕ
-chosenRow true expiry quantum usual holiday = orElse (firstRow expiry quantum holiday) (firstRow expiry quantum usual)
+chosenRow true expiry quantum usual holiday = orIfEmpty (firstRow expiry quantum holiday) (firstRow expiry quantum usual)
 chosenRow false expiry quantum usual holiday = firstRow expiry quantum usual

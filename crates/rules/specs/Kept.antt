@@ -14,7 +14,7 @@ use Rattle.rules.specs.declared.Row.{Row}
 use Rattle.rules.specs.declared.SpreadRule.{SpreadRule}
 use Rattle.rules.specs.declared.SpreadRule.the-variants.{Settled, OfStrike}
 use Rattle.rules.specs.declared.Event.{Event}
-use Rattle.rules.specs.Lists.{filter, count}
+use Rattle.rules.specs.Lists.{filter, countBelow}
 use Rattle.rules.specs.Orders.{timeOf, live}
 use Rattle.rules.specs.Quotes.{best}
 use Rattle.rules.specs.Strikes.{strikeWithin}
@@ -59,4 +59,4 @@ keptAt row spread events m = ordersKeep row spread (live (upTo m events))
 
 -- K below a time: "the number of kept m below the present time; after close, below L"
 unfoldable pub keptBelow : Row → SpreadRule → List Event → ℕ → ℕ
-keptBelow row spread events n = count (keptAt row spread events) n
+keptBelow row spread events n = countBelow (keptAt row spread events) n

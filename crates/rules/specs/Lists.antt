@@ -23,9 +23,9 @@ sum [] = 0
 sum (x ∷ xs) = x + sum xs
 
 -- how many n below the bound pass
-unfoldable pub count : (ℕ → Bool) → ℕ → ℕ
-count p zero = 0
-count p (suc n) = count p n + (if p n then 1 else 0)
+unfoldable pub countBelow : (ℕ → Bool) → ℕ → ℕ
+countBelow p zero = 0
+countBelow p (suc n) = countBelow p n + (if p n then 1 else 0)
 
 -- 0, 1, .. below the bound
 unfoldable pub below : ℕ → List ℕ

@@ -5,7 +5,7 @@ use mathlib.Core.Path.{_≡_}
 use mathlib.Core.List.{List, [], _∷_, map}
 use mathlib.Core.Bool.{Bool, false, _&&_}
 use lib.Dec.{leb, ltb, eqb}
-use Rattle.rules.specs.Lists.{if_then_else_, any, sum, count}
+use Rattle.rules.specs.Lists.{if_then_else_, any, sum, countBelow}
 use Rattle.rules.specs.Stretches.{Stretch, stretch}
 
 -- the first number past a stretch
@@ -41,7 +41,7 @@ pub record Runs (p : ℕ → Bool) (n : ℕ) (ss : List Stretch) : Type 0 where
   -- numbers right before and right after one do not pass
   pub covered : (m : ℕ) → covers ss m ≡ ltb m n && p m
   -- so they are as long together as there are numbers that pass
-  pub total : sum (map lengthOf ss) ≡ count p n
+  pub total : sum (map lengthOf ss) ≡ countBelow p n
 
 -- For programs that go by whole pieces, on which the test says one thing.
 

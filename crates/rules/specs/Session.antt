@@ -8,6 +8,8 @@ use Rattle.rules.specs.declared.Steps.{Steps}
 use Rattle.rules.specs.declared.SpreadRule.the-variants.{Settled}
 use Rattle.rules.specs.declared.Opening.{Opening}
 use Rattle.rules.specs.declared.Event.{Event}
+use Rattle.rules.specs.declared.SessionAnswer.{SessionAnswer}
+use Rattle.rules.specs.declared.SessionAnswer.the-variants as S
 use Rattle.rules.specs.Lists.{if_then_else_, below}
 use Rattle.rules.specs.Terms.{Terms}
 use Rattle.rules.specs.Units.{steps, kopecks}
@@ -16,7 +18,7 @@ use Rattle.rules.specs.Cells.{placeOf, cellAt}
 use Rattle.rules.specs.Stretches.{Stretch, keptStretches, pairWords}
 use Rattle.rules.specs.Lapses.{noLapseLimit}
 use Rattle.rules.specs.Pay.{cellWeight}
-use Rattle.rules.specs.Answers.{Outcome, accepted, refused, Ran, finished, stopped}
+use Rattle.rules.specs.Answers.{numberOf, Outcome}
 use Rattle.rules.specs.Calls.{Open, Send, Close, Running, Idle, Quoting, Book, freshBook}
 use Rattle.rules.specs.Causes.{refusalOf}
 use Rattle.rules.specs.Book.{step}
@@ -42,8 +44,17 @@ leadingPrice head = steps (signedOf (wordAt head 28))
 
 -- how a run ends: K, w and the kept stretches; or a refusal's number and place
 pub data Session : Type 0 where
-  whole : ℕ → ℕ → List Stretch → Session
-  halted : ℕ → ℕ → Session
+  accepted : ℕ → ℕ → List Stretch → Session
+  refused : ℕ → ℕ → Session
+
+-- what a run with a lent buffer answers: K, w and the number of pairs, or a refusal's number and place
+pub data Ran : Type 0 where
+  accepted : ℕ → ℕ → ℕ → Ran
+  refused : ℕ → ℕ → Ran
+
+abbrev pub shownSession : SessionAnswer → Ran
+shownSession (S.Finished kept weight pairs) = Ran.accepted (kept .0) weight pairs
+shownSession (S.Refused r place) = Ran.refused (numberOf r) place
 
 -- the stretches that the open quantum has kept below L
 abbrev pub stretchesIn : Running → List Stretch
@@ -53,7 +64,7 @@ stretchesIn (Quoting place row opening events) = keptStretches row (opening .spr
 -- as stopped by a refusal at a place, or going on where there is none
 abbrev pub unless : ℕ → ℕ → Session → Session
 unless zero place next = next
-unless (suc n) place next = halted (suc n) place
+unless (suc n) place next = Session.refused (suc n) place
 
 -- document 02, W1: "Session runs use 65,535."
 abbrev pub withoutLapseLimit : Steps → Opening
@@ -62,22 +73,22 @@ withoutLapseLimit sp = record { spread = Settled sp; allowed = noLapseLimit }
 module _ (terms : Terms) where
   -- "A record with cause 15 is no event, so 15 is its only cause."
   abbrev pub readRefusal : Outcome Event → Book → ℕ
-  readRefusal (refused n) b = n
-  readRefusal (accepted e) b = refusalOf terms b (Send e)
+  readRefusal (Outcome.refused n) b = n
+  readRefusal (Outcome.accepted e) b = refusalOf terms b (Send e)
 
   -- "A run takes at most 4,000,000 records; the next is refused by 15."
   unfoldable pub recordRefusal : ℕ → ℕ → Book → List ℕ → ℕ
   recordRefusal most place b bytes = if ltb most place then 15 else readRefusal (readRecord bytes) b
 
   abbrev pub readStep : Outcome Event → Book → Book
-  readStep (refused n) b = b
-  readStep (accepted e) b = step terms b (Send e)
+  readStep (Outcome.refused n) b = b
+  readStep (Outcome.accepted e) b = step terms b (Send e)
 
   -- close (A and P 0), and the cell that it fills
   unfoldable pub closing : ℕ → Book → Session
   closing place b =
       let c = cellAt (step terms b (Close (kopecks 0) (kopecks 0)) .cells) place in
-      whole (c .kept .0) (cellWeight terms c) (stretchesIn (b .running))
+      Session.accepted (c .kept .0) (cellWeight terms c) (stretchesIn (b .running))
 
   -- the records from the one of this place on, "counted from 1", then close; "stops at the first refusal"
   unfoldable pub runRecords : ℕ → ℕ → ℕ → Book → List (List ℕ) → Session
@@ -96,7 +107,7 @@ module _ (terms : Terms) where
 
   unfoldable pub sessionBytes : ℕ → List ℕ → List ℕ → Session
   sessionBytes most head bytes =
-      if eqb (length head) 32 then session most (leadingWords head) (leadingPrice head) bytes else halted 1 0
+      if eqb (length head) 32 then session most (leadingWords head) (leadingPrice head) bytes else Session.refused 1 0
 
 -- ---- with a lent buffer of n words: "16 buffer shorter than the pairs to write", "and 16 comes after all records"
 
@@ -105,13 +116,13 @@ isShort n pairs = ltb n (2 * length pairs)
 
 -- "It answers K, w and the number of pairs"
 unfoldable pub ran : ℕ → Session → Ran
-ran n (whole kept weight pairs) = if isShort n pairs then stopped 16 0 else finished kept weight (length pairs)
-ran n (halted number place) = stopped number place
+ran n (Session.accepted kept weight pairs) = if isShort n pairs then Ran.refused 16 0 else Ran.accepted kept weight (length pairs)
+ran n (Session.refused number place) = Ran.refused number place
 
 -- "the filled front part of the buffer, empty on a refusal"
 unfoldable pub front : ℕ → Session → List ℕ
-front n (whole kept weight pairs) = if isShort n pairs then [] else pairWords pairs
-front n (halted number place) = []
+front n (Session.accepted kept weight pairs) = if isShort n pairs then [] else pairWords pairs
+front n (Session.refused number place) = []
 
 -- "The rest of the buffer keeps its contents."
 unfoldable pub bufferAfter : List ℕ → Session → List ℕ
@@ -119,5 +130,5 @@ bufferAfter buffer s = front (length buffer) s ++ drop (length (front (length bu
 
 -- the C call's answer: "K, or 4,294,967,296 × refusal + place"
 unfoldable pub oneNumber : Session → ℕ
-oneNumber (whole kept weight pairs) = kept
-oneNumber (halted number place) = 4294967296 * number + place
+oneNumber (Session.accepted kept weight pairs) = kept
+oneNumber (Session.refused number place) = 4294967296 * number + place

@@ -1,4 +1,4 @@
-// The types that the meter's crates hand to each other, and the refusal's number. What they mean is in specs/.
+// The types that the meter's crates pass to each other, and the refusal's number. In specs/ documents 01 and 02 are definitions.
 ghost use mathlib.Core.Path.{_≡_};
 ghost use Prim.Native.Nat.{_≤_};
 ghost use Rattle.rules.specs.Answers.{numberOf};

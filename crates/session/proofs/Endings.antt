@@ -1,4 +1,4 @@
--- What the session's calls make of a pass. Assumes nothing.
+-- What the session's calls make of a pass.
 use Prim.Native.Nat.{ℕ, _+_, _*_, _≤_, _<_}
 use native.Mathlib.Omega.{arith}
 use mathlib.Core.Path.{_≡_, refl, sym, ap, _∙_, subst}
@@ -18,38 +18,38 @@ use Rattle.rules.specs.Lists.{if_then_else_, below}
 use Rattle.rules.specs.Terms.{paper}
 use Rattle.rules.specs.Units.{steps}
 use Rattle.rules.specs.Stretches.{Stretch, pairWords}
-use Rattle.rules.specs.Answers.{finished, stopped, numberOf, shownSession}
+use Rattle.rules.specs.Answers.{numberOf}
 use Rattle.rules.specs.Records.{wordAt, signedOf}
-use Rattle.rules.specs.Session.{Session, whole, halted, session, sessionBytes, ran, front, bufferAfter, oneNumber}
+use Rattle.rules.specs.Session.{shownSession, Ran, Session, session, sessionBytes, ran, front, bufferAfter, oneNumber}
 use Rattle.rules.proofs.Stretches.{pairWords-length}
-use Rattle.pass.specs.Internal.{counted, Passed}
+use Rattle.session_pass.specs.Internal.{counted, Passed}
 use Rattle.session.specs.Internal.{filledBy, numberBy}
 
 -- the pass says how the session ends
-counted-stopped : (s : Session) (n place : ℕ) → stopped n place ≡ counted s → s ≡ halted n place
+counted-stopped : (s : Session) (n place : ℕ) → Ran.refused n place ≡ counted s → s ≡ Session.refused n place
 unfolding counted
-counted-stopped (whole k w ss) n place e = let z : _≡_ {A = ℕ} 0 1 = cc in absurd (omega arith)
-counted-stopped (halted m at) n place e = cc
+counted-stopped (Session.accepted k w ss) n place e = let z : _≡_ {A = ℕ} 0 1 = cc in absurd (omega arith)
+counted-stopped (Session.refused m at) n place e = cc
 
-counted-finished : (s : Session) (k w n : ℕ) → finished k w n ≡ counted s → (ss : List Stretch) × (s ≡ whole k w ss) × (length ss ≡ n)
+counted-finished : (s : Session) (k w n : ℕ) → Ran.accepted k w n ≡ counted s → (ss : List Stretch) × (s ≡ Session.accepted k w ss) × (length ss ≡ n)
 unfolding counted
-counted-finished (whole k′ w′ ss) k w n e = (ss, cc, cc)
-counted-finished (halted m at) k w n e = let z : _≡_ {A = ℕ} 0 1 = cc in absurd (omega arith)
+counted-finished (Session.accepted k′ w′ ss) k w n e = (ss, cc, cc)
+counted-finished (Session.refused m at) k w n e = let z : _≡_ {A = ℕ} 0 1 = cc in absurd (omega arith)
 
 abbrev Ended : Session → List ℕ → List ℕ → SessionAnswer → Type 0
 Ended s entry exit r = (shownSession r ≡ ran (length entry) s) × (exit ≡ bufferAfter entry s)
 
 -- how a session that ends so ends with a buffer
-halted-ends : (n place : ℕ) (entry : List ℕ) (r : SessionAnswer) → shownSession r ≡ stopped n place → Ended (halted n place) entry entry r
+halted-ends : (n place : ℕ) (entry : List ℕ) (r : SessionAnswer) → shownSession r ≡ Ran.refused n place → Ended (Session.refused n place) entry entry r
 unfolding ran front bufferAfter
 halted-ends n place entry r e = (e, refl)
 
-short-ends : (k w : ℕ) (ss : List Stretch) (entry : List ℕ) → length entry < 2 * length ss → Ended (whole k w ss) entry entry (S.Refused BufferShort 0)
+short-ends : (k w : ℕ) (ss : List Stretch) (entry : List ℕ) → length entry < 2 * length ss → Ended (Session.accepted k w ss) entry entry (S.Refused BufferShort 0)
 unfolding ran front bufferAfter
 short-ends k w ss entry l = rw (lt-ltb (length entry) (2 * length ss) l) (refl, refl)
 
 written-ends : (k w : ℕ) (ss : List Stretch) (entry exit : List ℕ) (r : SessionAnswer) → 2 * length ss ≤ length entry
-    → shownSession r ≡ finished k w (length ss) → exit ≡ pairWords ss ++ drop (2 * length ss) entry → Ended (whole k w ss) entry exit r
+    → shownSession r ≡ Ran.accepted k w (length ss) → exit ≡ pairWords ss ++ drop (2 * length ss) entry → Ended (Session.accepted k w ss) entry exit r
 unfolding ran front bufferAfter
 written-ends k w ss entry exit r l e f = rw (le-ltb (length entry) (2 * length ss) l, pairWords-length ss) (e, f)
 
@@ -60,7 +60,7 @@ module _ (s : Session) (none none′ : List ℕ) (first : SessionAnswer) (p : Pa
       subst (λ (t : Session). Ended t entry entry first) (sym h) (halted-ends (numberOf f) place entry first (ap shownSession e))
 
   module _ (k : Millis) (w n : ℕ) (e : first ≡ S.Finished k w n) where
-    finds : (ss : List Stretch) × (s ≡ whole (k .0) w ss) × (length ss ≡ n)
+    finds : (ss : List Stretch) × (s ≡ Session.accepted (k .0) w ss) × (length ss ≡ n)
     finds = counted-finished s (k .0) w n (sym (ap shownSession e) ∙ p .answer)
 
     pub ends-short : length entry < filledBy first → Ended s entry entry (S.Refused BufferShort 0)
@@ -73,7 +73,7 @@ module _ (s : Session) (none none′ : List ℕ) (first : SessionAnswer) (p : Pa
     ends-written exit second l q =
         let (ss, is, long) = finds in
         let few : filledBy first ≡ 2 * n = ap filledBy e in
-        let shown : shownSession first ≡ finished (k .0) w (length ss) = ap shownSession e ∙ ap (finished (k .0) w) (sym long) in
+        let shown : shownSession first ≡ Ran.accepted (k .0) w (length ss) = ap shownSession e ∙ ap (Ran.accepted (k .0) w) (sym long) in
         subst (λ (t : Session). Ended t entry exit first) (sym is)
         (written-ends (k .0) w ss entry exit first (omega arith) shown (q .words (k .0) w ss is (omega arith)))
 
@@ -81,9 +81,9 @@ module _ (s : Session) (none none′ : List ℕ) (first : SessionAnswer) (p : Pa
 
 front-length : (s : Session) (n : ℕ) (r : SessionAnswer) → shownSession r ≡ ran n s → (length (front n s) ≡ filledBy r) × (filledBy r ≤ n)
 unfolding ran front
-front-length (whole k w ss) n r e = go (ltb n (2 * length ss)) refl r e
+front-length (Session.accepted k w ss) n r e = go (ltb n (2 * length ss)) refl r e
   where
-    go : (b : Bool) → ltb n (2 * length ss) ≡ b → (r : SessionAnswer) → shownSession r ≡ (if b then stopped 16 0 else finished k w (length ss))
+    go : (b : Bool) → ltb n (2 * length ss) ≡ b → (r : SessionAnswer) → shownSession r ≡ (if b then Ran.refused 16 0 else Ran.accepted k w (length ss))
         → (length (if b then [] else pairWords ss) ≡ filledBy r) × (filledBy r ≤ n)
     go true f (S.Finished a b c) e = let z : _≡_ {A = ℕ} 0 1 = cc in absurd (omega arith)
     go true f (S.Refused a b) e = (refl, omega arith)
@@ -92,8 +92,8 @@ front-length (whole k w ss) n r e = go (ltb n (2 * length ss)) refl r e
         let l = ltb-false n (2 * length ss) f in
         (pairWords-length ss ∙ omega arith, omega arith)
     go false f (S.Refused a b) e = let z : _≡_ {A = ℕ} 0 1 = cc in absurd (omega arith)
-front-length (halted m at) n (S.Finished a b c) e = let z : _≡_ {A = ℕ} 0 1 = cc in absurd (omega arith)
-front-length (halted m at) n (S.Refused a b) e = (refl, omega arith)
+front-length (Session.refused m at) n (S.Finished a b c) e = let z : _≡_ {A = ℕ} 0 1 = cc in absurd (omega arith)
+front-length (Session.refused m at) n (S.Refused a b) e = (refl, omega arith)
 
 pub front-is : (s : Session) (entry exit : List ℕ) (r : SessionAnswer) (n : ℕ) → Ended s entry exit r → n ≡ filledBy r
     → (take n exit ≡ front (length entry) s) × (n ≤ length exit)
@@ -109,8 +109,8 @@ front-is s entry exit r n e is =
 
 number-counted : (s : Session) → numberBy (counted s) ≡ oneNumber s
 unfolding counted oneNumber
-number-counted (whole k w ss) = refl
-number-counted (halted n place) = refl
+number-counted (Session.accepted k w ss) = refl
+number-counted (Session.refused n place) = refl
 
 pub number-is : (s : Session) (entry exit : List ℕ) (r : SessionAnswer) → Passed s entry exit r → numberBy (shownSession r) ≡ oneNumber s
 number-is s entry exit r p = ap numberBy (p .answer) ∙ number-counted s

@@ -1,5 +1,5 @@
 -- The theorem: a run has at most half as many pairs as records, rounded up; so the 1,600 records of a sheet give at most 800, "more than
--- which they can't give". Assumes nothing.
+-- which they can't give".
 use Prim.Native.Nat.{ℕ, _+_, _*_, _-_, _≤_, _<_}
 use native.Mathlib.Omega.{arith}
 use mathlib.Core.Path.{_≡_, refl, sym, ap, _∙_}
@@ -23,17 +23,17 @@ use Rattle.rules.specs.Stretches.{Stretch, stretch, stretches, keptStretches}
 use Rattle.rules.specs.Runs.{before}
 use Rattle.rules.specs.Causes.{eventRefusal}
 use Rattle.rules.specs.Bounds.{EventBounds}
-use Rattle.rules.specs.Session.{mostSheetRecords, whole, recordsOf, session}
+use Rattle.rules.specs.Session.{Session, mostSheetRecords, recordsOf, session}
 use Rattle.rules.proofs.Orders.{present-snoc}
 use Rattle.rules.proofs.Kept.{keptAt-now, keptAt-snoc}
 use Rattle.rules.proofs.Stretches.{stretches-ext, stretches-false, stretches-new, stretches-longer}
 use Rattle.rules.proofs.Refusals.{event-passes}
 use Rattle.rules.proofs.Bounds.{event-bounds-none, event-bounds-more}
-use Rattle.marks.proofs.Pairs.{length-snoc, before-in, before-ext}
-use Rattle.pass.proofs.Loop.{not-whole}
-use Rattle.runs.proofs.Walks.{takes}
-use Rattle.runs.proofs.Openings.{cellOf}
-use Rattle.pass.proofs.Runs.{walks, runs-end, session-begun, cell-inside}
+use Rattle.kept_pairs.proofs.Pairs.{length-snoc, before-in, before-ext}
+use Rattle.session_pass.proofs.Loop.{not-whole}
+use Rattle.record_runs.proofs.Walks.{takes}
+use Rattle.record_runs.proofs.Openings.{cellOf}
+use Rattle.session_pass.proofs.Runs.{walks, runs-end, session-begun, cell-inside}
 
 -- what some pairs cost in events: two each, a pair that has begun but has no length yet with them; and one when nothing is kept now
 abbrev cost : ℕ → Bool → Bool → ℕ
@@ -123,23 +123,23 @@ module _ (row : Row) (sp : SpreadRule) (es : List Event) (g : EventBounds row es
   few-end few = omega (arith, onward (row .length .0) (g .ends))
 
 -- of a run that is not refused
-pub few-pairs : (most : ℕ) (words : List ℕ) (sp : Steps) (bytes : List ℕ) (k w : ℕ) (ss : List Stretch) → session paper most words sp bytes ≡ whole k w ss
+pub few-pairs : (most : ℕ) (words : List ℕ) (sp : Steps) (bytes : List ℕ) (k w : ℕ) (ss : List Stretch) → session paper most words sp bytes ≡ Session.accepted k w ss
     → (2 * length ss ≤ length (recordsOf bytes) + 1) × (length (recordsOf bytes) ≤ most)
 few-pairs most words sp bytes k w ss h =
     let row = rowOf words in
     let cell = cellOf words (Settled sp) in
     let (none, good, runs) = session-begun most words sp bytes k w ss h in
     let t =
-    takes (walks most cell row sp) (whole k w ss) (λ n place e. not-whole n place k w ss refl e) (λ es. EventBounds row es × Few row (Settled sp) es)
+    takes (walks most cell row sp) (Session.accepted k w ss) (λ n place e. not-whole n place k w ss refl e) (λ es. EventBounds row es × Few row (Settled sp) es)
     (λ es e passes s. (event-bounds-more row es e (s .0) passes, few-more row (Settled sp) es (s .0) e passes (s .1)))
     [] (recordsOf bytes) 1 (event-bounds-none row, few-none row (Settled sp)) (omega arith) runs in
     let last = runs-end most cell row sp (1 + length (recordsOf bytes)) (t .events) (cell-inside most words sp bytes good) in
     let same : length (keptStretches row (Settled sp) (t .events)) ≡ length ss = whole-long (sym last ∙ t .ends) in
     (omega (arith, same, few-end row (Settled sp) (t .events) (t .stands .0) (t .stands .1), t .many), omega (arith, t .small))
   where
-    whole-long : {a b : ℕ} {ts : List Stretch} → whole a b ts ≡ whole k w ss → length ts ≡ length ss
+    whole-long : {a b : ℕ} {ts : List Stretch} → Session.accepted a b ts ≡ Session.accepted k w ss → length ts ≡ length ss
     whole-long e = cc
 
-pub sheet-fits : (words : List ℕ) (sp : Steps) (bytes : List ℕ) (k w : ℕ) (ss : List Stretch) → session paper mostSheetRecords words sp bytes ≡ whole k w ss
+pub sheet-fits : (words : List ℕ) (sp : Steps) (bytes : List ℕ) (k w : ℕ) (ss : List Stretch) → session paper mostSheetRecords words sp bytes ≡ Session.accepted k w ss
     → length ss ≤ 800
 sheet-fits words sp bytes k w ss h = let f = few-pairs mostSheetRecords words sp bytes k w ss h in omega (arith, f .0, f .1)

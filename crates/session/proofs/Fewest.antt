@@ -8,8 +8,7 @@ use lib.ListN.{length}
 use Rattle.rules.specs.declared.Steps.{Steps}
 use Rattle.rules.specs.declared.SessionAnswer.{SessionAnswer}
 use Rattle.rules.specs.Terms.{paper}
-use Rattle.rules.specs.Answers.{finished, shownSession}
-use Rattle.rules.specs.Session.{mostRecords, session, ran, front, bufferAfter}
+use Rattle.rules.specs.Session.{shownSession, Ran, mostRecords, session, ran, front, bufferAfter}
 use Rattle.rules.specs.Fewest.{FewestWritten}
 use Rattle.rules.proofs.Written.{front-fewest, buffer-fewest}
 
@@ -18,13 +17,13 @@ module _ (words : List ℕ) (sp : Steps) (bytes before : List ℕ) (kept weight 
   pub run-fewest : (most : ℕ) (r : SessionAnswer) (after : List ℕ)
       → shownSession r ≡ ran (length before) (session paper most words sp bytes)
       → after ≡ bufferAfter before (session paper most words sp bytes)
-      → shownSession r ≡ finished kept weight pairs
+      → shownSession r ≡ Ran.accepted kept weight pairs
       → FewestWritten words sp bytes pairs after
   run-fewest most r after answer is done = rw is (buffer-fewest paper most words sp bytes before kept weight pairs (sym answer ∙ done))
 
   -- `session::front`, where the run is not refused: clause `words`
   pub part-fewest : (part : List ℕ)
       → part ≡ front (length before) (session paper mostRecords words sp bytes)
-      → ran (length before) (session paper mostRecords words sp bytes) ≡ finished kept weight pairs
+      → ran (length before) (session paper mostRecords words sp bytes) ≡ Ran.accepted kept weight pairs
       → FewestWritten words sp bytes pairs part
   part-fewest part is done = rw is (front-fewest paper mostRecords words sp bytes (length before) kept weight pairs done)

@@ -1,4 +1,4 @@
--- The theorem: what a session answers is what the month's own calls give for the same list of events. Assumes nothing.
+-- The theorem: what a session answers is what the month's own calls give for the same list of events.
 use Prim.Native.Nat.{ℕ, _+_}
 use native.Mathlib.Omega.{arith}
 use mathlib.Core.Path.{_≡_, refl, sym, ap, _∙_}
@@ -24,16 +24,16 @@ use Rattle.rules.specs.Causes.{eventRefusal}
 use Rattle.rules.specs.Changes.{closedCell}
 use Rattle.rules.specs.Book.{answerOf, step, run, after}
 use Rattle.rules.specs.Records.{readRecord}
-use Rattle.rules.specs.Session.{whole, recordsOf, withoutLapseLimit, session}
+use Rattle.rules.specs.Session.{Session, recordsOf, withoutLapseLimit, session}
 use Rattle.rules.proofs.Lists.{and}
 use Rattle.rules.proofs.Refusals.{passes-call, answer-accepted}
 use Rattle.rules.proofs.Histories.{run-append}
 use Rattle.rules.proofs.Bounds.{row-bounds, after-snoc}
-use Rattle.pass.specs.Internal.{bookWith}
-use Rattle.runs.proofs.Walks.{takes}
-use Rattle.runs.proofs.Openings.{step-send, cellOf, opened}
-use Rattle.pass.proofs.Loop.{not-whole}
-use Rattle.pass.proofs.Runs.{walks, runs-end, closed-cell, closed-weight, session-begun, cell-inside}
+use Rattle.session_pass.specs.Internal.{bookWith}
+use Rattle.record_runs.proofs.Walks.{takes}
+use Rattle.record_runs.proofs.Openings.{step-send, cellOf, opened}
+use Rattle.session_pass.proofs.Loop.{not-whole}
+use Rattle.session_pass.proofs.Runs.{walks, runs-end, closed-cell, closed-weight, session-begun, cell-inside}
 
 -- the book after the events, as their calls leave it
 module _ (place : ℕ) (row : Row) (sp : Steps) where
@@ -75,11 +75,11 @@ pub record Agrees (words : List ℕ) (sp : Steps) (bytes : List ℕ) (k w : ℕ)
   pub kept : view .cell .kept .0 ≡ k
   pub weight : view .weight ≡ w
 
-whole-parts : (k w k′ w′ : ℕ) (ss ss′ : List Stretch) → whole k w ss ≡ whole k′ w′ ss′ → (k ≡ k′) × (w ≡ w′)
+whole-parts : (k w k′ w′ : ℕ) (ss ss′ : List Stretch) → Session.accepted k w ss ≡ Session.accepted k′ w′ ss′ → (k ≡ k′) × (w ≡ w′)
 whole-parts k w k′ w′ ss ss′ e = (cc, cc)
 
 pub session-agrees : (most : ℕ) (words : List ℕ) (sp : Steps) (bytes : List ℕ) (k w : ℕ) (ss : List Stretch)
-    → session paper most words sp bytes ≡ whole k w ss → Agrees words sp bytes k w
+    → session paper most words sp bytes ≡ Session.accepted k w ss → Agrees words sp bytes k w
 unfolding after run viewOf
 session-agrees most words sp bytes k w ss h =
     let row = rowOf words in
@@ -87,7 +87,7 @@ session-agrees most words sp bytes k w ss h =
     let (none, good, runs) = session-begun most words sp bytes k w ss h in
     let inside = cell-inside most words sp bytes good in
     let t =
-    takes (walks most at row sp) (whole k w ss) (λ n place e. not-whole n place k w ss refl e) (Sent at row sp) (sent-more at row sp) [] (recordsOf bytes) 1 (sent-none at row sp) (omega arith) runs in
+    takes (walks most at row sp) (Session.accepted k w ss) (λ n place e. not-whole n place k w ss refl e) (Sent at row sp) (sent-more at row sp) [] (recordsOf bytes) 1 (sent-none at row sp) (omega arith) runs in
     let es = t .events in
     let before : after paper (Open words 1 (withoutLapseLimit sp) ∷ map Send es) ≡ bookWith at row sp es =
     ap (λ (b : Book). run paper b (map Send es)) (opened words (Settled sp) none) ∙ t .stands in

@@ -3,7 +3,7 @@ use Prim.Native.Nat.{ℕ, _+_, _*_}
 use Rattle.rules.specs.declared.SessionAnswer.{SessionAnswer}
 use Rattle.rules.specs.declared.SessionAnswer.the-variants as S
 use Rattle.rules.specs.Pay.{weight}
-use Rattle.rules.specs.Answers.{Ran, finished, stopped}
+use Rattle.rules.specs.Session.{Ran}
 
 -- the words that a run has filled
 abbrev pub filledBy : SessionAnswer → ℕ
@@ -12,5 +12,5 @@ filledBy (S.Refused refusal place) = 0
 
 -- the C call's number of an answer
 abbrev pub numberBy : Ran → ℕ
-numberBy (finished kept weight pairs) = kept
-numberBy (stopped number place) = 4294967296 * number + place
+numberBy (Ran.accepted kept weight pairs) = kept
+numberBy (Ran.refused number place) = 4294967296 * number + place

@@ -1,10 +1,13 @@
 // The session run: one pass over the records, or two where pairs are written.
+//
+// The session runs on a quantum's duty, clock and table and not on the month, in two passes: the first finds the first refusal, K and the
+// number of pairs and writes nothing; the second writes. The C call needs the first only. The definitions say it by the plain book; laws in
+// crates/session_pass/proofs and crates/record_runs/proofs take the book away.
 ghost use mathlib.Core.Path.{_≡_};
 ghost use Prim.Native.Nat.{_≤_};
 ghost use lib.ListN.{length};
 ghost use Rattle.rules.specs.Terms.{paper};
-ghost use Rattle.rules.specs.Answers.{shownSession};
-ghost use Rattle.rules.specs.Session.{mostRecords, session, sessionBytes, ran, front as frontOf, bufferAfter, oneNumber};
+ghost use Rattle.rules.specs.Session.{shownSession, mostRecords, session, sessionBytes, ran, front as frontOf, bufferAfter, oneNumber};
 ghost use Rattle.session.specs.Internal.{filledBy, numberBy};
 use rules::Refusal;
 use rules::SessionAnswer;
@@ -40,7 +43,7 @@ fn passes(
     ensures answer { λ r. ⌜ shownSession r ≡ ran (length (now (buffer .entry))) (session paper most (now (row .entry)) sp (now (records .entry))) ⌝ }
     ensures words { λ r. ⌜ now (buffer .exit) ≡ bufferAfter (now (buffer .entry)) (session paper most (now (row .entry)) sp (now (records .entry))) ⌝ }
 {
-    let first = pass::pass(most, row, sp, records, scratch);
+    let first = session_pass::pass(most, row, sp, records, scratch);
     match first {
         SessionAnswer::Refused {
             refusal: _,
@@ -57,7 +60,7 @@ fn passes(
                     place: 0,
                 };
             }
-            pass::pass(most, row, sp, records, buffer);
+            session_pass::pass(most, row, sp, records, buffer);
             first
         }
     }
@@ -143,5 +146,5 @@ pub extern "C" fn quoting_session(head: &[u8], records: &[u8]) -> u64
     ];
     let sp = words::to_steps(words::word_at(head, 28));
     let mut none = [0u32; 1];
-    one_number(pass::pass(4000000, &row, sp, records, &mut none))
+    one_number(session_pass::pass(4000000, &row, sp, records, &mut none))
 }

@@ -1,4 +1,4 @@
--- R of two prices by the difference of the raised ones, and what an answer of `change_of` tells. Assumes nothing.
+-- R of two prices by the difference of the raised ones, and what an answer of `change_of` tells.
 use Prim.Native.Nat.{ℕ, zero, suc, _+_, _-_, _*_, _/_, _≤_, _<_}
 use native.Mathlib.Omega.{arith}
 use native.Mathlib.Nat.{zero-div}

@@ -1,4 +1,4 @@
--- A signed number as the difference of two unsigned ones: `subℕ a b` is a - b. Assumes nothing.
+-- A signed number as the difference of two unsigned ones: `subℕ a b` is a - b.
 use Prim.Native.Nat.{ℕ, zero, suc, _+_, _-_, _*_, _≤_, _<_}
 use native.Mathlib.Omega.{arith}
 use mathlib.Core.Path.{_≡_, refl, sym, ap, _∙_}

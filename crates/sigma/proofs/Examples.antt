@@ -1,4 +1,4 @@
--- The definitions on small examples, by computation. Assumes nothing.
+-- The definitions on small examples, by computation.
 use mathlib.Core.Path.{_≡_, refl}
 use mathlib.Core.List.{[], _∷_}
 use mathlib.Core.Bool.{true, false}

@@ -1,4 +1,4 @@
--- The sigma of the last four prices, by the answers of `change_of`. Assumes nothing.
+-- The sigma of the last four prices, by the answers of `change_of`.
 use Prim.Native.Nat.{ℕ, suc, _+_, _-_, _≤_, _<_}
 use native.Mathlib.Omega.{arith}
 use mathlib.Core.Path.{_≡_, refl, sym, ap, _∙_}

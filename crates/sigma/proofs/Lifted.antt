@@ -1,4 +1,4 @@
--- A price by its word in two's complement: its magnitude, and the price raised by 2,147,483,648. Assumes nothing.
+-- A price by its word in two's complement: its magnitude, and the price raised by 2,147,483,648.
 use Prim.Native.Nat.{ℕ, suc, _+_, _-_, _≤_, _<_}
 use native.Mathlib.Omega.{arith}
 use mathlib.Core.Path.{_≡_, refl, sym, ap, _∙_}

@@ -1,4 +1,4 @@
--- The lists of R, of previous prices and of sigmas, by place. Assumes nothing.
+-- The lists of R, of previous prices and of sigmas, by place.
 use Prim.Native.Nat.{ℕ, zero, suc, _-_, _<_}
 use native.Mathlib.Omega.{arith}
 use mathlib.Core.Path.{_≡_, refl}

@@ -1,4 +1,4 @@
--- The largest number whose square, 18 times, is at most a total. Assumes nothing.
+-- The largest number whose square, 18 times, is at most a total.
 use Prim.Native.Nat.{ℕ, zero, suc, _*_, _≤_, _<_}
 use native.Mathlib.Omega.{arith}
 use native.Mathlib.Nat.{mul-le-mul}

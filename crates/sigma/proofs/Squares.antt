@@ -1,4 +1,4 @@
--- The squares of 3R - S are those of the raised numbers, as far as those differ. Assumes nothing.
+-- The squares of 3R - S are those of the raised numbers, as far as those differ.
 use Prim.Native.Nat.{ℕ, _+_, _*_, _≤_}
 use native.Mathlib.Omega.{arith}
 use native.Mathlib.Nat.{mul-le-mul}

@@ -1,5 +1,5 @@
 -- The claim about lists, of running code: what `run` promises from count 0 is what is worked out afresh from the calls alone; and every
--- list of calls can be written as words and is read back as it was. Assumes nothing.
+-- list of calls can be written as words and is read back as it was.
 --     afresh       the theorem: a list that ran from count 0 left `Afresh`
 --     read-back    the words of a list of calls are a list of calls, and say those
 use Prim.Native.Nat.{ℕ}
@@ -8,10 +8,10 @@ use mathlib.Core.List.{List, [], _∷_, _++_}
 use mathlib.Core.Bool.{true}
 use lib.ListN.{length, drop}
 use Rattle.rules.specs.Lists.{if_then_else_}
-use Rattle.makers.specs.declared.Maker.{Maker}
-use Rattle.makers.specs.Calls.{Standing, standing, used, Call, Join, Change, Leave, callOf, after, outcomesFrom}
-use Rattle.makers.specs.Roll.{rollAfter, Stands}
-use Rattle.makers.proofs.Claim.{claim}
+use Rattle.standing_rules.specs.declared.Maker.{Maker}
+use Rattle.standing_rules.specs.Calls.{Standing, standing, used, Call, Join, Change, Leave, callOf, after, outcomesFrom}
+use Rattle.standing_rules.specs.Roll.{rollAfter, Stands}
+use Rattle.standing_rules.proofs.Claim.{claim}
 use Rattle.standing.specs.declared.Ran.{Ran}
 use Rattle.standing.specs.Words.{isCall, readable, callsOf, wordsOf, scriptOf}
 use Rattle.standing.specs.Claim.{ListAnswers, Afresh}

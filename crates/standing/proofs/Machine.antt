@@ -1,4 +1,4 @@
--- The types and machine values of what the walks pass on, and what is known of them. Assumes nothing.
+-- The types and machine values of what the walks pass on, and what is known of them.
 use Prim.Native.Nat.{ℕ, _*_, _^_, _<_}
 use native.Mathlib.Omega.{arith}
 use mathlib.Core.Path.{_≡_, subst}
@@ -9,12 +9,12 @@ use denote.RattleType.{RattleType}
 use denote.Laws.{Is, Tells}
 use denote.Memory.{pointee}
 use denote.Slice.{sliceTy}
-use Rattle.makers.specs.declared.Maker.{Maker}
-use Rattle.makers.specs.declared.Asked.{Asked}
-use Rattle.makers.specs.declared.Answer.{Answer}
-use Rattle.makers.specs.declared.Seen.{Seen}
-use Rattle.makers.specs.declared.Checked.{Checked}
-use Rattle.makers.proofs.Maker as T
+use Rattle.standing_rules.specs.declared.Maker.{Maker}
+use Rattle.standing_rules.specs.declared.Asked.{Asked}
+use Rattle.standing_rules.specs.declared.Answer.{Answer}
+use Rattle.standing_rules.specs.declared.Seen.{Seen}
+use Rattle.standing_rules.specs.declared.Checked.{Checked}
+use Rattle.standing_rules.proofs.Maker as T
 
 abbrev pub R : RattleType
 R = T.the-row

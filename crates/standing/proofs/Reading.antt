@@ -1,4 +1,4 @@
--- A list of words, three at a time: what is read from the front of it, and from a place on. Assumes nothing.
+-- A list of words, three at a time: what is read from the front of it, and from a place on.
 use Prim.Native.Nat.{ℕ, _+_, _-_, _*_, _≤_, _<_}
 use native.Mathlib.Omega.{arith}
 use mathlib.Core.Path.{_≡_, refl, sym, ap, subst, _∙_}
@@ -9,7 +9,7 @@ use lib.ListN.{length, getD, drop, length-drop}
 use lib.Seq.{getD-drop, drop-drop}
 use borrow.Author.Tests.{eq-eqb, ne-eqb, eqb-true, eqb-false, le-leb, lt-leb}
 use Rattle.rules.specs.Lists.{if_then_else_}
-use Rattle.makers.specs.Calls.{Call, asked, callOf}
+use Rattle.standing_rules.specs.Calls.{Call, asked, callOf}
 use Rattle.standing.specs.declared.Measured.{Measured}
 use Rattle.standing.specs.Words.{isCall, readable, callsOf}
 use Rattle.standing.specs.Internal.{measured, canRun, readyOf}

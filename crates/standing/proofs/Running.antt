@@ -1,4 +1,4 @@
--- A list of calls that runs, one call after the other: records, count and outcomes after the first k of them. Assumes nothing.
+-- A list of calls that runs, one call after the other: records, count and outcomes after the first k of them.
 use Prim.Native.Nat.{ℕ, zero, suc, _+_, _*_, _≤_, _<_}
 use native.Mathlib.Omega.{arith}
 use native.Mathlib.Numerals.{add-one}
@@ -11,8 +11,8 @@ use lib.Seq.{take-suc, drop-cons, set-at, take-length, length-take-le}
 use borrow.Author.Tests.{leb-true}
 use Rattle.rules.specs.Lists.{if_then_else_}
 use Rattle.rules.proofs.Lists.{both}
-use Rattle.makers.specs.Calls.{Standing, Call, Leave, asked, callOf, wrong, refusalOf, step, after, outcomesFrom}
-use Rattle.makers.proofs.Working.{wrong-after}
+use Rattle.standing_rules.specs.Calls.{Standing, Call, Leave, asked, callOf, wrong, refusalOf, step, after, outcomesFrom}
+use Rattle.standing_rules.proofs.Working.{wrong-after}
 use Rattle.standing.specs.declared.Ready.{Ready}
 use Rattle.standing.specs.Words.{isCall, readable, callsOf}
 use Rattle.standing.specs.Internal.{askedAt, canRun, readyOf}

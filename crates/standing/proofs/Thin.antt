@@ -1,7 +1,7 @@
 -- The functions that make a call's three words and pass them on, with the list, to `apply`: `join`, `change` and `leave`. They differ in the type of their third parameter and in the operands of the three words, and nothing else: one walk is of all of them.
 --     thin        the MIR of such a function, by that type and those operands
 --     thin-meets  it meets its contract, where the words say the call that the contract names
--- The slice is lent again to `apply` (`Calling.antt`), of which the proof knows only that it meets its contract. Assumes nothing.
+-- The slice is lent again to `apply` (`Calling.antt`), of which the proof knows only that it meets its contract.
 use mathlib.Core.Path.{_≡_, refl, subst}
 use Prim.Native.Nat.{ℕ, _<_, _^_}
 use mathlib.Core.List.{[], _∷_, List}
@@ -37,15 +37,15 @@ use denote.Triple.Clauses.{Ended, Clauses, closing}
 use denote.Triple.Walked.{says, Stays, stay-slice, stay-none, walkOf, goes-none, goes-slice, ends-at, walked, walk-meets}
 use denote.Exit.{yes, Last, left}
 use denote.Signature.{plain}
-use Rattle.makers.specs.declared.Maker.{Maker}
-use Rattle.makers.specs.declared.Asked.{Asked}
-use Rattle.makers.specs.declared.Answer.{Answer}
-use Rattle.makers.specs.Calls.{standing, Call, callOf, step, answerOf}
-use Rattle.makers.proofs.Maker.Laws as T′
-use Rattle.makers.proofs.Asked as B
-use Rattle.makers.proofs.Asked.Laws as B′
-use Rattle.makers.proofs.Answer as D
-use Rattle.makers.proofs.Answer.Laws as D′
+use Rattle.standing_rules.specs.declared.Maker.{Maker}
+use Rattle.standing_rules.specs.declared.Asked.{Asked}
+use Rattle.standing_rules.specs.declared.Answer.{Answer}
+use Rattle.standing_rules.specs.Calls.{standing, Call, callOf, step, answerOf}
+use Rattle.standing_rules.proofs.Maker.Laws as T′
+use Rattle.standing_rules.proofs.Asked as B
+use Rattle.standing_rules.proofs.Asked.Laws as B′
+use Rattle.standing_rules.proofs.Answer as D
+use Rattle.standing_rules.proofs.Answer.Laws as D′
 use Rattle.standing.proofs.Calling.{on-slice, lends}
 use Rattle.standing.proofs.Machine.{R, ref, slice, asked-mach}
 use Rattle.standing.proofs.apply as apply

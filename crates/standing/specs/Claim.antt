@@ -6,10 +6,10 @@ use mathlib.Core.Bool.{true, _&&_}
 use lib.Dec.{leb}
 use lib.ListN.{length, drop}
 use Rattle.rules.specs.Lists.{if_then_else_}
-use Rattle.makers.specs.declared.Maker.{Maker}
-use Rattle.makers.specs.Order.{sorted}
-use Rattle.makers.specs.Calls.{Standing, standing, used, after, outcomesFrom}
-use Rattle.makers.specs.Roll.{rated, rollAfter, rollOutcomes, Stands}
+use Rattle.standing_rules.specs.declared.Maker.{Maker}
+use Rattle.standing_rules.specs.Order.{sorted}
+use Rattle.standing_rules.specs.Calls.{Standing, standing, used, after, outcomesFrom}
+use Rattle.standing_rules.specs.Roll.{rated, rollAfter, rollOutcomes, Stands}
 use Rattle.standing.specs.declared.Ran.{Ran}
 use Rattle.standing.specs.Words.{readable, callsOf}
 

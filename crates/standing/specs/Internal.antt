@@ -5,8 +5,8 @@ use mathlib.Core.Bool.{Bool, _&&_}
 use lib.Dec.{leb}
 use lib.ListN.{length, getD}
 use Rattle.rules.specs.Lists.{if_then_else_}
-use Rattle.makers.specs.declared.Asked.{Asked}
-use Rattle.makers.specs.Calls.{asked}
+use Rattle.standing_rules.specs.declared.Asked.{Asked}
+use Rattle.standing_rules.specs.Calls.{asked}
 use Rattle.standing.specs.declared.Measured.{Measured}
 use Rattle.standing.specs.declared.Ready.{Ready}
 use Rattle.standing.specs.Words.{readable, callsOf}

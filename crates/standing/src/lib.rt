@@ -1,18 +1,25 @@
 // The standing of makers in a lent list of records with a count of those used: join, change and leave. Every function here that takes
-// the records is proved by a walk of its code, by hand; the work on records by value is in `makers`.
+// the records is proved by a walk of its code, by hand; the work on records by value is in `standing_rules`.
+//
+// One function works all three calls (`apply`), and join, change and leave are thin over it. It takes the call as three words, kind, number
+// and rating, whatever they are: 1 is a join, 2 a change, any other kind a leave. It judges the records (`judge`), looks through the used
+// ones, decides, and moves one record (`shift`, in either direction): a join moves from the first free place to its own, a change from the
+// old place to the new one, a leave from its place to the last used one. Nothing is sorted again. "a maker twice" cannot be seen from
+// neighbours: a local array of 65,536 marks over the maker number modulo its length says whether a number like this one was met before. It
+// goes on to the end where a fault is found, so a refused call costs what an accepted one does.
 ghost use mathlib.Core.Path.{_≡_};
 ghost use Prim.Native.Nat.{_+_, _*_, _≤_, _<_};
 ghost use lib.ListN.{length, set};
-ghost use Rattle.makers.specs.Calls.{Join, Change, Leave, callOf, standing, wrong, step, answerOf};
-ghost use Rattle.makers.specs.Internal.{seenIn, shifted};
+ghost use Rattle.standing_rules.specs.Calls.{Join, Change, Leave, callOf, standing, wrong, step, answerOf};
+ghost use Rattle.standing_rules.specs.Internal.{seenIn, shifted};
 ghost use Rattle.standing.specs.Words.{isCall, readable};
 ghost use Rattle.standing.specs.Claim.{ListAnswers};
 ghost use Rattle.standing.specs.Internal.{measured, askedAt, readyOf};
-use makers::Answer;
-use makers::Asked;
-use makers::Checked;
-use makers::Maker;
-use makers::Seen;
+use standing_rules::Answer;
+use standing_rules::Asked;
+use standing_rules::Checked;
+use standing_rules::Maker;
+use standing_rules::Seen;
 
 // How many calls a list of words has, and whether it is a list of calls.
 struct Measured {
@@ -46,7 +53,7 @@ fn scan(list: &mut [Maker], upto: usize, m: Maker) -> Seen
     let mut i = 0;
     while i < upto {
         let r = list[i];
-        s = makers::look_at(s, i, r, m);
+        s = standing_rules::look_at(s, i, r, m);
         i += 1;
     }
     s
@@ -59,7 +66,7 @@ fn shift(list: &mut [Maker], from: usize, to: usize, m: Maker)
 {
     let mut i = from;
     while i != to {
-        let next = makers::toward(i, to);
+        let next = standing_rules::toward(i, to);
         list[i] = list[next];
         i = next;
     }
@@ -67,13 +74,13 @@ fn shift(list: &mut [Maker], from: usize, to: usize, m: Maker)
 }
 
 // Whether 23 refuses every call: a count above the records lent, or used ones out of order or a maker twice. Order is seen from
-// neighbours. A maker twice is looked for only among the records before one whose mark was there (`makers::look_back`), so that numbers
+// neighbours. A maker twice is looked for only among the records before one whose mark was there (`standing_rules::look_back`), so that numbers
 // with a mark of their own cost one look each.
 fn judge(list: &mut [Maker], count: usize) -> bool
     ensures { λ r. ⌜ (r ≡ wrong (standing (now (list .entry)) count)) × (now (list .exit) ≡ now (list .entry)) ⌝ }
 {
     let size = list.len();
-    let n = makers::lesser(count, size);
+    let n = standing_rules::lesser(count, size);
     let mut marks = [false; 65536];
     let mut s = Checked {
         good: true,
@@ -85,25 +92,25 @@ fn judge(list: &mut [Maker], count: usize) -> bool
     let mut j = 0;
     while j < n {
         let m = list[j];
-        let before = makers::look_back(&mut marks, j, m.number);
+        let before = standing_rules::look_back(&mut marks, j, m.number);
         let seen = scan(&mut *list, before, m);
-        s = makers::check(s, j, m, seen.present);
+        s = standing_rules::check(s, j, m, seen.present);
         j += 1;
     }
-    makers::is_wrong(size, count, s.good)
+    standing_rules::is_wrong(size, count, s.good)
 }
 
 // Any call on records that were judged: the used ones are looked through, the answer and the move are decided, and where it is not
-// refused the record moves. `works` of `makers` says that this is what the call is to do.
+// refused the record moves. `works` of `standing_rules` says that this is what the call is to do.
 fn work(list: &mut [Maker], count: usize, bad: bool, asked: Asked) -> Answer
     requires { ⌜ bad ≡ wrong (standing (now list) count) ⌝ }
     ensures { λ r. ⌜ (r ≡ answerOf (standing (now (list .entry)) count) (callOf asked)) × (now (list .exit) ≡ step (standing (now (list .entry)) count) (callOf asked) .records) ⌝ }
 {
     let size = list.len();
-    let n = makers::lesser(count, size);
-    let m = makers::record_of(asked);
+    let n = standing_rules::lesser(count, size);
+    let m = standing_rules::record_of(asked);
     let seen = scan(&mut *list, n, m);
-    let p = makers::decide(asked, size, count, bad, seen);
+    let p = standing_rules::decide(asked, size, count, bad, seen);
     if p.refusal != 0 {
         return Answer {
             count: p.count,
@@ -254,7 +261,7 @@ fn note(outcomes: &mut [u32], k: usize, n: u32)
 
 // Runs a list of calls, each on the records and the count that the one before left, and writes each call's outcome, 0 or the refusal's
 // number. All run, or none where the words are no list of calls or the outcomes do not fit. The records are judged once: 23 refuses all
-// calls of a list or none (`wrong-after` of `makers`).
+// calls of a list or none (`wrong-after` of `standing_rules`).
 pub fn run(list: &mut [Maker], count: usize, words: &[u32], outcomes: &mut [u32]) -> Ran
     ensures { λ r. ⌜ ListAnswers (now (words .entry)) (standing (now (list .entry)) count) (now (outcomes .entry)) (now (list .exit)) (now (outcomes .exit)) r ⌝ }
 {

@@ -1,4 +1,4 @@
--- The limit on examples: a number that is the product rounded is the only one (`rounded-only`), so the bounds suffice. Assumes nothing.
+-- The limit on examples: a number that is the product rounded is the only one (`rounded-only`), so the bounds suffice.
 use Prim.Native.Nat.{ℕ}
 use native.Mathlib.Omega.{arith}
 use mathlib.Core.Path.{_≡_, refl, sym}

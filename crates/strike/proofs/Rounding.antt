@@ -1,5 +1,4 @@
--- The D up to the limit are those within it, and the limit without b is the product rounded to the nearest step, half upwards. Assumes
--- nothing.
+-- The D up to the limit are those within it, and the limit without b is the product rounded to the nearest step, half upwards.
 use Prim.Native.Nat.{ℕ, suc, _+_, _-_, _*_, _^_, _≤_, _<_, max}
 use native.Mathlib.Omega.{arith}
 use mathlib.Core.Path.{_≡_, refl, sym, ap, _∙_}

@@ -1,4 +1,4 @@
--- The squares that decide the rounding: what is beyond them, and that they fit. Assumes nothing.
+-- The squares that decide the rounding: what is beyond them, and that they fit.
 use Prim.Native.Nat.{ℕ, zero, suc, _+_, _-_, _*_, _^_, _≤_, _<_}
 use native.Mathlib.Omega.{arith}
 use native.Mathlib.Nat.{mul-le-mul, mul-le-mul-left, pow-suc, pow-zero, one-mul}

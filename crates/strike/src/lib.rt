@@ -1,4 +1,8 @@
 // The spread limit of a strike, by a search on squares: no root and no float.
+//
+// The limit is one number of steps: the greater of b and the greatest n that, less half a step, is at most the product. `strike-law` says
+// that D is at most it exactly where D is within the limit by the definition, for every D and whatever the four numbers; so the ranges are
+// needed only for the widths. The code halves between 0 and 2,000,001, 21 turns.
 ghost use mathlib.Core.Path.{_≡_};
 ghost use mathlib.Core.Bool.{true};
 ghost use Prim.Native.Nat.{_+_, _-_, _*_, _^_, _≤_, _<_};

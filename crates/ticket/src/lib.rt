@@ -1,4 +1,6 @@
 // Tickets: the month's count of accepted calls, and whether a ticket is the present one.
+//
+// A crate of its own, so that an edit of the test of a ticket proves little again.
 ghost use mathlib.Core.Path.{_≡_};
 ghost use lib.Dec.{eqb};
 ghost use Rattle.rules.specs.Lists.{if_then_else_};

@@ -1,4 +1,4 @@
--- The numbers of verdict and weight: what fits, and the bounds of a weight. Assumes nothing.
+-- The numbers of verdict and weight: what fits, and the bounds of a weight.
 use Prim.Native.Nat.{ℕ, _+_, _-_, _*_, _/_, _^_, _≤_, _<_}
 use native.Mathlib.Nat.{mul-assoc, mul-comm, one-mul, mul-le-mul, mul-le-mul-left, pow-le-pow-left, pow-suc, pow-zero, one-le-pow, div-le-of-le-mul, le-div-iff-mul-le}
 use native.Mathlib.Omega.{arith}

@@ -1,5 +1,6 @@
 // The verdict and the weight of a cell.
 ghost use mathlib.Core.Path.{_≡_};
+ghost use mathlib.Core.Bool.{true};
 ghost use Prim.Native.Nat.{_^_, _≤_};
 ghost use Rattle.rules.specs.Terms.{paper};
 ghost use Rattle.rules.specs.Bounds.{CellBounds};
@@ -29,6 +30,16 @@ pub fn within_lapse_limit(allowed: u32, lapses: u32) -> bool
         return true;
     }
     lapses <= allowed
+}
+
+// Whether a cell is filled. A filled one has an L, which is divided by: in words that no call wrote it may be 0, and then the cell counts as
+// blank.
+pub fn is_filled(cell: Cell) -> bool
+    requires { ⌜ (cell .filled ≡ true → CellBounds paper cell) ⌝ }
+    ensures { λ r. ⌜ r ≡ cell .filled ⌝ }
+{
+    let length = cell.length;
+    cell.filled & (0 < length.0)
 }
 
 // The verdict on a cell: its share and its lapses.

@@ -1,4 +1,4 @@
--- The answer by its causes, and that two different answers never show the same. Assumes nothing.
+-- The answer by its causes, and that two different answers never show the same.
 use Prim.Native.Nat.{ℕ}
 use native.Mathlib.Omega.{arith}
 use mathlib.Core.Path.{_≡_, refl, sym, ap}

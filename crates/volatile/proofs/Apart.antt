@@ -1,5 +1,5 @@
 -- The periods are stretches apart from one another: between the last day of one and the first of a later one lies a day at least, the
--- one whose sigma begins the later. Assumes nothing.
+-- one whose sigma begins the later.
 use Prim.Native.Nat.{ℕ, zero, suc, _<_}
 use native.Mathlib.Omega.{arith}
 use mathlib.Core.Path.{_≡_, refl, sym, _∙_}

@@ -1,4 +1,4 @@
--- The definitions on small lists of sigmas, by computation. Assumes nothing.
+-- The definitions on small lists of sigmas, by computation.
 use Prim.Native.Nat.{ℕ}
 use mathlib.Core.Path.{_≡_, refl}
 use mathlib.Core.List.{List, [], _∷_, _++_}

@@ -1,4 +1,4 @@
--- The periods from one day to the next. Assumes nothing.
+-- The periods from one day to the next.
 use Prim.Native.Nat.{ℕ, zero, suc, _+_, _-_, _≤_, _<_}
 use native.Mathlib.Omega.{arith}
 use mathlib.Core.Path.{_≡_, refl, sym, ap, _∙_}

@@ -1,4 +1,4 @@
--- The phase that the code carries is that of the day, by the periods. Assumes nothing.
+-- The phase that the code carries is that of the day, by the periods.
 use Prim.Native.Nat.{ℕ, suc, _/_, _≤_, _<_}
 use native.Mathlib.Numerals.{add-one}
 use mathlib.Core.Path.{_≡_, refl, sym, ap, _∙_, subst}

@@ -1,4 +1,4 @@
--- A step of the code by the tests that it makes. Assumes nothing.
+-- A step of the code by the tests that it makes.
 use Prim.Native.Nat.{ℕ, _+_, _/_, _≤_, _<_}
 use mathlib.Core.Path.{_≡_}
 use mathlib.Core.Bool.{Bool, true, false, _&&_}

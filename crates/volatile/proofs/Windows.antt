@@ -1,4 +1,4 @@
--- The ring of thirty sigmas holds the last thirty of a list, with zeros before the first. Assumes nothing.
+-- The ring of thirty sigmas holds the last thirty of a list, with zeros before the first.
 use Prim.Native.Nat.{ℕ, zero, suc, _+_, _-_, _*_, _/_, _%_, _≤_, _<_}
 use native.Mathlib.Omega.{arith}
 use native.Mathlib.Numerals.{add-one}

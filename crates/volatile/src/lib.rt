@@ -1,4 +1,7 @@
 // Whether a day is inside a disturbed period, from the prices before it. The code goes over the prices once.
+//
+// The thirty sigmas are in a ring with their running sum, zeros before the first; the average is looked at only where a period begins with
+// thirty before it.
 use numbers::both;
 use ranges::at_most;
 use sigma::Change;

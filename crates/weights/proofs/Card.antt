@@ -1,4 +1,4 @@
--- The card's shares, and what is past its last line. Assumes nothing.
+-- The card's shares, and what is past its last line.
 use Prim.Native.Nat.{ℕ, _≤_, min}
 use native.Mathlib.Nat.{one-mul}
 use native.Mathlib.Omega.{arith}

@@ -1,4 +1,4 @@
--- One test over all numbers of the card, the three shares together, computed: each is the weight of its f by its p. Assumes nothing.
+-- One test over all numbers of the card, the three shares together, computed: each is the weight of its f by its p.
 use Prim.Native.Nat.{ℕ, _<_}
 use mathlib.Core.Path.{_≡_, refl}
 use mathlib.Core.Bool.{Bool, true, _&&_}

@@ -1,4 +1,4 @@
--- A rule of a table, settled at all of its numbers by a test that is computed, one number after the other. Assumes nothing.
+-- A rule of a table, settled at all of its numbers by a test that is computed, one number after the other.
 use Prim.Native.Nat.{ℕ, zero, suc, _+_, _<_}
 use native.Mathlib.Nat.{add-zero, zero-add, add-suc, suc-add, le-of-suc-le-suc, not-suc-le-zero}
 use mathlib.Core.Path.{_≡_, sym, ap, _∙_}

@@ -1,4 +1,6 @@
 // The weight card: for three required shares the weight of each f, looked up.
+//
+// A crate of its own, so that no other crate's check or edit pays for the constants.
 ghost use mathlib.Core.Path.{_≡_};
 ghost use mathlib.Core.Bool.{true};
 ghost use Prim.Native.Nat.{_<_, min};

@@ -1,4 +1,4 @@
--- Laws of the words in some bytes. Assumes nothing.
+-- Laws of the words in some bytes.
 use Prim.Native.Nat.{ℕ, _+_, _-_, _*_, _/_, _<_}
 use native.Mathlib.Omega.{arith}
 use mathlib.Core.Path.{_≡_, sym, ap, _∙_}

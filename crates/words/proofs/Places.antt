@@ -1,4 +1,4 @@
--- A list that has a value of a function for each place below a number. Assumes nothing.
+-- A list that has a value of a function for each place below a number.
 use Prim.Native.Nat.{ℕ, zero, suc, _≤_, _<_}
 use native.Mathlib.Omega.{arith}
 use mathlib.Core.Path.{_≡_, refl, sym, ap, _∙_}

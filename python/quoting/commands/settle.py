@@ -2,10 +2,12 @@
 
 The sessions (text, CSV or bytes) are the files of a folder, or those that a list names, one a line, from the list's own folder on; - is a
 list on standard input. The table is in the order of the names. A session that is refused, or can't be read, is a row with its place and
-reason, is told on standard error, and stops nothing; the status is then 1. With -o the rows are written to FILE.part and moved when all are
-there; after a break --resume takes over the rows that stand in it, without looking at their sessions again.
+reason and a line on standard error, and stops nothing; the status is then 1. With -o the rows are written to FILE.part, and FILE is
+written when all are there. After a break --resume takes over the rows in FILE.part, if the options are the same, and settles the sessions
+that are missing or have changed; --restart deletes them.
 
-With --scheduler the same work goes to a Dask cluster (Debian's python3-distributed), whose workers see the same files and this package.
+With --scheduler the same work goes to a Dask cluster (Debian's python3-distributed), whose workers see the same files and this package. If
+the cluster is lost, or finishes nothing for as long as --patience says, the run ends, and --resume goes on.
 
 examples:
   quoting settle november -o settle.csv
@@ -18,25 +20,38 @@ import os
 import sys
 from concurrent.futures import ThreadPoolExecutor
 from contextlib import contextmanager
-from importlib import import_module
 from pathlib import Path
 from time import monotonic
 from typing import Any, Callable, Iterator, Optional, Sequence
 
-from quoting import inputs, output, settling
-from quoting.native import Missing
+from quoting import clusters, inputs, output, settling
+from quoting.parts import PartError, Table
 from quoting.reading import STANDARD
-from quoting.settling import Manner, Settled, Summary, Table
+from quoting.settling import Manner, Outcome, Summary
 
-BATCH = 8  # sessions in a piece of work for a cluster, so that handing it over costs little beside it
+PATIENCE = 300.0  # seconds
+
+
+def seconds_of(word: str) -> float:
+    try:
+        found = float(word)
+    except ValueError:
+        found = 0.0
+    if not 1 <= found <= 1_000_000:
+        raise argparse.ArgumentTypeError(f"{word!r} is not a number of seconds from 1 to 1000000")
+    return found
 
 
 def add(parser: argparse.ArgumentParser) -> None:
     parser.add_argument("where", metavar="FOLDER|LIST", help="a folder of sessions, or a list of their names; - is a list on standard input")
-    parser.add_argument("--resume", action="store_true", help="go on where FILE.part was left off; needs -o")
+    again = parser.add_mutually_exclusive_group()
+    again.add_argument("--resume", action="store_true", help="go on where FILE.part was left off; needs -o")
+    again.add_argument("--restart", action="store_true", help="delete the rows in FILE.part, and settle every session again")
     most = os.cpu_count() or 1
     parser.add_argument("--threads", type=inputs.whole_in(1, 1_024), default=most, metavar="N", help=f"sessions at a time ({most}, this machine's processors)")
     parser.add_argument("--scheduler", metavar="ADDRESS", help="the scheduler of a Dask cluster, as tcp://10.0.0.5:8786")
+    help = f"how long the cluster may go without settling anything ({PATIENCE:g}), and a list's pipe without a writer"
+    parser.add_argument("--patience", type=seconds_of, default=PATIENCE, metavar="SECONDS", help=help)
     inputs.add_session(parser)
     inputs.add_output(parser, json=False)
     parser.set_defaults(parser=parser)
@@ -46,8 +61,8 @@ def add(parser: argparse.ArgumentParser) -> None:
 
 
 @contextmanager
-def rows(args: argparse.Namespace, names: Sequence[str], manner: Manner) -> Iterator[Iterator[Settled]]:
-    """The rows to come, by threads of this process or by a cluster."""
+def rows(args: argparse.Namespace, names: Sequence[str], manner: Manner, say: Callable[[str], None]) -> Iterator[Iterator[Outcome]]:
+    """The outcomes to come, by threads of this process or by a cluster."""
     if args.scheduler is None:
         pool = ThreadPoolExecutor(args.threads)
         try:
@@ -55,26 +70,9 @@ def rows(args: argparse.Namespace, names: Sequence[str], manner: Manner) -> Iter
         finally:
             pool.shutdown(cancel_futures=True)
         return
-    with cluster(args.scheduler) as client:
-        placed = [os.path.abspath(name) for name in names]  # a worker stands in another folder
-        found = settling.rows(client, placed, manner, ahead=64, size=BATCH)
-        yield (settling.renamed(row, name) for row, name in zip(found, names))
-
-
-@contextmanager
-def cluster(address: str) -> Iterator[Any]:
-    try:
-        distributed: Any = import_module("distributed")
-    except ImportError:
-        raise Missing("--scheduler needs Dask: apt-get install python3-distributed") from None
-    try:
-        client = distributed.Client(address, timeout=10)
-    except (OSError, ValueError) as error:
-        raise Missing(f"--scheduler {address}: {error}") from None
-    try:
-        yield client
-    finally:
-        client.close()
+    with clusters.cluster(args.scheduler, args.patience, say) as cluster:
+        placed = [os.path.abspath(name) for name in names]  # a worker runs in another folder
+        yield (settling.renamed(outcome, name) for outcome, name in zip(cluster.rows(placed, manner), names))
 
 
 # ---------------------------------------------------------------- what is seen of it
@@ -133,11 +131,18 @@ def run(args: argparse.Namespace) -> int:
     path = None if args.output in (None, STANDARD) else Path(args.output)
     if args.resume and (path is None or args.where == STANDARD):
         args.parser.error("--resume needs -o FILE, and the names again")
+    if args.restart and path is None:
+        args.parser.error("--restart needs -o FILE")
     settling.need_library()
     manner = Manner(inputs.options_of(args), inputs.head_of(args), args.format)
-    own = {os.path.abspath(f"{path}{behind}") for behind in ("", ".part")} if path else set()
-    names = [name for name in settling.names_of(args.where) if os.path.abspath(name) not in own]
-    summary = to_table(args, names, manner, path) if path and not is_device(path) else to_stream(args, names, manner, path)
+    names = without_table(settling.names_of(args.where, args.patience), path)
+    if not names:
+        raise ValueError(f"{args.where}: no session but the table itself is there")
+    try:
+        summary = to_table(args, names, manner, path) if path and not is_device(path) else to_stream(args, names, manner, path)
+    except PartError as error:
+        output.complain(str(error))
+        return 1
     output.write(None, summary.text) if path else output.complain(summary.text.strip())
     return int(bool(summary.refused or summary.unreadable))
 
@@ -146,16 +151,39 @@ def is_device(path: Path) -> bool:
     return path.exists() and not path.is_file()
 
 
+def without_table(names: list[str], path: Optional[Path]) -> list[str]:
+    """The names but the table's own. If a session has the table's name, it would be lost: an error."""
+    if path is None or is_device(path):
+        return names
+    target = output.target_of(path)
+    places = {os.path.abspath(path), str(target)}
+    rest = [name for name in names if os.path.abspath(name) not in {*places, f"{target}.part"}]
+    if len(rest) < len(names) and path.exists() and not is_table(path):
+        raise ValueError(f"{path} is one of the sessions, and the table would replace it: choose another -o")
+    return rest
+
+
+def is_table(path: Path) -> bool:
+    """Whether a file is empty or begins as a table does."""
+    with open(path, "rb") as file:
+        return file.read(len(settling.HEADER)) in (b"", settling.HEADER.encode())
+
+
 def to_table(args: argparse.Namespace, names: list[str], manner: Manner, path: Path) -> Summary:
     """Rows beside the file; if the run breaks off, they stay."""
-    table, summary, whole = Table(path, names, args.resume), Summary(), False
+    table, summary = Table(path, names, manner, args.resume, args.restart), Summary()
     try:
-        for row in table.old():
+        for note in table.notes:
+            output.complain(note)
+        for row in table.kept:
             summary.take(row)
-        settle(args, names[table.done :], manner, summary, table.write)
-        whole = True
+        settle(args, table.todo, manner, summary, table.write)
+        table.finish()
+    except clusters.Lost as lost:
+        kept = f"; {table.part} has {len(table.places)} row(s): --resume goes on with it" if table.places else ""
+        raise clusters.Lost(f"{lost}{kept}") from None
     finally:
-        table.close(whole)
+        table.close()
     return summary
 
 
@@ -164,24 +192,26 @@ def to_stream(args: argparse.Namespace, names: list[str], manner: Manner, path: 
     summary = Summary()
     if path is None:
         output.write(None, settling.HEADER.encode())
-        settle(args, names, manner, summary, lambda row: output.write(None, row.line.encode()))
+        settle(args, names, manner, summary, lambda outcome: output.write(None, outcome.row.line.encode()))
         return summary
     with open(path, "w", encoding="utf-8", newline="") as file:
 
-        def write(row: Settled) -> None:
-            file.write(row.line)
+        def write(outcome: Outcome) -> None:
+            file.write(outcome.row.line)
 
         file.write(settling.HEADER)
         settle(args, names, manner, summary, write)
     return summary
 
 
-def settle(args: argparse.Namespace, names: Sequence[str], manner: Manner, summary: Summary, write: Callable[[Settled], None]) -> None:
+def settle(args: argparse.Namespace, names: Sequence[str], manner: Manner, summary: Summary, write: Callable[[Outcome], None]) -> None:
     done = summary.sessions
-    with rows(args, names, manner) as found, watched(done + len(names), done) as seen:
-        for row in found:
-            write(row)
-            summary.take(row)
+    if not names:
+        return
+    with watched(done + len(names), done) as seen, rows(args, names, manner, seen.say) as found:
+        for outcome in found:
+            write(outcome)
+            summary.take(outcome.row)
             seen.step()
-            if row.complaint:
-                seen.say(row.complaint)
+            if outcome.row.complaint:
+                seen.say(outcome.row.complaint)

@@ -5,6 +5,10 @@ closes that the log lacks (--open), as `quoting statement --fix` reads it: befor
 Both are read as they grow. What can't be read is shown on the page with its line, and the reading goes on. Stopped and started again, it
 reads the feed from its beginning and shows the same figures.
 
+A file that is truncated, written again or replaced may lose or repeat calls. Then the page says in its largest type since when its figures
+are not reliable, and reads the file again from its start. They are reliable again if the file has all that was read before; else start the
+command again, with a file that has the whole feed. A rotated file is followed if its first call goes on where the old file ended.
+
 A quantum counts one symbol (55), that of its `start`, of --symbol or of its first message, and one account (1), that of --account or of its
 first message; other messages are left out, and the page says so. What the exchange answered in a log (fills, rejects, cancels, expiries)
 is not read: the page says how much of it there is, and does not answer for a quantum that it concerns.
@@ -35,6 +39,7 @@ from quoting.native import Missing
 from quoting.reading import STANDARD, Options
 from quoting.selection import Owner
 from quoting.watch import hosts
+from quoting.watch.names import name_text
 
 PORT = 8470
 PACKAGES = {"starlette": "python3-starlette", "uvicorn": "python3-uvicorn", "websockets": "python3-websockets"}
@@ -140,7 +145,7 @@ def watch_of(args: argparse.Namespace) -> Any:
 
 def name_of(args: argparse.Namespace) -> str:
     named = args.calls or args.fix
-    return str(args.title or ("standard input" if named == STANDARD else Path(named).stem))
+    return name_text(args.title or ("standard input" if named == STANDARD else Path(named).stem))
 
 
 def server() -> Any:
@@ -156,8 +161,8 @@ def run(args: argparse.Namespace) -> int:
     native.library()  # missing, it is said before anything is served
     address = args.listen or hosts.HERE
     listening = serving.bound(address, args.port)
-    door = hosts.Door(address, listening.getsockname()[1], secrets.token_urlsafe(16) if args.listen else None)
+    access = hosts.Access(address, listening.getsockname()[1], secrets.token_urlsafe(16) if args.listen else None)
     named = args.calls or args.fix
-    name = "standard input" if named == STANDARD else named
-    serving.run(watch_of(args), door, listening, lambda: output.write(None, f"watching {name}: {door.link}\n"))
+    name = "standard input" if named == STANDARD else name_text(named)
+    serving.run(watch_of(args), access, listening, lambda: output.write(None, f"watching {name}: {access.link}\n"))
     return 0

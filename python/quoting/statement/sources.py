@@ -260,7 +260,7 @@ def charges_of(path: Path, options: Options) -> dict[tuple[int, ...], Charged]:
             error.line, error.file = at, str(path)
             raise
         if cell in found:
-            raise reading.failed("this day, expiry and quantum stand here twice", str(path), at)
+            raise reading.failed("this day, expiry and quantum are here twice", str(path), at)
         found[cell] = charged
     return found
 
@@ -290,21 +290,21 @@ def session_calls(path: Path, day: int, charged: Charged, options: Options) -> l
 
 
 def from_sessions(folder: str, charges: Optional[str], options: Options) -> Listed:
-    """The sessions of a folder, named DAY-EXPIRY-QUANTUM with .session, .csv, .bin or .txt behind it, in that order."""
-    told = charges_of(Path(charges) if charges else Path(folder) / CHARGES, options)
+    """The sessions of a folder, named DAY-EXPIRY-QUANTUM with the ending .session, .csv, .bin or .txt, in that order."""
+    charged = charges_of(Path(charges) if charges else Path(folder) / CHARGES, options)
     listed, cells = Listed(folder), set()
     named = [(path, NAME.fullmatch(path.name)) for path in Path(folder).iterdir() if path.is_file() and not path.name.startswith(".")]
     listed.left += [f"{path}: not named DAY-EXPIRY-QUANTUM" for path, name in sorted(named) if name is None and path.name != CHARGES]
     for cell, path in sorted((tuple(map(int, name.groups()[:3])), path) for path, name in named if name is not None):
-        if cell in cells or cell not in told:
+        if cell in cells or cell not in charged:
             what = "a second file of this cell" if cell in cells else "the file of charges has no line for it"
             raise reading.failed(what, str(path))
         cells.add(cell)
-        made = session_calls(path, cell[0], told[cell], options)
+        made = session_calls(path, cell[0], charged[cell], options)
         opened = c.call_of(made[0].block)
         assert isinstance(opened, c.Open)
         if tuple(opened.words[:2]) != cell[1:]:
             raise reading.failed(f"its row has expiry {opened.words[0]} and quantum {opened.words[1]}", str(path))
         listed.calls += made
-    listed.left += [f"charges of day {d}, expiry {e}, quantum {q}: there is no session" for d, e, q in sorted(set(told) - cells)]
+    listed.left += [f"charges of day {d}, expiry {e}, quantum {q}: there is no session" for d, e, q in sorted(set(charged) - cells)]
     return listed

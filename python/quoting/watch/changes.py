@@ -29,7 +29,12 @@ class Seen:
 
 
 def encoded(value: Any) -> str:
-    return json.dumps(value, ensure_ascii=False, separators=(",", ":"))
+    """As JSON. What is no character (half of a pair of surrogates) could not be sent, and is replaced.
+
+    >>> encoded(["day\\udcff", 1])
+    '["day?",1]'
+    """
+    return json.dumps(value, ensure_ascii=False, separators=(",", ":")).encode("utf-8", "replace").decode()
 
 
 class Changes:
@@ -71,7 +76,7 @@ class Changes:
         return "{" + ",".join(changed) + "}" if changed else "", Seen(self.version, has, day)
 
     async def newer(self, seen: Seen) -> None:
-        """Until there is a version behind the one seen."""
+        """Until there is a version after the one seen."""
         while self.version == seen.version:
             self.woken = self.woken or asyncio.Event()
             await self.woken.wait()

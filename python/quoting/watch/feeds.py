@@ -1,6 +1,8 @@
-"""A list of calls as it grows, text or bytes, from a file, a pipe or standard input; and the reader of growing files that it stands on.
+"""A list of calls as it grows, text or bytes, from a file, a pipe or standard input; and the reader of growing files that it uses.
 
-Nothing here waits: what has not come yet comes with a later read.
+Nothing here waits: what has not come yet comes with a later read. A file may change in other ways than by growing: it is truncated, written
+again in place, or replaced by another one under its name. Then calls may be lost or repeated, so the feed says that it has `Changed`, and
+gives the calls of the file from its start.
 """
 
 import errno
@@ -11,6 +13,7 @@ import stat
 import sys
 import time
 from dataclasses import dataclass
+from hashlib import blake2b
 from itertools import islice
 from typing import Iterator, Optional, Protocol, Union
 
@@ -19,14 +22,17 @@ from quoting import reading, texts
 from quoting.reading import STANDARD, Options, TextError
 from quoting.reports import Omission
 from quoting.statement.sources import PLACED_BEFORE, Sent, start_of
+from quoting.watch.names import name_text
 
 PIECE = 65_536  # bytes that are read at once
 MOST_ITEMS, MOST_PIECES = 2_000, 3  # of one read
 LONGEST_LINE = 1 << 20
 LONGEST_BLOCK = 4 * 65_536  # docs/FORMATS.md
+TAIL = 4_096  # bytes before the place that is read next: where the file has grown, they must be the same as before
 KINDS = {1, 13, 16, *c.FIXED}
 LINE_END = re.compile(rb"\r\n|\r|\n")
-NO_CALL = "no call stands there, and nothing behind it is read"
+NO_CALL = "there is no call there, and nothing after it is read"
+FROM_START = "the feed is read again from its start"
 
 
 @dataclass(frozen=True)
@@ -36,6 +42,16 @@ class Trouble:
     place: str  # "line 12", "brent.log: line 7", "" where it is of the file as a whole
     text: str
     omission: Optional[Omission] = None  # what the figures leave out, where that is all
+
+
+@dataclass(frozen=True)
+class Changed(Trouble):
+    """Calls may have been lost or repeated. What follows are the calls of the whole feed from its start, unless it `is_lost`: then it can't
+    be read again. Where it `may_follow`, another file has come under the name: it may go on where the one before it ended, or repeat it,
+    which its first calls show."""
+
+    may_follow: bool = False
+    is_lost: bool = False
 
 
 Item = Union[Sent, Trouble]
@@ -56,8 +72,8 @@ class Feed(Protocol):
 
     @property
     def behind(self) -> bool:
-        """Whether more may stand there to be read at once, also where the last read gave nothing: it was comments, or messages of a
-        quantum that comes later."""
+        """Whether more may be there to be read at once, also where the last read gave nothing: it was comments, or messages of a quantum
+        that comes later."""
 
     @property
     def count(self) -> int:
@@ -74,29 +90,27 @@ class Feed(Protocol):
 class Turn:
     """What happened to the file between two of its bytes."""
 
-    kind: str  # end, broken, cut, turned or gone
+    kind: str  # end, broken, truncated, rewritten, rotated or gone
     text: str  # a sentence for the page; empty where there is nothing to say
-    place: int = 0  # cut: the byte of the file at which reading goes on
-    line: int = 1  # and its line
 
     @property
     def fresh(self) -> bool:
         """Whether what comes next is a file's beginning."""
-        return self.kind == "turned" or (self.kind == "cut" and not self.place)
+        return self.kind in ("truncated", "rewritten", "rotated")
 
     @property
     def final(self) -> bool:
-        """Whether what stands unfinished before it gets no more."""
-        return self.kind in ("end", "broken", "turned")
+        """Whether an unfinished call before it gets no more bytes."""
+        return self.kind in ("end", "broken", "rotated")
 
 
 class Growing:
-    """The bytes of a file, a pipe or standard input as they come. Errors of the first opening are the caller's. A file that was cut is read
-    on from its new end, or `anew` from its beginning."""
+    """The bytes of a file, a pipe or standard input as they come. Errors of the first opening are the caller's. A file that was truncated
+    or written again in place is read from its start."""
 
-    def __init__(self, name: str, follow: bool, anew: bool = False) -> None:
-        self.name, self.follow, self.anew = name, follow, anew
-        self.count = self.place = self.size = 0
+    def __init__(self, name: str, follow: bool) -> None:
+        self.name, self.follow = name, follow
+        self.count = 0
         self.ended: Optional[str] = None
         self.missed = False  # the name is not there, and that was said
         self.other = False  # the name was another file before the last read
@@ -104,6 +118,13 @@ class Growing:
         status = os.fstat(self.descriptor)
         self.regular = stat.S_ISREG(status.st_mode)
         self.came = min(status.st_mtime, time.time()) if self.regular else time.time()
+        self.begin()
+
+    def begin(self) -> None:
+        """At the beginning of a file."""
+        self.place = self.size = 0
+        self.written = 0  # when it was written to, by its own clock, at the last look
+        self.tail, self.digest = b"", blake2b()  # of what was read of it: the last bytes, and all
 
     def read(self) -> Union[bytes, Turn, None]:
         """The next bytes, or what has happened; None where there is nothing now."""
@@ -114,6 +135,9 @@ class Growing:
     def took(self, data: bytes, came: float) -> bytes:
         self.count += len(data)
         self.place += len(data)
+        if self.regular and self.follow:
+            self.tail = (self.tail + data)[-TAIL:]
+            self.digest.update(data)
         self.came, self.ended = min(came, time.time()), None
         return data
 
@@ -138,9 +162,11 @@ class Growing:
     def of_file(self) -> Union[bytes, Turn, None]:
         try:
             status = os.fstat(self.descriptor)
-            if self.follow and status.st_size < self.place:
-                return self.cut(status.st_size)
-            self.size = status.st_size
+            changed = self.changed(status) if self.follow else None
+            if changed is not None:
+                self.again()
+                return changed
+            self.size, self.written = status.st_size, status.st_mtime_ns
             data = os.read(self.descriptor, PIECE)
         except OSError as error:
             said = self.failed(error)
@@ -150,15 +176,25 @@ class Growing:
     def at_end(self) -> Optional[Turn]:
         return self.of_name() if self.follow else self.finished("end")
 
-    def cut(self, size: int) -> Turn:
-        text = f"the file was cut: it had {max(self.size, self.place):,} bytes and has {size:,}; reading goes on from its new end"
-        self.place = self.size = os.lseek(self.descriptor, 0 if self.anew else size, os.SEEK_SET)
-        return Turn("cut", text, self.place, 1 + line_ends(self.descriptor, self.place))
+    def changed(self, status: os.stat_result) -> Optional[Turn]:
+        """Whether what was read is no longer there. Where the file has grown its last bytes are compared, where it was written to and is
+        as long as before, all of it."""
+        if status.st_size < self.place:
+            had = max(self.size, self.place)
+            return Turn("truncated", f"the file was truncated: it had {had:,} bytes and has {status.st_size:,}; {FROM_START}")
+        if status.st_size > self.place:
+            is_same = os.pread(self.descriptor, len(self.tail), self.place - len(self.tail)) == self.tail
+        else:
+            is_same = status.st_mtime_ns == self.written or digest_of(self.descriptor, self.place) == self.digest.digest()
+        if is_same:
+            return None
+        return Turn("rewritten", f"the file was written again: what was read of it is no longer there; {FROM_START}")
 
     def again(self) -> None:
         """What comes next is the file's beginning."""
         self.count -= self.place
-        self.place = os.lseek(self.descriptor, 0, os.SEEK_SET)
+        os.lseek(self.descriptor, 0, os.SEEK_SET)
+        self.begin()
 
     def of_name(self) -> Optional[Turn]:
         """At the end of the file that is read: whether its name is another file by now. A new one without bytes may not have its writer
@@ -166,7 +202,7 @@ class Growing:
         if self.name == STANDARD:
             return None
         if self.other:
-            return self.turned()
+            return self.rotated()
         try:
             there, here = os.stat(self.name), os.fstat(self.descriptor)
         except OSError as error:
@@ -177,18 +213,19 @@ class Growing:
         self.other = not same and (there.st_size > 0 or not stat.S_ISREG(there.st_mode))
         return None
 
-    def turned(self) -> Optional[Turn]:
+    def rotated(self) -> Optional[Turn]:
         self.other = False
         try:
             fresh = opened(self.name)
         except OSError as error:
             return self.failed(error)
         os.close(self.descriptor)
-        self.descriptor, self.place, self.size = fresh, 0, 0
+        self.descriptor = fresh
+        self.begin()
         self.regular = stat.S_ISREG(os.fstat(fresh).st_mode)
-        back = "the file is there again, as another one" if self.missed else "the file was turned over: its name is another file now"
+        back = "the file is there again, as another one" if self.missed else "the file was rotated: its name is another file now"
         self.missed = False
-        return Turn("turned", f"{back}; it is read from its beginning")
+        return Turn("rotated", f"{back}; it is read from its start")
 
     def failed(self, error: OSError) -> Optional[Turn]:
         """Said once, until the file is there again."""
@@ -213,16 +250,16 @@ def opened(name: str) -> int:
     return descriptor
 
 
-def line_ends(descriptor: int, size: int) -> int:
-    """How many lines end in the first bytes of a file."""
-    count, place, before = 0, 0, b""
+def digest_of(descriptor: int, size: int) -> bytes:
+    """Of the first bytes of a file."""
+    digest, place = blake2b(), 0
     while place < size:
         piece = os.pread(descriptor, min(LONGEST_LINE, size - place), place)
         if not piece:
             break
-        count += piece.count(b"\n") + piece.count(b"\r") - piece.count(b"\r\n") - (before == b"\r" and piece[:1] == b"\n")
-        place, before = place + len(piece), piece[-1:]
-    return count
+        digest.update(piece)
+        place += len(piece)
+    return digest.digest()
 
 
 # ---------------------------------------------------------------- lines
@@ -231,7 +268,7 @@ Line = tuple[int, bytes]
 
 
 class Lines:
-    """Lines out of pieces, with their numbers. What is too long is said once and passed over to its end."""
+    """Lines out of pieces, with their numbers. What is too long is said once and skipped to its end."""
 
     def __init__(self) -> None:
         self.number = 1
@@ -260,32 +297,31 @@ class Lines:
         if len(self.rest) > LONGEST_LINE:
             self.skipped = True
             self.rest.clear()
-            yield Trouble(f"line {self.number}", f"this line has over {LONGEST_LINE:,} bytes and is passed over to its end")
+            yield Trouble(f"line {self.number}", f"this line has over {LONGEST_LINE:,} bytes and is skipped to its end")
 
     def end(self) -> Iterator[Line]:
-        """The line that stood unfinished, at its end; nothing is left of one that is too long."""
+        """The line that was unfinished, at its end; nothing is left of one that is too long."""
         yield self.number, bytes(self.rest)
         self.forget(self.number + 1)
 
     def forget(self, number: int) -> None:
-        """What stood unfinished is dropped; the next line has this number."""
+        """An unfinished line is dropped; the next line has this number."""
         self.rest.clear()
         self.skipped, self.number = False, number
 
     def turn(self, turn: Turn) -> Iterator[Union[Line, Trouble]]:
         """An unfinished line is at its end, or dropped: half a line of a feed that broke off may say another call than the whole."""
-        if turn.kind == "broken" and (self.rest or self.skipped):
-            yield Trouble(f"line {self.number}", "the feed broke off within this line; it is not read")
+        if not self.rest and not self.skipped:
+            return
+        if turn.kind == "broken":
+            yield Changed(f"line {self.number}", "the feed broke off within this line; it is not read", is_lost=True)
             self.forget(self.number + 1)
-        if turn.final and (self.rest or self.skipped):
+        elif turn.kind == "end":
             yield from self.end()
-        if turn.kind == "cut":
-            self.forget(turn.line)
-            self.half = False
 
 
 class ListLines:
-    """The calls of a text's lines; `start TIME [SYMBOL]` may stand before an open, as in a statement's list."""
+    """The calls of a text's lines; `start TIME [SYMBOL]` may come before an open, as in a statement's list."""
 
     def __init__(self, options: Options) -> None:
         self.options = options
@@ -363,19 +399,17 @@ class Blocks:
         if size is None:
             yield self.stop()
 
-    def stop(self) -> Trouble:
+    def stop(self) -> Changed:
         self.stopped, self.rest = True, b""
-        return Trouble("", f"stopped at word {self.place // 4 + 1}: {NO_CALL}")
+        return Changed("", f"stopped at word {self.place // 4 + 1}: {NO_CALL}", is_lost=True)
 
     def turn(self, turn: Turn) -> Iterator[Trouble]:
-        if turn.final and self.rest:
+        if turn.kind in ("end", "broken") and self.rest:
             yield self.stop()
-        if turn.kind == "cut":
-            self.rest, self.place = b"", turn.place
 
 
 def block_size(data: bytes, at: int) -> Optional[int]:
-    """The bytes of the call's block at a place, 0 where more must come, None where no call stands there."""
+    """The bytes of the call's block at a place, 0 where more must come, None where there is no call."""
     if len(data) < at + 4:
         return 0
     if c.word_at(data, at) not in KINDS:
@@ -397,7 +431,7 @@ class Pieces:
     """A feed of items that come out of a growing file's pieces, so much of it at a read."""
 
     def __init__(self, growing: Growing) -> None:
-        self.name, self.growing = growing.name, growing
+        self.name, self.growing = name_text(growing.name), growing
         self.ended: Optional[str] = None
         self.behind = True
         self.coming: Iterator[Item] = iter(())
@@ -463,22 +497,22 @@ class CallsFeed(Pieces):
         self.front, self.text = None, None if b"\0" in data[:4] else ListLines(self.options)
 
     def turned(self, turn: Turn) -> Iterator[Item]:
-        """What stood unfinished first, then what has happened."""
-        if self.front and turn.final:
+        """An unfinished call first, then what has happened."""
+        if self.front and turn.kind in ("end", "broken"):
             front = self.front
             self.told(front)
             yield from self.took(front)
+        is_whole = not (self.front or self.lines.rest or self.lines.skipped or self.blocks.rest)
         if self.text is not None:
             yield from of_lines(self.text, self.lines.turn(turn))
-            yield from self.text.end() if turn.kind in ("end", "turned") else ()
+            yield from self.text.end() if turn.kind in ("end", "rotated") else ()
         else:
             yield from self.blocks.turn(turn)
-        if turn.text:
-            yield Trouble("", turn.text)
         if turn.fresh:
+            yield Changed("", turn.text, may_follow=turn.kind == "rotated" and is_whole)
             self.begin()
-        elif turn.kind == "cut" and self.front:
-            self.front = b""
+        elif turn.text:
+            yield Trouble("", turn.text)
 
 
 def of_lines(text: ListLines, lines: Iterator[Union[Line, Trouble]]) -> Iterator[Item]:

@@ -30,6 +30,15 @@ WAITING = {"kind": "waiting", "head": "The recount has not answered yet", "text"
 
 
 @dataclass(frozen=True)
+class Doubted:
+    """Why the figures are not reliable."""
+
+    since: float  # time.time()
+    why: str
+    text: str  # what is done about it
+
+
+@dataclass(frozen=True)
 class Status:
     """What the server knows beside the meter."""
 
@@ -40,10 +49,11 @@ class Status:
     why: str = ""  # why it is broken off, where it is not by silence: "standard input has closed"
     readings: Mapping[str, Any] = field(default_factory=lambda: WAITING)  # the section, as the recount has it
     differs: Optional[Mapping[str, Any]] = None  # the section, where the recount differs
+    doubt: Optional[Doubted] = None  # where the figures are not reliable
 
     @property
     def is_still(self) -> bool:
-        """No time goes on behind the last event: nothing is known of it."""
+        """No time goes on after the last event: nothing is known of it."""
         return self.feed in ("broken", "ended")
 
 
@@ -103,6 +113,8 @@ def moment_of(meter: Meter, shown: Shown) -> s.Moment:
 
 
 def band_of(meter: Meter, shown: Optional[Shown], status: Status) -> s.Band:
+    if status.doubt is not None:
+        return s.doubtful(wall_text(status.doubt.since, status.wall), capital(status.doubt.why.partition(";")[0]), status.doubt.text)
     if status.feed == "reading":
         return s.reading(meter.calls)
     if shown is None:
@@ -110,7 +122,7 @@ def band_of(meter: Meter, shown: Optional[Shown], status: Status) -> s.Band:
     found = moment_of(meter, shown)
     if status.feed == "broken":
         return s.broken(s.band(found), found)
-    return s.unsure(s.band(found), meter.reports_now.head()) if meter.reports_now.answers else s.band(found)
+    return s.unsure(s.band(found), meter.reports_now.answers_text()) if meter.reports_now.answers else s.band(found)
 
 
 def title(band: s.Band, name: str) -> str:
@@ -121,8 +133,12 @@ def state(meter: Meter, shown: Optional[Shown], status: Status) -> Optional[Sect
     if shown is None or meter.course is None or meter.opened is None:
         return None
     word = SHORT.get(STATES[meter.course.state], STATES[meter.course.state])
+    if status.doubt is not None:
+        return {"key": "unknown", "word": "not known", "since": f"by the file now: {word}"}
     if status.feed == "broken":
         return {"key": "unknown", "word": "not known", "since": f"last {word}"}
+    if meter.reports_now.answers:
+        return {"key": "unknown", "word": "not known", "since": f"by your requests {word}"}
     since, now = meter.course.since, shown.report.time
     text = f"since {meter.opened.times.down(since)}, for {s.had(now - since)}"
     return {"key": STATE_KEYS[meter.course.state], "word": word, "since": text}
@@ -193,7 +209,7 @@ def problems(meter: Meter, status: Status) -> Section:
 def open_quantum(meter: Meter, shown: Optional[Shown], status: Status) -> Optional[Section]:
     if shown is None or meter.opened is None:
         return None
-    is_stale, view = status.feed == "broken", shown.view
+    is_stale, view = status.feed == "broken" or status.doubt is not None, shown.view
     orders = [
         {"id": str(each.id), "side": each.side, "price": meter.price_text(each.price), "volume": thousands(each.volume)}
         for each in view.orders

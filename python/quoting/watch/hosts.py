@@ -3,13 +3,13 @@
 A page elsewhere can make a browser send requests here, under a name of its own that it lets point here (rebinding) or from another origin.
 Both are seen in what the browser sends along: Host and Origin.
 
->>> door = Door("127.0.0.1", 8470, None)
->>> door.link, [door.takes_host(host) for host in ("127.0.0.1:8470", "localhost:8470", "example.org:8470", "127.0.0.1")]
+>>> here = Access("127.0.0.1", 8470, None)
+>>> here.link, [here.allows_host(host) for host in ("127.0.0.1:8470", "localhost:8470", "example.org:8470", "127.0.0.1")]
 ('http://127.0.0.1:8470/', [True, True, False, False])
->>> door.takes_origin("http://localhost:8470"), door.takes_origin("http://example.org"), door.takes_origin(None)
+>>> here.allows_origin("http://localhost:8470"), here.allows_origin("http://example.org"), here.allows_origin(None)
 (True, False, False)
->>> other = Door("192.0.2.7", 80, "secret")
->>> other.link, other.takes_host("192.0.2.7"), door.takes_token(b""), other.takes_token(b"token=other"), other.takes_token(b"token=secret")
+>>> other = Access("192.0.2.7", 80, "secret")
+>>> other.link, other.allows_host("192.0.2.7"), here.allows_token(b""), other.allows_token(b"token=other"), other.allows_token(b"token=secret")
 ('http://192.0.2.7/?token=secret', True, True, False, True)
 """
 
@@ -37,7 +37,7 @@ def bracketed(host: str) -> str:
 
 
 @dataclass(frozen=True)
-class Door:
+class Access:
     """The address that the server listens on, its port, and the token in the link, if there is one."""
 
     address: str
@@ -55,7 +55,7 @@ class Door:
         port = "" if self.port == PLAIN_PORT else f":{self.port}"
         return f"http://{host}{port}/" + (f"?token={quote(self.token)}" if self.token else "")
 
-    def takes_host(self, given: str) -> bool:
+    def allows_host(self, given: str) -> bool:
         """Whether a request names this server: by the port, and by an address or name that is its own. A server on all addresses takes
         any address, since only a name can be made to point elsewhere, and the machine's name."""
         host, port = split_host(given)
@@ -65,10 +65,10 @@ class Door:
             return is_address(host) or host in (socket.gethostname().lower(), "localhost")
         return host == self.address.lower() or host == "localhost" and self.address == HERE
 
-    def takes_origin(self, given: Optional[str]) -> bool:
-        return given is not None and given.startswith("http://") and self.takes_host(given[len("http://") :])
+    def allows_origin(self, given: Optional[str]) -> bool:
+        return given is not None and given.startswith("http://") and self.allows_host(given[len("http://") :])
 
-    def takes_token(self, query: bytes) -> bool:
+    def allows_token(self, query: bytes) -> bool:
         if self.token is None:
             return True
         try:

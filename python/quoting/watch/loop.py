@@ -1,21 +1,29 @@
 """The loop of the live page: the feed is read, the meter and the recount take each call, and at most ten times a second the sections are
-made of what stands then. Calls are never thinned, only what is shown of them."""
+made of it. Calls are never thinned, only what is shown of them. Where the feed has changed in a way that may have lost or repeated calls, the
+meter and the recount start over with it (`doubts`)."""
 
 import asyncio
 import time
 from typing import Any, Mapping, Optional
 
+from quoting import calls as c
 from quoting.reading import STANDARD
+from quoting.statement.sources import Sent
 from quoting.watch import frames
 from quoting.watch.changes import Changes, encoded
 from quoting.watch.clocks import Clock
-from quoting.watch.feeds import Feed, Item, Trouble
-from quoting.watch.meter import Meter
+from quoting.watch.doubts import PLACED_KINDS, Doubt, Reading, Rotated, goes_on
+from quoting.watch.feeds import Changed, Feed, Item, Trouble
+from quoting.watch.meter import Meter, refusal
 from quoting.watch.recounting import Recounting
 
 IDLE = 0.02  # seconds between two looks at a feed that has nothing new
 SLICE = 0.02  # seconds of work on a long feed, after which pages get their turn
 FRAME = 0.1  # seconds between two states that are shown
+REPEATED = "the file was saved again, and its first call does not follow what was read; the feed is read again from its start"
+RELIABLE = "the feed was read again from its start and has all that was read before: the figures are reliable again"
+UNRELIABLE = "No answers while the figures are not reliable."
+SAYS_NOTHING = {"kind": "absent", "head": "Agreement says nothing now", "text": "both readings have the same file"}
 
 
 class Watch:
@@ -27,7 +35,9 @@ class Watch:
         self.recount = Recounting()
         self.shown = Changes()
         self.clients = 0
-        self.is_reading = True  # through what stood there at the start
+        self.is_reading = True  # through what was there at the start
+        self.doubt: Optional[Doubt] = None  # why the figures are not reliable
+        self.rotated: Optional[Rotated] = None  # another file came under the name, and it is not known whether it goes on
         self.differs: Optional[Mapping[str, Any]] = None
         self.made = 0.0  # when the sections were made last
 
@@ -39,6 +49,7 @@ class Watch:
             items = self.feed.read()
             await self.take(items)
             self.is_reading = self.is_reading and self.feed.behind
+            self.settle()
             await asyncio.sleep(0 if self.feed.behind else IDLE)
         await asyncio.Event().wait()
 
@@ -53,10 +64,58 @@ class Watch:
         self.recount.flush()
 
     def take_one(self, item: Item, came: float) -> None:
+        if isinstance(item, Changed):
+            self.change(item)
         if isinstance(item, Trouble):
             self.meter.trouble(item, came)
             return
+        if self.rotated is not None:
+            self.judge(self.rotated, item, came)
+        self.take_call(item, came)
+
+    def take_call(self, item: Sent, came: float) -> None:
         self.recount.call(item, self.meter.take(item, came))
+
+    # ------------------------------------------------------------ a feed that has changed
+
+    def change(self, item: Changed) -> None:
+        """A rotated file is judged by its first call that shows where it belongs."""
+        self.rotated = Rotated(Reading.of(self.meter)) if item.may_follow else None
+        if item.is_lost:
+            self.doubt = Doubt(self.doubt.since if self.doubt else time.time(), item.text, None)
+        elif not item.may_follow:
+            self.start_over(item.text, Reading.of(self.meter))
+
+    def judge(self, rotated: Rotated, sent: Sent, came: float) -> None:
+        """Whether another file under the name goes on where the one before it ended."""
+        if sent.block[0] not in PLACED_KINDS:
+            rotated.calls.append(sent)
+            return
+        self.rotated = None
+        call = c.call_of(sent.block)
+        place = (call.day, call.words[0], call.words[1]) if isinstance(call, c.Open) and len(call.words) > 1 else None
+        if goes_on(self.meter, sent.block[0], place):
+            return
+        self.start_over(REPEATED, rotated.before)
+        self.meter.trouble(Trouble("", REPEATED), came)
+        for each in rotated.calls:
+            self.take_call(each, came)
+
+    def start_over(self, why: str, before: Reading) -> None:
+        """The calls that follow are those of the whole feed: a fresh month and a fresh recount take them."""
+        if self.doubt is None:
+            self.doubt = Doubt(time.time(), why, before)
+        else:
+            self.doubt.renew(why)
+        self.meter = self.meter.fresh()
+        self.recount.end()
+        self.recount = Recounting()
+
+    def settle(self) -> None:
+        """Whether the feed, where it was read again, has all that it had."""
+        if self.doubt is not None and not self.feed.behind and self.doubt.is_over(self.meter):
+            self.doubt = None
+            self.meter.trouble(Trouble("", RELIABLE), time.time())
 
     # ------------------------------------------------------------ what is shown
 
@@ -72,10 +131,12 @@ class Watch:
         wall, silent = time.time(), max(0.0, time.time() - self.feed.came)
         kind, why = self.feed_kind(silent)
         differs = self.recount.differs() or self.differs
-        return frames.Status(kind, wall, silent, self.speed or 1.0, why, self.recount.readings(wall), differs)
+        doubt = frames.Doubted(self.doubt.since, self.doubt.why, self.doubt.text(self.meter.calls)) if self.doubt else None
+        readings = SAYS_NOTHING if self.doubt else self.recount.readings(wall)
+        return frames.Status(kind, wall, silent, self.speed or 1.0, why, readings, differs, doubt)
 
     def feed_kind(self, silent: float) -> tuple[str, str]:
-        """How the feed stands, and why it is broken off where it is not by silence. With no quantum open nothing is missed."""
+        """What the feed does, and why it is broken off where it is not by silence. With no quantum open nothing is missed."""
         ended, is_open = self.feed.ended, self.meter.opened is not None
         if self.is_reading and self.speed is None:
             return "reading", ""
@@ -88,7 +149,7 @@ class Watch:
         return ("broken" if self.is_silent(silent) else "following"), ""
 
     def is_silent(self, silent: float) -> bool:
-        """Whether the feed was silent for too long while the open quantum went on; behind its end nothing need come but the close."""
+        """Whether the feed was silent for too long while the open quantum went on; after its end nothing need come but the close."""
         opened = self.meter.opened
         if opened is None or not 0 < self.silence < silent:
             return False
@@ -96,7 +157,7 @@ class Watch:
         return now - 1_000 * (silent - self.silence) < opened.length
 
     def publish(self) -> None:
-        """The sections as they stand now."""
+        """The sections as they are now."""
         now, status = self.meter.now_at(self.clock), self.status()
         sections = frames.sections(self.meter, now, status)
         self.differs = sections["differs"]
@@ -121,6 +182,8 @@ class Watch:
 
     def ask(self, t: str, id: str, price: str, volume: str) -> dict[str, Any]:
         """The answer to an ask, on a copy of the month."""
+        if self.doubt is not None:
+            return refusal("No answer", UNRELIABLE)
         status = self.status()
         is_known = status.feed not in ("broken", "reading") and not status.differs
         return self.meter.ask(t, id, price, volume, self.meter.now_at(self.clock), is_known)

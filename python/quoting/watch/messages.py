@@ -5,6 +5,9 @@ takes it. An open comes when the time seen has reached its start; the messages o
 comes when the time seen is past the quantum's end. Time is seen by the messages, and by the clock if it knows the date. A finished log is
 read whole first, so that its calls are those of the statement whatever the order of its messages. What the exchange answered goes to its
 quantum too, as a trouble that says what the figures leave out.
+
+A log that was truncated, written again or saved again under its name, and a list whose calls are others than before, make the feed start
+over: both files are read again from their starts. A log that was rotated goes on.
 """
 
 import os
@@ -24,14 +27,17 @@ from quoting.scanning import Rejected, Scanner
 from quoting.selection import NOBODY, Owner, owner_text
 from quoting.statement.sources import TIME, Sent, Span, span_of
 from quoting.watch.clocks import Clock
-from quoting.watch.feeds import Growing, Item, Lines, ListLines, Pieces, Trouble, Turn, of_lines
+from quoting.watch.feeds import FROM_START, Changed, Growing, Item, Lines, ListLines, Pieces, Trouble, Turn, of_lines
+from quoting.watch.names import name_text
 
-GRACE = timedelta(seconds=5)  # by which a log may be behind the clock at a quantum's end
+GRACE = timedelta(seconds=5)  # by which a log may be later than the clock at a quantum's end
 MOST_KEPT = 100_000  # messages in no quantum, kept for opens that are listed later
-SHORT_LIST = 65_536  # bytes of a list that is read anew when it has changed
+SHORT_LIST = 65_536  # bytes of a list that is read again when it has changed
 IN_NONE = "this message is in no quantum of the list; others like it are counted and not shown"
 LATE = "this message came when its quantum was past and the list had gone on; it is not counted"
-CHANGED = "the list was written anew, and this is not the call that was read here; what was read stays, and calls behind it are taken"
+OTHER_CALL = f"the list was saved again, and this is not the call that was read here; {FROM_START}"
+FEWER_CALLS = f"the list was saved again with fewer calls than were read; {FROM_START}"
+REPEATED = f"the log was saved again: its first message was read before; {FROM_START}"
 BYTES = "messages are put into a text, which says when each quantum starts, and these are bytes"
 
 
@@ -99,12 +105,13 @@ class Call:
 
 
 class ListFile:
-    """The list of opens and closes. Whoever adds a close may save it from an editor, as another file, or cut and written again, with
-    lines put in above: so it is read from its beginning whenever it has changed, and the calls that were read before are passed over."""
+    """The list of opens and closes. Whoever adds a close may save it from an editor, as another file or in place, with lines inserted
+    above: so it is read from its start whenever it has changed, and the calls that were read before are skipped. Where one of them is
+    another call now, or is no longer there, the list has `Changed`."""
 
     def __init__(self, name: str, options: Options, follow: bool) -> None:
-        self.name, self.options = name, options
-        self.growing = Growing(name, follow, anew=True)
+        self.name, self.options = name_text(name), options
+        self.growing = Growing(name, follow)
         if self.growing.regular and b"\0" in os.pread(self.growing.descriptor, 4, 0):
             raise reading.failed(BYTES, name)
         self.calls: list[Call] = []
@@ -112,16 +119,24 @@ class ListFile:
         self.begin()
 
     def begin(self) -> None:
+        """At the beginning of the file."""
         self.lines, self.text = Lines(), ListLines(self.options)
         self.at = 0  # calls of this file so far
-        self.changed = False
+
+    def start_over(self) -> None:
+        """All calls are read again; those that came through a pipe are known."""
+        if self.growing.regular:
+            self.growing.again()
+            self.begin()
+            self.calls = []
 
     def read(self) -> Optional[Iterator[Union[Call, Trouble]]]:
         """The next calls; None where there is nothing now."""
         piece = self.growing.read()
         changed, self.idle = self.idle and piece is not None, piece is None
         if piece is None:
-            return None
+            is_shorter = self.growing.regular and not self.growing.missed and self.at < len(self.calls)
+            return iter([Changed(self.name, FEWER_CALLS)]) if is_shorter else None
         if isinstance(piece, Turn):
             return self.turned(piece)
         if changed and self.growing.regular and self.growing.place < SHORT_LIST:
@@ -141,9 +156,9 @@ class ListFile:
             if not known:
                 self.calls.append(call)
                 yield call
-            elif not self.changed and not call.same(self.calls[self.at - 1]):
-                self.changed = True
-                yield Trouble(f"{self.name}: {item.place}", CHANGED)
+            elif not call.same(self.calls[self.at - 1]):
+                yield Changed(f"{self.name}: {item.place}", OTHER_CALL)
+                return
 
     def turned(self, turn: Turn) -> Iterator[Union[Call, Trouble]]:
         if turn.fresh:
@@ -170,14 +185,20 @@ class MessagesFeed(Pieces):
         super().__init__(Growing(log, follow))
         self.start, self.clock, self.follow, self.chosen = start, clock, follow, chosen
         self.list = ListFile(calls_file, options, follow)
-        self.scanner, self.sorter = Scanner(), logs.Sorter(chosen.account)
+        self.begin()
+
+    def begin(self) -> None:
+        """At the beginning of both files."""
+        self.scanner, self.sorter = Scanner(), logs.Sorter(self.chosen.account)
+        self.first: Optional[bytes] = None  # the log's first request
+        self.is_rotated = False  # the first request of another log has not come yet
         self.queue: deque[tuple[Sent, Optional[Quantum]]] = deque()  # of the list, still to come
         self.days: dict[date, list[Quantum]] = defaultdict(list)  # the quanta of each day, in the list's order
         self.current: Optional[Quantum] = None
         self.before: Optional[Quantum] = None  # where the last message went
         self.seen: Optional[datetime] = None
         self.unplaced: deque[Unplaced] = deque(maxlen=MOST_KEPT)
-        self.passed_over = 0  # messages in no quantum, or too late for theirs
+        self.skipped = 0  # messages in no quantum, or too late for theirs
         self.said = False  # that there is one in no quantum
         self.idle = False  # the log is read as far as it goes
 
@@ -200,10 +221,22 @@ class MessagesFeed(Pieces):
         first = next(due, None)
         return None if first is None else chain([first], due)
 
+    def start_over(self, why: Changed) -> Iterator[Item]:
+        """Both files are read again."""
+        yield why
+        self.begin()
+        if self.growing.regular:
+            self.growing.again()
+        self.list.start_over()
+        yield from self.listed(iter(self.list.calls))
+
     # ------------------------------------------------------------ the list
 
     def listed(self, calls: Iterator[Union[Call, Trouble]]) -> Iterator[Item]:
         for call in calls:
+            if isinstance(call, Changed):
+                yield from self.start_over(call)
+                return
             if isinstance(call, Trouble):
                 yield call
                 continue
@@ -229,7 +262,7 @@ class MessagesFeed(Pieces):
         waiting, self.unplaced = self.unplaced, deque(maxlen=MOST_KEPT)
         for message in waiting:
             if quantum.takes(message):
-                self.passed_over -= message.is_request
+                self.skipped -= message.is_request
                 self.place(message, quantum)
             else:
                 self.unplaced.append(message)
@@ -237,14 +270,15 @@ class MessagesFeed(Pieces):
     # ------------------------------------------------------------ the log
 
     def turned(self, turn: Turn) -> Iterator[Item]:
-        if turn.final or turn.kind == "cut":
+        if turn.kind in ("truncated", "rewritten"):
+            yield from self.start_over(Changed(self.name, turn.text))
+            return
+        if turn.final:
             yield from self.logged(self.scanner.end())
         if turn.text:
             yield Trouble(self.name, turn.text)
-        if turn.fresh:
-            self.scanner = Scanner()
-        elif turn.kind == "cut":
-            self.scanner = Scanner(turn.line)
+        if turn.kind == "rotated":
+            self.scanner, self.is_rotated = Scanner(), True
 
     def logged(self, found: Iterator[scanning.Item]) -> Iterator[Item]:
         """What the messages of the log are."""
@@ -253,7 +287,20 @@ class MessagesFeed(Pieces):
             if isinstance(each, Rejected):
                 yield Trouble(place, each.why)
             elif each is not None:
-                yield from self.message(Unplaced.of(place, each))
+                message = Unplaced.of(place, each)
+                if message.is_request and self.repeats(message):
+                    yield from self.start_over(Changed(place, REPEATED))
+                    return
+                yield from self.message(message)
+
+    def repeats(self, message: Unplaced) -> bool:
+        """Whether it is the first request of another log under the name, and was read before: a log that goes on has later ones."""
+        data, first = message.sorted.found.data, self.first
+        is_rotated, self.is_rotated = self.is_rotated, False
+        if first is None or is_rotated:
+            self.first = data
+        is_earlier = message.time is not None and self.seen is not None and message.time < self.seen - GRACE
+        return is_rotated and (data == first or is_earlier)
 
     def message(self, message: Unplaced) -> Iterator[Item]:
         quantum = self.quantum_of(message)
@@ -274,14 +321,14 @@ class MessagesFeed(Pieces):
     def keep(self, message: Unplaced) -> Iterator[Item]:
         """A message in no quantum, which may be in one that is listed later."""
         self.unplaced.append(message)
-        self.passed_over += message.is_request
+        self.skipped += message.is_request
         if message.is_request and not self.said:
             self.said = True
             yield Trouble(message.place, IN_NONE)
 
     def late(self, message: Unplaced) -> Iterator[Item]:
         """A message of a quantum that is past. What the exchange answered is counted all the same."""
-        self.passed_over += message.is_request
+        self.skipped += message.is_request
         if message.is_request:
             yield Trouble(message.place, LATE)
         else:
@@ -323,7 +370,7 @@ class MessagesFeed(Pieces):
         return moment is not None and moment >= quantum.span.begins
 
     def is_past(self, span: Span) -> bool:
-        """By the clock only if the log is read as far as it goes, and a little later, since a log comes behind it."""
+        """By the clock only if the log is read as far as it goes, and a little later, since a log comes after it."""
         if not self.follow:
             return self.growing.ended is not None
         if self.seen is not None and self.seen > span.ends:

@@ -111,6 +111,13 @@ class Meter:
         self._cells: tuple[int, dict[Place, Cell]] = (-1, {})
         self._shown: tuple[int, int, Optional[Shown]] = (-1, -1, None)
 
+    def fresh(self) -> "Meter":
+        """One that has read nothing, and has the problems of this one."""
+        other = Meter(self.name, self.day_start, self.price_step)
+        other.problems, other.problem_count = self.problems, self.problem_count
+        other.opens, other.altered = self.opens, self.altered  # a page has parts of a day by these
+        return other
+
     # ------------------------------------------------------------ the feed
 
     def take(self, sent: Sent, came: float) -> Answer:
@@ -269,11 +276,11 @@ def field(name: str, text: str, read: Callable[[str], int]) -> int:
 
     >>> field("order", " ", int)
     Traceback (most recent call last):
-    ValueError: order: nothing stands there; expected is the id of a live order
+    ValueError: order: nothing is given; expected is the id of a live order
     """
     try:
         if not text.strip():
-            raise ValueError("nothing stands there")
+            raise ValueError("nothing is given")
         return read(plain(text))
     except ValueError as error:
         raise ValueError(f"{name}: {error}; expected is {EXPECTED[name]}") from None

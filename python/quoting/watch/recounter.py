@@ -5,7 +5,6 @@ month shows at that point. On standard output it says what it found. It ends wit
 """
 
 import copy
-import ctypes
 import os
 import pickle
 import resource
@@ -26,7 +25,7 @@ MOST_MEMORY = 2 << 30  # bytes: a book keeps every event of its open quantum, an
 MOST_WALKED = 2_000_000  # events that may be gone through again, report by report, to name the first call
 CELL_CALLS = (c.Close, c.Charge, c.Withdraw)
 STANDING = [c.block(c.Report()), c.block(c.Outlook())]
-CELL_LOOKS = LOOKS[:-1]  # all cells, without the report behind them
+CELL_LOOKS = LOOKS[:-1]  # all cells, without the report after them
 
 
 @dataclass(frozen=True)
@@ -40,7 +39,7 @@ class Called:
 
 @dataclass(frozen=True)
 class Check:
-    """What the meter's month shows behind all calls so far, as lines, and its words."""
+    """What the meter's month shows after all calls so far, as lines, and its words."""
 
     shown: list[str]
     words: bytes
@@ -91,16 +90,6 @@ def asked(looks: bool) -> list[bytes]:
 # ---------------------------------------------------------------- the meter's month
 
 
-def words_of(month: Month) -> bytes:
-    return bytes(month._words)
-
-
-def month_of(words: bytes) -> Month:
-    made = Month()
-    ctypes.memmove(made._words, words, len(words))
-    return made
-
-
 def shown_by(month: Month, looks: bool) -> list[str]:
     return [line(month.block(block)) for block in asked(looks)]
 
@@ -123,7 +112,7 @@ class Recounter:
     def __init__(self) -> None:
         self.programs = both.recount("programs")
         self.book = both.recount("book").Book()
-        self.point = Point(0, self.copied(self.book), words_of(Month()))
+        self.point = Point(0, self.copied(self.book), Month().words())
         self.since: list[Called] = []
         self.last = Called(b"", "", "")
 
@@ -149,7 +138,7 @@ class Recounter:
         self.last = called
         theirs = self.answer(self.book, called.block)
         if theirs != called.line:
-            month = month_of(self.point.words)
+            month = Month.from_words(self.point.words)
             for each in self.since:
                 month.block(each.block)
             yield from self.part(theirs, shown_by(month, False), self.shown(self.book, False))
@@ -190,7 +179,7 @@ class Recounter:
 
     def walked(self, first: int, last: int) -> Optional[Parted]:
         """Through that many calls; from the first on what both show is compared after each, and the answers after every one."""
-        month, book = month_of(self.point.words), self.copied(self.point.book)
+        month, book = Month.from_words(self.point.words), self.copied(self.point.book)
         for at, called in enumerate(self.since[:last]):
             month.block(called.block)
             theirs, looks = self.answer(book, called.block), changes_cells(called.block) or last - first == 1
@@ -214,7 +203,7 @@ def parts(stream: BinaryIO) -> Iterator[Union[Check, Sequence[Called]]]:
 
 
 def findings(stream: BinaryIO) -> Iterator[Said]:
-    """What is said of the parts; nothing behind a difference."""
+    """What is said of the parts; nothing after a difference."""
     recounter = Recounter()
     for part in parts(stream):
         for said in recounter.check(part) if isinstance(part, Check) else chain.from_iterable(map(recounter.take, part)):

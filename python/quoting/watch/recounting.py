@@ -20,7 +20,7 @@ from quoting.statement.figures import roubles, thousands
 from quoting.statement.page import brief
 from quoting.statement.sources import Sent
 from quoting.values import clock
-from quoting.watch.recounter import STANDING, Agreed, Called, Check, Ended, Parted, changes_cells, shown_by, words_of
+from quoting.watch.recounter import STANDING, Agreed, Called, Check, Ended, Parted, changes_cells, shown_by
 from quoting.watch.sentences import counted_calls
 
 Pair = tuple[str, str, str]  # a figure's name, by the meter, by the recount
@@ -90,7 +90,7 @@ class Recounting:
         if self.sent == self.checked and self.took > CHEAP:
             return
         self.flush()
-        check = Check(shown_by(month, self.looks), words_of(month))
+        check = Check(shown_by(month, self.looks), month.words())
         self.looks, self.checked, self.under_way = False, self.sent, True  # before it is given: it may be answered at once
         self.queue.put(check)
 
@@ -148,7 +148,7 @@ class Recounting:
     def readings(self, now: float) -> dict[str, str]:
         """The section `readings`."""
         if self.kind == "absent":
-            why = "it stands in the tree and is not part of an installed package"
+            why = "it is in the source tree and not in an installed package"
             return {"kind": "absent", "head": "The recount is not here", "text": why}
         if self.kind == "stopped":
             until = f"; both agreed on {counted_calls(self.agreed)}" if self.agreed_at else ""

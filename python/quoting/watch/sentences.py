@@ -343,6 +343,15 @@ def unsure(was: Band, what: str) -> Band:
     return Band("hold", "Do not rely on these figures", f"Not counted in this quantum: {what}", why)
 
 
+def doubtful(since: str, why: str, text: str) -> Band:
+    """The feed has changed: calls may be lost or repeated, and no figure may be relied on.
+
+    >>> doubtful("10:15:02", "The file was truncated", "Start quoting watch again.")[1:3]
+    ('Not reliable since 10:15:02', 'The file was truncated')
+    """
+    return Band("doubt", f"Not reliable since {since}", why, f"Keep quoting: do not rely on a figure of this page. {text}")
+
+
 def then_text(was: Band) -> str:
     return f"{lowered(was.head)}, {lowered(was.sub)}".rstrip(".")
 

@@ -24,11 +24,13 @@ from starlette.types import ASGIApp, Message, Receive, Scope, Send
 from starlette.websockets import WebSocket, WebSocketDisconnect
 from websockets.exceptions import ConnectionClosed
 
-from quoting.watch.hosts import Door
+from quoting.watch.changes import encoded
+from quoting.watch.connections import Waiting, prompt
+from quoting.watch.hosts import Access
 from quoting.watch.loop import Watch
 
 PAGE = Path(__file__).resolve().parent / "page"
-FIRST = "index.html"  # stands at / alone
+FIRST = "index.html"  # the path /
 KINDS = {".html": "text/html", ".css": "text/css", ".js": "text/javascript"}
 POLICY = (
     "default-src 'none'; script-src 'self'; style-src 'self'; img-src 'self' data:; connect-src 'self'; base-uri 'none'; "
@@ -52,10 +54,10 @@ class Unwanted(Exception):
 
 
 class Guarded:
-    """Lets in what the door takes, and puts the headers on every answer."""
+    """Lets in requests that have access, and puts the headers on every answer."""
 
-    def __init__(self, app: ASGIApp, door: Door) -> None:
-        self.app, self.door = app, door
+    def __init__(self, app: ASGIApp, access: Access) -> None:
+        self.app, self.access = app, access
 
     async def __call__(self, scope: Scope, receive: Receive, send: Send) -> None:
         refusal = self.refusal(scope)
@@ -71,11 +73,11 @@ class Guarded:
         given = {name.decode("latin-1"): value.decode("latin-1") for name, value in scope["headers"]}
         if "host" not in given:
             return PlainTextResponse("the request names no host\n", 400)
-        if not self.door.takes_host(given["host"]):
+        if not self.access.allows_host(given["host"]):
             return PlainTextResponse("this server has another address\n", 421)
-        if scope["type"] == "websocket" and not self.door.takes_origin(given.get("origin")):
+        if scope["type"] == "websocket" and not self.access.allows_origin(given.get("origin")):
             return PlainTextResponse("this page has another origin\n", 403)
-        if not self.door.takes_token(scope["query_string"]):
+        if not self.access.allows_token(scope["query_string"]):
             return PlainTextResponse("the link has a token, and this request has none or another\n", 403)
         return None
 
@@ -143,11 +145,11 @@ class Client:
                     return
                 if message.get("text") is None:
                     raise Unwanted(UNREAD)
-                await self.socket.send_text(json.dumps({"answer": self.answer(ask_of(message["text"]))}, ensure_ascii=False))
+                await self.socket.send_text(encoded({"answer": self.answer(ask_of(message["text"]))}))
         except Unwanted as unwanted:
             closing = asyncio.create_task(self.socket.close(unwanted.args[0]))
             while (await self.socket.receive())["type"] != "websocket.disconnect":
-                pass  # what it has sent behind it stands before its farewell
+                pass  # what it has sent after it comes before its farewell
             await closing
 
     def answer(self, asked: dict[str, Any]) -> dict[str, Any]:
@@ -164,13 +166,13 @@ class Client:
 class Pages:
     """The files, and the pages that are open."""
 
-    def __init__(self, watch: Watch, door: Door) -> None:
-        self.watch, self.door = watch, door
-        self.files = files_of(PAGE, door.token)  # read once: no request reaches the folder
+    def __init__(self, watch: Watch, access: Access) -> None:
+        self.watch, self.access = watch, access
+        self.files = files_of(PAGE, access.token)  # read once: no request reaches the folder
 
     def app(self) -> ASGIApp:
         files = [Route(path, self.file, methods=["GET"]) for path in self.files]
-        return Guarded(Starlette(routes=[*files, WebSocketRoute("/live", self.live)]), self.door)
+        return Guarded(Starlette(routes=[*files, WebSocketRoute("/live", self.live)]), self.access)
 
     async def file(self, request: Request) -> Response:
         data, kind = self.files[request.url.path]
@@ -212,13 +214,14 @@ def bound(address: str, port: int) -> socket.socket:
     return made
 
 
-async def serve(watch: Watch, door: Door, listening: socket.socket) -> None:
+async def serve(watch: Watch, access: Access, listening: socket.socket) -> None:
     """Until a signal comes."""
     logging.getLogger("uvicorn").setLevel(logging.CRITICAL)
     uvicorn: Any = import_module("uvicorn")
+    h11_protocol = import_module("uvicorn.protocols.http.h11_impl").H11Protocol
     config = uvicorn.Config(
-        Pages(watch, door).app(), log_config=None, log_level="critical", access_log=False, lifespan="off", loop="asyncio", http="h11",
-        limit_concurrency=MOST_CONNECTIONS, ws="websockets", ws_max_size=MOST_BYTES, ws_per_message_deflate=False, server_header=False,
+        Pages(watch, access).app(), log_config=None, log_level="critical", access_log=False, lifespan="off", loop="asyncio",
+        http=prompt(h11_protocol, Waiting()), limit_concurrency=MOST_CONNECTIONS, ws="websockets", ws_max_size=MOST_BYTES, ws_per_message_deflate=False, server_header=False,
         proxy_headers=False)
     server, stopped = uvicorn.Server(config), asyncio.Event()
     server.install_signal_handlers = lambda: None  # they are ours
@@ -245,11 +248,11 @@ async def end_others() -> None:
         await asyncio.wait([asyncio.gather(*others, return_exceptions=True)], timeout=PASS)
 
 
-def run(watch: Watch, door: Door, listening: socket.socket, say: Callable[[], None]) -> None:
-    """Serves the page until Ctrl-C; `say` tells the link, once it can be followed."""
+def run(watch: Watch, access: Access, listening: socket.socket, say: Callable[[], None]) -> None:
+    """Serves the page until Ctrl-C; `say` prints the link, once it can be followed."""
     try:
         say()
-        asyncio.run(serve(watch, door, listening))
+        asyncio.run(serve(watch, access, listening))
         raise KeyboardInterrupt
     finally:
         watch.end()

@@ -1,4 +1,4 @@
--- The words that the run has filled lie within the buffer. Assumes nothing.
+-- The words that the run has filled lie within the buffer.
 use Prim.Native.Nat.{ℕ, _≤_}
 use native.Mathlib.Omega.{arith}
 use mathlib.Core.Path.{_≡_, sym, ap, _∙_}
@@ -6,9 +6,9 @@ use mathlib.Core.List.{List}
 use lib.ListN.{length, drop, length-append, length-drop}
 use lib.Seq.{length-take-le}
 use Rattle.rules.specs.Accounts.{Account, accountRan, accountFront, accountBuffer}
-use Rattle.accounts.specs.declared.AccountAnswer.{AccountAnswer}
-use Rattle.accounts.specs.Shown.{shownAccount, filledBy}
-use Rattle.accounts.proofs.Endings.{filled-fits}
+use Rattle.session_account.specs.declared.AccountAnswer.{AccountAnswer}
+use Rattle.session_account.specs.Shown.{shownAccount, filledBy}
+use Rattle.session_account.proofs.Endings.{filled-fits}
 use borrow.Author.Needs.{needs}
 use Rattle.account.proofs.account.Statement.{statement}
 use Rattle.account.proofs.account.Tie as tie

@@ -1,4 +1,4 @@
--- The tests of `numbersGood`. Assumes nothing.
+-- The tests of `numbersGood`.
 use mathlib.Core.Path.{_∙_}
 use borrow.Author.Needs.{needs}
 use Rattle.board.proofs.are_good.Statement.{statement}

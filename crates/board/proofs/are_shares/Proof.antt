@@ -1,4 +1,4 @@
--- The two ranges. Assumes nothing.
+-- The two ranges.
 use mathlib.Core.Path.{_∙_}
 use borrow.Author.Needs.{needs}
 use Rattle.board.proofs.are_shares.Statement.{statement}

@@ -1,4 +1,4 @@
--- The product fits, since the share and the length are in their ranges. Assumes nothing.
+-- The product fits, since the share and the length are in their ranges.
 use Prim.Native.Nat.{ℕ, _*_}
 use native.Mathlib.Omega.{arith}
 use mathlib.Core.Path.{ap}

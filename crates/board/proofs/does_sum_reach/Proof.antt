@@ -1,4 +1,4 @@
--- The products fit, since share, length and number of strikes are in their ranges. Assumes nothing.
+-- The products fit, since share, length and number of strikes are in their ranges.
 use Prim.Native.Nat.{ℕ, _*_}
 use native.Mathlib.Omega.{arith}
 use mathlib.Core.Path.{ap}

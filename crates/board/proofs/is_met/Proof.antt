@@ -1,4 +1,4 @@
--- The tests of `sharesMet`. Assumes nothing.
+-- The tests of `sharesMet`.
 use mathlib.Core.Path.{_∙_}
 use borrow.Author.Needs.{needs}
 use Rattle.board.proofs.is_met.Statement.{statement}

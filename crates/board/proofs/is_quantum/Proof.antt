@@ -1,4 +1,4 @@
--- The two tests of `goodQuantumOf`. Assumes nothing.
+-- The two tests of `goodQuantumOf`.
 use mathlib.Core.Path.{_∙_}
 use borrow.Author.Needs.{needs}
 use Rattle.board.proofs.is_quantum.Statement.{statement}

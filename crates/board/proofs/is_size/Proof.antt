@@ -1,4 +1,4 @@
--- The two ends of the range. Assumes nothing.
+-- The two ends of the range.
 use native.Mathlib.Omega.{arith}
 use Rattle.board.proofs.Boards.{size-over, size-by}
 use Rattle.board.proofs.is_size.Statement.{statement}

@@ -1,4 +1,4 @@
--- Each answer by the tests before it. Assumes nothing.
+-- Each answer by the tests before it.
 use native.Mathlib.Omega.{arith}
 use mathlib.Core.Bool.{true, false}
 use Rattle.board.proofs.Boards.{size-refused, size-bounds, numbers-refused, numbers-bounds, answered}

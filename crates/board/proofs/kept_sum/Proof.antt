@@ -1,4 +1,4 @@
--- So far the sum of K, at most 2^32 a strike. Assumes nothing.
+-- So far the sum of K, at most 2^32 a strike.
 use Prim.Native.Nat.{ℕ, _+_, _-_, _*_, _≤_}
 use native.Mathlib.Omega.{arith}
 use mathlib.Core.Path.{_≡_, sym, ap, _∙_}

@@ -1,4 +1,4 @@
--- Each refusal by `refuses` with the law of its cause (Causes); an accepted add by `applied-add`. Assumes nothing.
+-- Each refusal by `refuses` with the law of its cause (Causes); an accepted add by `applied-add`.
 use Prim.Native.Nat.{ℕ, _+_, _*_, _≤_, _<_}
 use native.Mathlib.Omega.{arith}
 use mathlib.Core.Path.{refl, sym, _∙_, subst}
@@ -7,7 +7,7 @@ use borrow.Author.Needs.{needs}
 use Rattle.rules.specs.Units.{goodPrice, goodVolume}
 use Rattle.rules.proofs.Lists.{both}
 use Rattle.book.specs.Internal.{addOf}
-use Rattle.table.proofs.Table.{side-few, part-sized, part-room}
+use Rattle.order_table.proofs.Table.{side-few, part-sized, part-room}
 use Rattle.book.proofs.Causes.{add-known, add-outside, add-full, add-passes}
 use Rattle.book.proofs.Applied.{refuses, not-refused, applied-add}
 use Rattle.book.proofs.add.Statement.{statement}

@@ -1,4 +1,4 @@
--- Each refusal by `refuses` with the law of its cause (Causes); an accepted amendment by `applied-amend`. Assumes nothing.
+-- Each refusal by `refuses` with the law of its cause (Causes); an accepted amendment by `applied-amend`.
 use native.Mathlib.Omega.{arith}
 use mathlib.Core.Path.{refl, sym, ap, _∙_}
 use borrow.Author.Needs.{needs}
@@ -8,7 +8,7 @@ use Rattle.rules.specs.Units.{goodPrice, goodVolume}
 use Rattle.rules.proofs.Lists.{both}
 use Rattle.book.specs.Internal.{orderWith}
 use Rattle.book.proofs.Causes.{amend-unknown, amend-outside, amend-passes}
-use Rattle.table.proofs.Orders.{stands}
+use Rattle.order_table.proofs.Orders.{stands}
 use Rattle.book.proofs.Applied.{refuses, not-refused, applied-amend}
 use Rattle.book.proofs.amend.Statement.{statement}
 use Rattle.book.proofs.amend.Tie as tie

@@ -1,4 +1,4 @@
--- An unknown id by `refuses`; an accepted cancel by `applied-cancel`, and what the hints need by `placed`. Assumes nothing.
+-- An unknown id by `refuses`; an accepted cancel by `applied-cancel`, and what the hints need by `placed`.
 use mathlib.Core.Path.{refl}
 use borrow.Author.Needs.{needs}
 use Rattle.rules.specs.declared.Event.the-variants.{Cancel}

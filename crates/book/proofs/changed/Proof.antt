@@ -1,14 +1,14 @@
--- Each kind by its own function. Assumes nothing.
+-- Each kind by its own function.
 use mathlib.Core.Path.{_≡_, sym, ap, _∙_, subst}
 use lib.ListN.{length}
 use borrow.Author.Needs.{needs}
 use Rattle.rules.specs.declared.Order.{Order}
 use Rattle.rules.specs.declared.Event.{Event}
 use Rattle.rules.specs.Answers.{Outcome}
-use Rattle.table.specs.Table.{slotIn}
-use Rattle.table.specs.Internal.{Located}
+use Rattle.order_table.specs.Table.{slotIn}
+use Rattle.order_table.specs.Internal.{Located}
 use Rattle.book.specs.Internal.{addOf, Applied, AppliedRead}
-use Rattle.table.proofs.Table.{held-represents, held-length}
+use Rattle.order_table.proofs.Table.{held-represents, held-length}
 use Rattle.book.proofs.ByKind.{says-amend, says-add}
 use Rattle.book.proofs.changed.Statement.{statement}
 use Rattle.book.proofs.changed.Tie as tie

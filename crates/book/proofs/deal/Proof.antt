@@ -1,4 +1,4 @@
--- Each refusal by `refuses`; a deal of all is a cancel (`deal-cancels`), of a part puts what is left (`applied-deal`). Assumes nothing.
+-- Each refusal by `refuses`; a deal of all is a cancel (`deal-cancels`), of a part puts what is left (`applied-deal`).
 use Prim.Native.Nat.{ℕ, _-_, _≤_, _<_}
 use native.Mathlib.Nat.{le-refl}
 use native.Mathlib.Omega.{arith}
@@ -13,7 +13,7 @@ use Rattle.rules.specs.Orders.{left}
 use Rattle.rules.specs.Units.{goodPrice, contracts}
 use Rattle.book.specs.Internal.{orderWith}
 use Rattle.book.proofs.Causes.{known, cancel-passes, deal-unknown, deal-outside, deal-above, deal-passes}
-use Rattle.table.proofs.Orders.{its-left, its-good, stands}
+use Rattle.order_table.proofs.Orders.{its-left, its-good, stands}
 use Rattle.book.proofs.Applied.{refuses, not-refused, same-turn, deal-cancels, applied-deal}
 use Rattle.book.proofs.deal.Statement.{statement}
 use Rattle.book.proofs.deal.Tie as tie

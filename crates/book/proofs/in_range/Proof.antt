@@ -1,4 +1,4 @@
--- Both tests are those of the definitions. Assumes nothing.
+-- Both tests are those of the definitions.
 use borrow.Author.Needs.{needs}
 use Rattle.book.proofs.in_range.Statement.{statement}
 use Rattle.book.proofs.in_range.Tie as tie

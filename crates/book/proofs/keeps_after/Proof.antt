@@ -1,4 +1,4 @@
--- By whether a best key moved. Assumes nothing.
+-- By whether a best key moved.
 use mathlib.Core.Path.{sym, ap, _∙_}
 use mathlib.Core.Bool.{Bool}
 use borrow.Author.Needs.{needs}

@@ -1,4 +1,4 @@
--- A cancel and a deal by their own functions; other fields by 15. Assumes nothing.
+-- A cancel and a deal by their own functions; other fields by 15.
 use mathlib.Core.Path.{sym, refl, _∙_, subst}
 use borrow.Author.Needs.{needs}
 use Rattle.rules.specs.declared.Event.{Event}

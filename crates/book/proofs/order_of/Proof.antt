@@ -1,4 +1,4 @@
--- The side by the kind. Assumes nothing.
+-- The side by the kind.
 use mathlib.Core.Path.{ap}
 use borrow.Author.Needs.{needs}
 use Rattle.rules.specs.declared.Side.{Side}

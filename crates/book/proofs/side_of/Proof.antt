@@ -1,4 +1,4 @@
--- By the test. Assumes nothing.
+-- By the test.
 use mathlib.Core.Path.{sym, ap}
 use mathlib.Core.Bool.{Bool}
 use borrow.Author.Tests.{eq-eqb, ne-eqb}

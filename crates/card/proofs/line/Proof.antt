@@ -1,4 +1,4 @@
--- The three shares are on the card. Assumes nothing.
+-- The three shares are on the card.
 use mathlib.Core.Path.{refl}
 use borrow.Author.Needs.{needs}
 use Rattle.rules.specs.Lists.{any}

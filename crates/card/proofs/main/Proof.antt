@@ -1,4 +1,4 @@
--- The loop ends at 1,000. Assumes nothing.
+-- The loop ends at 1,000.
 use Prim.Native.Nat.{_-_, _≤_}
 use borrow.Author.Needs.{needs}
 use Rattle.card.proofs.main.Statement.{statement}

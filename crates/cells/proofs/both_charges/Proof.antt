@@ -1,4 +1,4 @@
--- Both tests. Assumes nothing.
+-- Both tests.
 use borrow.Author.Needs.{needs}
 use Rattle.cells.proofs.both_charges.Statement.{statement}
 use Rattle.cells.proofs.both_charges.Tie as tie

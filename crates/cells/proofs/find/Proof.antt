@@ -1,4 +1,4 @@
--- The tests of `namedIn`, in its order. Assumes nothing.
+-- The tests of `namedIn`, in its order.
 use Prim.Native.Nat.{ℕ}
 use mathlib.Core.Path.{_≡_, sym, ap, _∙_}
 use mathlib.Core.Bool.{true}

@@ -1,4 +1,4 @@
--- The place of a named cell fits. Assumes nothing.
+-- The place of a named cell fits.
 use native.Mathlib.Omega.{arith}
 use Rattle.rules.proofs.Places.{in-range}
 use borrow.Author.Needs.{needs}

@@ -1,4 +1,4 @@
--- Each field is a word. Assumes nothing.
+-- Each field is a word.
 use Rattle.clock.proofs.Words.{clock-back}
 use borrow.Author.Needs.{needs}
 use Rattle.clock.proofs.clock_in.Statement.{statement}

@@ -1,4 +1,4 @@
--- The limit is fixed once. Assumes nothing.
+-- The limit is fixed once.
 use borrow.Author.Needs.{needs}
 use Rattle.clock.specs.Clocks.{dutyOf}
 use Rattle.clock.proofs.duty_of.Statement.{statement}

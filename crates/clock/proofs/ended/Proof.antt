@@ -1,4 +1,4 @@
--- Time runs on to the end. Assumes nothing.
+-- Time runs on to the end.
 use Prim.Native.Nat.{_≤_}
 use mathlib.Core.Path.{ap, _∙_}
 use native.Mathlib.Omega.{arith}

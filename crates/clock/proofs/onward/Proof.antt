@@ -1,6 +1,7 @@
--- The stretch since the last event counts whole or not at all, and starts at most one lapse. Assumes nothing.
-use Prim.Native.Nat.{ℕ, zero, suc, _*_, _-_, _≤_}
+-- The stretch since the last event counts whole or not at all, and starts at most one lapse.
+use Prim.Native.Nat.{ℕ, zero, suc, _+_, _*_, _-_, _≤_, _<_}
 use native.Mathlib.Omega.{arith}
+use mathlib.Core.Path.{_≡_, sym, ap, _∙_}
 use mir.Syntax.{w32}
 use mir.Val.{Fits}
 use borrow.Author.Needs.{needs}
@@ -13,48 +14,61 @@ at-most zero n h = omega arith
 at-most (suc zero) n h = omega arith
 at-most (suc (suc k)) n h = absurd (omega (arith, h))
 
-mul-more : tie.Need-mul-more
-mul-more c =
-    let s = c .before .before .before .before .before in
-    let h : Fits w32 (s .args .t .0) = search needs in
-    record { fits = omega (arith, h .fits, at-most (s .args .clock .keeps) (s .args .t .0 - s .args .clock .time .0) (s .pre .keeps-most)) }
+times : (k d e : ℕ) → d ≡ e → k * d ≡ k * e
+times k d e h = ap (λ (n : ℕ). k * n) h
 
-add-t9 : tie.Need-add-t9
-add-t9 c =
-    let s = c .before .before .before .before .before .before in
-    let h : Fits w32 (s .args .t .0) = search needs in
-    record {
-      fits = omega (
-        arith,
-        h .fits,
-        s .pre .kept-most,
-        s .pre .onward,
-        at-most (s .args .clock .keeps) (s .args .t .0 - s .args .clock .time .0) (s .pre .keeps-most),
-      );
-    }
+plus : (k d e : ℕ) → d ≡ e → k + d ≡ k + e
+plus k d e h = ap (λ (n : ℕ). k + n) h
 
-starting-requires : tie.Need-starting-requires
-starting-requires c κs =
-    let s = c .before .before .before .before .before .before .before .before .before in
-    (s .pre .keeps-most, s .pre .last-most)
-
-add-lapses : tie.Need-add-lapses
-add-lapses c =
-    let s = c .before .before .before .before .before .before .before .before .before .before .before in
+product-requires : tie.Need-product-requires
+product-requires c κs =
+    let s = c .before .before .before in
     let h : Fits w32 (s .args .t .0) = search needs in
-    record { fits = omega (arith, h .fits, s .pre .lapses-most, c .before .starting .ensures .1, c .before .before .if1 .taken) }
+    omega (arith, h .fits, c .difference .ensures, at-most (s .args .clock .keeps) (c .difference .result) (s .pre .keeps-most))
+
+sum-requires : tie.Need-sum-requires
+sum-requires c κs =
+    let s = c .before .before .before .before in
+    let h : Fits w32 (s .args .t .0) = search needs in
+    omega (
+      arith,
+      h .fits,
+      s .pre .kept-most,
+      s .pre .onward,
+      c .product .ensures,
+      c .before .difference .ensures,
+      at-most (s .args .clock .keeps) (c .before .difference .result) (s .pre .keeps-most),
+    )
 
 returns : tie.Need-returns
 returns c =
-    let g = c .before in
-    let s = g .before .before .before .before .before .before .before .before .before .before in
-    ran-later (s .args .clock) (s .args .t) (s .args .keeps) (g .before .if1 .taken) (g .starting .result) (g .starting .ensures .0)
+    let s = c .before .before .before .before .before .before .before .before .before .before in
+    let k = s .args .clock in
+    let starts = c .before .starting in
+    let p = c .before .before .before .before .before .before .product .ensures in
+    let d = c .before .before .before .before .before .before .before .difference .ensures in
+    let total = c .before .before .before .before .before .sum .ensures ∙ plus (k .kept .0) _ _ (p ∙ times (k .keeps) _ _ d) in
+    (λ i. record { time = s .args .t; kept = record { 0 = total i }; keeps = s .args .keeps; lapses = c .sum2 .ensures i; last = k .keeps })
+    ∙ ran-later k (s .args .t) (s .args .keeps) (c .before .before .if1 .taken) (starts .result) (starts .ensures .0)
 
 returns-2 : tie.Need-returns-2
 returns-2 c =
-    let s = c .before .before .before .before .before .before .before .before .before in
-    ran-still (s .args .clock) (s .args .t) (s .args .keeps) (c .if1 .left)
+    let s = c .before .before .before .before .before .before .before .before in
+    let k = s .args .clock in
+    let p = c .before .before .before .before .product .ensures in
+    let d = c .before .before .before .before .before .difference .ensures in
+    let total = c .before .before .before .sum .ensures ∙ plus (k .kept .0) _ _ (p ∙ times (k .keeps) _ _ d) in
+    (λ i. record { time = s .args .t; kept = record { 0 = total i }; keeps = s .args .keeps; lapses = k .lapses; last = k .last })
+    ∙ ran-still k (s .args .t) (s .args .keeps) (c .if1 .left)
 
 pub onward-spec : {M : Type 1} → statement M
 onward-spec =
-    tie.close (tie.spec (λ c. search needs) mul-more add-t9 starting-requires add-lapses returns returns-2)
+    tie.close
+    (tie.spec
+    (λ c κs. search needs)
+    product-requires
+    sum-requires
+    (λ c κs. search needs)
+    (λ c κs. search needs)
+    returns
+    returns-2)

@@ -1,4 +1,4 @@
--- The limit of the case that open was told, its numbers in their ranges. Assumes nothing.
+-- The limit of the case that open was told, its numbers in their ranges.
 use Prim.Native.Nat.{_≤_}
 use mathlib.Core.Path.{_≡_, sym, ap, _∙_}
 use mathlib.Core.Bool.{true}

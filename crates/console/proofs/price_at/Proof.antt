@@ -1,4 +1,4 @@
--- The word in two's complement. Assumes nothing.
+-- The word in two's complement.
 use native.Mathlib.Omega.{arith}
 use mathlib.Core.Path.{ap}
 use Rattle.rules.specs.declared.Steps.{Steps}

@@ -1,4 +1,4 @@
--- The loop ends at the last word, and what is left of the words falls. Assumes nothing.
+-- The loop ends at the last word, and what is left of the words falls.
 use Prim.Native.Nat.{_-_, _≤_}
 use mathlib.Core.Path.{_≡_}
 use lib.ListN.{length}

@@ -1,4 +1,4 @@
--- The matched case of `doubled`. Assumes nothing.
+-- The matched case of `doubled`.
 use mathlib.Core.Path.{sym, ap, _∙_}
 use Rattle.rules.specs.declared.SpreadRule.{SpreadRule}
 use Rattle.ease.specs.Easing.{doubled}

@@ -1,4 +1,4 @@
--- The words are set where they are read as a row, by the row that was read. Assumes nothing.
+-- The words are set where they are read as a row, by the row that was read.
 use native.Mathlib.Omega.{arith}
 use mathlib.Core.Path.{_≡_, sym, ap, _∙_}
 use lib.ListN.{length-set}

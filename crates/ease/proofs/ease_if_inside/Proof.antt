@@ -1,4 +1,4 @@
--- By the answer. Assumes nothing.
+-- By the answer.
 use mathlib.Core.Path.{sym, _∙_}
 use Rattle.ease.proofs.Words.{if-inside, if-not}
 use borrow.Author.Needs.{needs}

@@ -1,4 +1,4 @@
--- An event by its fields, which say it (`by-fields`). Assumes nothing.
+-- An event by its fields, which say it (`by-fields`).
 use borrow.Author.Needs.{needs}
 use Rattle.events.proofs.Steps.{by-fields}
 use Rattle.events.proofs.step.Statement.{statement}

@@ -1,4 +1,4 @@
--- A time out of range, a tick (`tick-read`), or an event of the orders. Assumes nothing.
+-- A time out of range, a tick (`tick-read`), or an event of the orders.
 use borrow.Author.Needs.{needs}
 use mathlib.Core.Path.{refl, sym, _∙_}
 use Rattle.clock.proofs.Clocks.{onward}

@@ -1,4 +1,4 @@
--- The trader's causes and the orders by the book, then the clock. Assumes nothing.
+-- The trader's causes and the orders by the book, then the clock.
 use native.Mathlib.Omega.{arith}
 use borrow.Author.Needs.{needs}
 use Rattle.record.specs.Fields.{readFields}

@@ -1,4 +1,4 @@
--- By the test of the fields. Assumes nothing.
+-- By the test of the fields.
 use borrow.Author.Needs.{needs}
 use mathlib.Core.Path.{sym, _∙_}
 use Rattle.events.proofs.Steps.{ticked-good, ticked-bad}

@@ -1,4 +1,4 @@
--- By the test of the fields, and whether the time is early. Assumes nothing.
+-- By the test of the fields, and whether the time is early.
 use borrow.Author.Needs.{needs}
 use mathlib.Core.Path.{sym, _∙_}
 use Rattle.events.proofs.Steps.{untimely-early, untimely-late, untimely-bad}

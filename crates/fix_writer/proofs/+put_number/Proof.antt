@@ -1,4 +1,4 @@
--- `fix_writer::put_number` meets its contract. The measure is the number: its digits before the last are those of its tenth. Assumes nothing.
+-- `fix_writer::put_number` meets its contract. The measure is the number: its digits before the last are those of its tenth.
 use native.Mathlib.Omega.{arith}
 use mathlib.Core.Path.{_∙_}
 use Rattle.fix_writer.proofs.Decimals.{at-least-one}

@@ -1,4 +1,4 @@
--- `fix_writer::put` meets its contract: a byte set at a place is a byte laid there (`one-laid`). Assumes nothing.
+-- `fix_writer::put` meets its contract: a byte set at a place is a byte laid there (`one-laid`).
 use native.Mathlib.Omega.{arith}
 use borrow.Author.Needs.{needs}
 use Rattle.fix_writer.proofs.Laying.{one-laid}

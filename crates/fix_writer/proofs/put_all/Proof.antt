@@ -1,4 +1,4 @@
--- `fix_writer::put_all` meets its contract. The loop's invariant: the first bytes are copied. Assumes nothing.
+-- `fix_writer::put_all` meets its contract. The loop's invariant: the first bytes are copied.
 use Prim.Native.Nat.{_-_, _≤_}
 use mathlib.Core.Path.{_≡_}
 use lib.ListN.{length}

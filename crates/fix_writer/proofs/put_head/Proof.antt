@@ -1,4 +1,4 @@
--- `fix_writer::put_head` meets its contract: 8 and a 9 of two digits (`two-digits`) in a row are the head (`three`). Assumes nothing.
+-- `fix_writer::put_head` meets its contract: 8 and a 9 of two digits (`two-digits`) in a row are the head (`three`).
 use native.Mathlib.Omega.{arith}
 use mathlib.Core.Path.{_∙_}
 use Rattle.rules.specs.Fields.{fieldBytes}

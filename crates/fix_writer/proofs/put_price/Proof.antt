@@ -1,4 +1,4 @@
--- `fix_writer::put_price` meets its contract: 44=, the price and byte 1, laid in a row, are the field (`three`). Assumes nothing.
+-- `fix_writer::put_price` meets its contract: 44=, the price and byte 1, laid in a row, are the field (`three`).
 use native.Mathlib.Omega.{arith}
 use mathlib.Core.Path.{ap}
 use mathlib.Core.List.{[], _∷_, _++_}

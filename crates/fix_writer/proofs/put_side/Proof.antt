@@ -1,4 +1,4 @@
--- `fix_writer::put_side` meets its contract: 54=, the side's digit and byte 1, laid in a row, are the field (`three`). Assumes nothing.
+-- `fix_writer::put_side` meets its contract: 54=, the side's digit and byte 1, laid in a row, are the field (`three`).
 use native.Mathlib.Omega.{arith}
 use mathlib.Core.Path.{ap}
 use mathlib.Core.List.{[], _∷_, _++_}

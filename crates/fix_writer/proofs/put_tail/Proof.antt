@@ -1,4 +1,4 @@
--- `fix_writer::put_tail` meets its contract: 10=, three digits and byte 1, laid in a row, are the field (`join`). Assumes nothing.
+-- `fix_writer::put_tail` meets its contract: 10=, three digits and byte 1, laid in a row, are the field (`join`).
 use Rattle.rules.specs.Fields.{fieldBytes}
 use Rattle.fix_writer.proofs.Laying.{join}
 use borrow.Author.Needs.{needs}

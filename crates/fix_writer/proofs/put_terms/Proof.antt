@@ -1,4 +1,4 @@
--- `fix_writer::put_terms` meets its contract: the fields 54, 38 and 44, laid in a row, are the terms (`three`). Assumes nothing.
+-- `fix_writer::put_terms` meets its contract: the fields 54, 38 and 44, laid in a row, are the terms (`three`).
 use native.Mathlib.Omega.{arith}
 use mathlib.Core.Path.{sym, ap}
 use mathlib.Core.List.{_++_, append-nil}

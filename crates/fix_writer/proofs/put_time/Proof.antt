@@ -1,4 +1,4 @@
--- `fix_writer::put_time` meets its contract: 60=, the time and byte 1, laid in a row, are the field (`three`). Assumes nothing.
+-- `fix_writer::put_time` meets its contract: 60=, the time and byte 1, laid in a row, are the field (`three`).
 use native.Mathlib.Omega.{arith}
 use mathlib.Core.Path.{sym}
 use mathlib.Core.List.{append-nil}

@@ -1,4 +1,4 @@
--- `fix_writer::put_type` meets its contract: 35=, the type and byte 1, laid in a row, are the field (`three`). Assumes nothing.
+-- `fix_writer::put_type` meets its contract: 35=, the type and byte 1, laid in a row, are the field (`three`).
 use native.Mathlib.Omega.{arith}
 use Rattle.rules.specs.Fields.{fieldBytes}
 use Rattle.fix_writer.proofs.Laying.{three}

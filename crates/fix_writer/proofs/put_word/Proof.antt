@@ -1,4 +1,4 @@
--- `fix_writer::put_word` meets its contract: tag, at most ten digits (`ten-at-most`) and byte 1, laid in a row (`three`). Assumes nothing.
+-- `fix_writer::put_word` meets its contract: tag, at most ten digits (`ten-at-most`) and byte 1, laid in a row (`three`).
 use native.Mathlib.Omega.{arith}
 use mathlib.Core.Path.{_∙_}
 use Rattle.fix_writer.proofs.Laying.{three}

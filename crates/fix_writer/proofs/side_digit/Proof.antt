@@ -1,4 +1,4 @@
--- `fix_writer::side_digit` meets its contract: each arm is the byte that `sideText` says. Assumes nothing.
+-- `fix_writer::side_digit` meets its contract: each arm is the byte that `sideText` says.
 use mathlib.Core.Path.{sym, ap}
 use borrow.Author.Needs.{needs}
 use Rattle.rules.specs.Messages.{sideText}

@@ -1,7 +1,7 @@
--- `fix_writer::time_good` meets its contract: it tells whether `time_in` reads a time, as the definition `isTime` does. Assumes nothing.
+-- `fix_writer::time_good` meets its contract: it tells whether `time_in` reads a time, as the definition `isTime` does.
 use mathlib.Core.Path.{sym, ap, _∙_}
 use borrow.Author.Needs.{needs}
-use Rattle.dates.specs.Answers.{shownTime}
+use Rattle.fix_dates.specs.Answers.{shownTime}
 use Rattle.fix_writer.specs.Internal.{isSome, isTime}
 use Rattle.fix_writer.proofs.time_good.Statement.{statement}
 use Rattle.fix_writer.proofs.time_good.Tie as tie

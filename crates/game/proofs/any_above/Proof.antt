@@ -1,4 +1,4 @@
--- The three tests, joined. Assumes nothing.
+-- The three tests, joined.
 use mathlib.Core.Path.{_∙_}
 use borrow.Author.Needs.{needs}
 use Rattle.game.proofs.any_above.Statement.{statement}

@@ -1,4 +1,4 @@
--- The code's steps are those of the closed form, which is the value. Assumes nothing.
+-- The code's steps are those of the closed form, which is the value.
 use Prim.Native.Nat.{ℕ, _-_, _/_, min}
 use mathlib.Core.Path.{_≡_, sym, _∙_}
 use borrow.Author.Needs.{needs}

@@ -1,4 +1,4 @@
--- The code's test is the definition's. Assumes nothing.
+-- The code's test is the definition's.
 use mathlib.Core.Path.{refl}
 use Rattle.game.proofs.is_above.Statement.{statement}
 use Rattle.game.proofs.is_above.Tie as tie

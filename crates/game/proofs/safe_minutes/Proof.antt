@@ -1,4 +1,4 @@
--- Each answer by the test of the three numbers. Assumes nothing.
+-- Each answer by the test of the three numbers.
 use mathlib.Core.Path.{ap, sym, _∙_}
 use borrow.Author.Needs.{needs}
 use Rattle.rules.specs.Answers.{accepted}

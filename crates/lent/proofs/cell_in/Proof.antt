@@ -1,4 +1,4 @@
--- Each field from its words. Assumes nothing.
+-- Each field from its words.
 use mathlib.Core.Path.{_∙_}
 use lib.ListN.{getD}
 use Rattle.rules.specs.Units.{millis, kopecks}

@@ -1,4 +1,4 @@
--- The words up to i are copied. Assumes nothing.
+-- The words up to i are copied.
 use Prim.Native.Nat.{_-_, _≤_}
 use mathlib.Core.Path.{_≡_, refl, _∙_}
 use native.Mathlib.Omega.{arith}

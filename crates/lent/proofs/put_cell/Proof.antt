@@ -1,4 +1,4 @@
--- The ten words are copied. Assumes nothing.
+-- The ten words are copied.
 use Rattle.lent.specs.Words.{cellWords}
 use borrow.Author.Needs.{needs}
 use Rattle.lent.proofs.put_cell.Statement.{statement}

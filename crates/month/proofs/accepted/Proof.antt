@@ -1,4 +1,4 @@
--- The month as it was handed over, with one more call counted. Assumes nothing.
+-- The month as it was handed over, with one more call counted.
 use Prim.Native.Nat.{ℕ}
 use mathlib.Core.Path.{refl, ap}
 use borrow.Author.Needs.{needs}

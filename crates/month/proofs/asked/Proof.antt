@@ -1,4 +1,4 @@
--- The month as it was handed over. Assumes nothing.
+-- The month as it was handed over.
 use mathlib.Core.Path.{refl}
 use Rattle.month.proofs.asked.Statement.{statement}
 use Rattle.month.proofs.asked.Tie as tie

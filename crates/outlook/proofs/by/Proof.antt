@@ -1,4 +1,4 @@
--- Each case by its tests. Assumes nothing.
+-- Each case by its tests.
 use Prim.Native.Nat.{ℕ}
 use mathlib.Core.Path.{ap}
 use borrow.Author.Needs.{needs}

@@ -1,4 +1,4 @@
--- By the test. Assumes nothing.
+-- By the test.
 use borrow.Author.Needs.{needs}
 use Rattle.outlook.proofs.full.Statement.{statement}
 use Rattle.outlook.proofs.full.Tie as tie

@@ -1,4 +1,4 @@
--- No limit; at most the limit; or over it. Assumes nothing.
+-- No limit; at most the limit; or over it.
 use borrow.Author.Tests.{eq-eqb, ne-eqb, le-leb, lt-leb}
 use Rattle.outlook.proofs.lapses_left.Statement.{statement}
 use Rattle.outlook.proofs.lapses_left.Tie as tie

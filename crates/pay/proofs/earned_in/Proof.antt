@@ -1,4 +1,4 @@
--- The invariant: the total is the sum over the cells passed, at most 10^14 for each. Assumes nothing.
+-- The invariant: the total is the sum over the cells passed, at most 10^14 for each.
 use Prim.Native.Nat.{_-_, _*_, _≤_}
 use mathlib.Core.Path.{_≡_, ap, _∙_}
 use mathlib.Core.List.{List, map}

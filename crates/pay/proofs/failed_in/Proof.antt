@@ -1,4 +1,4 @@
--- The invariant: the count is that of the days passed, at most one for each. Assumes nothing.
+-- The invariant: the count is that of the days passed, at most one for each.
 use Prim.Native.Nat.{ℕ, _-_, _≤_}
 use mathlib.Core.Path.{_≡_, ap, _∙_}
 use native.Mathlib.Omega.{arith}

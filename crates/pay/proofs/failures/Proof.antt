@@ -1,4 +1,4 @@
--- `failures` meets its contract, series by series. Assumes nothing.
+-- `failures` meets its contract, series by series.
 use Rattle.rules.specs.Pay.{allFailures}
 use borrow.Author.Needs.{needs}
 use Rattle.pay.proofs.failures.Statement.{statement}

@@ -1,4 +1,4 @@
--- `fee` meets its contract, by the failure counts. Assumes nothing.
+-- `fee` meets its contract, by the failure counts.
 use mathlib.Core.Path.{_≡_, sym, ap, _∙_}
 use mathlib.Core.Bool.{false}
 use Rattle.rules.specs.Lists.{any}

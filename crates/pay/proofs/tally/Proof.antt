@@ -1,4 +1,4 @@
--- `tally` meets its contract, case by case. Assumes nothing.
+-- `tally` meets its contract, case by case.
 use native.Mathlib.Omega.{arith}
 use borrow.Author.Needs.{needs}
 use borrow.Author.Tests.{not-true, not-false}

@@ -1,4 +1,4 @@
--- The invariant: no count passed is above 15. Assumes nothing.
+-- The invariant: no count passed is above 15.
 use Prim.Native.Nat.{_+_, _-_, _≤_}
 use mathlib.Core.Path.{_≡_, sym, ap, _∙_}
 use mathlib.Core.Bool.{true, false}

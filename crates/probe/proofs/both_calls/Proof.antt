@@ -1,4 +1,4 @@
--- The row, SP and the records lie within the input, and the buffers within their arrays. Assumes nothing.
+-- The row, SP and the records lie within the input, and the buffers within their arrays.
 use native.Mathlib.Omega.{arith}
 use lib.ListN.{length-take}
 use borrow.Author.Needs.{needs}

@@ -1,4 +1,4 @@
--- The length comes from a law, and not by counting: a list this long is too deep to count. Assumes nothing.
+-- The length comes from a law, and not by counting: a list this long is too deep to count.
 use Prim.Native.Nat.{ℕ}
 use mathlib.Core.Path.{_≡_, sym}
 use lib.ListN.{length, replicate, length-replicate}

@@ -1,4 +1,4 @@
--- Both tables lie within the input and their arrays. Assumes nothing.
+-- Both tables lie within the input and their arrays.
 use native.Mathlib.Omega.{arith}
 use lib.ListN.{length-take}
 use borrow.Author.Needs.{needs}

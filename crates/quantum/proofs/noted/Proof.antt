@@ -1,4 +1,4 @@
--- The numbers of live orders before and after the event say what becomes of its id (`follows`, `noted-is`). Assumes nothing.
+-- The numbers of live orders before and after the event say what becomes of its id (`follows`, `noted-is`).
 use mathlib.Core.List.{[], _∷_, _++_}
 use Rattle.rules.specs.Orders.{live}
 use Rattle.events.proofs.Represents.{good-orders}

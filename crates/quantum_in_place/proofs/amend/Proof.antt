@@ -1,4 +1,4 @@
--- The event on the words before the notes, which stay. Assumes nothing.
+-- The event on the words before the notes, which stay.
 use mathlib.Core.Path.{ap, sym, _∙_}
 use Rattle.record.specs.declared.Fields.{Fields}
 use Rattle.quantum_in_place.proofs.Whole.{front-held, front-long, number-is, amended-words}

@@ -1,4 +1,4 @@
--- By the kind: a tick, an amendment, or another event. Assumes nothing.
+-- By the kind: a tick, an amendment, or another event.
 use mathlib.Core.Path.{refl, subst}
 use Rattle.rules.specs.declared.Event.{Event}
 use Rattle.quantum_in_place.specs.Events.{StepsWords}

@@ -1,4 +1,4 @@
--- The duty and the clock are read, the event goes to the table in place, and the clock is put back. Assumes nothing.
+-- The duty and the clock are read, the event goes to the table in place, and the clock is put back.
 use Rattle.events.proofs.Steps.{by-fields}
 use Rattle.quantum_in_place.proofs.Quanta.{clock-room, parts-held, steps-front}
 use borrow.Author.Needs.{needs}

@@ -1,4 +1,4 @@
--- The event on the words before the notes; where it is taken, the notes follow it by the numbers of live orders. Assumes nothing.
+-- The event on the words before the notes; where it is taken, the notes follow it by the numbers of live orders.
 use Rattle.quantum_in_place.proofs.Whole.{front-held, held-is, front-long, table-held, number-is, refused-words, new-held, follows-on, accepted-words}
 use native.Mathlib.Omega.{arith}
 use borrow.Author.Needs.{needs}

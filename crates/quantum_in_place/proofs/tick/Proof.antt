@@ -1,4 +1,4 @@
--- The duty and the clock are read, the time is tested, and the clock is put back where it is in range. Assumes nothing.
+-- The duty and the clock are read, the time is tested, and the clock is put back where it is in range.
 use Rattle.quantum_in_place.proofs.Ticks.{tick-early, tick-late, tick-goes, tick-onward}
 use borrow.Author.Needs.{needs}
 use Rattle.quantum_in_place.proofs.tick.Statement.{statement}

@@ -1,4 +1,4 @@
--- The list that runs, or the refusal. Assumes nothing.
+-- The list that runs, or the refusal.
 use mathlib.Core.Path.{refl}
 use Rattle.quoting.proofs.Lists.{list-long, list-short, list-answered}
 use borrow.Author.Needs.{needs}

@@ -1,4 +1,4 @@
--- The words of the calls, or 3. Assumes nothing.
+-- The words of the calls, or 3.
 use Rattle.quoting.proofs.Lists.{words-long, words-read}
 use mathlib.Core.List.{[]}
 use borrow.Author.Needs.{needs}

@@ -1,5 +1,5 @@
 -- `quoting_standing` meets its contract: a walk of its MIR, by hand. Records, words and outcomes are handed on to `standing::run` for good, at their own lifetimes, so that what the run leaves is what this call leaves; the words are shared, and are read again for the number.
--- All that the proof knows of the two functions that it calls is that they meet their contracts. Assumes nothing.
+-- All that the proof knows of the two functions that it calls is that they meet their contracts.
 use mathlib.Core.Path.{_≡_, refl, ap, subst}
 use Prim.Native.Nat.{ℕ, _<_, _^_}
 use mathlib.Core.List.{[], _∷_, List}
@@ -38,8 +38,8 @@ use denote.Triple.Table.{entered, cited}
 use denote.Triple.Walked.{says, Stays, gave-slice, stay-none, stay-none-slice, walkOf, goes-gave-slice, goes-none, goes-none-slice, ends-at, walked, walk-meets}
 use denote.Exit.{yes}
 use denote.Signature.{plain}
-use Rattle.makers.specs.declared.Maker.{Maker}
-use Rattle.makers.specs.Calls.{standing}
+use Rattle.standing_rules.specs.declared.Maker.{Maker}
+use Rattle.standing_rules.specs.Calls.{standing}
 use Rattle.standing.specs.declared.Ran.{Ran}
 use Rattle.standing.specs.Words.{readable}
 use Rattle.standing.specs.Claim.{ListAnswers}
@@ -51,12 +51,12 @@ use Rattle.standing.proofs.run as ran
 use Rattle.standing.proofs.run.Symbol as ran-def
 use Rattle.standing.proofs.run.Symbol.{name as #standing·run}
 use Rattle.standing.proofs.run.Met as ran-thm
-use Rattle.standings.specs.Standings.{standingNumber}
-use Rattle.standings.proofs.Standings.{standing-answered}
-use Rattle.standings.proofs.standing_number as numbered
-use Rattle.standings.proofs.standing_number.Symbol as numbered-def
-use Rattle.standings.proofs.standing_number.Symbol.{name as #standings·standing-number}
-use Rattle.standings.proofs.standing_number.Met as numbered-thm
+use Rattle.c_standing.specs.Standings.{standingNumber}
+use Rattle.c_standing.proofs.Standings.{standing-answered}
+use Rattle.c_standing.proofs.standing_number as numbered
+use Rattle.c_standing.proofs.standing_number.Symbol as numbered-def
+use Rattle.c_standing.proofs.standing_number.Symbol.{name as #c-standing·standing-number}
+use Rattle.c_standing.proofs.standing_number.Met as numbered-thm
 use Rattle.quoting.proofs.quoting_standing.Key.{name as #quoting·quoting-standing}
 use Rattle.quoting.proofs.quoting_standing as it
 use Rattle.quoting.proofs.quoting_standing.Statement as stated
@@ -133,7 +133,7 @@ module _ {M : Type 1} (𝓤 : URA M) (H : Heap 𝓤) (A : Atoms 𝓤) (W : Given
       nothing ! $ move ! (3 ∷ 0 ∷ []) $ fjoin ! $ move ! (2 ∷ 0 ∷ []) $ fjoin ! $ owned ! usize (Is usize) (uint-makes 𝓤 H A W w64) c₀ _ (refl, c-fits) $ fjoin ! $ move ! (1 ∷ 0 ∷ []) $ fjoin ! $
       owned ! u64 (Is u64) (uint-makes 𝓤 H A W w64) t _ (refl, fits) $ move ! (1 ∷ 0 ∷ []) $ done !
 
-  walk : (𝓣 : Tables 𝓤 H) → Triple 𝓤 (𝓣 .C #standing·run) TheRun → Triple 𝓤 (𝓣 .C #standings·standing-number) (Asks 𝓤 H A numbered.ended (numbered.clauses 𝓤 H A mem run))
+  walk : (𝓣 : Tables 𝓤 H) → Triple 𝓤 (𝓣 .C #standing·run) TheRun → Triple 𝓤 (𝓣 .C #c-standing·standing-number) (Asks 𝓤 H A numbered.ended (numbered.clauses 𝓤 H A mem run))
       → ent 𝓤 (onEntry 𝓤 H A it.signature κs qs a vals) (WpFn 𝓤 H (𝓣 .C) (𝓣 .Λ) code.function (s ∷ vint w64 c₀ ∷ sw ∷ so ∷ []) Post)
   walk 𝓣 known-run known-number =
       qed W ((‵ (flft κ q) ⊛ ‵ (flft κ₁ q₁) ⊛ ‵ (flft κ₂ q₂) ⊛ ‵ ftrue) ∷ ‵ (owns (MutSlice (named 0) κ R ∷ usize ∷ ShrSlice (named 1) κ₁ u32 ∷ MutSlice (named 2) κ₂ u32 ∷ []) a vals) ∷ []) ∵ enter ! (𝓣 .C) (𝓣 .Λ) code.function (s ∷ vint w64 c₀ ∷ sw ∷ so ∷ []) _ $
@@ -173,7 +173,7 @@ module _ {M : Type 1} (𝓤 : URA M) (H : Heap 𝓤) (A : Atoms 𝓤) (W : Given
       keep ! (3 ∷ 1 ∷ 2 ∷ 5 ∷ 0 ∷ 4 ∷ []) $ by ! (exits r t zs e f (is₂ .1) len len₂)))))))))))))))))))
 
 standing-meets : {M : Type 1} (𝓤 : URA M) (H : Heap 𝓤) (A : Atoms 𝓤) (W : Given 𝓤 H A) (mem : Memory → SProp 𝓤) (run : Routine → Fun 𝓤) (𝓣 : Tables 𝓤 H)
-    → Triple 𝓤 (𝓣 .C #standing·run) (Asks 𝓤 H A ran.ended (ran.clauses 𝓤 H A mem run)) → Triple 𝓤 (𝓣 .C #standings·standing-number) (Asks 𝓤 H A numbered.ended (numbered.clauses 𝓤 H A mem run))
+    → Triple 𝓤 (𝓣 .C #standing·run) (Asks 𝓤 H A ran.ended (ran.clauses 𝓤 H A mem run)) → Triple 𝓤 (𝓣 .C #c-standing·standing-number) (Asks 𝓤 H A numbered.ended (numbered.clauses 𝓤 H A mem run))
     → Meets 𝓤 H A it.signature (WpFn 𝓤 H (𝓣 .C) (𝓣 .Λ) code.function) (it.spec 𝓤 H A mem run)
 standing-meets 𝓤 H A W mem run 𝓣 known-run known-number =
     walk-meets 𝓤 H A it.ended stayed W (goes-gave-slice 𝓤 H A W 3 0 tt (plain (λ _. R)), (goes-none 𝓤 H A W 3 (λ _. usize) yes (λ κs x f. refl), (goes-none-slice 𝓤 H A W 3 (1 ∷ []) tt (plain (λ _. u32)) yes, (goes-gave-slice 𝓤 H A W 3 2 tt (plain (λ _. u32)), tt)))) (it.clauses 𝓤 H A mem run)
@@ -191,4 +191,4 @@ quoting-standing-spec 𝓤 H 𝓜 𝓖 𝓡 =
     (tables 𝓤 H 𝓜 𝓡 code.env .C) (tables 𝓤 H 𝓜 𝓡 code.env .Λ) #quoting·quoting-standing code.function (code.unfolded 𝓤 H 𝓜 𝓡)
     (standing-meets 𝓤 H (𝓖 .A) (givenOf 𝓤 H 𝓜 𝓖) (𝓜 .mem) (𝓡 .run) (tablesOf 𝓤 H 𝓜 (tables 𝓤 H 𝓜 𝓡 code.env))
     (cited 𝓤 H _ 𝓜 𝓡 code.env #standing·run ran-def.routine code.calls-standing·run (ran-thm.met 𝓤 H 𝓜 𝓖 𝓡))
-    (cited 𝓤 H _ 𝓜 𝓡 code.env #standings·standing-number numbered-def.routine code.calls-standings·standing-number (numbered-thm.met 𝓤 H 𝓜 𝓖 𝓡)))
+    (cited 𝓤 H _ 𝓜 𝓡 code.env #c-standing·standing-number numbered-def.routine code.calls-c-standing·standing-number (numbered-thm.met 𝓤 H 𝓜 𝓖 𝓡)))

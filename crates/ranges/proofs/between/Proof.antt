@@ -1,4 +1,4 @@
--- The two tests of `within`. Assumes nothing.
+-- The two tests of `within`.
 use mathlib.Core.Path.{_∙_}
 use borrow.Author.Needs.{needs}
 use Rattle.ranges.proofs.between.Statement.{statement}

@@ -1,4 +1,4 @@
--- The tests of `goodCell`. Assumes nothing.
+-- The tests of `goodCell`.
 use borrow.Author.Needs.{needs}
 use Rattle.ranges.proofs.cell.Statement.{statement}
 use Rattle.ranges.proofs.cell.Tie as tie

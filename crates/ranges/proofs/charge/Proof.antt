@@ -1,4 +1,4 @@
--- The test of `goodCharge`. Assumes nothing.
+-- The test of `goodCharge`.
 use Rattle.rules.specs.Units.{goodCharge}
 use mathlib.Core.Path.{refl}
 use Rattle.ranges.proofs.charge.Statement.{statement}

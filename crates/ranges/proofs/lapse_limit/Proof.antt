@@ -1,4 +1,4 @@
--- The test of `goodLapseLimit`, its two parts in turn. Assumes nothing.
+-- The test of `goodLapseLimit`, its two parts in turn.
 use Rattle.rules.specs.Lapses.{goodLapseLimit}
 use borrow.Author.Needs.{needs}
 use Rattle.ranges.proofs.lapse_limit.Statement.{statement}

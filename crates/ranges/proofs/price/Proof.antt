@@ -1,4 +1,4 @@
--- The two tests of `goodPrice`. Assumes nothing.
+-- The two tests of `goodPrice`.
 use mathlib.Core.Path.{_∙_}
 use Rattle.rules.specs.Units.{goodPrice}
 use borrow.Author.Needs.{needs}

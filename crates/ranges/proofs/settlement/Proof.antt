@@ -1,4 +1,4 @@
--- The test of SP, where there is one. Assumes nothing.
+-- The test of SP, where there is one.
 use mathlib.Core.Path.{sym, ap, _∙_}
 use Rattle.rules.specs.Causes.{goodSettlement}
 use borrow.Author.Needs.{needs}

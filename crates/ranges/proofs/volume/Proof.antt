@@ -1,4 +1,4 @@
--- The test of `goodVolume`. Assumes nothing.
+-- The test of `goodVolume`.
 use Rattle.rules.specs.Units.{goodVolume}
 use borrow.Author.Needs.{needs}
 use Rattle.ranges.proofs.volume.Statement.{statement}

@@ -1,4 +1,4 @@
--- The fields of each event are those of `fieldsFor`. Assumes nothing.
+-- The fields of each event are those of `fieldsFor`.
 use mathlib.Core.Path.{sym, ap, _∙_}
 use borrow.Author.Needs.{needs}
 use Rattle.record.specs.Fields.{fieldsFor}

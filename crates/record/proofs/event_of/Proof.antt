@@ -1,4 +1,4 @@
--- The event of each kind is that of `eventBy` (`buy-of` .. `tick-of`). Assumes nothing.
+-- The event of each kind is that of `eventBy` (`buy-of` .. `tick-of`).
 use borrow.Author.Needs.{needs}
 use Rattle.record.proofs.Reading.{buy-of, sell-of, amend-of, cancel-of, deal-of, tick-of}
 use Rattle.record.proofs.event_of.Statement.{statement}

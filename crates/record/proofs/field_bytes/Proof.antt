@@ -1,4 +1,4 @@
--- Each byte is one of `wordBytes`. Assumes nothing.
+-- Each byte is one of `wordBytes`.
 use borrow.Author.Needs.{needs}
 use Rattle.rules.specs.Records.{fieldBytes, wordBytes}
 use Rattle.record.proofs.field_bytes.Statement.{statement}

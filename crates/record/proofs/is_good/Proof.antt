@@ -1,4 +1,4 @@
--- The tests of `goodFields`, kind by kind. Assumes nothing.
+-- The tests of `goodFields`, kind by kind.
 use borrow.Author.Needs.{needs}
 use Rattle.record.proofs.Reading.{good-cancel, good-deal, good-tick, good-other}
 use Rattle.record.proofs.is_good.Statement.{statement}

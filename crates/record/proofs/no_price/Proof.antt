@@ -1,4 +1,4 @@
--- The word of the price is tested. Assumes nothing.
+-- The word of the price is tested.
 use borrow.Author.Needs.{needs}
 use mathlib.Core.Path.{ap}
 use lib.Dec.{eqb}

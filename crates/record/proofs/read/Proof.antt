@@ -1,4 +1,4 @@
--- A record cut short, a good one, and another. Assumes nothing.
+-- A record cut short, a good one, and another.
 use borrow.Author.Needs.{needs}
 use mathlib.Core.Path.{sym, _∙_}
 use denote.Ref.{now}

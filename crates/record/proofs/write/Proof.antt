@@ -1,4 +1,4 @@
--- The bytes of the event's fields (`written`). Assumes nothing.
+-- The bytes of the event's fields (`written`).
 use borrow.Author.Needs.{needs}
 use mathlib.Core.Path.{ap, _∙_}
 use Rattle.rules.specs.Records.{fieldBytes}

@@ -1,9 +1,9 @@
--- `replay::answer` meets its contract: the words that `play` read are left out. Assumes nothing.
+-- `replay::answer` meets its contract: the words that `play` read are left out.
 use Prim.Native.Nat.{_*_, _≤_}
 use native.Mathlib.Omega.{arith}
 use mathlib.Core.Path.{sym, _∙_}
 use lib.Seq.{length-take-le}
-use Rattle.pieces.proofs.Moving.{part}
+use Rattle.replay_pieces.proofs.Moving.{part}
 use borrow.Author.Needs.{needs}
 use Rattle.replay.proofs.answer.Statement.{statement}
 use Rattle.replay.proofs.answer.Tie as tie

@@ -1,12 +1,12 @@
 -- `replay::play` meets its contract. The invariant is `Underway`: the words before the place are read, and the month is that of their
--- calls. The measure is the number of words left. Assumes nothing.
+-- calls. The measure is the number of words left.
 use Prim.Native.Nat.{_-_}
 use native.Mathlib.Omega.{arith}
 use borrow.Author.Needs.{needs}
 use lib.ListN.{length}
 use Rattle.words.specs.Bytes.{wordsIn}
 use Rattle.words.proofs.Bytes.{words-length}
-use Rattle.script.proofs.Playing.{Underway, underway, inside, reached, all-read, all-done, nearer, still-underway}
+use Rattle.call_step.proofs.Playing.{Underway, underway, inside, reached, all-read, all-done, nearer, still-underway}
 use Rattle.replay.proofs.play.Statement.{statement}
 use Rattle.replay.proofs.play.Tie as tie
 

@@ -1,5 +1,4 @@
--- `replay::stream` is safe and ends. Each turn reads a byte at least, and the loop's test bounds the words that are passed. Assumes
--- nothing.
+-- `replay::stream` is safe and ends. Each turn reads a byte at least, and the loop's test bounds the words that are passed.
 use Prim.Native.Nat.{ℕ, _-_, _+_, _*_, _≤_, _<_}
 use native.Mathlib.Omega.{arith}
 use mathlib.Core.Path.{_≡_, refl, sym, _∙_}
@@ -8,7 +7,7 @@ use lib.ListN.{length}
 use lib.Seq.{length-take-le}
 use Rattle.month.specs.declared.Month.{Month}
 use Rattle.month.specs.Represents.{Reached}
-use Rattle.blocks.specs.Reading.{callsOf}
+use Rattle.call_blocks.specs.Reading.{callsOf}
 use Rattle.replay.specs.declared.Played.{Played}
 use Rattle.replay.specs.Pieces.{Plays}
 use borrow.Author.Needs.{needs}

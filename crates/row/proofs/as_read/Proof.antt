@@ -1,4 +1,4 @@
--- The matched case of `asRead`. Assumes nothing.
+-- The matched case of `asRead`.
 use mathlib.Core.Path.{sym, ap}
 use Rattle.rules.specs.declared.SpreadRule.{SpreadRule}
 use Rattle.rules.specs.Rows.{asRead}

@@ -1,4 +1,4 @@
--- Each answer by the law of its case. Assumes nothing.
+-- Each answer by the law of its case.
 use mathlib.Core.Path.{ap, sym, _∙_}
 use borrow.Author.Tests.{not-true, not-false}
 use borrow.Author.Needs.{needs}

@@ -1,4 +1,4 @@
--- The invariant: no row passed is for that expiry and quantum. Assumes nothing.
+-- The invariant: no row passed is for that expiry and quantum.
 use Prim.Native.Nat.{ℕ, _-_, _≤_, _<_}
 use mathlib.Core.Path.{_≡_, sym, _∙_}
 use mathlib.Core.Bool.{false}

@@ -1,4 +1,4 @@
--- The row that the search found, by the laws of the first that passes. Assumes nothing.
+-- The row that the search found, by the laws of the first that passes.
 use Prim.Native.Nat.{ℕ, _+_, _*_, _-_, _/_, _≤_, _<_}
 use mathlib.Core.Path.{_≡_, ap, sym, _∙_}
 use mathlib.Core.List.{List, []}

@@ -1,4 +1,4 @@
--- The row's first two words are the table's at 7 * k and after it. Assumes nothing.
+-- The row's first two words are the table's at 7 * k and after it.
 use Prim.Native.Nat.{ℕ, _+_, _*_, _<_}
 use mathlib.Core.Path.{_≡_, ap, _∙_}
 use mathlib.Core.List.{List}

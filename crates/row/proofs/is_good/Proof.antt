@@ -1,4 +1,4 @@
--- The tests of `goodRow`, in its order. Assumes nothing.
+-- The tests of `goodRow`, in its order.
 use borrow.Author.Needs.{needs}
 use Rattle.rules.specs.Rows.{goodRow}
 use Rattle.row.proofs.is_good.Statement.{statement}

@@ -1,4 +1,4 @@
--- The two tests of `goodLength`. Assumes nothing.
+-- The two tests of `goodLength`.
 use mathlib.Core.Path.{_∙_}
 use borrow.Author.Needs.{needs}
 use Rattle.row.proofs.is_length.Statement.{statement}

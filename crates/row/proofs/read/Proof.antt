@@ -1,4 +1,4 @@
--- Each answer by its tests. Assumes nothing.
+-- Each answer by its tests.
 use Prim.Native.Nat.{ℕ}
 use mathlib.Core.Path.{_≡_, sym, ap, _∙_}
 use mathlib.Core.List.{List}

@@ -1,4 +1,4 @@
--- The number of the matched variant. Assumes nothing.
+-- The number of the matched variant.
 use mathlib.Core.Path.{sym, ap}
 use Rattle.rules.specs.Answers.{numberOf}
 use borrow.Author.Needs.{needs}

@@ -1,4 +1,4 @@
--- Each number by its own arm, 15 since it is none of the others. Assumes nothing.
+-- Each number by its own arm, 15 since it is none of the others.
 use Prim.Native.Nat.{ℕ, suc, _≤_}
 use mathlib.Core.Path.{_≡_, refl}
 use mathlib.Core.Bool.{Bool, true, false}

@@ -1,4 +1,4 @@
--- The loop ends at 60. Assumes nothing.
+-- The loop ends at 60.
 use Prim.Native.Nat.{_-_, _≤_}
 use borrow.Author.Needs.{needs}
 use Rattle.safe_table.proofs.line.Statement.{statement}

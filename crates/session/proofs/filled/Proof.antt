@@ -1,4 +1,4 @@
--- Two words a pair where the run is finished, none where it is refused (`filled-is`). Assumes nothing.
+-- Two words a pair where the run is finished, none where it is refused (`filled-is`).
 use Rattle.session.proofs.Endings.{filled-is}
 use borrow.Author.Needs.{needs}
 use Rattle.session.proofs.filled.Statement.{statement}

@@ -1,4 +1,4 @@
--- The front that the run has filled. Assumes nothing.
+-- The front that the run has filled.
 use mathlib.Core.Path.{refl, sym}
 use lib.Seq.{length-take-le}
 use Rattle.rules.specs.Terms.{paper}

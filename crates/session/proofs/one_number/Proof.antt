@@ -1,4 +1,4 @@
--- K where the run is finished, the refusal over the place where not (`refused-is`). Assumes nothing.
+-- K where the run is finished, the refusal over the place where not (`refused-is`).
 use Rattle.session.proofs.Endings.{refused-is}
 use borrow.Author.Needs.{needs}
 use Rattle.session.proofs.one_number.Statement.{statement}

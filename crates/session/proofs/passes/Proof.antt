@@ -1,4 +1,4 @@
--- Refused, too long for the buffer, or written by the second pass. Assumes nothing.
+-- Refused, too long for the buffer, or written by the second pass.
 use native.Mathlib.Omega.{arith}
 use Rattle.rules.specs.Terms.{paper}
 use Rattle.rules.specs.Session.{session}

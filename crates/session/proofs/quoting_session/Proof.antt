@@ -1,4 +1,4 @@
--- The leading bytes are not 32, or the pass over the records answers. Assumes nothing.
+-- The leading bytes are not 32, or the pass over the records answers.
 use Rattle.session.proofs.Endings.{bytes-short, bytes-number}
 use borrow.Author.Needs.{needs}
 use Rattle.session.proofs.quoting_session.Statement.{statement}

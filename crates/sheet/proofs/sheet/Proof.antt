@@ -1,4 +1,4 @@
--- The words that the run has filled lie within the buffer. Assumes nothing.
+-- The words that the run has filled lie within the buffer.
 use mathlib.Core.Path.{sym, _∙_}
 use lib.Seq.{length-take-le}
 use Rattle.session.proofs.Endings.{front-is, filled-is}

@@ -1,4 +1,4 @@
--- Each answer by its law. Assumes nothing.
+-- Each answer by its law.
 use mathlib.Core.Path.{sym, _∙_}
 use Rattle.rules.specs.Records.{signedOf}
 use Rattle.words.proofs.Complement.{signed-fits}

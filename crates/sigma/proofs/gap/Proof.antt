@@ -1,4 +1,4 @@
--- The gap, either way round. Assumes nothing.
+-- The gap, either way round.
 use native.Mathlib.Omega.{arith}
 use Rattle.sigma.proofs.Differences.{abs-lt, abs-ge}
 use borrow.Author.Needs.{needs}

@@ -1,4 +1,4 @@
--- The last four prices. Assumes nothing.
+-- The last four prices.
 use mathlib.Core.Path.{refl, _∙_}
 use lib.ListN.{length}
 use Rattle.sigma.proofs.Last.{usable, too-few, last-is}

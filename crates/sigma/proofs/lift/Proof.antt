@@ -1,4 +1,4 @@
--- The price raised by 2,147,483,648, from its word. Assumes nothing.
+-- The price raised by 2,147,483,648, from its word.
 use native.Mathlib.Omega.{arith}
 use Rattle.sigma.proofs.Lifted.{lift-low, lift-high}
 use borrow.Author.Needs.{needs}

@@ -1,4 +1,4 @@
--- The magnitude, for a price from 0 on and for a negative one. Assumes nothing.
+-- The magnitude, for a price from 0 on and for a negative one.
 use native.Mathlib.Omega.{arith}
 use Rattle.sigma.proofs.Lifted.{magnitude-low, magnitude-high}
 use borrow.Author.Needs.{needs}

@@ -1,4 +1,4 @@
--- The price, by way of its word. Assumes nothing.
+-- The price, by way of its word.
 use borrow.Author.Needs.{needs}
 use lib.IntN.{pos}
 use lib.ListN.{getD}

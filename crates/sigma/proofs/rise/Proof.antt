@@ -1,4 +1,4 @@
--- The answer by the test of the size. Assumes nothing.
+-- The answer by the test of the size.
 use borrow.Author.Tests.{lt-ltb, le-ltb}
 use mathlib.Core.Path.{refl}
 use Rattle.sigma.specs.Internal.{risen}

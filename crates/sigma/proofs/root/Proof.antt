@@ -1,5 +1,5 @@
 -- The invariant: 18 times the square of the lower number is at most the total, and that of the upper number is above it. The measure
--- is the gap. Assumes nothing.
+-- is the gap.
 use Prim.Native.Nat.{suc, _-_, _*_, _≤_, _<_}
 use native.Mathlib.Omega.{arith}
 use mathlib.Core.Path.{_≡_, sym, _∙_}

@@ -1,4 +1,4 @@
--- The sum of the three squares, and its root. Assumes nothing.
+-- The sum of the three squares, and its root.
 use Rattle.sigma.proofs.Squares.{sigma-is}
 use borrow.Author.Needs.{needs}
 use Rattle.sigma.proofs.sigma.Statement.{statement}

@@ -1,4 +1,4 @@
--- By the three answers in turn. Assumes nothing.
+-- By the three answers in turn.
 use Rattle.sigma.proofs.Last.{by-first, by-second, by-third, by-all, small}
 use borrow.Author.Needs.{needs}
 use Rattle.sigma.proofs.sigma_by.Statement.{statement}

@@ -1,4 +1,4 @@
--- The gap is at most 6,000,000. Assumes nothing.
+-- The gap is at most 6,000,000.
 use Prim.Native.Nat.{ℕ, _*_}
 use native.Mathlib.Omega.{arith}
 use mathlib.Core.Path.{ap}

@@ -1,4 +1,4 @@
--- The square fits. Assumes nothing.
+-- The square fits.
 use native.Mathlib.Omega.{arith}
 use Rattle.sigma.proofs.Squares.{square-small}
 use borrow.Author.Needs.{needs}

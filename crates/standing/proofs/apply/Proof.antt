@@ -1,5 +1,4 @@
 -- `standing::apply` meets its contract: a walk of its MIR, by hand. The slice is lent again to `judge` and to `work` (`Calling.antt`), of which the proof knows only that they meet their contracts.
--- Assumes nothing.
 use mathlib.Core.Path.{_≡_, refl, ap}
 use Prim.Native.Nat.{ℕ, _<_, _^_}
 use mathlib.Core.List.{[], _∷_, List}
@@ -35,14 +34,14 @@ use denote.Triple.Table.{entered, cited}
 use denote.Triple.Walked.{says, Stays, stay-slice, stay-none, walkOf, goes-slice, goes-none, ends-at, walked, walk-meets}
 use denote.Exit.{yes}
 use denote.Signature.{plain}
-use Rattle.makers.specs.declared.Maker.{Maker}
-use Rattle.makers.specs.declared.Asked.{Asked}
-use Rattle.makers.specs.declared.Answer.{Answer}
-use Rattle.makers.specs.Calls.{standing, callOf, wrong, step, answerOf}
-use Rattle.makers.proofs.Asked as B
-use Rattle.makers.proofs.Asked.Laws as B′
-use Rattle.makers.proofs.Answer as D
-use Rattle.makers.proofs.Answer.Laws as D′
+use Rattle.standing_rules.specs.declared.Maker.{Maker}
+use Rattle.standing_rules.specs.declared.Asked.{Asked}
+use Rattle.standing_rules.specs.declared.Answer.{Answer}
+use Rattle.standing_rules.specs.Calls.{standing, callOf, wrong, step, answerOf}
+use Rattle.standing_rules.proofs.Asked as B
+use Rattle.standing_rules.proofs.Asked.Laws as B′
+use Rattle.standing_rules.proofs.Answer as D
+use Rattle.standing_rules.proofs.Answer.Laws as D′
 use Rattle.standing.proofs.Calling.{lends}
 use Rattle.standing.proofs.Machine.{R, asked-mach}
 use Rattle.standing.proofs.judge as judge

@@ -1,4 +1,4 @@
--- `standing::is_call` meets its contract: `isCall` at each of the three kinds, and at any other number. Assumes nothing.
+-- `standing::is_call` meets its contract: `isCall` at each of the three kinds, and at any other number.
 use borrow.Author.Tests.{eq-eqb, ne-eqb}
 use Rattle.standing.specs.Words.{isCall}
 use Rattle.standing.proofs.is_call.Statement.{statement}

@@ -1,4 +1,4 @@
--- Whether nothing is left of the words. Assumes nothing.
+-- Whether nothing is left of the words.
 use mathlib.Core.Path.{ap}
 use borrow.Author.Needs.{needs}
 use Rattle.standing.specs.declared.Measured.{Measured}

@@ -1,6 +1,5 @@
--- `standing::judge` meets its contract: a walk of its MIR, by hand, with a loop. A turn reads one record, lends the marks, which lie in a local of the walk, to `makers::look_back` and the slice to `scan` (`Calling.antt`), and checks the record.
--- All that the proof knows of the five functions that it calls is that they meet their contracts. That the marks and the neighbours tell what the definitions ask is in `Judging.antt` of `makers`.
--- Assumes nothing.
+-- `standing::judge` meets its contract: a walk of its MIR, by hand, with a loop. A turn reads one record, lends the marks, which lie in a local of the walk, to `standing_rules::look_back` and the slice to `scan` (`Calling.antt`), and checks the record.
+-- All that the proof knows of the five functions that it calls is that they meet their contracts. That the marks and the neighbours tell what the definitions ask is in `Judging.antt` of `standing_rules`.
 use mathlib.Core.Path.{_≡_, refl, sym, ap, _∙_}
 use Prim.Native.Nat.{ℕ, _<_, _≤_, _^_, _-_, _+_, _%_, zero-le, min}
 use native.Mathlib.Omega.{arith}
@@ -50,35 +49,35 @@ use denote.Triple.Walked.{says, Stays, stay-slice, stay-none, walkOf, goes-slice
 use denote.Exit.{yes}
 use denote.Signature.{plain}
 use Rattle.rules.specs.Lists.{if_then_else_}
-use Rattle.makers.specs.declared.Maker.{Maker}
-use Rattle.makers.specs.declared.Seen.{Seen}
-use Rattle.makers.specs.declared.Checked.{Checked}
-use Rattle.makers.specs.Order.{present}
-use Rattle.makers.specs.Calls.{standing, wrong}
-use Rattle.makers.specs.Internal.{none, seenIn, marked, marksIn, backTo, checkOf, checkedIn}
-use Rattle.makers.proofs.Judging.{look-back, wrong-is}
-use Rattle.makers.proofs.Maker as T
-use Rattle.makers.proofs.Maker.Laws as T′
-use Rattle.makers.proofs.Seen as S
-use Rattle.makers.proofs.Seen.Laws as S′
-use Rattle.makers.proofs.Checked as C′
-use Rattle.makers.proofs.Checked.Laws as C″
-use Rattle.makers.proofs.lesser as lesser
-use Rattle.makers.proofs.lesser.Symbol as lesser-def
-use Rattle.makers.proofs.lesser.Symbol.{name as #makers·lesser}
-use Rattle.makers.proofs.lesser.Met as lesser-thm
-use Rattle.makers.proofs.look_back as back
-use Rattle.makers.proofs.look_back.Symbol as back-def
-use Rattle.makers.proofs.look_back.Symbol.{name as #makers·look-back}
-use Rattle.makers.proofs.look_back.Met as back-thm
-use Rattle.makers.proofs.check as check
-use Rattle.makers.proofs.check.Symbol as check-def
-use Rattle.makers.proofs.check.Symbol.{name as #makers·check}
-use Rattle.makers.proofs.check.Met as check-thm
-use Rattle.makers.proofs.is_wrong as iswrong
-use Rattle.makers.proofs.is_wrong.Symbol as iswrong-def
-use Rattle.makers.proofs.is_wrong.Symbol.{name as #makers·is-wrong}
-use Rattle.makers.proofs.is_wrong.Met as iswrong-thm
+use Rattle.standing_rules.specs.declared.Maker.{Maker}
+use Rattle.standing_rules.specs.declared.Seen.{Seen}
+use Rattle.standing_rules.specs.declared.Checked.{Checked}
+use Rattle.standing_rules.specs.Order.{present}
+use Rattle.standing_rules.specs.Calls.{standing, wrong}
+use Rattle.standing_rules.specs.Internal.{none, seenIn, marked, marksIn, backTo, checkOf, checkedIn}
+use Rattle.standing_rules.proofs.Judging.{look-back, wrong-is}
+use Rattle.standing_rules.proofs.Maker as T
+use Rattle.standing_rules.proofs.Maker.Laws as T′
+use Rattle.standing_rules.proofs.Seen as S
+use Rattle.standing_rules.proofs.Seen.Laws as S′
+use Rattle.standing_rules.proofs.Checked as C′
+use Rattle.standing_rules.proofs.Checked.Laws as C″
+use Rattle.standing_rules.proofs.lesser as lesser
+use Rattle.standing_rules.proofs.lesser.Symbol as lesser-def
+use Rattle.standing_rules.proofs.lesser.Symbol.{name as #standing-rules·lesser}
+use Rattle.standing_rules.proofs.lesser.Met as lesser-thm
+use Rattle.standing_rules.proofs.look_back as back
+use Rattle.standing_rules.proofs.look_back.Symbol as back-def
+use Rattle.standing_rules.proofs.look_back.Symbol.{name as #standing-rules·look-back}
+use Rattle.standing_rules.proofs.look_back.Met as back-thm
+use Rattle.standing_rules.proofs.check as check
+use Rattle.standing_rules.proofs.check.Symbol as check-def
+use Rattle.standing_rules.proofs.check.Symbol.{name as #standing-rules·check}
+use Rattle.standing_rules.proofs.check.Met as check-thm
+use Rattle.standing_rules.proofs.is_wrong as iswrong
+use Rattle.standing_rules.proofs.is_wrong.Symbol as iswrong-def
+use Rattle.standing_rules.proofs.is_wrong.Symbol.{name as #standing-rules·is-wrong}
+use Rattle.standing_rules.proofs.is_wrong.Met as iswrong-thm
 use Rattle.standing.proofs.scan as scan
 use Rattle.standing.proofs.scan.Symbol as scan-def
 use Rattle.standing.proofs.scan.Symbol.{name as #standing·scan}
@@ -241,7 +240,7 @@ module _ {M : Type 1} (𝓤 : URA M) (H : Heap 𝓤) (A : Atoms 𝓤) (W : Given
   unfolding checkedIn
   start-is = LL.owes C′.the-type C″.the-laws (so-far 0) (refl, (LL.owes T.the-type T′.the-laws none ((refl, lit< tt), ((refl, lit< tt), tt)), tt))
 
-  module _ (𝓣 : Tables 𝓤 H) (known-lesser : Triple 𝓤 (𝓣 .C #makers·lesser) (Asks 𝓤 H A lesser.ended (lesser.clauses 𝓤 H A mem run))) (known-back : Triple 𝓤 (𝓣 .C #makers·look-back) (Asks 𝓤 H A back.ended (back.clauses 𝓤 H A mem run))) (known-scan : Triple 𝓤 (𝓣 .C #standing·scan) (Asks 𝓤 H A scan.ended (scan.clauses 𝓤 H A mem run))) (known-check : Triple 𝓤 (𝓣 .C #makers·check) (Asks 𝓤 H A check.ended (check.clauses 𝓤 H A mem run))) (known-wrong : Triple 𝓤 (𝓣 .C #makers·is-wrong) (Asks 𝓤 H A iswrong.ended (iswrong.clauses 𝓤 H A mem run))) (l₀ l₁ l₂ l₃ l₄ l₅ l₆ l₇ l₈ l₉ l₁₀ l₁₁ l₁₂ l₁₃ l₁₄ l₁₅ l₁₆ l₁₇ l₁₈ : ℕ) where
+  module _ (𝓣 : Tables 𝓤 H) (known-lesser : Triple 𝓤 (𝓣 .C #standing-rules·lesser) (Asks 𝓤 H A lesser.ended (lesser.clauses 𝓤 H A mem run))) (known-back : Triple 𝓤 (𝓣 .C #standing-rules·look-back) (Asks 𝓤 H A back.ended (back.clauses 𝓤 H A mem run))) (known-scan : Triple 𝓤 (𝓣 .C #standing·scan) (Asks 𝓤 H A scan.ended (scan.clauses 𝓤 H A mem run))) (known-check : Triple 𝓤 (𝓣 .C #standing-rules·check) (Asks 𝓤 H A check.ended (check.clauses 𝓤 H A mem run))) (known-wrong : Triple 𝓤 (𝓣 .C #standing-rules·is-wrong) (Asks 𝓤 H A iswrong.ended (iswrong.clauses 𝓤 H A mem run))) (l₀ l₁ l₂ l₃ l₄ l₅ l₆ l₇ l₈ l₉ l₁₀ l₁₁ l₁₂ l₁₃ l₁₄ l₁₅ l₁₆ l₁₇ l₁₈ : ℕ) where
     abbrev C : Calls 𝓤 H
     C = 𝓣 .C
 
@@ -329,7 +328,7 @@ module _ {M : Type 1} (𝓤 : URA M) (H : Heap 𝓤) (A : Atoms 𝓤) (W : Given
     turns : (i : Upto) → Sq W (At i) (runs C Λ En mir.turn-1 (anyQ (Turned i)))
     turns i = turn-by i (ltb (i .0) upto) refl
 
-  walk : (𝓣 : Tables 𝓤 H) → Triple 𝓤 (𝓣 .C #makers·lesser) (Asks 𝓤 H A lesser.ended (lesser.clauses 𝓤 H A mem run)) → Triple 𝓤 (𝓣 .C #makers·look-back) (Asks 𝓤 H A back.ended (back.clauses 𝓤 H A mem run)) → Triple 𝓤 (𝓣 .C #standing·scan) (Asks 𝓤 H A scan.ended (scan.clauses 𝓤 H A mem run)) → Triple 𝓤 (𝓣 .C #makers·check) (Asks 𝓤 H A check.ended (check.clauses 𝓤 H A mem run)) → Triple 𝓤 (𝓣 .C #makers·is-wrong) (Asks 𝓤 H A iswrong.ended (iswrong.clauses 𝓤 H A mem run)) → ent 𝓤 (onEntry 𝓤 H A it.signature (κ, tt) (q, tt) a vals) (WpFn 𝓤 H (𝓣 .C) (𝓣 .Λ) code.function (s ∷ vint w64 n ∷ []) Post)
+  walk : (𝓣 : Tables 𝓤 H) → Triple 𝓤 (𝓣 .C #standing-rules·lesser) (Asks 𝓤 H A lesser.ended (lesser.clauses 𝓤 H A mem run)) → Triple 𝓤 (𝓣 .C #standing-rules·look-back) (Asks 𝓤 H A back.ended (back.clauses 𝓤 H A mem run)) → Triple 𝓤 (𝓣 .C #standing·scan) (Asks 𝓤 H A scan.ended (scan.clauses 𝓤 H A mem run)) → Triple 𝓤 (𝓣 .C #standing-rules·check) (Asks 𝓤 H A check.ended (check.clauses 𝓤 H A mem run)) → Triple 𝓤 (𝓣 .C #standing-rules·is-wrong) (Asks 𝓤 H A iswrong.ended (iswrong.clauses 𝓤 H A mem run)) → ent 𝓤 (onEntry 𝓤 H A it.signature (κ, tt) (q, tt) a vals) (WpFn 𝓤 H (𝓣 .C) (𝓣 .Λ) code.function (s ∷ vint w64 n ∷ []) Post)
   unfolding partOf
   walk 𝓣 known-lesser known-back known-scan known-check known-wrong =
       qed W ((‵ (flft κ q) ⊛ ‵ ftrue) ∷ ‵ (owns (MutSlice (named 0) κ R ∷ usize ∷ []) a vals) ∷ []) ∵ enter ! (𝓣 .C) (𝓣 .Λ) code.function (s ∷ vint w64 n ∷ []) _ $
@@ -357,8 +356,8 @@ module _ {M : Type 1} (𝓤 : URA M) (H : Heap 𝓤) (A : Atoms 𝓤) (W : Given
       first ! $ blocks ! $ loops ! 𝓣 Nearer Nearer-wf (At 𝓣 known-lesser known-back known-scan known-check known-wrong l₀ l₁ l₂ l₃ l₄ l₅ l₆ l₇ l₈ l₉ l₁₀ l₁₁ l₁₂ l₁₃ l₁₄ l₁₅ l₁₆ l₁₇ l₁₈) (turns 𝓣 known-lesser known-back known-scan known-check known-wrong l₀ l₁ l₂ l₃ l₄ l₅ l₆ l₇ l₈ l₉ l₁₀ l₁₁ l₁₂ l₁₃ l₁₄ l₁₅ l₁₆ l₁₇ l₁₈) (0, (zero-le, start-is)))))))))))))))))))))))
 
 judge-meets : {M : Type 1} (𝓤 : URA M) (H : Heap 𝓤) (A : Atoms 𝓤) (W : Given 𝓤 H A) (mem : Memory → SProp 𝓤) (run : Routine → Fun 𝓤) (𝓣 : Tables 𝓤 H)
-    → Triple 𝓤 (𝓣 .C #makers·lesser) (Asks 𝓤 H A lesser.ended (lesser.clauses 𝓤 H A mem run)) → Triple 𝓤 (𝓣 .C #makers·look-back) (Asks 𝓤 H A back.ended (back.clauses 𝓤 H A mem run)) → Triple 𝓤 (𝓣 .C #standing·scan) (Asks 𝓤 H A scan.ended (scan.clauses 𝓤 H A mem run))
-    → Triple 𝓤 (𝓣 .C #makers·check) (Asks 𝓤 H A check.ended (check.clauses 𝓤 H A mem run)) → Triple 𝓤 (𝓣 .C #makers·is-wrong) (Asks 𝓤 H A iswrong.ended (iswrong.clauses 𝓤 H A mem run))
+    → Triple 𝓤 (𝓣 .C #standing-rules·lesser) (Asks 𝓤 H A lesser.ended (lesser.clauses 𝓤 H A mem run)) → Triple 𝓤 (𝓣 .C #standing-rules·look-back) (Asks 𝓤 H A back.ended (back.clauses 𝓤 H A mem run)) → Triple 𝓤 (𝓣 .C #standing·scan) (Asks 𝓤 H A scan.ended (scan.clauses 𝓤 H A mem run))
+    → Triple 𝓤 (𝓣 .C #standing-rules·check) (Asks 𝓤 H A check.ended (check.clauses 𝓤 H A mem run)) → Triple 𝓤 (𝓣 .C #standing-rules·is-wrong) (Asks 𝓤 H A iswrong.ended (iswrong.clauses 𝓤 H A mem run))
     → Meets 𝓤 H A it.signature (WpFn 𝓤 H (𝓣 .C) (𝓣 .Λ) code.function) (it.spec 𝓤 H A mem run)
 judge-meets 𝓤 H A W mem run 𝓣 known-lesser known-back known-scan known-check known-wrong =
     walk-meets 𝓤 H A it.ended stayed W (goes-slice 𝓤 H A W 1 0 tt (plain (λ _. R)), (goes-none 𝓤 H A W 1 (λ _. usize) yes (λ κs x f. refl), tt)) (it.clauses 𝓤 H A mem run)
@@ -374,8 +373,8 @@ judge-spec 𝓤 H 𝓜 𝓖 𝓡 =
     entered 𝓤 H (tripleOf 𝓤 H (𝓖 .A) it.signature (it.spec 𝓤 H (𝓖 .A) (𝓜 .mem) (𝓡 .run)))
     (tables 𝓤 H 𝓜 𝓡 code.env .C) (tables 𝓤 H 𝓜 𝓡 code.env .Λ) #standing·judge code.function (code.unfolded 𝓤 H 𝓜 𝓡)
     (judge-meets 𝓤 H (𝓖 .A) (givenOf 𝓤 H 𝓜 𝓖) (𝓜 .mem) (𝓡 .run) (tablesOf 𝓤 H 𝓜 (tables 𝓤 H 𝓜 𝓡 code.env))
-    (cited 𝓤 H _ 𝓜 𝓡 code.env #makers·lesser lesser-def.routine code.calls-makers·lesser (lesser-thm.met 𝓤 H 𝓜 𝓖 𝓡))
-    (cited 𝓤 H _ 𝓜 𝓡 code.env #makers·look-back back-def.routine code.calls-makers·look-back (back-thm.met 𝓤 H 𝓜 𝓖 𝓡))
+    (cited 𝓤 H _ 𝓜 𝓡 code.env #standing-rules·lesser lesser-def.routine code.calls-standing-rules·lesser (lesser-thm.met 𝓤 H 𝓜 𝓖 𝓡))
+    (cited 𝓤 H _ 𝓜 𝓡 code.env #standing-rules·look-back back-def.routine code.calls-standing-rules·look-back (back-thm.met 𝓤 H 𝓜 𝓖 𝓡))
     (cited 𝓤 H _ 𝓜 𝓡 code.env #standing·scan scan-def.routine code.calls-standing·scan (scan-thm.met 𝓤 H 𝓜 𝓖 𝓡))
-    (cited 𝓤 H _ 𝓜 𝓡 code.env #makers·check check-def.routine code.calls-makers·check (check-thm.met 𝓤 H 𝓜 𝓖 𝓡))
-    (cited 𝓤 H _ 𝓜 𝓡 code.env #makers·is-wrong iswrong-def.routine code.calls-makers·is-wrong (iswrong-thm.met 𝓤 H 𝓜 𝓖 𝓡)))
+    (cited 𝓤 H _ 𝓜 𝓡 code.env #standing-rules·check check-def.routine code.calls-standing-rules·check (check-thm.met 𝓤 H 𝓜 𝓖 𝓡))
+    (cited 𝓤 H _ 𝓜 𝓡 code.env #standing-rules·is-wrong iswrong-def.routine code.calls-standing-rules·is-wrong (iswrong-thm.met 𝓤 H 𝓜 𝓖 𝓡)))

@@ -1,4 +1,4 @@
--- `standing::leave` meets its contract: its MIR is `thin` at the words of a leave, of which `thin-meets` is the proof. Assumes nothing.
+-- `standing::leave` meets its contract: its MIR is `thin` at the words of a leave, of which `thin-meets` is the proof.
 use mathlib.Core.Path.{_≡_, refl}
 use Prim.Native.Nat.{ℕ}
 use mathlib.Core.List.{[], _∷_}
@@ -13,9 +13,9 @@ use denote.Builtin.{u32}
 use denote.Struct.Laws as LL
 use denote.Triple.Spec.{tripleOf}
 use denote.Triple.Table.{entered, cited}
-use Rattle.makers.specs.Calls.{Leave, asked, callOf}
-use Rattle.makers.proofs.Asked as B
-use Rattle.makers.proofs.Asked.Laws as B′
+use Rattle.standing_rules.specs.Calls.{Leave, asked, callOf}
+use Rattle.standing_rules.proofs.Asked as B
+use Rattle.standing_rules.proofs.Asked.Laws as B′
 use Rattle.standing.proofs.Thin.{thin-meets}
 use Rattle.standing.proofs.apply.Symbol as apply-def
 use Rattle.standing.proofs.apply.Met as apply-thm

@@ -1,5 +1,5 @@
 -- `standing::make_ready` meets its contract: words that are no list of calls, too few words for the outcomes, and a list that runs are
--- `ready-none`, `ready-short` and `ready-all` (`Reading.antt`). Assumes nothing.
+-- `ready-none`, `ready-short` and `ready-all` (`Reading.antt`).
 use borrow.Author.Needs.{needs}
 use borrow.Author.Tests.{not-true, not-false}
 use Rattle.standing.proofs.Reading.{ready-none, ready-short, ready-all}

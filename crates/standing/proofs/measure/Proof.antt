@@ -1,5 +1,5 @@
 -- `standing::measure` meets its contract. The loop's invariant is `Upto` (`Reading.antt`): so many calls came before the place, and what
--- is left decides the rest. `upto-next` goes on by a call, `upto-bad` and `upto-end` are the two ends. Assumes nothing.
+-- is left decides the rest. `upto-next` goes on by a call, `upto-bad` and `upto-end` are the two ends.
 use Prim.Native.Nat.{_-_}
 use borrow.Author.Needs.{needs}
 use mathlib.Core.Path.{sym, _∙_}

@@ -1,6 +1,5 @@
 -- `standing::run` meets its contract: a walk of its MIR, by hand, with a loop over three borrows. The list is lent to `judge` once; a turn reads a call from the words, which are shared, and lends the list again to `work` and the outcomes to `note` (`Calling.antt`).
 -- All that the proof knows of the five functions that it calls is that they meet their contracts. What the list leaves, call by call, is in `Running.antt`.
--- Assumes nothing.
 use mathlib.Core.Path.{_≡_, refl, sym, ap, subst, _∙_}
 use Prim.Native.Nat.{ℕ, _<_, _≤_, _^_, _-_, _+_, zero-le}
 use native.Mathlib.Omega.{arith}
@@ -43,14 +42,14 @@ use denote.Triple.Table.{entered, cited}
 use denote.Triple.Walked.{says, Stays, stay-slice, stay-none, stay-none-slice, walkOf, goes-slice, goes-none, goes-none-slice, ends-at, walked, walk-meets}
 use denote.Exit.{yes}
 use denote.Signature.{plain}
-use Rattle.makers.specs.declared.Maker.{Maker}
-use Rattle.makers.specs.declared.Answer.{Answer}
-use Rattle.makers.specs.declared.Asked.{Asked}
-use Rattle.makers.specs.Calls.{Standing, standing, Call, callOf, wrong, step, answerOf}
-use Rattle.makers.proofs.Asked as B
-use Rattle.makers.proofs.Asked.Laws as B′
-use Rattle.makers.proofs.Answer as D
-use Rattle.makers.proofs.Answer.Laws as D′
+use Rattle.standing_rules.specs.declared.Maker.{Maker}
+use Rattle.standing_rules.specs.declared.Answer.{Answer}
+use Rattle.standing_rules.specs.declared.Asked.{Asked}
+use Rattle.standing_rules.specs.Calls.{Standing, standing, Call, callOf, wrong, step, answerOf}
+use Rattle.standing_rules.proofs.Asked as B
+use Rattle.standing_rules.proofs.Asked.Laws as B′
+use Rattle.standing_rules.proofs.Answer as D
+use Rattle.standing_rules.proofs.Answer.Laws as D′
 use Rattle.standing.specs.declared.Ready.{Ready}
 use Rattle.standing.specs.declared.Ran.{Ran}
 use Rattle.standing.specs.Claim.{ListAnswers}

@@ -1,6 +1,5 @@
--- `standing::scan` meets its contract: a walk of its MIR, by hand, with a loop that calls `makers::look_at` on each record. The borrow of the slice is opened before the loop and closed after it, at the same list.
+-- `standing::scan` meets its contract: a walk of its MIR, by hand, with a loop that calls `standing_rules::look_at` on each record. The borrow of the slice is opened before the loop and closed after it, at the same list.
 -- All that the proof knows of `look_at` is that it meets its contract.
--- Assumes nothing.
 use mathlib.Core.Path.{_≡_, refl, sym, ap, _∙_}
 use Prim.Native.Nat.{ℕ, _<_, _≤_, _^_, _-_, _+_, zero-le}
 use native.Mathlib.Omega.{arith}
@@ -48,18 +47,18 @@ use denote.Triple.Table.{entered, cited}
 use denote.Triple.Walked.{says, needs, Stays, stay-slice, stay-none, walkOf, goes-slice, goes-none, Walks, ends-at, walked, walk-meets}
 use denote.Exit.{yes}
 use denote.Signature.{plain}
-use Rattle.makers.specs.declared.Maker.{Maker}
-use Rattle.makers.specs.declared.Seen.{Seen}
-use Rattle.makers.specs.Internal.{none, unseen, lookOf, seenIn}
-use Rattle.makers.proofs.Seeing.{above-le}
-use Rattle.makers.proofs.Maker as T
-use Rattle.makers.proofs.Maker.Laws as T′
-use Rattle.makers.proofs.Seen as S
-use Rattle.makers.proofs.Seen.Laws as S′
-use Rattle.makers.proofs.look_at as look
-use Rattle.makers.proofs.look_at.Symbol as look-def
-use Rattle.makers.proofs.look_at.Symbol.{name as #makers·look-at}
-use Rattle.makers.proofs.look_at.Met as look-thm
+use Rattle.standing_rules.specs.declared.Maker.{Maker}
+use Rattle.standing_rules.specs.declared.Seen.{Seen}
+use Rattle.standing_rules.specs.Internal.{none, unseen, lookOf, seenIn}
+use Rattle.standing_rules.proofs.Seeing.{above-le}
+use Rattle.standing_rules.proofs.Maker as T
+use Rattle.standing_rules.proofs.Maker.Laws as T′
+use Rattle.standing_rules.proofs.Seen as S
+use Rattle.standing_rules.proofs.Seen.Laws as S′
+use Rattle.standing_rules.proofs.look_at as look
+use Rattle.standing_rules.proofs.look_at.Symbol as look-def
+use Rattle.standing_rules.proofs.look_at.Symbol.{name as #standing-rules·look-at}
+use Rattle.standing_rules.proofs.look_at.Met as look-thm
 use Rattle.standing.proofs.Calling.{gets}
 use Rattle.standing.proofs.Machine.{R, word, place-fits, slice, mach, seen-mach, same-value}
 use Rattle.standing.proofs.scan.Key.{name as #standing·scan}
@@ -128,7 +127,7 @@ module _ {M : Type 1} (𝓤 : URA M) (H : Heap 𝓤) (A : Atoms 𝓤) (W : Given
   unfolding seenIn
   seen-next i t e = e ∙ ap (seenIn ys m) (sym (add-one i))
 
-  module _ (𝓣 : Tables 𝓤 H) (known : Triple 𝓤 (𝓣 .C #makers·look-at) (tripleOf 𝓤 H A look.signature (look.spec 𝓤 H A mem run))) (l₀ l₁ l₂ l₃ l₄ l₅ l₆ l₇ l₈ l₉ l₁₀ : ℕ) where
+  module _ (𝓣 : Tables 𝓤 H) (known : Triple 𝓤 (𝓣 .C #standing-rules·look-at) (tripleOf 𝓤 H A look.signature (look.spec 𝓤 H A mem run))) (l₀ l₁ l₂ l₃ l₄ l₅ l₆ l₇ l₈ l₉ l₁₀ : ℕ) where
     abbrev C : Calls 𝓤 H
     C = 𝓣 .C
 
@@ -223,7 +222,7 @@ module _ {M : Type 1} (𝓤 : URA M) (H : Heap 𝓤) (A : Atoms 𝓤) (W : Given
   unfolding seenIn
   start = refl
 
-  walk : (𝓣 : Tables 𝓤 H) → Triple 𝓤 (𝓣 .C #makers·look-at) (tripleOf 𝓤 H A look.signature (look.spec 𝓤 H A mem run)) → ent 𝓤 (onEntry 𝓤 H A scan.signature (κ, tt) (q, tt) a vals) (WpFn 𝓤 H (𝓣 .C) (𝓣 .Λ) code.function (s ∷ vint w64 n ∷ mach m ∷ []) Post)
+  walk : (𝓣 : Tables 𝓤 H) → Triple 𝓤 (𝓣 .C #standing-rules·look-at) (tripleOf 𝓤 H A look.signature (look.spec 𝓤 H A mem run)) → ent 𝓤 (onEntry 𝓤 H A scan.signature (κ, tt) (q, tt) a vals) (WpFn 𝓤 H (𝓣 .C) (𝓣 .Λ) code.function (s ∷ vint w64 n ∷ mach m ∷ []) Post)
   walk 𝓣 known =
       qed W ((‵ (flft κ q) ⊛ ‵ ftrue) ∷ ‵ (owns (MutSlice (named 0) κ R ∷ usize ∷ R ∷ []) a vals) ∷ []) ∵ enter ! (𝓣 .C) (𝓣 .Λ) code.function (s ∷ vint w64 n ∷ mach m ∷ []) _ $
       alloc1 ! (λ l₀. alloc1 ! (λ l₁. alloc1 ! (λ l₂. alloc1 ! (λ l₃. alloc1 ! (λ l₄. alloc1 ! (λ l₅. alloc1 ! (λ l₆. alloc1 ! (λ l₇. alloc1 ! (λ l₈. alloc1 ! (λ l₉. alloc1 ! (λ l₁₀. alloc0 ! $ params1 ! $
@@ -236,13 +235,13 @@ module _ {M : Type 1} (𝓤 : URA M) (H : Heap 𝓤) (A : Atoms 𝓤) (W : Given
       keep ! (0 ∷ 1 ∷ 2 ∷ 3 ∷ 6 ∷ 7 ∷ 8 ∷ 9 ∷ 10 ∷ 11 ∷ 12 ∷ 13 ∷ 14 ∷ 15 ∷ 16 ∷ 17 ∷ 18 ∷ 19 ∷ 20 ∷ 21 ∷ 22 ∷ 23 ∷ 24 ∷ 25 ∷ 26 ∷ 27 ∷ []) $ first ! $ blocks ! $ loops ! 𝓣 Nearer Nearer-wf (At 𝓣 known l₀ l₁ l₂ l₃ l₄ l₅ l₆ l₇ l₈ l₉ l₁₀) (turns 𝓣 known l₀ l₁ l₂ l₃ l₄ l₅ l₆ l₇ l₈ l₉ l₁₀) (0, (zero-le, start-is)))))))))))))
 
 module _ {M : Type 1} (𝓤 : URA M) (H : Heap 𝓤) (A : Atoms 𝓤) (W : Given 𝓤 H A) (mem : Memory → SProp 𝓤) (run : Routine → Fun 𝓤) where
-  scan-walks : (𝓣 : Tables 𝓤 H) → Triple 𝓤 (𝓣 .C #makers·look-at) (tripleOf 𝓤 H A look.signature (look.spec 𝓤 H A mem run)) → Walks 𝓤 H A scan.ended stayed (WpFn 𝓤 H (𝓣 .C) (𝓣 .Λ) code.function) (scan.clauses 𝓤 H A mem run)
+  scan-walks : (𝓣 : Tables 𝓤 H) → Triple 𝓤 (𝓣 .C #standing-rules·look-at) (tripleOf 𝓤 H A look.signature (look.spec 𝓤 H A mem run)) → Walks 𝓤 H A scan.ended stayed (WpFn 𝓤 H (𝓣 .C) (𝓣 .Λ) code.function) (scan.clauses 𝓤 H A mem run)
   scan-walks 𝓣 known = walked 𝓤 H A scan.ended stayed (scan.clauses 𝓤 H A mem run) (WpFn 𝓤 H (𝓣 .C) (𝓣 .Λ) code.function)
       (λ κs. (slice-vals, (uint-vals w64, (LL.vals T.the-type T′.the-laws, tt)))) (λ κs. (mut-slice-tells (named 0) (κs .0) R, (uint-tells w64, (LL.tells T.the-type T′.the-laws, tt))))
       (λ κs qs bounds a g are. needs 𝓤 (a .1 .0 ≤ length (a .0 .now)) _ (λ within.
       walk 𝓤 H A W mem run (κs .0) (qs .0) (a .0 .ptr .0) (a .0 .ptr .1) (a .0 .name) (a .0 .now) (a .1 .0) (a .1 .1 .0) (are .0 .0 .1) (are .1 .0 .1) (are .1 .1 .0) within 𝓣 known))
 
-scan-meets : {M : Type 1} (𝓤 : URA M) (H : Heap 𝓤) (A : Atoms 𝓤) → Given 𝓤 H A → (mem : Memory → SProp 𝓤) (run : Routine → Fun 𝓤) (𝓣 : Tables 𝓤 H) → Triple 𝓤 (𝓣 .C #makers·look-at) (tripleOf 𝓤 H A look.signature (look.spec 𝓤 H A mem run))
+scan-meets : {M : Type 1} (𝓤 : URA M) (H : Heap 𝓤) (A : Atoms 𝓤) → Given 𝓤 H A → (mem : Memory → SProp 𝓤) (run : Routine → Fun 𝓤) (𝓣 : Tables 𝓤 H) → Triple 𝓤 (𝓣 .C #standing-rules·look-at) (tripleOf 𝓤 H A look.signature (look.spec 𝓤 H A mem run))
     → Meets 𝓤 H A scan.signature (WpFn 𝓤 H (𝓣 .C) (𝓣 .Λ) code.function) (scan.spec 𝓤 H A mem run)
 scan-meets 𝓤 H A W mem run 𝓣 known =
     walk-meets 𝓤 H A scan.ended stayed W (goes-slice 𝓤 H A W 1 0 tt (plain (λ _. R)), (goes-none 𝓤 H A W 1 (λ _. usize) yes (λ κs x f. refl), (goes-none 𝓤 H A W 1 (λ _. R) yes (λ κs x f. refl), tt))) (scan.clauses 𝓤 H A mem run)
@@ -254,4 +253,4 @@ scan-spec 𝓤 H 𝓜 𝓖 𝓡 =
     entered 𝓤 H (tripleOf 𝓤 H (𝓖 .A) scan.signature (scan.spec 𝓤 H (𝓖 .A) (𝓜 .mem) (𝓡 .run)))
     (tables 𝓤 H 𝓜 𝓡 code.env .C) (tables 𝓤 H 𝓜 𝓡 code.env .Λ) #standing·scan code.function (code.unfolded 𝓤 H 𝓜 𝓡)
     (scan-meets 𝓤 H (𝓖 .A) (givenOf 𝓤 H 𝓜 𝓖) (𝓜 .mem) (𝓡 .run) (tablesOf 𝓤 H 𝓜 (tables 𝓤 H 𝓜 𝓡 code.env))
-    (cited 𝓤 H _ 𝓜 𝓡 code.env #makers·look-at look-def.routine code.calls-makers·look-at (look-thm.met 𝓤 H 𝓜 𝓖 𝓡)))
+    (cited 𝓤 H _ 𝓜 𝓡 code.env #standing-rules·look-at look-def.routine code.calls-standing-rules·look-at (look-thm.met 𝓤 H 𝓜 𝓖 𝓡)))

@@ -1,6 +1,5 @@
 -- `standing::shift` meets its contract: a walk of its MIR, by hand, with a loop. The borrow of the slice is opened once, before the loop, and closed once, after the last store. Between the two the row of records is the list with a hole at i.
--- A turn reads the next record on the way and stores it in the hole. All that the proof knows of `makers::toward`, which says where that is, is that it meets its contract. What the list is on the way is in `Shifting.antt` of `makers`.
--- Assumes nothing.
+-- A turn reads the next record on the way and stores it in the hole. All that the proof knows of `standing_rules::toward`, which says where that is, is that it meets its contract. What the list is on the way is in `Shifting.antt` of `standing_rules`.
 use mathlib.Core.Path.{_≡_, refl, sym, ap, subst, _∙_}
 use Prim.Native.Nat.{ℕ, _<_, _≤_, _^_, _+_}
 use native.Mathlib.Omega.{arith}
@@ -46,15 +45,15 @@ use denote.Triple.Table.{entered, cited}
 use denote.Triple.Walked.{says, needs, Stays, stay-slice, stay-none, walkOf, goes-slice, goes-none, Walks, ends-at, walked, walk-meets}
 use denote.Exit.{yes}
 use denote.Signature.{plain}
-use Rattle.makers.specs.declared.Maker.{Maker}
-use Rattle.makers.specs.Internal.{none, nearer, removed, inserted, shifted}
-use Rattle.makers.proofs.Shifting.{length-removed, length-inserted, shift-start, shift-step, shift-end, way-within, apart, way-less}
-use Rattle.makers.proofs.Maker as T
-use Rattle.makers.proofs.Maker.Laws as T′
-use Rattle.makers.proofs.toward as toward
-use Rattle.makers.proofs.toward.Symbol as toward-def
-use Rattle.makers.proofs.toward.Symbol.{name as #makers·toward}
-use Rattle.makers.proofs.toward.Met as toward-thm
+use Rattle.standing_rules.specs.declared.Maker.{Maker}
+use Rattle.standing_rules.specs.Internal.{none, nearer, removed, inserted, shifted}
+use Rattle.standing_rules.proofs.Shifting.{length-removed, length-inserted, shift-start, shift-step, shift-end, way-within, apart, way-less}
+use Rattle.standing_rules.proofs.Maker as T
+use Rattle.standing_rules.proofs.Maker.Laws as T′
+use Rattle.standing_rules.proofs.toward as toward
+use Rattle.standing_rules.proofs.toward.Symbol as toward-def
+use Rattle.standing_rules.proofs.toward.Symbol.{name as #standing-rules·toward}
+use Rattle.standing_rules.proofs.toward.Met as toward-thm
 use Rattle.standing.proofs.Calling.{gets}
 use Rattle.standing.proofs.Machine.{R, word, place-fits, slice, mach}
 use Rattle.standing.proofs.shift.Key.{name as #standing·shift}
@@ -126,7 +125,7 @@ module _ {M : Type 1} (𝓤 : URA M) (H : Heap 𝓤) (A : Atoms 𝓤) (W : Given
   Nearer-wf : WellFounded Nearer
   Nearer-wf = InvImage·wf (λ (i : Hole). apart (i .0) t) (Nat·lt-wfRel .wf)
 
-  module _ (𝓣 : Tables 𝓤 H) (known : Triple 𝓤 (𝓣 .C #makers·toward) (tripleOf 𝓤 H A toward.signature (toward.spec 𝓤 H A mem run))) (l₀ l₁ l₂ l₃ l₄ l₅ l₆ l₇ l₈ l₉ l₁₀ l₁₁ l₁₂ l₁₃ l₁₄ : ℕ) where
+  module _ (𝓣 : Tables 𝓤 H) (known : Triple 𝓤 (𝓣 .C #standing-rules·toward) (tripleOf 𝓤 H A toward.signature (toward.spec 𝓤 H A mem run))) (l₀ l₁ l₂ l₃ l₄ l₅ l₆ l₇ l₈ l₉ l₁₀ l₁₁ l₁₂ l₁₃ l₁₄ : ℕ) where
     abbrev C : Calls 𝓤 H
     C = 𝓣 .C
 
@@ -251,7 +250,7 @@ module _ {M : Type 1} (𝓤 : URA M) (H : Heap 𝓤) (A : Atoms 𝓤) (W : Given
     turn-by i true e = ends i e
     turn-by i false e = more i e
 
-  walk : (𝓣 : Tables 𝓤 H) → Triple 𝓤 (𝓣 .C #makers·toward) (tripleOf 𝓤 H A toward.signature (toward.spec 𝓤 H A mem run)) → ent 𝓤 (onEntry 𝓤 H A shift.signature (κ, tt) (q, tt) a vals) (WpFn 𝓤 H (𝓣 .C) (𝓣 .Λ) code.function (s ∷ vint w64 f ∷ vint w64 t ∷ mach m ∷ []) Post)
+  walk : (𝓣 : Tables 𝓤 H) → Triple 𝓤 (𝓣 .C #standing-rules·toward) (tripleOf 𝓤 H A toward.signature (toward.spec 𝓤 H A mem run)) → ent 𝓤 (onEntry 𝓤 H A shift.signature (κ, tt) (q, tt) a vals) (WpFn 𝓤 H (𝓣 .C) (𝓣 .Λ) code.function (s ∷ vint w64 f ∷ vint w64 t ∷ mach m ∷ []) Post)
   walk 𝓣 known =
       qed W ((‵ (flft κ q) ⊛ ‵ ftrue) ∷ ‵ (owns (MutSlice (named 0) κ R ∷ usize ∷ usize ∷ R ∷ []) a vals) ∷ []) ∵ enter ! (𝓣 .C) (𝓣 .Λ) code.function (s ∷ vint w64 f ∷ vint w64 t ∷ mach m ∷ []) _ $
       alloc1 ! (λ l₀. alloc1 ! (λ l₁. alloc1 ! (λ l₂. alloc1 ! (λ l₃. alloc1 ! (λ l₄. alloc1 ! (λ l₅. alloc1 ! (λ l₆. alloc1 ! (λ l₇. alloc1 ! (λ l₈. alloc1 ! (λ l₉. alloc1 ! (λ l₁₀. alloc1 ! (λ l₁₁. alloc1 ! (λ l₁₂. alloc1 ! (λ l₁₃. alloc1 ! (λ l₁₄. alloc0 ! $ params1 ! $
@@ -263,13 +262,13 @@ module _ {M : Type 1} (𝓤 : URA M) (H : Heap 𝓤) (A : Atoms 𝓤) (W : Given
       keep ! (0 ∷ 1 ∷ 2 ∷ 3 ∷ 6 ∷ 7 ∷ 8 ∷ 9 ∷ 10 ∷ 11 ∷ 12 ∷ 13 ∷ 14 ∷ 15 ∷ 16 ∷ 17 ∷ 18 ∷ 19 ∷ 20 ∷ 21 ∷ 22 ∷ 23 ∷ 24 ∷ 25 ∷ 26 ∷ 27 ∷ 28 ∷ 29 ∷ 30 ∷ 31 ∷ 32 ∷ 33 ∷ 34 ∷ 35 ∷ []) $ first ! $ blocks ! $ loops ! 𝓣 Nearer Nearer-wf (At 𝓣 known l₀ l₁ l₂ l₃ l₄ l₅ l₆ l₇ l₈ l₉ l₁₀ l₁₁ l₁₂ l₁₃ l₁₄) (λ i. turn-by 𝓣 known l₀ l₁ l₂ l₃ l₄ l₅ l₆ l₇ l₈ l₉ l₁₀ l₁₁ l₁₂ l₁₃ l₁₄ i (eqb (i .0) t) refl) (f, (getD ys f none, from-rest)))))))))))))))))
 
 module _ {M : Type 1} (𝓤 : URA M) (H : Heap 𝓤) (A : Atoms 𝓤) (W : Given 𝓤 H A) (mem : Memory → SProp 𝓤) (run : Routine → Fun 𝓤) where
-  shift-walks : (𝓣 : Tables 𝓤 H) → Triple 𝓤 (𝓣 .C #makers·toward) (tripleOf 𝓤 H A toward.signature (toward.spec 𝓤 H A mem run)) → Walks 𝓤 H A shift.ended stayed (WpFn 𝓤 H (𝓣 .C) (𝓣 .Λ) code.function) (shift.clauses 𝓤 H A mem run)
+  shift-walks : (𝓣 : Tables 𝓤 H) → Triple 𝓤 (𝓣 .C #standing-rules·toward) (tripleOf 𝓤 H A toward.signature (toward.spec 𝓤 H A mem run)) → Walks 𝓤 H A shift.ended stayed (WpFn 𝓤 H (𝓣 .C) (𝓣 .Λ) code.function) (shift.clauses 𝓤 H A mem run)
   shift-walks 𝓣 known = walked 𝓤 H A shift.ended stayed (shift.clauses 𝓤 H A mem run) (WpFn 𝓤 H (𝓣 .C) (𝓣 .Λ) code.function)
       (λ κs. (slice-vals, (uint-vals w64, (uint-vals w64, (LL.vals T.the-type T′.the-laws, tt))))) (λ κs. (mut-slice-tells (named 0) (κs .0) R, (uint-tells w64, (uint-tells w64, (LL.tells T.the-type T′.the-laws, tt)))))
       (λ κs qs bounds a g are. needs 𝓤 ((a .1 .0 < length (a .0 .now)) × (a .1 .1 .0 < length (a .0 .now))) _ (λ pre.
       walk 𝓤 H A W mem run (κs .0) (qs .0) (a .0 .ptr .0) (a .0 .ptr .1) (a .0 .name) (a .0 .now) (a .1 .0) (a .1 .1 .0) (a .1 .1 .1 .0) (are .0 .0 .1) (are .1 .0 .1) (are .1 .1 .0 .1) (are .1 .1 .1 .0) (pre .0) (pre .1) 𝓣 known))
 
-shift-meets : {M : Type 1} (𝓤 : URA M) (H : Heap 𝓤) (A : Atoms 𝓤) → Given 𝓤 H A → (mem : Memory → SProp 𝓤) (run : Routine → Fun 𝓤) (𝓣 : Tables 𝓤 H) → Triple 𝓤 (𝓣 .C #makers·toward) (tripleOf 𝓤 H A toward.signature (toward.spec 𝓤 H A mem run))
+shift-meets : {M : Type 1} (𝓤 : URA M) (H : Heap 𝓤) (A : Atoms 𝓤) → Given 𝓤 H A → (mem : Memory → SProp 𝓤) (run : Routine → Fun 𝓤) (𝓣 : Tables 𝓤 H) → Triple 𝓤 (𝓣 .C #standing-rules·toward) (tripleOf 𝓤 H A toward.signature (toward.spec 𝓤 H A mem run))
     → Meets 𝓤 H A shift.signature (WpFn 𝓤 H (𝓣 .C) (𝓣 .Λ) code.function) (shift.spec 𝓤 H A mem run)
 shift-meets 𝓤 H A W mem run 𝓣 known =
     walk-meets 𝓤 H A shift.ended stayed W (goes-slice 𝓤 H A W 1 0 tt (plain (λ _. R)), (goes-none 𝓤 H A W 1 (λ _. usize) yes (λ κs x f. refl), (goes-none 𝓤 H A W 1 (λ _. usize) yes (λ κs x f. refl), (goes-none 𝓤 H A W 1 (λ _. R) yes (λ κs x f. refl), tt)))) (shift.clauses 𝓤 H A mem run)
@@ -281,4 +280,4 @@ shift-spec 𝓤 H 𝓜 𝓖 𝓡 =
     entered 𝓤 H (tripleOf 𝓤 H (𝓖 .A) shift.signature (shift.spec 𝓤 H (𝓖 .A) (𝓜 .mem) (𝓡 .run)))
     (tables 𝓤 H 𝓜 𝓡 code.env .C) (tables 𝓤 H 𝓜 𝓡 code.env .Λ) #standing·shift code.function (code.unfolded 𝓤 H 𝓜 𝓡)
     (shift-meets 𝓤 H (𝓖 .A) (givenOf 𝓤 H 𝓜 𝓖) (𝓜 .mem) (𝓡 .run) (tablesOf 𝓤 H 𝓜 (tables 𝓤 H 𝓜 𝓡 code.env))
-    (cited 𝓤 H _ 𝓜 𝓡 code.env #makers·toward toward-def.routine code.calls-makers·toward (toward-thm.met 𝓤 H 𝓜 𝓖 𝓡)))
+    (cited 𝓤 H _ 𝓜 𝓡 code.env #standing-rules·toward toward-def.routine code.calls-standing-rules·toward (toward-thm.met 𝓤 H 𝓜 𝓖 𝓡)))

@@ -1,6 +1,5 @@
--- `standing::work` meets its contract: a walk of its MIR, by hand, with a branch that returns early. The slice is lent again to `scan` and `shift`; `makers::lesser`, `makers::record_of` and `makers::decide` work by value (`Calling.antt`).
--- All that the proof knows of the five is that they meet their contracts. That what was found and decided is what the call is to do is `works` of `makers`.
--- Assumes nothing.
+-- `standing::work` meets its contract: a walk of its MIR, by hand, with a branch that returns early. The slice is lent again to `scan` and `shift`; `standing_rules::lesser`, `standing_rules::record_of` and `standing_rules::decide` work by value (`Calling.antt`).
+-- All that the proof knows of the five is that they meet their contracts. That what was found and decided is what the call is to do is `works` of `standing_rules`.
 use mathlib.Core.Path.{_≡_, refl, sym, ap, subst, _∙_}
 use Prim.Native.Nat.{ℕ, _<_, _≤_, _^_, min}
 use native.Mathlib.Omega.{arith}
@@ -40,37 +39,37 @@ use denote.Triple.Table.{entered, cited}
 use denote.Triple.Walked.{says, needs, Stays, stay-slice, stay-none, walkOf, goes-slice, goes-none, ends-at, walked, walk-meets}
 use denote.Exit.{yes}
 use denote.Signature.{plain}
-use Rattle.makers.specs.declared.Maker.{Maker}
-use Rattle.makers.specs.declared.Asked.{Asked}
-use Rattle.makers.specs.declared.Seen.{Seen}
-use Rattle.makers.specs.declared.Plan.{Plan}
-use Rattle.makers.specs.declared.Answer.{Answer}
-use Rattle.makers.specs.Calls.{standing, Call, callOf, wrong, step, answerOf}
-use Rattle.makers.specs.Internal.{seenIn, shifted, recordOf, judged, planned}
-use Rattle.makers.proofs.Seeing.{some-seen}
-use Rattle.makers.proofs.Working.{Works, works, answered}
-use Rattle.makers.proofs.Maker as T
-use Rattle.makers.proofs.Maker.Laws as T′
-use Rattle.makers.proofs.Asked as B
-use Rattle.makers.proofs.Asked.Laws as B′
-use Rattle.makers.proofs.Seen as S
-use Rattle.makers.proofs.Seen.Laws as S′
-use Rattle.makers.proofs.Plan as Q
-use Rattle.makers.proofs.Plan.Laws as Q′
-use Rattle.makers.proofs.Answer as D
-use Rattle.makers.proofs.Answer.Laws as D′
-use Rattle.makers.proofs.lesser as lesser
-use Rattle.makers.proofs.lesser.Symbol as lesser-def
-use Rattle.makers.proofs.lesser.Symbol.{name as #makers·lesser}
-use Rattle.makers.proofs.lesser.Met as lesser-thm
-use Rattle.makers.proofs.record_of as recordof
-use Rattle.makers.proofs.record_of.Symbol as recordof-def
-use Rattle.makers.proofs.record_of.Symbol.{name as #makers·record-of}
-use Rattle.makers.proofs.record_of.Met as recordof-thm
-use Rattle.makers.proofs.decide as decide
-use Rattle.makers.proofs.decide.Symbol as decide-def
-use Rattle.makers.proofs.decide.Symbol.{name as #makers·decide}
-use Rattle.makers.proofs.decide.Met as decide-thm
+use Rattle.standing_rules.specs.declared.Maker.{Maker}
+use Rattle.standing_rules.specs.declared.Asked.{Asked}
+use Rattle.standing_rules.specs.declared.Seen.{Seen}
+use Rattle.standing_rules.specs.declared.Plan.{Plan}
+use Rattle.standing_rules.specs.declared.Answer.{Answer}
+use Rattle.standing_rules.specs.Calls.{standing, Call, callOf, wrong, step, answerOf}
+use Rattle.standing_rules.specs.Internal.{seenIn, shifted, recordOf, judged, planned}
+use Rattle.standing_rules.proofs.Seeing.{some-seen}
+use Rattle.standing_rules.proofs.Working.{Works, works, answered}
+use Rattle.standing_rules.proofs.Maker as T
+use Rattle.standing_rules.proofs.Maker.Laws as T′
+use Rattle.standing_rules.proofs.Asked as B
+use Rattle.standing_rules.proofs.Asked.Laws as B′
+use Rattle.standing_rules.proofs.Seen as S
+use Rattle.standing_rules.proofs.Seen.Laws as S′
+use Rattle.standing_rules.proofs.Plan as Q
+use Rattle.standing_rules.proofs.Plan.Laws as Q′
+use Rattle.standing_rules.proofs.Answer as D
+use Rattle.standing_rules.proofs.Answer.Laws as D′
+use Rattle.standing_rules.proofs.lesser as lesser
+use Rattle.standing_rules.proofs.lesser.Symbol as lesser-def
+use Rattle.standing_rules.proofs.lesser.Symbol.{name as #standing-rules·lesser}
+use Rattle.standing_rules.proofs.lesser.Met as lesser-thm
+use Rattle.standing_rules.proofs.record_of as recordof
+use Rattle.standing_rules.proofs.record_of.Symbol as recordof-def
+use Rattle.standing_rules.proofs.record_of.Symbol.{name as #standing-rules·record-of}
+use Rattle.standing_rules.proofs.record_of.Met as recordof-thm
+use Rattle.standing_rules.proofs.decide as decide
+use Rattle.standing_rules.proofs.decide.Symbol as decide-def
+use Rattle.standing_rules.proofs.decide.Symbol.{name as #standing-rules·decide}
+use Rattle.standing_rules.proofs.decide.Met as decide-thm
 use Rattle.standing.proofs.Calling.{Asks, gets, lends}
 use Rattle.standing.proofs.Machine.{R, word, ref, slice, mach, asked-mach, answer-mach, seen-mach, same-value}
 use Rattle.standing.proofs.scan as scan
@@ -215,9 +214,9 @@ module _ {M : Type 1} (𝓤 : URA M) (H : Heap 𝓤) (A : Atoms 𝓤) (W : Given
       nothing ! $ owned ! B.the-row (Is B.the-row) (LL.makes B.the-type B′.the-plain 𝓤 H A) asked _ h $ fjoin ! $ owned ! bool (Is bool) (bool-makes 𝓤 H A W) bad _ refl $ fjoin ! $ owned ! usize (Is usize) (uint-makes 𝓤 H A W w64) n _ (refl, n-fits) $ fjoin ! $ move ! (1 ∷ 0 ∷ []) $ fjoin ! $
       owned ! D.the-row (Is D.the-row) (LL.makes D.the-type D′.the-plain 𝓤 H A) r _ is $ move ! (1 ∷ 0 ∷ []) $ done !
 
-  module _ (C : Calls 𝓤 H) (Λ : Loops 𝓤 H) (fm : FmC 𝓤 H (W .laws) C) (known-lesser : Triple 𝓤 (C #makers·lesser) (Asks 𝓤 H A lesser.ended (lesser.clauses 𝓤 H A mem run))) (known-recordof : Triple 𝓤 (C #makers·record-of) (Asks 𝓤 H A recordof.ended (recordof.clauses 𝓤 H A mem run)))
+  module _ (C : Calls 𝓤 H) (Λ : Loops 𝓤 H) (fm : FmC 𝓤 H (W .laws) C) (known-lesser : Triple 𝓤 (C #standing-rules·lesser) (Asks 𝓤 H A lesser.ended (lesser.clauses 𝓤 H A mem run))) (known-recordof : Triple 𝓤 (C #standing-rules·record-of) (Asks 𝓤 H A recordof.ended (recordof.clauses 𝓤 H A mem run)))
       (known-scan : Triple 𝓤 (C #standing·scan) (Asks 𝓤 H A scan.ended (scan.clauses 𝓤 H A mem run)))
-      (known-decide : Triple 𝓤 (C #makers·decide) (Asks 𝓤 H A decide.ended (decide.clauses 𝓤 H A mem run))) (known-shift : Triple 𝓤 (C #standing·shift) (Asks 𝓤 H A shift.ended (shift.clauses 𝓤 H A mem run))) where
+      (known-decide : Triple 𝓤 (C #standing-rules·decide) (Asks 𝓤 H A decide.ended (decide.clauses 𝓤 H A mem run))) (known-shift : Triple 𝓤 (C #standing·shift) (Asks 𝓤 H A shift.ended (shift.clauses 𝓤 H A mem run))) where
     abbrev En : (l₀ l₁ l₂ l₃ l₄ l₅ l₆ l₇ l₈ l₉ l₁₀ l₁₁ l₁₂ l₁₃ l₁₄ l₁₅ l₁₆ l₁₇ : ℕ) → Env 𝓤 H
     En l₀ l₁ l₂ l₃ l₄ l₅ l₆ l₇ l₈ l₉ l₁₀ l₁₁ l₁₂ l₁₃ l₁₄ l₁₅ l₁₆ l₁₇ = (spelt (D.the-type .name), l₀) ∷ (slice (named 0), l₁) ∷ (word, l₂) ∷ (tyBool, l₃) ∷ (spelt (B.the-type .name), l₄) ∷ (word, l₅) ∷ (word, l₆) ∷ (makerTy, l₇) ∷ (seenTy, l₈) ∷ (planTy, l₉) ∷ (word, l₁₀) ∷ (word, l₁₁) ∷ (ref erased, l₁₂) ∷ (slice erased, l₁₃) ∷ (tyBool, l₁₄) ∷ (tyUnit, l₁₅) ∷ (ref erased, l₁₆) ∷ (slice erased, l₁₇) ∷ []
 
@@ -265,8 +264,8 @@ module _ {M : Type 1} (𝓤 : URA M) (H : Heap 𝓤) (A : Atoms 𝓤) (W : Given
         keep ! (0 ∷ 1 ∷ []) $ by ! (exits (answer p) zs (done-with p (right p ep) (agree (p .refusal) 0 ok) zs ez) len (is-answer p (count-fits p _ p-is) (refusal-fits p _ p-is)))))))))))))))))))))))))))
 
 work-meets : {M : Type 1} (𝓤 : URA M) (H : Heap 𝓤) (A : Atoms 𝓤) (W : Given 𝓤 H A) (mem : Memory → SProp 𝓤) (run : Routine → Fun 𝓤) (𝓣 : Tables 𝓤 H)
-    → Triple 𝓤 (𝓣 .C #makers·lesser) (Asks 𝓤 H A lesser.ended (lesser.clauses 𝓤 H A mem run)) → Triple 𝓤 (𝓣 .C #makers·record-of) (Asks 𝓤 H A recordof.ended (recordof.clauses 𝓤 H A mem run))
-    → Triple 𝓤 (𝓣 .C #standing·scan) (Asks 𝓤 H A scan.ended (scan.clauses 𝓤 H A mem run)) → Triple 𝓤 (𝓣 .C #makers·decide) (Asks 𝓤 H A decide.ended (decide.clauses 𝓤 H A mem run)) → Triple 𝓤 (𝓣 .C #standing·shift) (Asks 𝓤 H A shift.ended (shift.clauses 𝓤 H A mem run))
+    → Triple 𝓤 (𝓣 .C #standing-rules·lesser) (Asks 𝓤 H A lesser.ended (lesser.clauses 𝓤 H A mem run)) → Triple 𝓤 (𝓣 .C #standing-rules·record-of) (Asks 𝓤 H A recordof.ended (recordof.clauses 𝓤 H A mem run))
+    → Triple 𝓤 (𝓣 .C #standing·scan) (Asks 𝓤 H A scan.ended (scan.clauses 𝓤 H A mem run)) → Triple 𝓤 (𝓣 .C #standing-rules·decide) (Asks 𝓤 H A decide.ended (decide.clauses 𝓤 H A mem run)) → Triple 𝓤 (𝓣 .C #standing·shift) (Asks 𝓤 H A shift.ended (shift.clauses 𝓤 H A mem run))
     → Meets 𝓤 H A it.signature (WpFn 𝓤 H (𝓣 .C) (𝓣 .Λ) code.function) (it.spec 𝓤 H A mem run)
 work-meets 𝓤 H A W mem run 𝓣 known-lesser known-recordof known-scan known-decide known-shift =
     walk-meets 𝓤 H A it.ended stayed W (goes-slice 𝓤 H A W 1 0 tt (plain (λ _. R)), (goes-none 𝓤 H A W 1 (λ _. usize) yes (λ κs x f. refl), (goes-none 𝓤 H A W 1 (λ _. bool) yes (λ κs x f. refl), (goes-none 𝓤 H A W 1 (λ _. B.the-row) yes (λ κs x f. refl), tt)))) (it.clauses 𝓤 H A mem run)
@@ -282,8 +281,8 @@ work-spec 𝓤 H 𝓜 𝓖 𝓡 =
     entered 𝓤 H (tripleOf 𝓤 H (𝓖 .A) it.signature (it.spec 𝓤 H (𝓖 .A) (𝓜 .mem) (𝓡 .run)))
     (tables 𝓤 H 𝓜 𝓡 code.env .C) (tables 𝓤 H 𝓜 𝓡 code.env .Λ) #standing·work code.function (code.unfolded 𝓤 H 𝓜 𝓡)
     (work-meets 𝓤 H (𝓖 .A) (givenOf 𝓤 H 𝓜 𝓖) (𝓜 .mem) (𝓡 .run) (tablesOf 𝓤 H 𝓜 (tables 𝓤 H 𝓜 𝓡 code.env))
-    (cited 𝓤 H _ 𝓜 𝓡 code.env #makers·lesser lesser-def.routine code.calls-makers·lesser (lesser-thm.met 𝓤 H 𝓜 𝓖 𝓡))
-    (cited 𝓤 H _ 𝓜 𝓡 code.env #makers·record-of recordof-def.routine code.calls-makers·record-of (recordof-thm.met 𝓤 H 𝓜 𝓖 𝓡))
+    (cited 𝓤 H _ 𝓜 𝓡 code.env #standing-rules·lesser lesser-def.routine code.calls-standing-rules·lesser (lesser-thm.met 𝓤 H 𝓜 𝓖 𝓡))
+    (cited 𝓤 H _ 𝓜 𝓡 code.env #standing-rules·record-of recordof-def.routine code.calls-standing-rules·record-of (recordof-thm.met 𝓤 H 𝓜 𝓖 𝓡))
     (cited 𝓤 H _ 𝓜 𝓡 code.env #standing·scan scan-def.routine code.calls-standing·scan (scan-thm.met 𝓤 H 𝓜 𝓖 𝓡))
-    (cited 𝓤 H _ 𝓜 𝓡 code.env #makers·decide decide-def.routine code.calls-makers·decide (decide-thm.met 𝓤 H 𝓜 𝓖 𝓡))
+    (cited 𝓤 H _ 𝓜 𝓡 code.env #standing-rules·decide decide-def.routine code.calls-standing-rules·decide (decide-thm.met 𝓤 H 𝓜 𝓖 𝓡))
     (cited 𝓤 H _ 𝓜 𝓡 code.env #standing·shift shift-def.routine code.calls-standing·shift (shift-thm.met 𝓤 H 𝓜 𝓖 𝓡)))

@@ -1,4 +1,4 @@
--- Nothing falls below 0, since d is 1 or more. Assumes nothing.
+-- Nothing falls below 0, since d is 1 or more.
 use native.Mathlib.Omega.{arith}
 use borrow.Author.Needs.{needs}
 use Rattle.strike.proofs.doubled.Statement.{statement}

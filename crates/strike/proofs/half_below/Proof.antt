@@ -1,4 +1,4 @@
--- The square fits 36,500 times. Assumes nothing.
+-- The square fits 36,500 times.
 use Prim.Native.Nat.{ℕ, _*_, _^_}
 use native.Mathlib.Omega.{arith}
 use mathlib.Core.Path.{sym, ap, _∙_}

@@ -1,4 +1,4 @@
--- The test of the four numbers, where there is a strike. Assumes nothing.
+-- The test of the four numbers, where there is a strike.
 use mathlib.Core.Path.{sym, ap, _∙_}
 use Rattle.rules.specs.Causes.{goodSpreadRule}
 use borrow.Author.Needs.{needs}

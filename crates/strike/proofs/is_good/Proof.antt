@@ -1,4 +1,4 @@
--- The four tests, joined. Assumes nothing.
+-- The four tests, joined.
 use Rattle.rules.specs.Strikes.{goodStrike}
 use borrow.Author.Needs.{needs}
 use Rattle.strike.proofs.is_good.Statement.{statement}

@@ -1,5 +1,5 @@
 -- The invariant: the lower number less half a step is at most the product, the upper one less half a step is above it, by their squares.
--- The measure is the gap. Assumes nothing.
+-- The measure is the gap.
 use Prim.Native.Nat.{_+_, _-_, _*_, _^_, _≤_, _<_}
 use native.Mathlib.Omega.{arith}
 use mathlib.Core.Path.{_≡_, sym, _∙_}

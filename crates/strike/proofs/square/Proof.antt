@@ -1,4 +1,4 @@
--- The products fit, since the numbers are in their ranges. Assumes nothing.
+-- The products fit, since the numbers are in their ranges.
 use Prim.Native.Nat.{ℕ, _*_}
 use native.Mathlib.Omega.{arith}
 use mathlib.Core.Path.{sym, ap}

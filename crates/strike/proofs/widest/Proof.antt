@@ -1,4 +1,4 @@
--- The nearest step is the product rounded. Assumes nothing.
+-- The nearest step is the product rounded.
 use Rattle.strike.proofs.Rounding.{widest-is}
 use borrow.Author.Needs.{needs}
 use Rattle.strike.proofs.widest.Statement.{statement}

@@ -1,4 +1,4 @@
--- One more, or as it was. Assumes nothing.
+-- One more, or as it was.
 use mathlib.Core.Path.{ap, sym, _∙_}
 use mathlib.Core.Bool.{Bool}
 use Rattle.rules.specs.Lists.{if_then_else_}

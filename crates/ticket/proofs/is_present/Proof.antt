@@ -1,4 +1,4 @@
--- The amendment and the count. Assumes nothing.
+-- The amendment and the count.
 use mathlib.Core.Path.{_∙_}
 use mathlib.Core.Bool.{_&&_}
 use Rattle.rules.specs.Causes.{goodTicket}

@@ -1,4 +1,4 @@
--- One more, and 0 after the greatest number of 64 bits. Assumes nothing.
+-- One more, and 0 after the greatest number of 64 bits.
 use Prim.Native.Nat.{ℕ, _+_, _≤_, _<_}
 use mathlib.Core.Path.{_≡_}
 use native.Mathlib.Omega.{arith}

@@ -1,4 +1,4 @@
--- Number by number. Assumes nothing.
+-- Number by number.
 use borrow.Author.Needs.{needs}
 use Rattle.ticket.proofs.same_amendment.Statement.{statement}
 use Rattle.ticket.proofs.same_amendment.Tie as tie

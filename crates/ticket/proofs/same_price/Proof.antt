@@ -1,4 +1,4 @@
--- Neither is below the other. Assumes nothing.
+-- Neither is below the other.
 use borrow.Author.Needs.{needs}
 use Rattle.ticket.proofs.same_price.Statement.{statement}
 use Rattle.ticket.proofs.same_price.Tie as tie

@@ -1,4 +1,4 @@
--- `fifth` meets its contract: each power of a number up to 800 fits. Assumes nothing.
+-- `fifth` meets its contract: each power of a number up to 800 fits.
 use native.Mathlib.Omega.{arith}
 use Rattle.verdict.proofs.Weights.{square-most, fourth-most, fifth-most, fifth-power}
 use Rattle.verdict.proofs.fifth.Statement.{statement}

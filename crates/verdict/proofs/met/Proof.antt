@@ -1,4 +1,4 @@
--- `met` meets its contract: the share, then the lapses. Assumes nothing.
+-- `met` meets its contract: the share, then the lapses.
 use borrow.Author.Needs.{needs}
 use Rattle.verdict.proofs.met.Statement.{statement}
 use Rattle.verdict.proofs.met.Tie as tie

@@ -1,4 +1,4 @@
--- `reaches` meets its contract: a product of two 32-bit numbers fits 64 bits. Assumes nothing.
+-- `reaches` meets its contract: a product of two 32-bit numbers fits 64 bits.
 use mathlib.Core.Path.{refl}
 use native.Mathlib.Omega.{arith}
 use borrow.Author.Needs.{needs}

@@ -1,4 +1,4 @@
--- `thousandths` meets its contract: it computes what the definition says. Assumes nothing.
+-- `thousandths` meets its contract: it computes what the definition says.
 use mathlib.Core.Path.{refl}
 use borrow.Author.Needs.{needs}
 use Rattle.verdict.proofs.thousandths.Statement.{statement}

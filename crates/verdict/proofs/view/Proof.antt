@@ -1,4 +1,4 @@
--- `pay::view` meets its contract: its verdict and weight are `viewOf`'s, as `met` and `weight` promise. Assumes nothing.
+-- `pay::view` meets its contract: its verdict and weight are `viewOf`'s, as `met` and `weight` promise.
 use Rattle.rules.specs.Pay.{viewOf}
 use borrow.Author.Needs.{needs}
 use Rattle.verdict.proofs.view.Statement.{statement}

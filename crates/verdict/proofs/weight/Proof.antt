@@ -1,4 +1,4 @@
--- `weight` meets its contract: what `weight_of` ensures of the cell's fields, or 0 with too many lapses. Assumes nothing.
+-- `weight` meets its contract: what `weight_of` ensures of the cell's fields, or 0 with too many lapses.
 use mathlib.Core.Path.{sym, _∙_}
 use borrow.Author.Needs.{needs}
 use Rattle.rules.specs.Terms.{paper}

@@ -1,4 +1,4 @@
--- `weight_met` meets its contract: the quotient of the fifth powers is at most 10,000. Assumes nothing.
+-- `weight_met` meets its contract: the quotient of the fifth powers is at most 10,000.
 use native.Mathlib.Omega.{arith}
 use borrow.Author.Needs.{needs}
 use Rattle.verdict.proofs.Weights.{Powers, weightMet-high, product-most, divisor-least, quotient-most, weightMet-low}

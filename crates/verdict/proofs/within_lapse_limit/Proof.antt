@@ -1,4 +1,4 @@
--- No limit, or the count is at most the limit. Assumes nothing.
+-- No limit, or the count is at most the limit.
 use borrow.Author.Tests.{eq-eqb, ne-eqb}
 use Rattle.rules.specs.Lapses.{withinLapseLimit}
 use Rattle.verdict.proofs.within_lapse_limit.Statement.{statement}

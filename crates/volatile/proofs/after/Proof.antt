@@ -1,4 +1,4 @@
--- Each answer by its tests. Assumes nothing.
+-- Each answer by its tests.
 use mathlib.Core.Path.{sym, _∙_}
 use Rattle.volatile.proofs.Steps.{joined, ended, goes-on, begun, stays-out}
 use borrow.Author.Needs.{needs}

@@ -1,4 +1,4 @@
--- The invariant: the state stands for the R passed, and no period began early. Assumes nothing.
+-- The invariant: the state stands for the R passed, and no period began early.
 use Prim.Native.Nat.{ℕ, suc, _-_, _≤_, _<_}
 use native.Mathlib.Omega.{arith}
 use native.Mathlib.Numerals.{add-one}

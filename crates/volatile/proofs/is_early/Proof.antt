@@ -1,4 +1,4 @@
--- Both tests. Assumes nothing.
+-- Both tests.
 use mathlib.Core.Path.{_∙_}
 use borrow.Author.Needs.{needs}
 use Rattle.volatile.proofs.is_early.Statement.{statement}

@@ -1,4 +1,4 @@
--- The oldest is within the sum, so nothing wraps. Assumes nothing.
+-- The oldest is within the sum, so nothing wraps.
 use mathlib.Core.Path.{refl}
 use Rattle.volatile.specs.Internal.{pushed}
 use borrow.Author.Needs.{needs}

@@ -1,4 +1,4 @@
--- No day yet. Assumes nothing.
+-- No day yet.
 use mathlib.Core.Path.{refl}
 use Rattle.volatile.specs.Internal.{fresh}
 use Rattle.volatile.proofs.start.Statement.{statement}

@@ -1,4 +1,4 @@
--- By the number of R before it. Assumes nothing.
+-- By the number of R before it.
 use native.Mathlib.Omega.{arith}
 use mathlib.Core.Path.{_∙_}
 use Rattle.volatile.proofs.Steps.{first-two, from-third}

@@ -1,4 +1,4 @@
--- `has` meets its contract: the three shares are tried one by one. Assumes nothing.
+-- `has` meets its contract: the three shares are tried one by one.
 use Rattle.weights.proofs.Card.{has-600, has-700, has-others}
 use Rattle.weights.proofs.has.Statement.{statement}
 use Rattle.weights.proofs.has.Tie as tie

@@ -1,4 +1,4 @@
--- `look_up` meets its contract: each share has its own column. Assumes nothing.
+-- `look_up` meets its contract: each share has its own column.
 use mathlib.Core.Path.{_∙_}
 use native.Mathlib.Omega.{arith}
 use borrow.Author.Needs.{needs}

@@ -1,4 +1,4 @@
--- A price from 0 on stays as it is (`up`); a negative one is taken from 2 ^ 32 (`down`). Assumes nothing.
+-- A price from 0 on stays as it is (`up`); a negative one is taken from 2 ^ 32 (`down`).
 use Rattle.words.proofs.Complement.{up-cast, up, down-fits, down-cast, down-least, down}
 use Rattle.words.proofs.from_steps.Statement.{statement}
 use Rattle.words.proofs.from_steps.Tie as tie

@@ -10,7 +10,8 @@ const form = { edited: new Set(), asked: 0 };   // what was typed stays
 function whyNoAnswer(open) {
   if (link.away) return "No answers: the page has lost the meter.";
   if (open.asks) return "";
-  const reasons = { broken: "No answers while the feed is broken off.", reading: "No answers before the feed is read." };
+  const reasons = { broken: "No answers while the feed is broken off.", reading: "No answers before the feed is read.",
+    doubt: "No answers while the figures are not reliable." };
   return reasons[shown.band?.kind] ?? "No answers now.";
 }
 

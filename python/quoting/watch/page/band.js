@@ -17,8 +17,8 @@ function lowered(text) {
 // Without the meter nothing is known; what it said last is told as of then.
 function awayBand() {
   const was = shown.band, clock = shown.head?.clock.replace(/^last /, "") || link.since;
-  const is_told = was && ["rest", "keep", "hold", "lost"].includes(was.kind);
-  const then = is_told ? ` It was then: ${lowered(was.head)}, ${lowered(was.sub).replace(/\.$/, "")}.` : "";
+  const isTold = was && ["rest", "keep", "hold", "lost"].includes(was.kind);
+  const then = isTold ? ` It was then: ${lowered(was.head)}, ${lowered(was.sub).replace(/\.$/, "")}.` : "";
   return { kind: "broken", head: link.head, sub: was ? `Not known since ${clock}` : `Not reached since ${link.since}`,
     why: `Keep quoting until it is back.${then} Lost at ${link.since} by this computer's clock; the page tries again by itself.` };
 }
@@ -38,6 +38,7 @@ export function paintBand() {
     put($("h-sign"), "href", `#h-${band.kind}`);
     say($("said"), `${band.head}. ${band.sub}`);
   }
+  $("all").classList.toggle("stale", band.kind === "doubt");
   say(figure("band-head"), band.head);
   say(figure("band-sub"), band.sub);
   say(figure("band-why"), band.why);

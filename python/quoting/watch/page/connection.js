@@ -7,7 +7,7 @@ const FIRST_WAIT = 500, LAST_WAIT = 5_000;   // before a lost connection is trie
 const LONGEST_SILENCE = 5_000;        // of a server that follows an open quantum
 
 export const connection = { socket: null };   // null: none is open or being opened
-let wait = FIRST_WAIT, retry = 0, asleep = 0, heard_at = 0, silence = 0;
+let wait = FIRST_WAIT, retry = 0, asleep = 0, heardAt = 0, silence = 0;
 
 function localTime() {
   return new Date().toLocaleTimeString("en-GB");
@@ -25,7 +25,7 @@ export function connect() {
   if (connection.socket) return;
   const base = (location.protocol === "https:" ? "wss://" : "ws://") + location.host;
   const mine = connection.socket = new WebSocket(`${base}/live${location.search}`);
-  heard_at = Date.now();
+  heardAt = Date.now();
   silence = setInterval(minding, 1_000);
   mine.addEventListener("message", event => {
     if (connection.socket === mine) heard(JSON.parse(event.data));
@@ -38,7 +38,7 @@ export function connect() {
 // The first message of a connection has the whole state, so the page is up to date again with it.
 function heard(message) {
   wait = FIRST_WAIT;
-  heard_at = Date.now();
+  heardAt = Date.now();
   if (link.away) {
     link.away = false;
     mark("link");
@@ -65,8 +65,8 @@ function lost() {
 // A connection can die without a word. While an open quantum is followed the server has something new every second (how long ago the last
 // call came); an old answer must not stand there as if it were of now.
 function minding() {
-  const is_due = link.away || (shown.open && shown.feed?.kind === "following");
-  if (is_due && Date.now() - heard_at > LONGEST_SILENCE) lost();
+  const isDue = link.away || (shown.open && shown.feed?.kind === "following");
+  if (isDue && Date.now() - heardAt > LONGEST_SILENCE) lost();
 }
 
 function sleep() {

@@ -39,7 +39,7 @@ function priceScale(columns, info) {
 
 // One column for each pixel, or for each bucket where a bucket is wider than a pixel.
 function columnsOf(info, buckets, pixels) {
-  const by_bucket = Math.ceil(info.length / info.width) <= pixels, span = by_bucket ? info.width : info.length / pixels;
+  const byBucket = Math.ceil(info.length / info.width) <= pixels, span = byBucket ? info.width : info.length / pixels;
   const columns = new Array(Math.ceil(info.length / span - 1e-9)).fill(null);
   for (const bucket of buckets) {
     if (!bucket) continue;

@@ -44,8 +44,8 @@ export function put(element, name, value) {
   if (element.getAttribute(name) !== String(value)) element.setAttribute(name, value);
 }
 
-export function show(element, is_shown) {
-  if (element.hidden === is_shown) element.hidden = !is_shown;
+export function show(element, isShown) {
+  if (element.hidden === isShown) element.hidden = !isShown;
 }
 
 export function signFor(key) {

@@ -40,8 +40,8 @@ export function labelsOf(info, g) {
   for (const side of ["ask", "bid"]) if (info[side]) add(side, side, info[side].text, quoteSpots(info, side, g), latest);
   if (latest !== null) {
     add("latest", "strong", info.latest.text, latestSpots(latest, g), now);
-    const is_wide = g.right - latest - 12 > widthOf("to be kept", "plain");
-    if (is_wide) add("due", "plain", "to be kept", [[(latest + g.right) / 2, g.strip + 18, "middle"]]);
+    const isWide = g.right - latest - 12 > widthOf("to be kept", "plain");
+    if (isWide) add("due", "plain", "to be kept", [[(latest + g.right) / 2, g.strip + 18, "middle"]]);
   }
   for (const [name, sign, y] of [["above", "↑", g.top + 11], ["below", "↓", g.bottom - 3]]) {
     const cut = g[name], x = cut && g.x(cut.at);
@@ -54,7 +54,7 @@ export function labelsOf(info, g) {
 
 function latestSpots(x, g) {
   const rows = [g.top + 8, g.bottom - 4, g.top + 26, g.bottom - 22], places = [[x + 6, "start"], [x - 6, "end"], [g.width, "end"]];
-  return [false, true].flatMap(may_cross => rows.flatMap(y => places.map(([at, anchor]) => [at, y, anchor, may_cross])));
+  return [false, true].flatMap(mayCross => rows.flatMap(y => places.map(([at, anchor]) => [at, y, anchor, mayCross])));
 }
 
 // The heights of both quotes' labels: at the ends of their lines, moved apart where they would touch, the higher price above.
@@ -74,9 +74,9 @@ function quoteSpots(info, side, g) {
   const now = g.x(info.now), y = quoteHeights(info, g)[side], way = side === "ask" ? -1 : 1, spots = [];
   const room = Math.max(...["ask", "bid"].map(each => info[each] ? widthOf(info[each].text, each) : 0)) <= g.width - now - 6;
   const sides = room ? [[now + 6, y, "start", false], [now + 6, y, "start", true]] : [[now - 6, y + way * 14, "end", true]];
-  for (const [x, first, anchor, may_cross] of sides) {
+  for (const [x, first, anchor, mayCross] of sides) {
     for (let step = 0; step <= 36; step += 4) {
-      for (const to of [way, -way]) spots.push([x, clampY(first + to * step, g), anchor, may_cross]);
+      for (const to of [way, -way]) spots.push([x, clampY(first + to * step, g), anchor, mayCross]);
     }
   }
   return spots;

@@ -181,15 +181,15 @@ function choose(cell) {
 
 // Where a key leads from a cell, as the places along the line and down the lines; arrows go by what is seen.
 function ledTo(event, along, down, most) {
-  const has_all = event.ctrlKey;
+  const hasAll = event.ctrlKey;
   const moves = {
     ArrowRight: [along + 1, down], ArrowLeft: [along - 1, down], ArrowDown: [along, down + 1], ArrowUp: [along, down - 1],
-    Home: [0, has_all ? 0 : down], End: [most[0], has_all ? most[1] : down],
+    Home: [0, hasAll ? 0 : down], End: [most[0], hasAll ? most[1] : down],
   };
   return moves[event.key]?.map((at, k) => Math.min(most[k], Math.max(0, at)));
 }
 
-// In the turned grid days are below one another, and folded ones are passed over.
+// In the turned grid days are below one another, and folded ones are skipped.
 function moveInGrid(event) {
   const cell = event.target.closest(".cell");
   if (!cell || event.altKey || event.metaKey) return;

@@ -11,13 +11,13 @@ const TILES = ["kept", "left", "lapses", "spread", "weight"];
 const MOST_PIPS = 8;
 
 export function paintOpen(open) {
-  const is_stale = Boolean(open?.stale) || link.away;
+  const isStale = Boolean(open?.stale) || link.away;
   show($("open"), Boolean(open));
   show($("orders-panel"), Boolean(open));
   show($("ask-panel"), Boolean(open));
   $("three").classList.toggle("alone", !open);
-  $("open").classList.toggle("stale", is_stale);
-  $("orders-panel").classList.toggle("stale", is_stale);
+  $("open").classList.toggle("stale", isStale);
+  $("orders-panel").classList.toggle("stale", isStale);
   if (!open) return forgetOpen();
   show($("three"), true);
   paintBar(open.bar);
@@ -84,14 +84,14 @@ function overlap(a, b) {
 function layUnderLabels(bar, width) {
   const kept = $("u-kept"), may = $("u-may"), out = $("u-out");
   for (const label of [kept, may, out]) show(label, true);
-  const has_out = bar.out_of_reach && bar.reach * width < width - out.offsetWidth + 3 * GAP;
-  const may_at = Math.max(bar.kept * width, kept.offsetWidth + GAP), out_at = width - out.offsetWidth;
-  const has_may = bar.reach > bar.kept && may_at + may.offsetWidth + GAP <= (has_out ? out_at : width);
-  show(out, has_out);
-  show(may, has_may);
+  const hasOut = bar.out_of_reach && bar.reach * width < width - out.offsetWidth + 3 * GAP;
+  const mayAt = Math.max(bar.kept * width, kept.offsetWidth + GAP), outAt = width - out.offsetWidth;
+  const hasMay = bar.reach > bar.kept && mayAt + may.offsetWidth + GAP <= (hasOut ? outAt : width);
+  show(out, hasOut);
+  show(may, hasMay);
   show(kept, bar.kept > 0);
   place(out, "right", "0");
-  place(may, "left", percent(may_at / width));
+  place(may, "left", percent(mayAt / width));
 }
 
 function buildTile(name) {

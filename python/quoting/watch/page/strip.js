@@ -23,10 +23,10 @@ function loneLapses(pieces) {
   for (let first = 0, next; first < pieces.length; first = next + 1) {
     next = first;
     while (pieces[next]?.state === -1) next++;
-    const is_alone = next > first && next - first <= 2 && !pieces[first - 1]?.state && !pieces[next]?.state;
-    for (const piece of is_alone ? pieces.slice(first, next) : []) {
+    const isAlone = next > first && next - first <= 2 && !pieces[first - 1]?.state && !pieces[next]?.state;
+    for (const piece of isAlone ? pieces.slice(first, next) : []) {
       const lost = piece.held.filter(([state]) => state !== 0);
-      Object.assign(piece, { held: lost, is_lone: true });
+      Object.assign(piece, { held: lost, isLone: true });
     }
   }
   return pieces;
@@ -36,7 +36,7 @@ export function paintStrip(pieces, info, g) {
   const strip = KEYS.map(() => ""), tints = KEYS.map(() => ""), badges = [];
   for (const piece of pieces) {
     const x0 = g.x(piece.from), end = g.x(Math.min(piece.to, info.now)), lost = piece.state !== 0;
-    const x1 = Math.max(end, x0 + (lost && (piece.is_lone || piece.state > 0) ? 2 : .5));   // a lapse is never thinner than two pixels
+    const x1 = Math.max(end, x0 + (lost && (piece.isLone || piece.state > 0) ? 2 : .5));   // a lapse is never thinner than two pixels
     const heights = sharesOf(piece.held, g.foot - g.strip);
     let y = g.foot, most = piece.held[0];
     piece.held.forEach(([state, time], at) => {

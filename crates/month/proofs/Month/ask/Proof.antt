@@ -1,4 +1,4 @@
--- What amend would answer, read off the quantum with it taken; the month stays. Assumes nothing.
+-- What amend would answer, read off the quantum with it taken; the month stays.
 use borrow.Author.Tests.{not-true, not-false}
 use Rattle.rules.specs.declared.Amendment.{Amendment}
 use Rattle.rules.specs.declared.Asked.the-variants.{Shown, Refused}

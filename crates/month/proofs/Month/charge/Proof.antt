@@ -1,4 +1,4 @@
--- 3, then 5; else the new charges. Assumes nothing.
+-- 3, then 5; else the new charges.
 use mathlib.Core.Path.{_≡_, ap, sym, subst, _∙_}
 use mathlib.Core.Bool.{Bool, true, _&&_, and-false}
 use native.Mathlib.Omega.{arith}

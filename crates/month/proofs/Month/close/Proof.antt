@@ -1,4 +1,4 @@
--- 3, then 7; else the cell is filled and the quantum forgotten. Assumes nothing.
+-- 3, then 7; else the cell is filled and the quantum forgotten.
 use mathlib.Core.Path.{_≡_, sym, ap, subst, _∙_}
 use mathlib.Core.Bool.{true}
 use borrow.Author.Tests.{not-true, not-false}

@@ -1,4 +1,4 @@
--- What amend answers, then the ticket. Assumes nothing.
+-- What amend answers, then the ticket.
 use mathlib.Core.Path.{sym, _∙_}
 use Rattle.rules.specs.declared.Amendment.{Amendment}
 use Rattle.rules.specs.declared.Answer.the-variants.{Refused}

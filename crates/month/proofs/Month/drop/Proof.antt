@@ -1,4 +1,4 @@
--- With none open 7; else the quantum is forgotten. Assumes nothing.
+-- With none open 7; else the quantum is forgotten.
 use mathlib.Core.Path.{subst, sym}
 use borrow.Author.Tests.{not-true, not-false}
 use Rattle.rules.specs.declared.Answer.the-variants.{Accepted, Refused}

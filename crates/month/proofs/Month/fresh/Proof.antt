@@ -1,4 +1,4 @@
--- No quantum, 186 blank cells. Assumes nothing.
+-- No quantum, 186 blank cells.
 use mathlib.Core.Path.{ap}
 use lib.ListN.{replicate}
 use Rattle.month.proofs.Fields.{fresh-is}

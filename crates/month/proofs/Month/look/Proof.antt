@@ -1,4 +1,4 @@
--- 3, then 5; else the cell as `viewOf` has it. Assumes nothing.
+-- 3, then 5; else the cell as `viewOf` has it.
 use mathlib.Core.Path.{refl, ap, sym, _∙_}
 use Rattle.rules.specs.declared.Cell.{Cell}
 use Rattle.rules.specs.Terms.{paper}

@@ -1,4 +1,4 @@
--- What the quantum answers. Assumes nothing.
+-- What the quantum answers.
 use Rattle.rules.specs.declared.Answer.the-variants.{Accepted}
 use Rattle.rules.specs.Calls.{Message}
 use Rattle.month.proofs.Answers.{handed}

@@ -1,4 +1,4 @@
--- 1 and 2 while the row is read, the other causes after it. Assumes nothing.
+-- 1 and 2 while the row is read, the other causes after it.
 use mathlib.Core.Path.{ap, sym, _∙_}
 use denote.Ref.{now}
 use Rattle.rules.specs.Answers.{shownRow}

@@ -1,4 +1,4 @@
--- 3, 4, 6, 17, then 18; else the quantum opens. Assumes nothing.
+-- 3, 4, 6, 17, then 18; else the quantum opens.
 use Prim.Native.Nat.{ℕ}
 use mathlib.Core.Path.{_≡_, ap, sym, _∙_}
 use mathlib.Core.Bool.{Bool, true, _&&_}

@@ -1,4 +1,4 @@
--- With none open 7; else the outlook on the open quantum, by its duty and its clock. Assumes nothing.
+-- With none open 7; else the outlook on the open quantum, by its duty and its clock.
 use mathlib.Core.Path.{refl}
 use borrow.Author.Tests.{not-true, not-false}
 use Rattle.month.proofs.Calls.{outlook-idle, outlook-stands, outlook-done}

@@ -1,4 +1,4 @@
--- Each field as the book has it. Assumes nothing.
+-- Each field as the book has it.
 use mathlib.Core.Path.{refl}
 use Rattle.month.proofs.Fields.{cells-good, quantum-reached}
 use Rattle.month.proofs.Calls.{report-done}

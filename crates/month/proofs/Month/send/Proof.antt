@@ -1,4 +1,4 @@
--- With none open 7; else what the quantum answers. Assumes nothing.
+-- With none open 7; else what the quantum answers.
 use borrow.Author.Tests.{not-true, not-false}
 use Rattle.rules.specs.declared.Answer.the-variants.{Accepted, Refused}
 use Rattle.rules.specs.declared.Refusal.the-variants.{NoQuantumOpen}

@@ -1,4 +1,4 @@
--- 3, then 5; else the cell is blank again. Assumes nothing.
+-- 3, then 5; else the cell is blank again.
 use mathlib.Core.Path.{sym, subst, _∙_}
 use native.Mathlib.Omega.{arith}
 use Rattle.rules.specs.declared.Answer.the-variants.{Accepted, Refused}

@@ -1,4 +1,4 @@
--- Only the quantum goes. Assumes nothing.
+-- Only the quantum goes.
 use mathlib.Core.Path.{ap}
 use mathlib.Core.Bool.{false}
 use Rattle.quantum.specs.declared.Quantum.{Quantum}

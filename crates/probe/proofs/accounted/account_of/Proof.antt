@@ -1,4 +1,4 @@
--- The row and the records lie within the input, and the buffer within its array. Assumes nothing.
+-- The row and the records lie within the input, and the buffer within its array.
 use native.Mathlib.Omega.{arith}
 use lib.ListN.{length-take}
 use borrow.Author.Needs.{needs}

@@ -1,4 +1,4 @@
--- By the duty and the clock. Assumes nothing.
+-- By the duty and the clock.
 use native.Mathlib.Omega.{arith}
 use Rattle.clock.proofs.Clocks.{time-is, length-of, onward}
 use Rattle.quantum.proofs.Answers.{represents-all}

@@ -1,4 +1,4 @@
--- No events: the duty of the row, a clock at 0, no orders. Assumes nothing.
+-- No events: the duty of the row, a clock at 0, no orders.
 use Rattle.quantum.proofs.Answers.{opened-is}
 use borrow.Author.Needs.{needs}
 use Rattle.quantum.proofs.Quantum.opened.Statement.{statement}

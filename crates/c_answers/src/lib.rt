@@ -1,0 +1,59 @@
+// What a call for C answers: one number, and the words or bytes that it puts at the front of a lent buffer.
+ghost use mathlib.Core.Path.{_≡_};
+ghost use mathlib.Core.List.{_++_};
+ghost use Prim.Native.Nat.{_≤_};
+ghost use lib.ListN.{length, take, drop};
+ghost use Rattle.rules.specs.Answers.{accepted};
+ghost use Rattle.c_answers.specs.Answers.{refusedNumber, Fills};
+
+pub fn refused(n: u32) -> u64
+    ensures { λ r. ⌜ r ≡ refusedNumber n ⌝ }
+{
+    4294967296 * (n as u64)
+}
+
+// Puts words at the front of a buffer that has room for them.
+fn put_words(words: &[u32], buffer: &mut [u32])
+    requires { ⌜ length (now words) ≤ length (now buffer) ⌝ }
+    ensures { λ _. ⌜ now (buffer .exit) ≡ now (words .entry) ++ drop (length (now (words .entry))) (now (buffer .entry)) ⌝ }
+{
+    let mut i = 0;
+    while i < words.len() {
+        buffer[i] = words[i];
+        i += 1;
+    }
+}
+
+// Puts the first n bytes at the front of a text that has room for them.
+fn put_bytes(bytes: &[u8], n: usize, text: &mut [u8])
+    requires { ⌜ (n ≤ length (now bytes)) × (n ≤ length (now text)) ⌝ }
+    ensures { λ _. ⌜ now (text .exit) ≡ take n (now (bytes .entry)) ++ drop n (now (text .entry)) ⌝ }
+{
+    let mut i = 0;
+    while i < n {
+        text[i] = bytes[i];
+        i += 1;
+    }
+}
+
+pub fn fill_words(words: &[u32], buffer: &mut [u32]) -> u64
+    ensures { λ r. ⌜ Fills (accepted (now (words .entry))) (now (buffer .entry)) (now (buffer .exit)) r ⌝ }
+{
+    let n = words.len();
+    if buffer.len() < n {
+        return refused(16);
+    }
+    put_words(words, buffer);
+    n as u64
+}
+
+pub fn fill_bytes(bytes: &[u8], n: usize, text: &mut [u8]) -> u64
+    requires { ⌜ n ≤ length (now bytes) ⌝ }
+    ensures { λ r. ⌜ Fills (accepted (take n (now (bytes .entry)))) (now (text .entry)) (now (text .exit)) r ⌝ }
+{
+    if text.len() < n {
+        return refused(16);
+    }
+    put_bytes(bytes, n, text);
+    n as u64
+}

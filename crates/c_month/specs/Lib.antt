@@ -1,0 +1,3 @@
+pub mod Internal
+pub mod Months
+pub mod Views

@@ -1,0 +1,20 @@
+-- The eighth word.
+use Prim.Native.Nat.{ℕ}
+use mathlib.Core.Path.{ap, _∙_}
+use Rattle.rules.specs.Units.{steps}
+use Rattle.rules.specs.Records.{signedOf}
+use borrow.Author.Needs.{needs}
+use Rattle.c_session.proofs.leading_price.Statement.{statement}
+use Rattle.c_session.proofs.leading_price.Tie as tie
+
+word-at-requires : tie.Need-word-at-requires
+word-at-requires c κs = search needs
+
+to-steps-requires : tie.Need-to-steps-requires
+to-steps-requires c κs = search needs
+
+returns : tie.Need-returns
+returns c = c .to-steps .ensures ∙ ap (λ (w : ℕ). steps (signedOf w)) (c .before .word-at .ensures)
+
+pub leading-price-spec : {M : Type 1} → statement M
+leading-price-spec = tie.close (tie.spec word-at-requires to-steps-requires returns)

@@ -1,0 +1,147 @@
+// The open quantum of a month's words as it is now, written into a lent buffer for whoever shows it (specs/Views). The month's words are as
+// they were.
+ghost use mathlib.Core.Path.{_≡_};
+ghost use mathlib.Core.Bool.{true};
+ghost use mathlib.Core.List.{List};
+ghost use Prim.Native.Nat.{_*_, _-_, _≤_};
+ghost use lib.ListN.{length, getD};
+ghost use Rattle.rules.specs.declared.Row.{Row};
+ghost use Rattle.rules.specs.declared.SpreadRule.{SpreadRule};
+ghost use Rattle.rules.specs.declared.Event.{Event};
+ghost use Rattle.rules.specs.Records.{addKind};
+ghost use Rattle.rules.specs.Bounds.{EventBounds};
+ghost use Rattle.order_table.specs.Internal.{blankOrder};
+ghost use Rattle.quantum.specs.Represents.{quantumOf};
+ghost use Rattle.quantum.specs.Words.{quantumWords};
+ghost use Rattle.month.specs.Words.{HoldsMonth};
+ghost use Rattle.quantum_in_place.specs.Events.{HoldsQuantum};
+ghost use Rattle.month_in_place.specs.Entry.{mayBeMonth};
+ghost use Rattle.month_view.specs.Views.{orderWords, ordersWords, quotingWords, Shown, Views};
+ghost use Rattle.month_view.specs.Internal.{headFrom, Placed, Listed};
+use rules::Order;
+use rules::Side;
+
+// What became of a view: the month's words are too few, or no month's, or the buffer's are too few, and then nothing is written; or so many
+// words were written, 0 with none open.
+pub enum Viewed {
+    WordsShort,
+    NoMonth,
+    BufferShort,
+    Written(usize),
+}
+
+// ---- the orders
+
+// 1 for a buy, 2 for a sell.
+fn side_word(side: Side) -> u32
+    ensures { λ r. ⌜ r ≡ addKind side ⌝ }
+{
+    match side {
+        Side::Buy => 1,
+        Side::Sell => 2,
+    }
+}
+
+fn put_order(order: Order, into: &mut [u32])
+    requires { ⌜ length (now into) ≡ 4 ⌝ }
+    ensures { λ _. ⌜ now (into .exit) ≡ orderWords order ⌝ }
+{
+    let side = order.side;
+    let price = order.price;
+    let volume = order.volume;
+    let four = [
+        order.id,
+        side_word(side),
+        words::from_steps(price),
+        volume.0,
+    ];
+    lent::copy(&four, into);
+}
+
+// The place of the order that a scan found; in words that no call wrote it may have found none, or several.
+fn place_of(found: u32) -> usize
+    requires { ⌜ (1 ≤ found) × (found ≤ 64) ⌝ }
+    ensures { λ r. ⌜ r ≡ found - 1 ⌝ }
+{
+    (numbers::one_less(found) % 64) as usize
+}
+
+// The live order with an id: a buy, or else a sell.
+fn order_with(table: &[u32], id: u32) -> Order
+    requires { ⌜ Placed (now table) id ⌝ }
+    ensures { λ r. ⌜ ((p : Placed (now (table .entry)) id) → r ≡ getD (p .live) (p .place) blankOrder) ⌝ }
+{
+    let buys = order_side::located(&table[0..256], id);
+    if 0 < buys {
+        return order_side::order_at(&table[0..256], Side::Buy, place_of(buys));
+    }
+    let sells = order_side::located(&table[256..512], id);
+    order_side::order_at(&table[256..512], Side::Sell, place_of(sells))
+}
+
+// The live orders, by their ids as they were added: the table has them by side.
+fn put_orders(table: &[u32], ids: &[u32], into: &mut [u32])
+    requires { ⌜ Listed (now table) (now ids) × (length (now into) ≡ 4 * length (now ids)) ⌝ }
+    ensures { λ _. ⌜ ((l : Listed (now (table .entry)) (now (ids .entry))) → now (into .exit) ≡ ordersWords (l .live)) ⌝ }
+{
+    let mut i: usize = 0;
+    while i < ids.len() {
+        let order = order_with(table, ids[i]);
+        let from = 4 * i;
+        let to = from + 4;
+        put_order(order, &mut into[from..to]);
+        i += 1;
+    }
+}
+
+// ---- the quantum
+
+// The words in front of the orders': the row and what the spread limit goes by are among the quantum's notes.
+fn put_head(day: u32, allowed: u32, state: u32, count: u32, quantum: &[u32], into: &mut [u32])
+    requires { ⌜ (length (now quantum) ≡ 598) × (length (now into) ≡ 17) ⌝ }
+    ensures { λ _. ⌜ now (into .exit) ≡ headFrom day allowed state count (now (quantum .entry)) ⌝ }
+{
+    let first = [day];
+    let last = [allowed, quantum[2], state, count];
+    lent::copy(&first, &mut into[0..1]);
+    lent::copy(&quantum[586..598], &mut into[1..13]);
+    lent::copy(&last, &mut into[13..17]);
+}
+
+// The open quantum, from its words.
+fn show(day: u32, allowed: u32, quantum: &[u32], buffer: &mut [u32]) -> Viewed
+    requires { ⌜ HoldsQuantum (now quantum) × (length (now quantum) ≡ 598) ⌝ }
+    ensures { λ r. ⌜ ((row : Row) (spread : SpreadRule) (events : List Event) → EventBounds row events → now (quantum .entry) ≡ quantumWords (quantumOf row spread events) → Shown (quotingWords day allowed row spread events) (now (buffer .entry)) (now (buffer .exit)) r) ⌝ }
+{
+    let count = order_table::count(&quantum[10..522]);
+    let live = count as usize;
+    let size = 17 + 4 * live;
+    if buffer.len() < size {
+        return Viewed::BufferShort;
+    }
+    let state = order_table::state(&quantum[10..522], quantum[2]);
+    put_head(day, allowed, state, count, quantum, &mut buffer[0..17]);
+    put_orders(
+        &quantum[10..522],
+        &quantum[522..522 + live],
+        &mut buffer[17..size],
+    );
+    Viewed::Written(size)
+}
+
+// What stands now, of a month's words.
+pub fn view(words: &[u32], buffer: &mut [u32]) -> Viewed
+    requires { ⌜ (2464 ≤ length (now words) → mayBeMonth (now words) ≡ true → HoldsMonth (now words)) ⌝ }
+    ensures { λ r. ⌜ Views (now (words .entry)) (now (buffer .entry)) (now (buffer .exit)) r ⌝ }
+{
+    if words.len() < 2464 {
+        return Viewed::WordsShort;
+    }
+    if !month_in_place::may_be_month(words) {
+        return Viewed::NoMonth;
+    }
+    if words[0] == 0 {
+        return Viewed::Written(0);
+    }
+    show(words[1] / 6 + 1, words[3], &words[6..604], buffer)
+}

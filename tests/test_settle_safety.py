@@ -1,0 +1,450 @@
+"""`quoting settle` under attack: other options, changed sessions, two runs on one table, links, pipes, damaged part files, lost clusters."""
+
+import json
+import os
+import random
+import re
+import shutil
+import signal
+import stat
+import subprocess
+import sys
+import time
+from contextlib import ExitStack
+
+import pytest
+
+from quoting import clusters, parts, settling
+from quoting.settling import Manner, Outcome, Settled
+from tests.paths import QUOTING
+from tests.test_settle import ENVIRONMENT, fill, free_port, rows_of, settle, wait_for, wait_for_workers
+
+pytestmark = pytest.mark.usefixtures("library")
+
+ROW = ("--row", "1 1 0:10:00 500 100 3 60%", "--sp", "2000")
+OTHER = ("--row", "1 1 0:10:00 500 100 3 70%", "--sp", "2000")
+EVENTS = "t,kind,id,side,price,volume\n0,add,1,buy,99,500\n0,add,2,sell,102,500\n"
+
+
+@pytest.fixture
+def here(tmp_path):
+    """A folder of eight sessions without rows: --row and --sp decide what they are."""
+    (tmp_path / "day").mkdir()
+    for at in range(8):
+        (tmp_path / "day" / f"{at}.csv").write_text(EVENTS + f"{1_000 * at + 1},cancel,1,,,\n")
+    return tmp_path
+
+
+def broken_off(here, count, *words):
+    """The part file of a run that ended after so many rows."""
+    names = settling.names_in("day") if os.getcwd() == str(here) else sorted(f"day/{each.name}" for each in (here / "day").iterdir())
+    code = (
+        "import sys; from quoting import parts\nwrite = parts.Table.write\n"
+        f"def limited(self, outcome):\n    if len(self.places) >= {count}: raise KeyboardInterrupt\n    write(self, outcome)\n"
+        "parts.Table.write = limited\nfrom quoting.cli import main\nsys.exit(main(sys.argv[1:]))"
+    )
+    done = subprocess.run([sys.executable, "-c", code, "settle", "day", "-o", "on.csv", *words], cwd=here, env=ENVIRONMENT, capture_output=True)
+    assert done.returncode == 130, done.stderr
+    assert (here / "on.csv.part").read_bytes().count(b'{"row"') == count < len(names)
+    return here / "on.csv.part"
+
+
+# ---------------------------------------------------------------- item 7: options and changed sessions
+
+
+@pytest.mark.parametrize("now", [OTHER, (*ROW, "--start", "1:00:00"), (*ROW, "--format", "csv"), (*ROW, "--step", "0.5"), ()], ids=" ".join)
+def test_resume_with_other_options_is_refused_with_both(here, now):
+    part = broken_off(here, 3, *ROW)
+    before = part.read_bytes()
+    status, printed, said = settle("day", "-o", "on.csv", "--resume", *now, cwd=here)
+    assert (status, printed) == (1, "") and "Traceback" not in said
+    assert 'begun with --row "1 1 600000 500 100 3 60.0%" --sp 2000' in said or "60%" in said.split("this run has")[0], said
+    assert (" ".join(now[-2:]) if now not in (OTHER, ()) else "70" if now else "no options") in said.split("this run has")[1], said
+    assert part.read_bytes() == before and not (here / "on.csv").exists()
+    assert settle("day", "-o", "on.csv", "--resume", *ROW, cwd=here)[0] == 0
+
+
+def test_resume_takes_the_same_options_written_otherwise(here):
+    broken_off(here, 3, *ROW)
+    same = ("--row", "1 1 600000 500 100 3 600 tenths", "--sp", "2000", "--threads", "1")
+    assert settle("day", "-o", "on.csv", "--resume", *same, cwd=here)[0] == 0
+
+
+def test_resume_settles_changed_sessions_again(here):
+    """Changed in size, in time alone, and in content with size and time as before; the others are not read again."""
+    part = broken_off(here, 6, *ROW)
+    for at, text in ((1, EVENTS), (3, EVENTS + "3001,cancel,2,,,\n")):
+        path = here / "day" / f"{at}.csv"
+        times = path.stat()
+        path.write_text(text)
+        if at == 3:
+            assert path.stat().st_size == times.st_size
+            os.utime(path, ns=(times.st_atime_ns, times.st_mtime_ns))
+    entry = json.loads(part.read_bytes().splitlines()[2])
+    entry["row"][6] = "17"
+    lines = part.read_bytes().splitlines(keepends=True)
+    part.write_bytes(b"".join([*lines[:2], parts.json_line(entry), *lines[3:]]))
+    status, printed, said = settle("day", "-o", "on.csv", "--resume", *ROW, cwd=here)
+    assert status == 0 and "2 session(s) changed" in said and "settled again" in said, said
+    settle("day", "-o", "new.csv", *ROW, cwd=here)
+    found, due = rows_of(here / "on.csv"), rows_of(here / "new.csv")
+    assert found[0]["weight"] == "17" and found[1:] == due[1:] and printed.startswith("8 sessions")
+
+
+def test_resume_of_other_sessions_is_refused_and_of_fewer_is_reported(here):
+    part = broken_off(here, 3, *ROW)
+    shutil.copytree(here / "day", here / "night")
+    status, _, said = settle("night", "-o", "on.csv", "--resume", *ROW, cwd=here)
+    assert status == 1 and "other sessions, such as day/0.csv" in said and part.exists(), said
+    (here / "day" / "0.csv").unlink()
+    status, printed, said = settle("day", "-o", "on.csv", "--resume", *ROW, cwd=here)
+    assert status == 0 and "1 session(s) that are not to be settled now" in said and printed.startswith("7 sessions"), said
+    assert [row["file"] for row in rows_of(here / "on.csv")] == [f"day/{at}.csv" for at in range(1, 8)]
+
+
+def test_resume_of_a_finished_table_settles_all_again(here):
+    settle("day", "-o", "on.csv", *ROW, cwd=here)
+    status, _, said = settle("day", "-o", "on.csv", "--resume", *OTHER, cwd=here)
+    assert status == 0 and "on.csv is finished" in said and "settled again" in said, said
+    settle("day", "-o", "other.csv", *OTHER, cwd=here)
+    assert (here / "on.csv").read_bytes() == (here / "other.csv").read_bytes(), "no row of other options is kept"
+
+
+# ---------------------------------------------------------------- item 12: two runs, and the file that is replaced
+
+
+HOLD = """
+import sys
+from pathlib import Path
+from quoting import parts, settling
+table = parts.Table(Path("on.csv"), ["day/0.csv"], settling.Manner())
+print("locked", flush=True)
+sys.stdin.read()
+"""
+
+
+@pytest.mark.parametrize("how", [(), ("--resume",), ("--restart",)], ids=str)
+def test_second_settle_on_one_table_says_who_holds_it(here, how):
+    with subprocess.Popen([sys.executable, "-c", HOLD], cwd=here, env=ENVIRONMENT, stdin=subprocess.PIPE, stdout=subprocess.PIPE) as holder:
+        assert holder.stdout.readline() == b"locked\n"
+        before = (here / "on.csv.part").read_bytes()
+        (here / "link.csv").symlink_to("on.csv")
+        for name in ("on.csv", "link.csv"):
+            status, _, said = settle("day", "-o", name, *how, *ROW, cwd=here)
+            assert status == 1 and f"process {holder.pid}, since 20" in said and " UTC" in said, said
+        assert (here / "on.csv.part").read_bytes() == before and not (here / "on.csv").exists()
+        holder.stdin.close()
+    assert settle("day", "-o", "on.csv", *how, *ROW, cwd=here)[0] == 0, "the lock ends with its process"
+
+
+def test_two_settles_at_once_never_destroy_the_table(here):
+    settle("day", "-o", "due.csv", *ROW, cwd=here)
+    for _ in range(3):
+        runs = [subprocess.Popen([QUOTING, "settle", "day", "-o", "on.csv", *ROW], cwd=here, stderr=subprocess.PIPE, stdout=subprocess.DEVNULL) for _ in range(3)]
+        said = [run.communicate(timeout=60)[1].decode() for run in runs]
+        assert 0 in [run.returncode for run in runs] and (here / "on.csv").read_bytes() == (here / "due.csv").read_bytes()
+        assert all(run.returncode == 0 or "another settle is writing this table" in text for run, text in zip(runs, said)), said
+        assert not (here / "on.csv.part").exists()
+
+
+def test_a_replaced_table_keeps_its_mode_and_its_link(here):
+    (here / "away").mkdir()
+    (here / "away" / "real.csv").write_text("")
+    (here / "away" / "real.csv").chmod(0o640)
+    (here / "on.csv").symlink_to("away/real.csv")
+    (here / "dangling.csv").symlink_to("away/new.csv")
+    for name, real in (("on.csv", "real.csv"), ("dangling.csv", "new.csv")):
+        assert settle("day", "-o", name, *ROW, cwd=here)[0] == 0
+        assert (here / name).is_symlink() and len(rows_of(here / "away" / real)) == 8
+    assert stat.S_IMODE((here / "away" / "real.csv").stat().st_mode) == 0o640
+    assert sorted(each.name for each in (here / "away").iterdir()) == ["new.csv", "real.csv"]
+    (here / "loop.csv").symlink_to("loop.csv")
+    status, _, said = settle("day", "-o", "loop.csv", *ROW, cwd=here)
+    assert status == 1 and "loop.csv: Too many levels" in said and (here / "loop.csv").is_symlink(), said
+
+
+def test_the_table_is_synced_before_it_is_renamed(here, monkeypatch):
+    monkeypatch.chdir(here)
+    done, sync, replace = [], os.fsync, os.replace
+    monkeypatch.setattr(os, "fsync", lambda handle: (done.append(("sync", os.fstat(handle).st_ino)), sync(handle)))
+    monkeypatch.setattr(os, "replace", lambda old, new: (done.append(("rename", os.stat(old).st_ino)), replace(old, new)))
+    table = parts.Table(here / "on.csv", ["day/0.csv"], Manner())
+    table.write(settling.settle("day/0.csv"))
+    table.finish()
+    table.close()
+    table_node = (here / "on.csv").stat().st_ino
+    assert done[:2] == [("sync", table_node), ("rename", table_node)] and done[2] == ("sync", here.stat().st_ino)
+
+
+def test_a_session_is_never_replaced_by_the_table(here):
+    before = (here / "day" / "3.csv").read_bytes()
+    status, _, said = settle("day", "-o", "day/3.csv", *ROW, cwd=here)
+    assert status == 1 and "day/3.csv is one of the sessions" in said and (here / "day" / "3.csv").read_bytes() == before, said
+    assert settle("day", "-o", "day/table.csv", *ROW, cwd=here)[0] == 0
+    assert settle("day", "-o", "day/table.csv", *ROW, cwd=here)[0] == 0 and len(rows_of(here / "day" / "table.csv")) == 8
+
+
+LIMITED = """
+import resource, sys
+resource.setrlimit(resource.RLIMIT_FSIZE, (300, 300))
+from quoting.cli import main
+sys.exit(main(sys.argv[1:]))
+"""
+
+
+def test_a_full_disk_is_said_with_the_name_of_the_file(here):
+    done = subprocess.run([sys.executable, "-c", LIMITED, "settle", "day", "-o", "on.csv", *ROW], cwd=here, env=ENVIRONMENT, capture_output=True, text=True)
+    assert done.returncode == 1 and "on.csv.part: File too large" in done.stderr and "standard output" not in done.stderr, done.stderr
+    assert settle("day", "-o", "on.csv", "--restart", *ROW, cwd=here)[0] == 0
+
+
+# ---------------------------------------------------------------- item 17: what is no regular file, and nothing at all
+
+ODD = {"broken": "No such file", "loop": "Too many levels", "pipe": "this is a pipe (FIFO)"}
+
+
+def make_odd(folder):
+    (folder / "broken").symlink_to("absent")
+    (folder / "loop").symlink_to("loop")
+    os.mkfifo(folder / "pipe")
+
+
+@pytest.mark.parametrize("by_list", [False, True])
+def test_links_loops_and_pipes_are_rows_and_hang_nothing(here, by_list):
+    make_odd(here / "day")
+    (here / "day" / "inside").mkdir()
+    names = sorted(each.name for each in (here / "day").iterdir() if each.name != "inside" or by_list)
+    (here / "list").write_text("".join(f"day/{name}\n" for name in names))
+    status, printed, said = settle("list" if by_list else "day", "-o", "on.csv", *ROW, cwd=here)
+    rows = {row["file"]: row for row in rows_of(here / "on.csv")}
+    assert status == 1 and list(rows) == [f"day/{name}" for name in names]
+    for name, reason in {**ODD, **({"inside": "this is a folder"} if by_list else {})}.items():
+        assert rows[f"day/{name}"]["status"] == "unreadable" and reason in rows[f"day/{name}"]["reason"] and f"day/{name}: " in said
+    assert sum(row["status"] == "settled" for row in rows.values()) == 8, rows
+
+
+def test_nothing_to_settle_is_status_1_with_a_sentence(here):
+    (here / "empty" / "inside").mkdir(parents=True)
+    (here / "list").write_text("# no names\n\n")
+    (here / "on.csv").write_text("old")
+    for where, sentence in (("empty", "empty: this folder has no sessions; the 1 folder(s)"), ("list", "list: this list names no session"), ("/dev/null", "/dev/null: this is a device, not a list")):
+        for to in ((), ("-o", "on.csv")):
+            status, printed, said = settle(where, *to, cwd=here)
+            assert (status, printed) == (1, "") and sentence in said and (here / "on.csv").read_text() == "old", said
+
+
+def test_a_list_in_a_pipe_is_read_and_one_without_a_writer_is_not_waited_for(here):
+    os.mkfifo(here / "names")
+    began = time.monotonic()
+    status, _, said = settle("names", "--patience", "1", *ROW, cwd=here)
+    assert status == 1 and "names: nothing was written into this pipe for 1 s" in said and time.monotonic() - began < 20, said
+    done = subprocess.run(["bash", "-c", f'{QUOTING} settle <(sleep 0.2; for n in "$PWD"/day/*; do echo "$n"; done) -o on.csv "$@"', "x", *ROW], cwd=here, capture_output=True, text=True)
+    assert done.returncode == 0 and done.stdout.startswith("8 sessions"), done.stderr
+
+
+# ---------------------------------------------------------------- item 18: damaged and old part files
+
+
+def test_an_old_part_file_is_not_overwritten_without_being_asked(here):
+    part = broken_off(here, 3, *ROW)
+    before = part.read_bytes()
+    status, printed, said = settle("day", "-o", "on.csv", *OTHER, cwd=here)
+    assert status == 1 and "on.csv.part has 3 row(s)" in said and "--resume" in said and "--restart" in said, said
+    assert part.read_bytes() == before and not (here / "on.csv").exists()
+    assert settle("day", "-o", "on.csv", "--restart", *OTHER, cwd=here)[0] == 0 and not part.exists()
+    part.write_text("my own notes\n")
+    for how in ((), ("--resume",), ("--restart",)):
+        status, _, said = settle("day", "-o", "on.csv", *how, *ROW, cwd=here)
+        assert status == 1 and "is not a part file of settle" in said and part.read_text() == "my own notes\n", said
+
+
+def test_a_part_file_of_an_earlier_version_is_refused(here):
+    part = here / "on.csv.part"
+    part.write_text(settling.HEADER + Settled("day/0.csv", "settled").line)
+    for how, sentence in (((), "has 1 row(s)"), (("--resume",), "did not write down its options")):
+        status, _, said = settle("day", "-o", "on.csv", *how, *ROW, cwd=here)
+        assert status == 1 and sentence in said and "--restart" in said, said
+    assert settle("day", "-o", "on.csv", "--restart", *ROW, cwd=here)[0] == 0
+
+
+def damaged():
+    entry = {"row": ["day/0.csv", "settled", *["1"] * 14], "stamp": [1, 2, 3]}
+    more, fewer = {**entry, "row": [*entry["row"], "more"]}, {**entry, "row": entry["row"][:-1]}
+    return {
+        "too many fields": (json.dumps(more), "a row has 16 fields, this one has 17"), "too few": (json.dumps(fewer), "this one has 15"),
+        "no JSON": ("day/0.csv,settled", "not a line of a part file"), "a number": ("7", "not a line"), "no words": ('{"row": [1]}', "not a line"),
+        "no figure": (json.dumps({"row": ["day/0.csv", "settled", "x", *["1"] * 13]}), "not a row"), "deep": ("[" * 100_000, "not a line")}
+
+
+@pytest.mark.parametrize("line, sentence", damaged().values(), ids=damaged())
+def test_a_damaged_part_row_is_a_sentence_with_its_line(here, line, sentence):
+    part = broken_off(here, 2, *ROW)
+    part.write_bytes(part.read_bytes() + line.encode() + b"\n")
+    status, printed, said = settle("day", "-o", "on.csv", "--resume", *ROW, cwd=here)
+    assert (status, printed) == (1, "") and f"on.csv.part: line 5: {sentence}" in said or "line 5: this is" in said, said
+
+
+def test_a_damaged_part_file_never_gives_a_traceback_or_a_wrong_table(here, monkeypatch):
+    """A fuzz run: bytes changed, lines lost, doubled and cut."""
+    monkeypatch.chdir(here)
+    names, manner, rng = settling.names_in("day"), Manner(), random.Random(7)
+    whole = {name: settling.settle(name, manner) for name in names}
+    table = parts.Table(here / "on.csv", names, manner)
+    for name in names[:5]:
+        table.write(whole[name])
+    table.close()
+    good, refused, taken = (here / "on.csv.part").read_bytes(), 0, 0
+    for _ in range(300):
+        data = bytearray(good)
+        for _ in range(rng.randint(0, 2)):
+            data[rng.randrange(len(data))] = rng.choice(b'\x00\n"{[,}x9\xff')
+        (here / "on.csv.part").write_bytes(data[: rng.choice((len(data), rng.randrange(1, len(data))))])
+        try:
+            table = parts.Table(here / "on.csv", names, manner, resume=True)
+        except parts.PartError:
+            refused += 1
+            continue
+        taken += 1
+        assert sorted([*table.todo, *table.places]) == names
+        table.close()
+    assert refused > 20 and taken > 20, (refused, taken)
+
+
+def test_a_name_with_a_line_end_or_not_in_utf8_is_taken_over(here):
+    for name in ("a\nb.csv", b"\xff.csv".decode("utf-8", "surrogateescape")):
+        shutil.copy(here / "day" / "0.csv", here / "day" / name)
+    settle("day", "-o", "due.csv", *ROW, cwd=here)
+    broken_off(here, 9, *ROW)
+    assert settle("day", "-o", "on.csv", "--resume", *ROW, cwd=here)[::2] == (0, "")
+    assert (here / "on.csv").read_bytes() == (here / "due.csv").read_bytes()
+
+
+# ---------------------------------------------------------------- item 16: a cluster that is lost
+
+
+class KilledWorker(Exception):
+    allowed_failures = 3
+
+
+class Future:
+    def __init__(self, answer):
+        self.answer = answer
+
+    def done(self):
+        return not isinstance(self.answer, TimeoutError)
+
+    def result(self, timeout):
+        if isinstance(self.answer, BaseException):
+            time.sleep(0.01)
+            raise self.answer
+        return self.answer
+
+
+class Client:
+    """Sessions named `killer` end their workers and, as in Dask, all work in flight with them."""
+
+    def __init__(self, workers=2, error=None):
+        self.given, self.workers, self.error = [], workers, error
+
+    def scheduler_info(self):
+        return {"workers": dict.fromkeys(range(self.workers))}
+
+    def submit(self, work, names, manner, pure):
+        assert not pure
+        made = Future(self.error or [Outcome(Settled(name, "settled", "1", "2"), (1, 2, 3)) for name in names])
+        if any("killer" in name for name in names):
+            for each in [made, *self.given[-3:]]:
+                each.answer = KilledWorker()
+        self.given = [*self.given, made] if len(names) > 1 else []
+        return made
+
+
+def test_a_session_that_ends_its_workers_is_the_only_row_that_says_so(monkeypatch):
+    names = [f"{at:02}" + ("killer" if at in (20, 77) else "") for at in range(90)]
+    found = list(clusters.Cluster(Client(), 5, print).rows(names, Manner()))
+    assert [each.row.file for each in found] == names
+    bad = [each.row for each in found if each.row.status != "settled"]
+    assert [row.file for row in bad] == ["20killer", "77killer"] and "4 workers ended while they settled it" in bad[0].reason
+
+
+@pytest.mark.parametrize("workers, seen", [(0, "it has no workers"), (2, "it has 2 worker(s)")])
+def test_a_cluster_without_progress_ends_after_its_patience(monkeypatch, workers, seen):
+    said = []
+    with pytest.raises(clusters.Lost, match=re.escape(f"nothing was settled for 0.1 s ({seen}; the next session is a)")):
+        list(clusters.Cluster(Client(workers, TimeoutError()), 0.1, said.append).rows(["a", "b"], Manner()))
+    assert len(said) == (0 if workers else 1) and all("no workers: waiting" in line for line in said)
+
+
+@pytest.mark.parametrize("error", [ImportError("no module"), OSError("gone"), ValueError("x"), __import__("asyncio").CancelledError()], ids=repr)
+def test_any_error_of_a_cluster_is_a_sentence(error):
+    with pytest.raises(clusters.Lost):
+        list(clusters.Cluster(Client(2, error), 5, print).rows(["a"], Manner()))
+
+
+PRELOAD = """
+import os, time
+from quoting import settling
+plain = settling.__dict__.setdefault("plain", settling.settle)  # Dask loads this file twice
+def settle(name, manner=settling.Manner()):
+    if "killer" in name:
+        os._exit(1)
+    time.sleep(0.02)
+    return plain(name, manner)
+settling.settle = settle
+"""
+
+
+class Dask:
+    """A scheduler and workers as processes. One death is enough for Dask to give up a piece of work."""
+
+    def __init__(self, stack, folder):
+        self.stack, self.folder, self.address = stack, folder, f"tcp://127.0.0.1:{free_port()}"
+        (folder / "preload.py").write_text(PRELOAD)
+        words = ["--host", "127.0.0.1", "--port", self.address.rsplit(":", 1)[1], "--no-dashboard"]
+        self.scheduler = self.process("distributed.cli.dask_scheduler", *words)
+
+    def process(self, *words):
+        environment = {**ENVIRONMENT, "DASK_DISTRIBUTED__SCHEDULER__ALLOWED_FAILURES": "0"}
+        made = subprocess.Popen([sys.executable, "-m", *words], env=environment, cwd=self.folder, stdout=subprocess.DEVNULL, stderr=subprocess.DEVNULL)
+        self.stack.callback(made.wait)
+        self.stack.callback(made.kill)
+        return made
+
+    def workers(self, count):
+        words = ["distributed.cli.dask_worker", self.address, "--nthreads", "1", "--no-nanny", "--no-dashboard", "--preload", str(self.folder / "preload.py")]
+        made = [self.process(*words) for _ in range(count)]
+        wait_for_workers(self.address, count)
+        return made
+
+
+@pytest.mark.long
+def test_a_lost_cluster_is_a_row_or_a_sentence_and_resume_goes_on(tmp_path):
+    """A session that ends its workers; then no worker left; then no scheduler: the rows are those of a run without a cluster."""
+    fill(tmp_path / "many", random.Random(9), 160, 10)
+    (tmp_path / "many" / "010killer.session").write_text("row 1\n")
+    with ExitStack() as stack:
+        dask = Dask(stack, tmp_path)
+        here = ("-o", "on.csv", "--scheduler", dask.address)
+        left = dask.workers(3)
+        status, printed, said = settle("many", *here, cwd=tmp_path)
+        assert status == 1 and "many/010killer.session: 1 workers ended while they settled it" in said and "160 refused" not in printed, said
+        assert printed.startswith("161 sessions: ") and "0 refused, 1 unreadable" in printed, printed
+        (tmp_path / "many" / "010killer.session").unlink()
+        for lost, sentence in ((left, "(it has no workers; the next session is "), ([dask.scheduler], "the connection to the scheduler was lost")):
+            (tmp_path / "on.csv").unlink()
+            run = subprocess.Popen([QUOTING, "settle", "many", *here, "--patience", "2"], cwd=tmp_path, stderr=subprocess.PIPE)
+            wait_for(tmp_path / "on.csv.part", 2_000, run)
+            for each in lost:
+                each.send_signal(signal.SIGKILL)
+            said = run.communicate(timeout=60)[1].decode()
+            assert run.returncode == 1 and "Traceback" not in said and sentence in said and "--resume goes on" in said, said
+            assert (tmp_path / "on.csv.part").exists() and not (tmp_path / "on.csv").exists()
+            if lost is left:
+                dask.workers(1)
+                status, printed, said = settle("many", *here, "--resume", cwd=tmp_path)
+                assert status == 0 and printed.startswith("160 sessions: "), said
+        status, _, said = settle("many", *here, "--resume", cwd=tmp_path)
+        assert status == 1 and said.startswith(f"quoting: --scheduler {dask.address}: "), said
+    assert settle("many", "-o", "on.csv", "--resume", cwd=tmp_path)[0] == 0
+    settle("many", "-o", "due.csv", cwd=tmp_path)
+    assert (tmp_path / "on.csv").read_bytes() == (tmp_path / "due.csv").read_bytes()
