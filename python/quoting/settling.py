@@ -98,12 +98,12 @@ HEADER = csv_line(COLUMNS)
 # ---------------------------------------------------------------- the names
 
 
-def names_of(where: str, patience: float) -> list[str]:
+def names_of(where: str, patience: float, options: Options = PLAIN) -> list[str]:
     """The sessions of a folder, sorted by name, or those that a list names, one a line, in its order. There is at least one."""
     path = Path(where)
     if where != reading.STANDARD and path.is_dir():
         return names_in(where)
-    listed = reading.decoded(list_bytes(where, patience), where)
+    listed = reading.whole_text(list_bytes(where, patience), options, where)
     base = Path() if where == reading.STANDARD else path.parent
     names = [str(base / line.strip(" \t")) for line in reading.split_lines(listed) if line.strip(" \t") and not line.startswith("#")]
     if not names:

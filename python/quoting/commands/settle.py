@@ -135,7 +135,7 @@ def run(args: argparse.Namespace) -> int:
         args.parser.error("--restart needs -o FILE")
     settling.need_library()
     manner = Manner(inputs.options_of(args), inputs.head_of(args), args.format)
-    names = without_table(settling.names_of(args.where, args.patience), path)
+    names = without_table(settling.names_of(args.where, args.patience, manner.options), path)
     if not names:
         raise ValueError(f"{args.where}: no session but the table itself is there")
     try:
