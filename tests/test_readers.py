@@ -139,6 +139,16 @@ def test_settle_and_a_folder_of_sessions_refuse_a_cut_session(tmp_path: Path) ->
     assert command.run("statement", "--sessions", tmp_path, "--complete").status == 0
 
 
+def test_settle_refuses_a_list_that_is_cut(tmp_path: Path) -> None:
+    """A list of 1 and 11 that is cut would settle 1 twice."""
+    for name in ("1", "11"):
+        (tmp_path / name).write_text(TEXT)
+    listed = tmp_path / "list"
+    listed.write_text("1\n1")
+    assert "list: line 2: '1' has no line end, so the file may be cut short here" in refused("settle", listed)
+    assert command.run("settle", listed, "--complete").status == 0
+
+
 def test_a_text_in_python_is_whole() -> None:
     """A text that a program gives is no file that could be cut."""
     assert texts.session_bytes(TEXT.rstrip("\n")) == texts.session_bytes(TEXT)

@@ -28,6 +28,6 @@ def is_run_as_module() -> bool:
 
 
 def drop_current_folder() -> None:
-    """Drops the entry that Python has put first, unless it was told not to put it there (python3 -P)."""
+    """Drops the entry that Python has put first, unless an option (-P, -I) has kept it from doing so."""
     if not (getattr(sys.flags, "safe_path", False) or sys.flags.isolated):
         del sys.path[0]

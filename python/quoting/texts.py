@@ -258,7 +258,7 @@ def csv_sizes(text: str) -> Iterator[tuple[int, int]]:
 
 FRAME = "frame"  # in place of the fields 8, 9 and 10
 NO_BYTES = "-"
-SIGN = re.compile(r"\\x([0-9a-fA-F]{2})|\\([|\\])|([!-\[\]-~])")
+CHARACTER = re.compile(r"\\x([0-9a-fA-F]{2})|\\([|\\])|([!-\[\]-~])")
 
 
 def message_bytes(word: str) -> bytes:
@@ -267,12 +267,12 @@ def message_bytes(word: str) -> bytes:
         return b""
     out, at = bytearray(), 0
     while at < len(word):
-        sign = SIGN.match(word, at)
-        if sign is None:
+        found = CHARACTER.match(word, at)
+        if found is None:
             raise TextError(f"{word[at:at + 4]!r}: write | for byte 1, \\| and \\\\ for those characters, \\xNN for the rest")
-        hexed, escaped, plain = sign.groups()
+        hexed, escaped, plain = found.groups()
         out += bytes.fromhex(hexed) if hexed else b"\1" if plain == "|" else (escaped or plain).encode()
-        at = sign.end()
+        at = found.end()
     return bytes(out)
 
 
@@ -282,8 +282,8 @@ def message_text(data: bytes) -> str:
         return NO_BYTES
     if data == b"-":
         return r"\x2d"
-    signs = {1: "|", ord("|"): r"\|", ord("\\"): r"\\", ord("#"): r"\x23"}
-    return "".join(signs.get(b) or (chr(b) if 32 < b < 127 else rf"\x{b:02x}") for b in data)
+    escapes = {1: "|", ord("|"): r"\|", ord("\\"): r"\\", ord("#"): r"\x23"}
+    return "".join(escapes.get(b) or (chr(b) if 32 < b < 127 else rf"\x{b:02x}") for b in data)
 
 
 def message_call(words: list[str]) -> c.Message:

@@ -34,17 +34,17 @@ def run(args: argparse.Namespace) -> int:
     found = inputs.calls_of(args.file, reading.read_bytes(args.file), inputs.options_of(args))
     data = [placed.block for placed in found.blocks]
     said = list(answers_to(data))
-    behind = f"stopped at word {found.stop}\n" if found.stop else ""
+    after = f"stopped at word {found.stop}\n" if found.stop else ""
     if args.both:
-        behind += both.agreement([line(answer) for answer in said], both.answer_lines(b"".join(data)))
+        after += both.agreement([line(answer) for answer in said], both.answer_lines(b"".join(data)))
     if args.json:
         output.write(args.output, output.json_text(as_json(found, said)))
     elif args.lines:
-        output.write(args.output, "".join(line(answer) + "\n" for answer in said) + behind)
+        output.write(args.output, "".join(line(answer) + "\n" for answer in said) + after)
     else:
         rows = [[placed.line, texts.block_line(placed.block), shown(answer)] for placed, answer in zip(found.blocks, said)]
-        output.table(args.output, ["line", "call", "answer"], rows, behind)
-    return int(bool(found.stop) or "DIFFER" in behind or any(isinstance(answer, Refused) for answer in said))
+        output.table(args.output, ["line", "call", "answer"], rows, after)
+    return int(bool(found.stop) or "DIFFER" in after or any(isinstance(answer, Refused) for answer in said))
 
 
 def as_json(found: CallList, said: list[Answer]) -> object:
