@@ -343,7 +343,7 @@ WRONG = [
     (2, "--clock goes without --replay", ["--calls", EXAMPLE, "--replay", "9", "--clock", "feed"]),
     (2, "--start", ["--calls", EXAMPLE, "--start", "25:99"]),
     (2, "--start", ["--fix", "x", "--open", "y", "--start", "10:00:00"]),
-    (2, "is not a port", ["--calls", EXAMPLE, "--port", "65536"]),
+    (2, "it can be 0 to 65535", ["--calls", EXAMPLE, "--port", "65536"]),
     (2, "is not a number", ["--calls", EXAMPLE, "--silence", "-1"]),
     (1, "no-such.calls: No such file or directory", ["--calls", "no-such.calls"]),
     (1, "no.log: No such file or directory", ["--fix", "no.log", "--open", EXAMPLE]),

@@ -30,7 +30,7 @@ def code():
 def proof():
     """The same numbers as lists."""
     text = """\
--- The constants of the weight card once more, written by tools/dev/card_table.py. Assumes nothing.
+-- The constants of the weight card once more, written by tools/dev/card_table.py.
 use Prim.Native.Nat.{ℕ}
 use mathlib.Core.List.{List, [], _∷_}
 """
