@@ -52,7 +52,7 @@ def as_csv(data):
     for kind, *fields in lines[2:]:
         given = dict(zip(columns[kind].split(), fields))
         out.append(",".join([given["t"], kind, given["id"], given.get("side", ""), given["price"], given["volume"]]))
-    return "\r\n".join(out)
+    return "".join(line + "\r\n" for line in out)
 
 
 def fill(folder, rng, count, records=60):
