@@ -18,9 +18,9 @@ def test_documents_agree_with_the_tree(words: list[str]) -> None:
 def test_a_name_that_is_not_there_is_found(tmp_path: Path) -> None:
     copy = tmp_path / "tree"
     subprocess.run(["git", "clone", "-q", str(ROOT), str(copy)], check=True)
+    absent = "`crates/{0}/specs` and `month::{0}` and `{0}`".format("_".join(["no", "such", "name"]))  # in no file of the tree
     for page in ("docs/PROOFS.md", "README.md"):
-        text = (ROOT / page).read_text(encoding="utf-8")
-        (copy / page).write_text(text + "\n`crates/no_such_crate/specs` and `month::no_such_call` and `no-such-law`\n", encoding="utf-8")
+        (copy / page).write_text((ROOT / page).read_text(encoding="utf-8") + f"\n{absent}\n", encoding="utf-8")
     (copy / "tools" / "dev" / "document_names.py").write_text((ROOT / "tools" / "dev" / "document_names.py").read_text(encoding="utf-8"), encoding="utf-8")
     found = subprocess.run([sys.executable, str(copy / "tools" / "dev" / "document_names.py")], capture_output=True, text=True)
     assert found.returncode == 1 and found.stdout.count("is not in the tree") >= 6, found.stdout
