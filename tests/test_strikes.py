@@ -165,5 +165,5 @@ def test_command():
 @pytest.mark.usefixtures("library")
 @pytest.mark.parametrize(("first", "second", "source", "status", "said"), SAID)
 def test_command_says(first, second, source, status, said):
-    done = command.run("board", first, second, "-", given=source)
+    done = command.run("board", first, second, "-", given=source + "\n")
     assert (done.status, (done.printed + done.complaint).splitlines()[-1]) == (status, said), done
