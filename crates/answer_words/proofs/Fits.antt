@@ -31,7 +31,7 @@ use Rattle.rules.specs.Changes.{noted}
 use Rattle.rules.specs.Replies.{bidIn, askIn, previewOf, reportOf, replyOf}
 use Rattle.rules.specs.Book.{answerOf, after}
 use Rattle.rules.specs.Bounds.{RunningBounds, EventBounds}
-use Rattle.rules.proofs.Lists.{both}
+use Rattle.lists.proofs.Lists.{both}
 use Rattle.rules.proofs.Best.{means}
 use Rattle.rules.proofs.Refusals.{SendPasses, call-passes}
 use Rattle.rules.proofs.Bounds.{event-bounds-more, bounds}

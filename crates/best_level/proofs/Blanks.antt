@@ -7,8 +7,8 @@ use mathlib.Core.Bool.{Bool, true, false}
 use borrow.Author.Tests.{le-ltb}
 use lib.Dec.{leb, ltb}
 use lib.ListN.{length, replicate}
-use Rattle.rules.specs.Lists.{if_then_else_, filter}
-use Rattle.rules.proofs.Lists.{filter-append}
+use Rattle.lists.specs.Lists.{if_then_else_, filter}
+use Rattle.lists.proofs.Lists.{filter-append}
 use Rattle.best_quote.specs.declared.Level.{Level}
 use Rattle.best_quote.specs.Levels.{enough, greatest, levelAt, isBest}
 use Rattle.best_quote.specs.Sums.{foundWith, foundIn, keySums, downward}

@@ -11,9 +11,9 @@ use lib.Dec.{leb, ltb, eqb}
 use lib.ListN.{length, length-map}
 use Rattle.rules.specs.declared.Side.{Side}
 use Rattle.rules.specs.declared.Order.{Order}
-use Rattle.rules.specs.Lists.{if_then_else_, filter}
+use Rattle.lists.specs.Lists.{if_then_else_, filter}
 use Rattle.rules.specs.Search.{sumsFor}
-use Rattle.rules.proofs.Lists.{kept-in, in-kept}
+use Rattle.lists.proofs.Lists.{kept-in, in-kept}
 use Rattle.price_keys.specs.Keys.{keyIn}
 use Rattle.price_keys.proofs.Keys.{key-least, key-most}
 use Rattle.best_quote.specs.declared.Level.{Level}

@@ -13,8 +13,8 @@ use mir.Syntax.{w32}
 use mir.Val.{toZ}
 use lib.ListN.{length, getD, take}
 use lib.Seq.{take-suc}
-use Rattle.rules.specs.Lists.{if_then_else_, filter}
-use Rattle.rules.proofs.Lists.{filter-append, filter-one, kept-in, in-kept}
+use Rattle.lists.specs.Lists.{if_then_else_, filter}
+use Rattle.lists.proofs.Lists.{filter-append, filter-one, kept-in, in-kept}
 use Rattle.best_quote.specs.declared.Level.{Level}
 use Rattle.best_quote.specs.Levels.{held, greatest, levelAt, isBest, Searchable}
 use Rattle.best_quote.proofs.Levels.{held-le-in, held-some, held-none, level-split, greatest-append, greatest-over, greatest-under}

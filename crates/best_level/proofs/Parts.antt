@@ -7,8 +7,8 @@ use mathlib.Core.Bool.{Bool, false}
 use lib.Dec.{leb, eqb}
 use borrow.Author.Tests.{ne-eqb}
 use lib.ListN.{length, getD, take, drop, replicate, length-append, length-map, length-replicate}
-use Rattle.rules.specs.Lists.{if_then_else_, sum}
-use Rattle.rules.proofs.Lists.{sum-append}
+use Rattle.lists.specs.Lists.{if_then_else_, sum}
+use Rattle.lists.proofs.Lists.{sum-append}
 use Rattle.best_quote.specs.declared.Level.{Level}
 use Rattle.best_quote.specs.Levels.{held, enough, levelAt, levelOf, bestKey, Columns, Searchable}
 use Rattle.best_quote.specs.Sums.{keySums, downward}

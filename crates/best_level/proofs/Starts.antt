@@ -12,9 +12,9 @@ use lib.Seq.{take-length}
 use Rattle.rules.specs.declared.Side.{Side}
 use Rattle.rules.specs.declared.Steps.{Steps as Price}
 use Rattle.rules.specs.declared.Quote.the-variants.{At}
-use Rattle.rules.specs.Lists.{if_then_else_, filter}
+use Rattle.lists.specs.Lists.{if_then_else_, filter}
 use Rattle.rules.specs.Units.{goodPrice}
-use Rattle.rules.proofs.Lists.{both}
+use Rattle.lists.proofs.Lists.{both}
 use Rattle.best_quote.specs.declared.Level.{Level}
 use Rattle.best_quote.specs.declared.Searched.{Searched}
 use Rattle.price_keys.specs.Keys.{quoteKey, quoteAt}

@@ -5,7 +5,7 @@ use lib.Dec.{leb, ltb}
 use lib.ListN.{length}
 use Rattle.rules.specs.declared.Side.{Side}
 use Rattle.rules.specs.declared.Order.{Order}
-use Rattle.rules.specs.Lists.{if_then_else_}
+use Rattle.lists.specs.Lists.{if_then_else_}
 use Rattle.price_keys.specs.Keys.{keyIn}
 use Rattle.best_quote.specs.declared.Level.{Level}
 use Rattle.best_quote.specs.Levels.{levelAt, bestKey, isBest}

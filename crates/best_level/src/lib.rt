@@ -14,7 +14,7 @@ ghost use mathlib.Core.List.{List};
 ghost use Prim.Native.Nat.{ℕ, _+_, _-_, _≤_, min, max};
 ghost use lib.Dec.{ltb, eqb};
 ghost use lib.ListN.{length, getD, take, drop};
-ghost use Rattle.rules.specs.Lists.{if_then_else_};
+ghost use Rattle.lists.specs.Lists.{if_then_else_};
 ghost use Rattle.best_quote.specs.Levels.{levelAt, isBest, Columns, Searchable};
 ghost use Rattle.order_side.specs.Slots.{Slot, levelIn, GoodSlots};
 ghost use Rattle.order_side.specs.Internal.{StaleLevel, Changed, brings};

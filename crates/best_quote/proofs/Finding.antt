@@ -14,11 +14,11 @@ use lib.Seq.{take-length}
 use Rattle.rules.specs.declared.Side.{Side}
 use Rattle.rules.specs.declared.Quote.the-variants.{At}
 use Rattle.rules.specs.declared.Order.{Order}
-use Rattle.rules.specs.Lists.{if_then_else_, filter, any}
+use Rattle.lists.specs.Lists.{if_then_else_, filter, any}
 use Rattle.rules.specs.Units.{goodPrice}
 use Rattle.rules.specs.Quotes.{same, inDepth, volumeOf, depth, qualifies, better, lead, best}
 use Rattle.rules.specs.Search.{matched, addsUp, sumsAfter}
-use Rattle.rules.proofs.Lists.{filter-filter, kept-in}
+use Rattle.lists.proofs.Lists.{filter-filter, kept-in}
 use Rattle.rules.proofs.Best.{depth-append, depth-one, sided, one-side}
 use Rattle.numbers.proofs.Greatest.{leb-max}
 use Rattle.best_quote.specs.declared.Searched.{Searched}

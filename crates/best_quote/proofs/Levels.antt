@@ -9,8 +9,8 @@ use borrow.Author.Tests.{ltb-true, ltb-false, leb-true, leb-false, eqb-true, eqb
 use lib.Dec.{leb, ltb, eqb}
 use lib.ListN.{length, replicate}
 use lib.Seq.{take-length}
-use Rattle.rules.specs.Lists.{if_then_else_, sum, filter}
-use Rattle.rules.proofs.Lists.{filter-append, kept-in, in-kept, both}
+use Rattle.lists.specs.Lists.{if_then_else_, sum, filter}
+use Rattle.lists.proofs.Lists.{filter-append, kept-in, in-kept, both}
 use Rattle.best_quote.specs.Levels.{held, levelAt, enough, greatest, bestKey, levelOf, isBest, foundBy}
 
 -- ---- what passes a test

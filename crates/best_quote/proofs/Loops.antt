@@ -10,8 +10,8 @@ use borrow.Author.Tests.{lt-ltb, le-ltb}
 use lib.Dec.{ltb}
 use lib.ListN.{length, getD, take}
 use lib.Seq.{take-suc, take-length}
-use Rattle.rules.specs.Lists.{if_then_else_, sum, filter}
-use Rattle.rules.proofs.Lists.{filter-append, filter-one}
+use Rattle.lists.specs.Lists.{if_then_else_, sum, filter}
+use Rattle.lists.proofs.Lists.{filter-append, filter-one}
 use Rattle.best_quote.specs.Levels.{held, enough, greatest, foundBy}
 use Rattle.best_quote.specs.Sums.{keySums}
 use Rattle.best_quote.proofs.Levels.{held-most, greatest-append}

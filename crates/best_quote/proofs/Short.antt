@@ -11,8 +11,8 @@ use borrow.Author.Tests.{ltb-true, leb-true, leb-false, lt-ltb, le-leb}
 use lib.Dec.{leb, ltb}
 use lib.ListN.{length, getD, take}
 use lib.Seq.{take-suc, take-length}
-use Rattle.rules.specs.Lists.{if_then_else_, filter}
-use Rattle.rules.proofs.Lists.{kept-in, in-kept}
+use Rattle.lists.specs.Lists.{if_then_else_, filter}
+use Rattle.lists.proofs.Lists.{kept-in, in-kept}
 use Rattle.best_quote.specs.Levels.{held, enough, greatest, foundBy, shortAt, shortBy}
 use Rattle.best_quote.proofs.Levels.{held-le, held-le-in, held-none, greatest-over, greatest-under, nearest}
 

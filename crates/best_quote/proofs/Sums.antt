@@ -10,8 +10,8 @@ use borrow.Author.Tests.{ltb-true, ltb-false, leb-true, leb-false, lt-ltb, le-lt
 use lib.Dec.{leb, ltb}
 use lib.ListN.{length, getD, take, replicate}
 use lib.Seq.{take-suc}
-use Rattle.rules.specs.Lists.{if_then_else_, filter, howMany}
-use Rattle.rules.proofs.Lists.{filter-append}
+use Rattle.lists.specs.Lists.{if_then_else_, filter, howMany}
+use Rattle.lists.proofs.Lists.{filter-append}
 use Rattle.best_quote.specs.Levels.{greatest}
 use Rattle.best_quote.specs.Sums.{foundWith, foundIn, keySums, placed, downward}
 use Rattle.best_quote.proofs.Levels.{greatest-append, greatest-zeros}

@@ -6,7 +6,7 @@ use mathlib.Core.List.{List, [], _∷_, map}
 use mathlib.Core.Bool.{Bool, not, _&&_, _||_}
 use lib.Dec.{leb, ltb, eqb}
 use lib.ListN.{length, getD, take}
-use Rattle.rules.specs.Lists.{if_then_else_, sum, filter}
+use Rattle.lists.specs.Lists.{if_then_else_, sum, filter}
 use Rattle.best_quote.specs.declared.Level.{Level}
 
 -- the contracts at the keys that pass

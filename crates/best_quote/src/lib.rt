@@ -6,7 +6,7 @@
 ghost use mathlib.Core.Path.{_≡_};
 ghost use Prim.Native.Nat.{_+_, _≤_};
 ghost use lib.Dec.{eqb};
-ghost use Rattle.rules.specs.Lists.{if_then_else_};
+ghost use Rattle.lists.specs.Lists.{if_then_else_};
 ghost use Rattle.best_quote.specs.Levels.{held, levelAt, isBest, Columns, Searchable};
 ghost use Rattle.best_quote.specs.Searches.{Finds};
 use rules::Contracts;

@@ -8,12 +8,12 @@ use mathlib.Core.Bool.{Bool, true, false, true≢false, not, _&&_, and-true, and
 use borrow.Author.Tests.{le-leb, lt-leb, not-true, not-false}
 use lib.Dec.{leb, ltb, eqb}
 use lib.ListN.{length, getD}
-use Rattle.rules.specs.Lists.{within, every}
+use Rattle.lists.specs.Lists.{within, every}
 use Rattle.rules.specs.Rows.{goodLength}
 use Rattle.rules.specs.Answers.{Outcome, accepted, refused}
 use Rattle.rules.specs.Causes.{firstNumber}
 use Rattle.rules.specs.Boards.{lengthIn, boardLength, goodQuantumOf, goodBoard, reaches, boardMet, judged}
-use Rattle.rules.proofs.Lists.{both}
+use Rattle.lists.proofs.Lists.{both}
 use Rattle.rules.proofs.Refusals.{within-parts}
 use Rattle.rules.proofs.Answers.{not-refused}
 use Rattle.board.specs.declared.BoardAnswer.{BoardAnswer}

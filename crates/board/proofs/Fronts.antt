@@ -7,8 +7,8 @@ use mathlib.Core.List.{List, [], _∷_, _++_, map, map-append}
 use mathlib.Core.Bool.{Bool, true, false, not, _&&_, _||_, and-assoc, and-true}
 use lib.ListN.{length, take, getD}
 use lib.Seq.{take-suc, take-length}
-use Rattle.rules.specs.Lists.{sum, any, every}
-use Rattle.rules.proofs.Lists.{sum-append}
+use Rattle.lists.specs.Lists.{sum, any, every}
+use Rattle.lists.proofs.Lists.{sum-append}
 
 module _ {A : Type 0} (p : A → Bool) where
   every-snoc : (xs : List A) (y : A) → every p (xs ++ (y ∷ [])) ≡ every p xs && p y

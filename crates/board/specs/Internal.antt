@@ -5,7 +5,7 @@ use mathlib.Core.List.{List, map}
 use mathlib.Core.Bool.{Bool, _&&_}
 use lib.Dec.{leb}
 use lib.ListN.{length}
-use Rattle.rules.specs.Lists.{within, sum, every}
+use Rattle.lists.specs.Lists.{within, sum, every}
 use Rattle.rules.specs.Rows.{goodLength}
 use Rattle.rules.specs.Boards.{keptOf, goodQuantumOf, reaches}
 

@@ -5,7 +5,7 @@ ghost use mathlib.Core.Bool.{_&&_};
 ghost use Prim.Native.Nat.{_*_, _≤_, _<_};
 ghost use lib.Dec.{leb, eqb};
 ghost use lib.ListN.{length, getD};
-ghost use Rattle.rules.specs.Lists.{within, sum, every};
+ghost use Rattle.lists.specs.Lists.{within, sum, every};
 ghost use Rattle.rules.specs.Boards.{keptOf, lengthIn, goodQuantumOf, reaches, judged};
 ghost use Rattle.board.specs.Answers.{shownBoard};
 ghost use Rattle.board.specs.Internal.{numbersGood, sharesMet};

@@ -13,12 +13,12 @@ use Rattle.rules.specs.declared.Steps.{Steps}
 use Rattle.rules.specs.declared.Contracts.{Contracts}
 use Rattle.rules.specs.declared.Event.{Event}
 use Rattle.rules.specs.declared.Event.the-variants.{Amend, Cancel, Deal}
-use Rattle.rules.specs.Lists.{filter}
+use Rattle.lists.specs.Lists.{filter}
 use Rattle.rules.specs.Orders.{hasId, isLive, left, apply}
 use Rattle.rules.specs.Units.{goodPrice, contracts}
 use Rattle.rules.specs.Quotes.{same}
 use Rattle.rules.specs.Causes.{firstNumber, traderCauses}
-use Rattle.rules.proofs.Members.{length-filter}
+use Rattle.lists.proofs.Members.{length-filter}
 use Rattle.rules.proofs.Orders.{cancel-at, deal-all}
 use Rattle.rules.proofs.Bounds.{volume-bounds}
 use Rattle.rules.proofs.Refusals.{trader-passes}

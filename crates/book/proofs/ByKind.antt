@@ -7,10 +7,10 @@ use borrow.Author.Tests.{eqb-true, eqb-false}
 use lib.Dec.{eqb}
 use Rattle.rules.specs.declared.Event.the-variants.{Add, Amend, Cancel, Deal}
 use Rattle.rules.specs.declared.Side.the-variants.{Buy, Sell}
-use Rattle.rules.specs.Lists.{if_then_else_, within}
+use Rattle.lists.specs.Lists.{if_then_else_, within}
 use Rattle.rules.specs.Answers.{accepted}
 use Rattle.rules.specs.Records.{unusedZero}
-use Rattle.rules.proofs.Lists.{both}
+use Rattle.lists.proofs.Lists.{both}
 use Rattle.rules.proofs.Refusals.{within-parts}
 use Rattle.record.specs.declared.Fields.{Fields}
 use Rattle.record.specs.Fields.{numbers, goodFields, readFields}

@@ -8,11 +8,11 @@ use borrow.Author.Tests.{eqb-true}
 use lib.ListN.{set}
 use Rattle.rules.specs.declared.Side.{Side}
 use Rattle.rules.specs.declared.Order.{Order}
-use Rattle.rules.specs.Lists.{if_then_else_, any, filter}
+use Rattle.lists.specs.Lists.{if_then_else_, any, filter}
 use Rattle.rules.specs.Orders.{hasId, isLive}
 use Rattle.rules.specs.Bounds.{Distinct}
-use Rattle.rules.proofs.Lists.{filter-append, filter-one, kept-in}
-use Rattle.rules.proofs.Members.{or-false, any-none, some-any, getD-in}
+use Rattle.lists.proofs.Lists.{filter-append, filter-one, kept-in}
+use Rattle.lists.proofs.Members.{or-false, any-none, some-any, getD-in}
 use Rattle.rules.proofs.Orders.{live-at}
 use Rattle.price_keys.specs.Keys.{keyIn}
 use Rattle.best_level.specs.CandidateKeys.{changedKey}

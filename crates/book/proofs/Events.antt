@@ -14,11 +14,11 @@ use Rattle.rules.specs.declared.Steps.{Steps}
 use Rattle.rules.specs.declared.Contracts.{Contracts}
 use Rattle.rules.specs.declared.Event.{Event}
 use Rattle.rules.specs.declared.Event.the-variants.{Add, Amend, Cancel, Deal}
-use Rattle.rules.specs.Lists.{if_then_else_, filter}
+use Rattle.lists.specs.Lists.{if_then_else_, filter}
 use Rattle.rules.specs.Units.{contracts}
 use Rattle.rules.specs.Orders.{hasId, isLive, apply}
 use Rattle.rules.specs.Quotes.{same}
-use Rattle.rules.proofs.Members.{any-filter, getD-in}
+use Rattle.lists.proofs.Members.{any-filter, getD-in}
 use Rattle.rules.proofs.Orders.{amend-at, cancel-at, deal-some, left-at}
 use Rattle.rules.proofs.Bounds.{volume-bounds}
 use Rattle.price_keys.specs.Keys.{keyOf, keyIn}

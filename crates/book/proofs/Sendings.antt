@@ -9,7 +9,7 @@ use Rattle.rules.specs.declared.Order.{Order}
 use Rattle.rules.specs.declared.Event.{Event}
 use Rattle.rules.specs.declared.Row.{Row}
 use Rattle.rules.specs.declared.SpreadRule.{SpreadRule}
-use Rattle.rules.specs.Lists.{if_then_else_}
+use Rattle.lists.specs.Lists.{if_then_else_}
 use Rattle.rules.specs.Orders.{hasId, apply}
 use Rattle.rules.specs.Answers.{Outcome, accepted, refused}
 use Rattle.rules.specs.Kept.{ordersKeep}
@@ -17,7 +17,7 @@ use Rattle.price_keys.specs.Widest.{WidestFor}
 use Rattle.rules.specs.declared.Side.{Side}
 use Rattle.rules.specs.declared.Side.the-variants.{Buy, Sell}
 use Rattle.rules.specs.Search.{sumsFor}
-use Rattle.rules.proofs.Lists.{kept-in}
+use Rattle.lists.proofs.Lists.{kept-in}
 use Rattle.best_quote.specs.Levels.{enough}
 use Rattle.best_quote.specs.Sums.{keySums}
 use Rattle.order_side.specs.Slots.{Slot, slotOf, sideOf, keysOf, volumesOf, bestKeyIn, keptIn}

@@ -11,12 +11,12 @@ use Rattle.rules.specs.declared.Steps.{Steps}
 use Rattle.rules.specs.declared.Contracts.{Contracts}
 use Rattle.rules.specs.declared.Event.{Event}
 use Rattle.rules.specs.declared.Event.the-variants.{Add, Amend, Cancel, Deal, Tick}
-use Rattle.rules.specs.Lists.{if_then_else_, filter}
+use Rattle.lists.specs.Lists.{if_then_else_, filter}
 use Rattle.rules.specs.Units.{contracts, goodVolume}
 use Rattle.rules.specs.Orders.{hasId, isLive, amendedOrder, lessenedOrder, somethingLeft, apply}
 use Rattle.rules.specs.Quotes.{same}
-use Rattle.rules.proofs.Lists.{filter-append, filter-one}
-use Rattle.rules.proofs.Members.{none-any, filter-all, map-same}
+use Rattle.lists.proofs.Lists.{filter-append, filter-one}
+use Rattle.lists.proofs.Members.{none-any, filter-all, map-same}
 use Rattle.rules.proofs.Orders.{amended-other, lessened-other}
 use Rattle.rules.proofs.Bounds.{volume-bounds}
 use Rattle.order_table.specs.Table.{ofSide}

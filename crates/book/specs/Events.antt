@@ -7,7 +7,7 @@ use Rattle.rules.specs.declared.Side.the-variants.{Buy}
 use Rattle.rules.specs.declared.Order.{Order}
 use Rattle.rules.specs.declared.Event.{Event}
 use Rattle.rules.specs.declared.Event.the-variants.{Add, Amend, Cancel, Deal, Tick}
-use Rattle.rules.specs.Lists.{if_then_else_, filter}
+use Rattle.lists.specs.Lists.{if_then_else_, filter}
 use Rattle.rules.specs.Orders.{hasId, apply}
 use Rattle.rules.specs.Causes.{firstNumber, traderCauses}
 use Rattle.order_table.specs.Table.{tableOf, GoodOrders}

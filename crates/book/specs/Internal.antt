@@ -14,7 +14,7 @@ use Rattle.rules.specs.declared.Event.{Event}
 use Rattle.rules.specs.declared.Event.the-variants.{Add}
 use Rattle.rules.specs.Orders.{apply}
 use Rattle.rules.specs.Causes.{firstNumber, traderCauses}
-use Rattle.rules.specs.Lists.{if_then_else_, within}
+use Rattle.lists.specs.Lists.{if_then_else_, within}
 use Rattle.rules.specs.Answers.{Outcome, accepted, refused}
 use Rattle.record.specs.declared.Fields.{Fields}
 use Rattle.price_keys.specs.Widest.{keysKeep}

@@ -10,7 +10,7 @@ ghost use Rattle.rules.specs.declared.Order.{Order};
 ghost use Rattle.rules.specs.declared.Millis.{Millis};
 ghost use Rattle.rules.specs.declared.Event.the-variants.{Amend, Cancel, Deal};
 ghost use Rattle.rules.specs.declared.Side.the-variants.{Buy, Sell};
-ghost use Rattle.rules.specs.Lists.{if_then_else_, within};
+ghost use Rattle.lists.specs.Lists.{if_then_else_, within};
 ghost use Rattle.rules.specs.Units.{goodPrice, goodVolume};
 ghost use Rattle.order_table.specs.Table.{slotIn, Held, Holding};
 ghost use Rattle.order_table.specs.Internal.{Represents, Located};

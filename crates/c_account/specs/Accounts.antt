@@ -9,7 +9,7 @@ use Rattle.rules.specs.declared.Steps.{Steps}
 use Rattle.rules.specs.declared.Strike.{Strike}
 use Rattle.rules.specs.declared.SpreadRule.{SpreadRule}
 use Rattle.rules.specs.declared.SpreadRule.the-variants.{Settled, OfStrike}
-use Rattle.rules.specs.Lists.{if_then_else_}
+use Rattle.lists.specs.Lists.{if_then_else_}
 use Rattle.rules.specs.Accounts.{Part, partWords, Account, AccountRan}
 use Rattle.session_account.specs.declared.Times.{Times}
 use Rattle.session_account.specs.declared.AccountAnswer.{AccountAnswer}

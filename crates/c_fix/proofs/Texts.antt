@@ -7,7 +7,7 @@ use lib.ListN.{length, getD, take}
 use borrow.Author.Tests.{lt-ltb, le-ltb, eq-eqb, ne-eqb, not-true, not-false}
 use Rattle.rules.specs.declared.Side.{Side}
 use Rattle.rules.specs.declared.Steps.{Steps}
-use Rattle.rules.specs.Lists.{within}
+use Rattle.lists.specs.Lists.{within}
 use Rattle.rules.specs.Units.{steps, contracts}
 use Rattle.rules.specs.Answers.{accepted, refused}
 use Rattle.rules.specs.Records.{signedOf}

@@ -6,7 +6,7 @@ use lib.ListN.{length, getD}
 use Rattle.rules.specs.declared.Contracts.{Contracts}
 use Rattle.rules.specs.declared.Steps.{Steps}
 use Rattle.rules.specs.declared.Timestamp.{Timestamp}
-use Rattle.rules.specs.Lists.{if_then_else_, within}
+use Rattle.lists.specs.Lists.{if_then_else_, within}
 use Rattle.rules.specs.Units.{steps, contracts}
 use Rattle.rules.specs.Answers.{Outcome, accepted, refused}
 use Rattle.rules.specs.Records.{addKind, signedOf, unsignedOf}

@@ -7,7 +7,7 @@ use mathlib.Core.List.{List, [], _++_}
 use lib.Dec.{leb}
 use lib.ListN.{length, drop}
 use borrow.Author.Tests.{leb-true, leb-false, not-true, not-false}
-use Rattle.rules.specs.Lists.{if_then_else_}
+use Rattle.lists.specs.Lists.{if_then_else_}
 use Rattle.rules.specs.Terms.{paper}
 use Rattle.rules.specs.Answers.{accepted}
 use Rattle.rules.specs.Book.{after}

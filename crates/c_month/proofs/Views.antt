@@ -5,7 +5,7 @@ use mathlib.Core.Bool.{Bool, true, false}
 use mathlib.Core.List.{List}
 use lib.Dec.{leb}
 use lib.ListN.{length}
-use Rattle.rules.specs.Lists.{if_then_else_}
+use Rattle.lists.specs.Lists.{if_then_else_}
 use Rattle.month_view.specs.declared.Viewed.{Viewed}
 use Rattle.month_view.specs.declared.Viewed.the-variants.{BufferShort, Written}
 use Rattle.rules.specs.Terms.{paper}

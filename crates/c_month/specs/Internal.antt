@@ -1,7 +1,7 @@
 -- What the private functions promise each other.
 use Prim.Native.Nat.{ℕ, _+_}
 use mathlib.Core.Bool.{Bool}
-use Rattle.rules.specs.Lists.{if_then_else_}
+use Rattle.lists.specs.Lists.{if_then_else_}
 use Rattle.month_words.specs.declared.Called.{Called}
 use Rattle.month_words.specs.declared.Called.the-variants.{Done, WordsShort, NoMonth, HintsShort, AnswerShort, NoCall}
 use Rattle.month_view.specs.declared.Viewed.{Viewed}

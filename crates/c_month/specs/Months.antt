@@ -5,7 +5,7 @@ use mathlib.Core.Bool.{Bool}
 use mathlib.Core.List.{List}
 use lib.Dec.{leb}
 use lib.ListN.{length}
-use Rattle.rules.specs.Lists.{if_then_else_}
+use Rattle.lists.specs.Lists.{if_then_else_}
 use Rattle.month_in_place.specs.Entry.{mayBeMonth}
 use Rattle.month_words.specs.Calling.{isCall, Performs, LeavesHints}
 use Rattle.c_answers.specs.Answers.{refusedNumber}

@@ -6,7 +6,7 @@ ghost use mathlib.Core.Bool.{true};
 ghost use mathlib.Core.List.{[]};
 ghost use Prim.Native.Nat.{_+_, _≤_};
 ghost use lib.ListN.{length};
-ghost use Rattle.rules.specs.Lists.{if_then_else_};
+ghost use Rattle.lists.specs.Lists.{if_then_else_};
 ghost use Rattle.rules.specs.Answers.{accepted};
 ghost use Rattle.c_answers.specs.Answers.{refusedNumber, Fills};
 ghost use Rattle.c_month.specs.Internal.{calledNumber, viewedNumber};

@@ -5,12 +5,12 @@ use mathlib.Core.Path.{_≡_, refl, sym, _∙_}
 use mathlib.Core.Bool.{Bool, true, false, not, _&&_}
 use lib.Dec.{leb}
 use borrow.Author.Tests.{leb-true, lt-ltb, le-ltb, not-true, not-false}
-use Rattle.rules.specs.Lists.{within}
+use Rattle.lists.specs.Lists.{within}
 use Rattle.rules.specs.Terms.{paper}
 use Rattle.rules.specs.Rows.{goodLength}
 use Rattle.rules.specs.Pay.{weight}
 use Rattle.rules.specs.Causes.{firstNumber}
-use Rattle.rules.proofs.Lists.{both}
+use Rattle.lists.proofs.Lists.{both}
 use Rattle.c_answers.specs.Answers.{refusedNumber, valueNumber}
 use Rattle.c_others.specs.Extras.{weighed}
 

@@ -7,7 +7,7 @@ use lib.Dec.{ltb, eqb}
 use Rattle.rules.specs.declared.Strike.{Strike}
 use Rattle.rules.specs.declared.SpreadRule.{SpreadRule}
 use Rattle.rules.specs.declared.SpreadRule.the-variants.{Settled, OfStrike}
-use Rattle.rules.specs.Lists.{if_then_else_, within}
+use Rattle.lists.specs.Lists.{if_then_else_, within}
 use Rattle.rules.specs.Terms.{paper}
 use Rattle.rules.specs.Units.{steps}
 use Rattle.rules.specs.Rows.{goodLength}

@@ -13,7 +13,7 @@ use Rattle.rules.specs.declared.Steps.{Steps}
 use Rattle.rules.specs.declared.Refusal.{Refusal}
 use Rattle.rules.specs.declared.SessionAnswer.{SessionAnswer}
 use Rattle.rules.specs.declared.SessionAnswer.the-variants as S
-use Rattle.rules.specs.Lists.{if_then_else_, below}
+use Rattle.lists.specs.Lists.{if_then_else_, below}
 use Rattle.rules.specs.Terms.{paper}
 use Rattle.rules.specs.Answers.{numberOf}
 use Rattle.rules.specs.Stretches.{pairWords}

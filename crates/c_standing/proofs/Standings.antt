@@ -6,7 +6,7 @@ use mathlib.Core.List.{List, [], _++_}
 use lib.Dec.{leb}
 use lib.ListN.{length, drop}
 use borrow.Author.Tests.{lt-ltb, le-ltb}
-use Rattle.rules.specs.Lists.{if_then_else_}
+use Rattle.lists.specs.Lists.{if_then_else_}
 use Rattle.rules.specs.Answers.{accepted, refused}
 use Rattle.standing_rules.specs.declared.Maker.{Maker}
 use Rattle.standing_rules.specs.Calls.{Standing, Call, after, outcomesFrom}

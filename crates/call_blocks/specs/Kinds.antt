@@ -15,7 +15,7 @@ use Rattle.rules.specs.declared.Amendment.{Amendment}
 use Rattle.rules.specs.declared.Ticket.{Ticket}
 use Rattle.rules.specs.declared.Kopecks.{Kopecks}
 use Rattle.rules.specs.declared.Event.the-variants.{Add, Amend, Cancel, Deal, Tick}
-use Rattle.rules.specs.Lists.{if_then_else_}
+use Rattle.lists.specs.Lists.{if_then_else_}
 use Rattle.rules.specs.Units.{millis, steps, contracts, kopecks}
 use Rattle.rules.specs.Records.{signedOf}
 use Rattle.rules.specs.Calls.{Call, Open, Send, Message, Ask, Commit, Close, Drop, Charge, Withdraw, Look, Report, Outlook}

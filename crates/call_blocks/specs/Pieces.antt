@@ -5,7 +5,7 @@ use mathlib.Core.List.{List}
 use mathlib.Core.Bool.{Bool}
 use lib.Dec.{leb, eqb}
 use lib.ListN.{length}
-use Rattle.rules.specs.Lists.{if_then_else_}
+use Rattle.lists.specs.Lists.{if_then_else_}
 use Rattle.call_blocks.specs.Kinds.{word}
 
 -- How many words tell the length of a block of a kind: an open says it in its second word, an add by its side, which is its fourth, a

@@ -4,7 +4,7 @@ use Prim.Native.Nat.{ℕ}
 use mathlib.Core.Path.{_≡_, sym, ap, _∙_}
 use mathlib.Core.List.{List, List·Permᴰ}
 use lib.ListN.{length}
-use Rattle.rules.specs.Lists.{All}
+use Rattle.lists.specs.Lists.{All}
 use Rattle.rules.specs.Terms.{paper}
 use Rattle.rules.specs.Calls.{Call, Book, freshBook}
 use Rattle.rules.specs.Book.{answerOf, after}

@@ -9,7 +9,7 @@
 ghost use mathlib.Core.Path.{_≡_};
 ghost use Prim.Native.Nat.{_≤_};
 ghost use lib.Dec.{eqb};
-ghost use Rattle.rules.specs.Lists.{if_then_else_};
+ghost use Rattle.lists.specs.Lists.{if_then_else_};
 ghost use Rattle.rules.specs.Answers.{shownAnswer, shownLooked, shownAsked, shownReport, shownOutlook};
 ghost use Rattle.rules.specs.Calls as B;
 ghost use Rattle.month.specs.Represents.{Reached, Answered};

@@ -5,7 +5,7 @@ use mathlib.Core.Bool.{Bool, true, false}
 use mathlib.Core.List.{List}
 use native.Mathlib.Omega.{arith}
 use Rattle.rules.specs.declared.Cell.{Cell}
-use Rattle.rules.specs.Lists.{if_then_else_}
+use Rattle.lists.specs.Lists.{if_then_else_}
 use Rattle.rules.specs.Cells.{goodCell, placeOf, cellAt}
 use Rattle.cells.specs.declared.Named.{Named}
 use Rattle.cells.specs.declared.Named.the-variants.{OutOfRange, Blank, Filled}

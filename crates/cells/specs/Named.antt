@@ -2,7 +2,7 @@
 use Prim.Native.Nat.{ℕ}
 use mathlib.Core.List.{List}
 use Rattle.rules.specs.declared.Cell.{Cell}
-use Rattle.rules.specs.Lists.{if_then_else_}
+use Rattle.lists.specs.Lists.{if_then_else_}
 use Rattle.rules.specs.Cells.{goodCell, placeOf, cellAt}
 use Rattle.cells.specs.declared.Named.{Named}
 use Rattle.cells.specs.declared.Named.the-variants.{OutOfRange, Blank, Filled}

@@ -6,7 +6,7 @@ use mathlib.Core.Path.{_≡_, refl, sym, ap, _∙_}
 use mathlib.Core.List.{List, _++_, map, append-nil}
 use lib.ListN.{length, drop, set, length-append, length-drop}
 use lib.Seq.{append-snoc, drop-cons, drop-length, set-at}
-use Rattle.rules.specs.Lists.{below}
+use Rattle.lists.specs.Lists.{below}
 use Rattle.words.proofs.Places.{places-length, places-more}
 
 module _ {A : Type 0} (f : ℕ → A) where

@@ -2,7 +2,7 @@
 use Prim.Native.Nat.{ℕ, _+_, _*_}
 use mathlib.Core.List.{List, map}
 use lib.IntN.{ℤ}
-use Rattle.rules.specs.Lists.{below}
+use Rattle.lists.specs.Lists.{below}
 use Rattle.rules.specs.Records.{signedOf, wordAt}
 
 -- the n prices that start at a byte

@@ -10,7 +10,7 @@ use borrow.Author.Tests.{leb-true, leb-false, le-leb, lt-leb, lt-ltb, le-ltb}
 use Rattle.rules.specs.declared.Row.{Row}
 use Rattle.rules.specs.declared.Opening.{Opening}
 use Rattle.rules.specs.declared.LapsesLeft.the-variants.{Unlimited, Over, Left}
-use Rattle.rules.specs.Lists.{if_then_else_, countBelow}
+use Rattle.lists.specs.Lists.{if_then_else_, countBelow}
 use Rattle.rules.specs.Terms.{paper}
 use Rattle.rules.specs.Units.{millis, kopecks}
 use Rattle.rules.specs.Runs.{before}
@@ -18,10 +18,10 @@ use Rattle.rules.specs.Lapses.{missing, lapses, begins, lapseStarts, noLapseLim
 use Rattle.rules.specs.Pay.{met, cellMet}
 use Rattle.rules.specs.Outlook.{needOf, restingTill, cellOf, lapsesLeft}
 use Rattle.continuations.specs.Continuations.{mayLapse}
-use Rattle.rules.proofs.Counting.{count-ext, count-more, count-stretch}
+use Rattle.lists.proofs.Counting.{count-ext, count-more, count-stretch}
 use Rattle.rules.proofs.Stretches.{stretches-ext}
 use Rattle.rules.proofs.Lapses.{lapses-counted}
-use Rattle.rules.proofs.Lists.{both, and}
+use Rattle.lists.proofs.Lists.{both, and}
 
 -- ---- the same milliseconds, the same cell
 

@@ -19,7 +19,7 @@ use Rattle.rules.specs.declared.Quote.the-variants.{Absent, At}
 use Rattle.rules.specs.declared.Side.the-variants.{Buy, Sell}
 use Rattle.rules.specs.declared.Event.{Event}
 use Rattle.rules.specs.declared.Event.the-variants.{Add, Cancel}
-use Rattle.rules.specs.Lists.{filter, any, sum}
+use Rattle.lists.specs.Lists.{filter, any, sum}
 use Rattle.rules.specs.Units.{millis, steps, goodPrice, goodVolume}
 use Rattle.rules.specs.Orders.{hasId, isLive, apply, live, timeOf, present}
 use Rattle.rules.specs.Quotes.{depth, qualifies, lead, best}
@@ -29,8 +29,8 @@ use Rattle.rules.specs.Bounds.{Distinct, EventBounds}
 use Rattle.rules.specs.Outlook.{canKeep}
 use Rattle.rules.proofs.Kept.{keptAt-now, keptAt-snoc}
 use Rattle.rules.proofs.Orders.{live-snoc, present-snoc}
-use Rattle.rules.proofs.Lists.{and}
-use Rattle.rules.proofs.Members.{filter-all, none-any, or-second}
+use Rattle.lists.proofs.Lists.{and}
+use Rattle.lists.proofs.Members.{filter-all, none-any, or-second}
 use Rattle.rules.proofs.Refusals.{EventPasses, InTurn, passes-event}
 use Rattle.rules.proofs.Bounds.{event-bounds-more}
 use Rattle.strike.proofs.Squares.{square-le}

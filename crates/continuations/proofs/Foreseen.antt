@@ -17,7 +17,7 @@ use Rattle.rules.specs.declared.Opening.{Opening}
 use Rattle.rules.specs.declared.Row.{Row}
 use Rattle.rules.specs.declared.Cell.{Cell}
 use Rattle.rules.specs.declared.Event.{Event}
-use Rattle.rules.specs.Lists.{if_then_else_, countBelow}
+use Rattle.lists.specs.Lists.{if_then_else_, countBelow}
 use Rattle.rules.specs.Terms.{paper}
 use Rattle.rules.specs.Units.{millis, kopecks, goodCharge}
 use Rattle.rules.specs.Cells.{blankCell, cellAt}
@@ -32,9 +32,9 @@ use Rattle.rules.specs.Book.{run, after}
 use Rattle.rules.specs.Replies.{outlookIn}
 use Rattle.rules.specs.Histories.{NoneRefused}
 use Rattle.rules.specs.Bounds.{BookBounds, RunningBounds, OpenBounds}
-use Rattle.rules.proofs.Lists.{both, and}
-use Rattle.rules.proofs.Counting.{count-ext, count-le, count-none}
-use Rattle.rules.proofs.Members.{or-second}
+use Rattle.lists.proofs.Lists.{both, and}
+use Rattle.lists.proofs.Counting.{count-ext, count-le, count-none}
+use Rattle.lists.proofs.Members.{or-second}
 use Rattle.rules.proofs.Kept.{keptAt-now}
 use Rattle.rules.proofs.Refusals.{InTurn, passes-call}
 use Rattle.rules.proofs.Histories.{none-parts, parts-none, sent, closes, sends-pass}

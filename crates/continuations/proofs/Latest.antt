@@ -7,7 +7,7 @@ use lib.Dec.{eqb}
 use borrow.Author.Tests.{eqb-true, eqb-false}
 use Rattle.rules.specs.declared.Possible.{Possible}
 use Rattle.rules.specs.declared.Possible.the-variants.{Never, At}
-use Rattle.rules.specs.Lists.{if_then_else_}
+use Rattle.lists.specs.Lists.{if_then_else_}
 use Rattle.rules.specs.Units.{millis}
 use Rattle.rules.specs.Outlook.{latest, isNever}
 

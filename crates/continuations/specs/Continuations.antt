@@ -20,7 +20,7 @@ use Rattle.rules.specs.declared.Event.{Event}
 use Rattle.rules.specs.declared.Event.the-variants.{Add, Cancel}
 use Rattle.rules.specs.declared.Side.the-variants.{Buy, Sell}
 use Rattle.rules.specs.declared.Outlook.{Outlook}
-use Rattle.rules.specs.Lists.{countBelow}
+use Rattle.lists.specs.Lists.{countBelow}
 use Rattle.rules.specs.Terms.{paper}
 use Rattle.rules.specs.Units.{millis, steps, kopecks}
 use Rattle.rules.specs.Cells.{cellAt}

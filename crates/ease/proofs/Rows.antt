@@ -8,10 +8,10 @@ use lib.Dec.{leb}
 use Rattle.rules.specs.declared.Row.{Row}
 use Rattle.rules.specs.declared.SpreadRule.{SpreadRule}
 use Rattle.rules.specs.declared.SpreadRule.the-variants.{Settled, OfStrike}
-use Rattle.rules.specs.Lists.{within}
+use Rattle.lists.specs.Lists.{within}
 use Rattle.rules.specs.Terms.{Terms}
 use Rattle.rules.specs.Rows.{goodExpiry, goodQuantum, goodLength, goodRow, asRead, goodRowFor}
-use Rattle.rules.proofs.Lists.{both}
+use Rattle.lists.proofs.Lists.{both}
 use Rattle.ease.specs.Easing.{mostA, mostB, halved, easedRow}
 
 record Good (terms : Terms) (row : Row) : Type 0 where

@@ -13,12 +13,12 @@ use Rattle.rules.specs.declared.SpreadRule.{SpreadRule}
 use Rattle.rules.specs.declared.Event.{Event}
 use Rattle.rules.specs.declared.Event.the-variants.{Tick}
 use Rattle.rules.specs.declared.Order.{Order}
-use Rattle.rules.specs.Lists.{if_then_else_}
+use Rattle.lists.specs.Lists.{if_then_else_}
 use Rattle.rules.specs.Answers.{Outcome, accepted, refused}
 use Rattle.rules.specs.Orders.{live, apply, timeOf}
 use Rattle.rules.specs.Kept.{ordersKeep}
 use Rattle.rules.specs.Causes.{firstNumber, traderCauses, eventRefusal}
-use Rattle.rules.proofs.Lists.{both}
+use Rattle.lists.proofs.Lists.{both}
 use Rattle.rules.proofs.Orders.{live-snoc}
 use Rattle.rules.proofs.Bounds.{event-bounds-more}
 use Rattle.record.specs.declared.Fields.{Fields}

@@ -2,7 +2,7 @@
 use Prim.Native.Nat.{ℕ, _≤_}
 use lib.Dec.{ltb}
 use Rattle.rules.specs.declared.Millis.{Millis}
-use Rattle.rules.specs.Lists.{if_then_else_}
+use Rattle.lists.specs.Lists.{if_then_else_}
 use Rattle.record.specs.declared.Fields.{Fields}
 use Rattle.record.specs.Fields.{goodFields}
 use Rattle.clock.specs.declared.Duty.{Duty}

@@ -1,7 +1,7 @@
 -- The printed session follows from the definitions, by computation.
 use mathlib.Core.Path.{_≡_, refl}
 use mathlib.Core.List.{[], _∷_}
-use Rattle.rules.specs.Lists.{sum, countBelow, below, filter, any}
+use Rattle.lists.specs.Lists.{sum, countBelow, below, filter, any}
 use Rattle.rules.specs.Orders.{isLive, apply, applyAll, live, timeFrom, present}
 use Rattle.rules.specs.Quotes.{depth, qualifies, lead, best}
 use Rattle.rules.specs.Kept.{quotesKeep, ordersKeep, upTo, keptAt, keptBelow}

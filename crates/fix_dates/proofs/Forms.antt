@@ -10,7 +10,7 @@ use lib.ListN.{length, getD, take, drop, length-take, length-drop}
 use lib.Seq.{getD-drop, getD-take}
 use Rattle.rules.specs.Digits.{isDigit, numberFrom}
 use Rattle.rules.specs.Dates.{form, fitsPlace, hasForm, part}
-use Rattle.rules.proofs.Lists.{both}
+use Rattle.lists.proofs.Lists.{both}
 use Rattle.fix_dates.specs.Internal.{DigitsAt}
 
 -- a list by its elements

@@ -6,8 +6,8 @@ use native.Mathlib.Omega.{arith}
 use lib.Dec.{leb, eqb}
 use borrow.Author.Tests.{leb-true}
 use Rattle.rules.specs.declared.Timestamp.{Timestamp}
-use Rattle.rules.specs.Lists.{if_then_else_}
-use Rattle.rules.proofs.Lists.{both}
+use Rattle.lists.specs.Lists.{if_then_else_}
+use Rattle.lists.proofs.Lists.{both}
 use Rattle.rules.specs.Dates.{isLeap, monthDays, goodDate, goodClock}
 
 month-most : (y m : ℕ) → monthDays y m ≤ 31

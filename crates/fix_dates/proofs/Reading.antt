@@ -9,7 +9,7 @@ use lib.ListN.{length, getD}
 use Rattle.rules.specs.declared.Timestamp.{Timestamp}
 use Rattle.rules.specs.Answers.{refused}
 use Rattle.rules.specs.Dates.{form, hasForm, part, partsOf, goodDate, goodClock, timeIn, momentFrom, since}
-use Rattle.rules.proofs.Lists.{both}
+use Rattle.lists.proofs.Lists.{both}
 use Rattle.fix_dates.specs.Times.{Timed}
 use Rattle.fix_dates.proofs.Forms.{form-length, digits-at, three-is, four-is}
 use Rattle.fix_digits.proofs.Numbers.{digit-to}

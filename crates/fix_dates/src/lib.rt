@@ -7,7 +7,7 @@ ghost use mathlib.Core.Bool.{true, _&&_, _||_};
 ghost use lib.Dec.{eqb};
 ghost use Prim.Native.Nat.{_+_, _-_, _≤_, _<_};
 ghost use lib.ListN.{length, getD};
-ghost use Rattle.rules.specs.Lists.{if_then_else_};
+ghost use Rattle.lists.specs.Lists.{if_then_else_};
 ghost use mathlib.Core.Option.{some};
 ghost use Rattle.rules.specs.Answers.{accepted};
 ghost use Rattle.rules.specs.Digits.{isDigit};

@@ -11,7 +11,7 @@ use lib.IntN.{pos, negsuc}
 use lib.ListN.{length, getD, take, drop, drop-of-length-le}
 use lib.Seq.{drop-cons, take-length}
 use borrow.Author.Tests.{le-leb, lt-leb, le-ltb, lt-ltb, leb-true, leb-false, eq-eqb, ne-eqb}
-use Rattle.rules.specs.Lists.{if_then_else_}
+use Rattle.lists.specs.Lists.{if_then_else_}
 use Rattle.rules.specs.Digits.{isDigit, allDigits, numberFrom, inDigits, wordWithin, positive, negative, stepsIn}
 use Rattle.fix_digits.specs.Answers.{capped, cappedBy}
 use Rattle.fix_digits.specs.Internal.{moreOf}

@@ -7,7 +7,7 @@ use native.Mathlib.Numerals.{add-one}
 use native.Mathlib.Omega.{arith}
 use lib.ListN.{length, getD, drop, drop-of-length-le}
 use lib.Seq.{drop-cons}
-use Rattle.rules.specs.Lists.{sum}
+use Rattle.lists.specs.Lists.{sum}
 
 sum-turn : (l : List ℕ) (s i : ℕ) → i < length l
     → ((s + getD l i 0) % 256 + sum (drop (i + 1) l)) % 256 ≡ (s + sum (drop i l)) % 256

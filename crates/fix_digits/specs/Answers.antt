@@ -3,7 +3,7 @@ use Prim.Native.Nat.{ℕ}
 use mathlib.Core.Option.{Option, none, some}
 use lib.Dec.{leb}
 use lib.IntN.{ℤ}
-use Rattle.rules.specs.Lists.{if_then_else_}
+use Rattle.lists.specs.Lists.{if_then_else_}
 use Rattle.fix_digits.specs.declared.Number.{Number}
 use Rattle.fix_digits.specs.declared.Number.the-variants as N
 use Rattle.fix_digits.specs.declared.Unsigned.{Unsigned}

@@ -4,7 +4,7 @@ ghost use mathlib.Core.Path.{_≡_};
 ghost use mathlib.Core.Bool.{true};
 ghost use mathlib.Core.Option.{some};
 ghost use Prim.Native.Nat.{_-_, _≤_, _%_};
-ghost use Rattle.rules.specs.Lists.{sum};
+ghost use Rattle.lists.specs.Lists.{sum};
 ghost use Rattle.rules.specs.Digits.{isDigit, inDigits, wordIn, stepsIn, positive, negative};
 ghost use Rattle.fix_digits.specs.Answers.{shownNumber, shownUnsigned, shownSigned, cappedBy};
 ghost use Rattle.fix_digits.specs.Internal.{moreOf};

@@ -18,7 +18,7 @@ use Rattle.rules.specs.declared.Timestamp.{Timestamp}
 use Rattle.rules.specs.declared.Answer.the-variants.{Accepted, Refused}
 use Rattle.rules.specs.declared.Refusal.{Refusal}
 use Rattle.rules.specs.declared.Refusal.the-variants.{NoQuantumOpen, TimeBackwards, TimePastEnd, FieldWrong}
-use Rattle.rules.specs.Lists.{if_then_else_, any}
+use Rattle.lists.specs.Lists.{if_then_else_, any}
 use Rattle.rules.specs.Units.{steps}
 use Rattle.rules.specs.Orders.{hasId, live, applyAll}
 use Rattle.rules.specs.Quotes.{same}

@@ -2,7 +2,7 @@
 ghost use mathlib.Core.Path.{_≡_};
 ghost use Prim.Native.Nat.{ℕ};
 ghost use Rattle.rules.specs.declared.Refusal.the-variants.{NoQuantumOpen};
-ghost use Rattle.rules.specs.Lists.{if_then_else_};
+ghost use Rattle.lists.specs.Lists.{if_then_else_};
 ghost use Rattle.rules.specs.Dates.{Moment};
 ghost use Rattle.rules.specs.Messages.{newOrder, cancelOrder, replaceOrder};
 ghost use Rattle.rules.specs.Calls as B;

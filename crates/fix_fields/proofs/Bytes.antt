@@ -8,7 +8,7 @@ use mathlib.Core.Option.{Option, none, some}
 use borrow.Author.Tests.{eqb-true}
 use lib.Dec.{eqb}
 use lib.ListN.{length}
-use Rattle.rules.specs.Lists.{if_then_else_}
+use Rattle.lists.specs.Lists.{if_then_else_}
 use Rattle.rules.specs.Fields.{Field, fieldBytes, fieldsBytes, grown, pieces, taggedBy, splitField, goodTag, goodValue, goodField, fieldOf, addField, fieldsIn, fieldsOf}
 use Rattle.fix_fields.proofs.Pieces.{some-piece}
 

@@ -8,7 +8,7 @@ use mathlib.Core.Option.{Option, none, some}
 use borrow.Author.Tests.{eqb-true}
 use lib.Dec.{eqb}
 use lib.ListN.{length, length-append}
-use Rattle.rules.specs.Lists.{any}
+use Rattle.lists.specs.Lists.{any}
 use Rattle.rules.specs.Fields.{Field, fieldBytes, fieldsBytes, pieces, fieldOf, addField, fieldsIn, fieldsOf, hasTag}
 use Rattle.rules.specs.Frame.{versionTag, lengthTag, typeTag, checksumTag, isFrameTag, Ending, behind, endingOf}
 use Rattle.fix_fields.specs.Tags.{pieceOf}

@@ -8,7 +8,7 @@ use borrow.Author.Tests.{ne-eqb, eq-eqb, eqb-true, eqb-false}
 use lib.Dec.{eqb, leb}
 use lib.ListN.{length, getD, take, drop, set, replicate, length-set, getD-replicate}
 use lib.Seq.{getD-set-same, getD-set-other}
-use Rattle.rules.specs.Lists.{if_then_else_}
+use Rattle.lists.specs.Lists.{if_then_else_}
 use Rattle.rules.specs.Digits.{numberFrom}
 use Rattle.rules.specs.Fields.{Field, goodTag, hasTag, valuesOf}
 use Rattle.fix_fields.specs.Tags.{slotNumber, slotOf}

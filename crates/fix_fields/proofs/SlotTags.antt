@@ -8,7 +8,7 @@ use borrow.Author.Tests.{eq-eqb, eqb-true, eqb-false, leb-true}
 use lib.Dec.{eqb, leb}
 use mathlib.Core.Logic.{_⊎_, inl, inr}
 use lib.ListN.{length}
-use Rattle.rules.specs.Lists.{if_then_else_}
+use Rattle.lists.specs.Lists.{if_then_else_}
 use Rattle.rules.specs.Digits.{isDigit, allDigits, numberFrom}
 use Rattle.rules.specs.Fields.{Field, goodTag, sameBytes, hasTag}
 use Rattle.rules.specs.Frame.{versionTag, lengthTag, typeTag, checksumTag, isFrameTag}

@@ -8,7 +8,7 @@ use mathlib.Core.Option.{Option, none, some}
 use borrow.Author.Tests.{ne-eqb, eqb-false, le-leb, lt-leb, ltb-true, ltb-false, not-true}
 use lib.Dec.{eqb, leb, ltb}
 use lib.ListN.{length}
-use Rattle.rules.specs.Lists.{if_then_else_}
+use Rattle.lists.specs.Lists.{if_then_else_}
 use Rattle.rules.specs.Digits.{isDigit, allDigits}
 use Rattle.rules.specs.Fields.{Field, taggedBy, splitField, goodTag, goodField, fieldOf}
 use Rattle.fix_fields.specs.Tags.{pieceOf}

@@ -6,7 +6,7 @@ use mathlib.Core.List.{List, [], _∷_}
 use mathlib.Core.Option.{Option, none, some}
 use lib.Dec.{eqb}
 use lib.ListN.{length, getD, take, drop, set}
-use Rattle.rules.specs.Lists.{if_then_else_, any}
+use Rattle.lists.specs.Lists.{if_then_else_, any}
 use Rattle.rules.specs.Fields.{Field, fieldsOf, hasTag, valuesOf}
 use Rattle.rules.specs.Frame.{checksumTag, isFrameTag, Ending, endingOf}
 use Rattle.rules.specs.Messages.{idTag, origTag, sideTag, volumeTag, priceTag, timeTag}

@@ -4,7 +4,7 @@ ghost use mathlib.Core.Path.{_≡_};
 ghost use Prim.Native.Nat.{_+_, _-_, _<_};
 ghost use lib.Dec.{eqb};
 ghost use lib.ListN.{length, getD, replicate};
-ghost use Rattle.rules.specs.Lists.{if_then_else_};
+ghost use Rattle.lists.specs.Lists.{if_then_else_};
 ghost use Rattle.fix_fields.specs.Ends.{ClosedFrom, EndOf};
 ghost use Rattle.fix_fields.specs.Tags.{slotNumber, TagAt, LongTag};
 ghost use Rattle.fix_fields.specs.Spans.{noted, EndsAt, SpansFound};

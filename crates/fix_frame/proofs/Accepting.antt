@@ -9,7 +9,7 @@ use borrow.Author.Tests.{eqb-true, eqb-false}
 use lib.Dec.{eqb}
 use lib.ListN.{length, take, drop, length-append}
 use lib.Seq.{take-at, drop-at}
-use Rattle.rules.specs.Lists.{if_then_else_, sum, any}
+use Rattle.lists.specs.Lists.{if_then_else_, sum, any}
 use Rattle.rules.specs.Digits.{allDigits, inDigits, threeDigits}
 use Rattle.rules.specs.Fields.{Field, fieldBytes, fieldsBytes, goodTag, addField, fieldsOf, sameBytes, hasTag}
 use Rattle.rules.specs.Frame.{versionTag, lengthTag, typeTag, checksumTag, version, new, cancel, replace, kindIn, isNumber, lengthRight, checksumRight, isFrameTag, Ending, endingOf, goodFrame, bodyBy, framedBy, framed, framedIn, bodyIn}

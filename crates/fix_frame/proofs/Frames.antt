@@ -9,7 +9,7 @@ use borrow.Author.Tests.{eqb-true, eq-eqb}
 use lib.Dec.{eqb}
 use lib.ListN.{length, getD, drop, length-drop, drop-of-length-le}
 use lib.Seq.{getD-drop, drop-drop}
-use Rattle.rules.specs.Lists.{if_then_else_}
+use Rattle.lists.specs.Lists.{if_then_else_}
 use Rattle.fix_fields.specs.Tags.{pieceOf}
 use Rattle.fix_frame.specs.Frames.{byteIs, headRight, typeRight, tailRight}
 use Rattle.fix_digits.proofs.Numbers.{both}

@@ -6,7 +6,7 @@ use mathlib.Core.Bool.{true}
 use mathlib.Core.List.{List, [], _∷_, _++_}
 use mathlib.Core.Option.{some}
 use lib.ListN.{length, getD, take, drop, length-drop}
-use Rattle.rules.specs.Lists.{sum, any}
+use Rattle.lists.specs.Lists.{sum, any}
 use Rattle.rules.specs.Digits.{allDigits, inDigits}
 use Rattle.rules.specs.Fields.{pieces, goodTag, fieldsIn, fieldsOf, sameBytes}
 use Rattle.rules.specs.Frame.{checksumTag, isNumber, endingOf}

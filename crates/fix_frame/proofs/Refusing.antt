@@ -7,7 +7,7 @@ use mathlib.Core.List.{List, [], _∷_, _++_}
 use mathlib.Core.Option.{none, some}
 use lib.ListN.{length, getD, take, drop, length-append, length-drop}
 use lib.Seq.{getD-append-add, take-at, drop-at}
-use Rattle.rules.specs.Lists.{if_then_else_, sum}
+use Rattle.lists.specs.Lists.{if_then_else_, sum}
 use Rattle.rules.specs.Digits.{allDigits, numberFrom, inDigits, threeDigits}
 use Rattle.rules.specs.Fields.{Field, fieldBytes, fieldsBytes}
 use Rattle.rules.specs.Frame.{isNumber}

@@ -6,7 +6,7 @@ use mathlib.Core.Bool.{Bool, true, false, not}
 use mathlib.Core.List.{List, [], _∷_, _++_, append-assoc, append-nil}
 use mathlib.Core.Option.{Option, none, some}
 use lib.ListN.{length}
-use Rattle.rules.specs.Lists.{if_then_else_, sum, any}
+use Rattle.lists.specs.Lists.{if_then_else_, sum, any}
 use Rattle.rules.specs.Digits.{inDigits, threeDigits}
 use Rattle.rules.specs.Fields.{Field, fieldBytes, fieldsBytes, fieldsOf, sameBytes, hasTag}
 use Rattle.rules.specs.Frame.{versionTag, lengthTag, typeTag, checksumTag, version, Kind, new, cancel, replace, kindText, kindIn, isNumber, lengthRight, checksumRight, isFrameTag, Body, Ending, behind, endingOf, goodFrame, bodyBy, framedBy, framed, framedIn, bodyIn}

@@ -8,7 +8,7 @@ use lib.Dec.{eqb}
 use lib.ListN.{getD, drop}
 use Rattle.rules.specs.Fields.{Field}
 use Rattle.rules.specs.Frame.{Kind, new, cancel, replace, Body, bodyIn}
-use Rattle.rules.specs.Lists.{if_then_else_}
+use Rattle.lists.specs.Lists.{if_then_else_}
 use Rattle.fix_frame.specs.declared.Frame.{Frame}
 use Rattle.fix_frame.specs.declared.Frame.the-variants.{Of, Wrong}
 use Rattle.fix_fields.specs.Spans.{closed, EndsAt}

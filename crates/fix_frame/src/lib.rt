@@ -2,7 +2,7 @@
 ghost use mathlib.Core.Path.{_≡_};
 ghost use Prim.Native.Nat.{_+_, _≤_, _<_};
 ghost use lib.ListN.{length};
-ghost use Rattle.rules.specs.Lists.{sum};
+ghost use Rattle.lists.specs.Lists.{sum};
 ghost use Rattle.rules.specs.Digits.{inDigits};
 ghost use Rattle.rules.specs.Frame.{isNumber};
 ghost use Rattle.fix_frame.specs.Frames.{headRight, typeRight, tailRight, isKind, FrameFound};

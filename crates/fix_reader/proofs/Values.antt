@@ -9,7 +9,7 @@ use borrow.Author.Tests.{eq-eqb, ne-eqb}
 use lib.Dec.{eqb}
 use lib.ListN.{length, getD, take, drop}
 use Rattle.rules.specs.declared.Side.the-variants.{Buy, Sell}
-use Rattle.rules.specs.Lists.{if_then_else_}
+use Rattle.lists.specs.Lists.{if_then_else_}
 use Rattle.rules.specs.Fields.{Field, sameBytes, valuesOf}
 use Rattle.rules.specs.Messages.{once, sideIn}
 use Rattle.fix_fields.specs.Spans.{slotTag, SlotHolds, Spanned}

@@ -11,7 +11,7 @@ use Rattle.rules.specs.declared.Side.{Side}
 use Rattle.rules.specs.declared.Contracts.{Contracts}
 use Rattle.rules.specs.declared.Steps.{Steps}
 use Rattle.rules.specs.declared.Timestamp.{Timestamp}
-use Rattle.rules.specs.Lists.{sum, any}
+use Rattle.lists.specs.Lists.{sum, any}
 use Rattle.rules.specs.Digits.{allDigits, decimalOf, threeDigits}
 use Rattle.rules.specs.Dates.{form, timeIn}
 use Rattle.rules.specs.Fields.{Field, fieldsBytes, goodTag, fieldsOf, sameBytes, valuesOf}

@@ -8,7 +8,7 @@ use mathlib.Core.Option.{some}
 use borrow.Author.Tests.{lt-ltb, le-ltb, le-leb, ltb-true, ltb-false}
 use lib.Dec.{ltb}
 use lib.ListN.{length, length-append}
-use Rattle.rules.specs.Lists.{if_then_else_}
+use Rattle.lists.specs.Lists.{if_then_else_}
 use Rattle.rules.specs.Widths.{Word}
 use Rattle.rules.specs.Digits.{isDigit, allDigits, numberFrom, decimalBy, decimalOf}
 use Rattle.fix_digits.proofs.Numbers.{both}

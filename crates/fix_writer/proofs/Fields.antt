@@ -7,7 +7,7 @@ use mathlib.Core.List.{List, [], _∷_, _++_, append-assoc}
 use mathlib.Core.Option.{some}
 use borrow.Author.Tests.{eq-eqb, ne-eqb, eqb-true}
 use lib.Dec.{eqb, leb}
-use Rattle.rules.specs.Lists.{if_then_else_}
+use Rattle.lists.specs.Lists.{if_then_else_}
 use Rattle.rules.specs.Digits.{isDigit, allDigits}
 use Rattle.rules.specs.Dates.{fitsPlace, hasForm}
 use Rattle.rules.specs.Fields.{Field, fieldBytes, fieldsBytes, splitField, goodTag, goodValue, goodField, fieldOf, addField, pieces, fieldsIn, fieldsOf, sameBytes}

@@ -11,7 +11,7 @@ use Rattle.rules.specs.declared.Side.{Side}
 use Rattle.rules.specs.declared.Contracts.{Contracts}
 use Rattle.rules.specs.declared.Steps.{Steps}
 use Rattle.rules.specs.declared.Timestamp.{Timestamp}
-use Rattle.rules.specs.Lists.{if_then_else_, sum}
+use Rattle.lists.specs.Lists.{if_then_else_, sum}
 use Rattle.rules.specs.Answers.{accepted, refused}
 use Rattle.rules.specs.Digits.{decimalOf, threeDigits}
 use Rattle.rules.specs.Dates.{form, hasForm, partsOf, goodDate, goodClock, timeIn}

@@ -4,7 +4,7 @@ use mathlib.Core.Path.{_≡_}
 use mathlib.Core.Bool.{false}
 use mathlib.Core.List.{List}
 use lib.ListN.{length, take, drop, replicate}
-use Rattle.rules.specs.Lists.{if_then_else_}
+use Rattle.lists.specs.Lists.{if_then_else_}
 use Rattle.rules.specs.Answers.{Outcome, accepted, refused}
 use Rattle.rules.specs.Messages.{Message, writeMessage}
 use Rattle.fix_writer.specs.declared.MessageText.{MessageText}

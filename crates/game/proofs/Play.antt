@@ -7,8 +7,8 @@ use native.Mathlib.Omega.{arith}
 use borrow.Author.Tests.{ltb-true, leb-true}
 use lib.Dec.{ltb}
 use lib.ListN.{length}
-use Rattle.rules.specs.Lists.{if_then_else_, sum, howMany}
-use Rattle.rules.proofs.Lists.{both}
+use Rattle.lists.specs.Lists.{if_then_else_, sum, howMany}
+use Rattle.lists.proofs.Lists.{both}
 use Rattle.game.specs.Play.{Volume, single, double, knocksFor, Minute, History, doubles, knocks, unvoided, Maker, Taker, quote, isVoided, next, play}
 
 abbrev pub minute : Volume → Bool → Minute

@@ -5,7 +5,7 @@ use mathlib.Core.List.{[], _∷_}
 use mathlib.Core.Bool.{Bool, true, false}
 use native.Mathlib.Omega.{arith}
 use lib.ListN.{length}
-use Rattle.rules.specs.Lists.{if_then_else_}
+use Rattle.lists.specs.Lists.{if_then_else_}
 use Rattle.rules.specs.Answers.{accepted}
 use Rattle.rules.proofs.Answers.{accepted-by}
 use Rattle.game.specs.Play.{Volume, single, double, knocksFor, Minute, History, doubles, knocks, unvoided, Maker, Taker, quote, isVoided, next, play, Forced}

@@ -5,8 +5,8 @@ use mathlib.Core.Bool.{Bool, true, false, _&&_}
 use native.Mathlib.Omega.{arith}
 use borrow.Author.Tests.{ltb-false, leb-true, leb-false, le-leb, lt-leb}
 use lib.Dec.{leb, ltb}
-use Rattle.rules.specs.Lists.{if_then_else_}
-use Rattle.rules.proofs.Lists.{both}
+use Rattle.lists.specs.Lists.{if_then_else_}
+use Rattle.lists.proofs.Lists.{both}
 use Rattle.game.specs.Play.{Volume, single, double, knocksFor, History, doubles, knocks, quote, isVoided}
 use Rattle.game.specs.Ways.{doublesFirst, keptBack, singlesFirst}
 use Rattle.game.proofs.Play.{different}

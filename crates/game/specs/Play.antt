@@ -4,7 +4,7 @@ use Prim.Native.Nat.{ℕ, zero, suc, _+_, _≤_}
 use mathlib.Core.List.{List, [], _∷_, map}
 use mathlib.Core.Bool.{Bool, true, false, not, _&&_}
 use lib.Dec.{leb, ltb}
-use Rattle.rules.specs.Lists.{if_then_else_, sum, howMany}
+use Rattle.lists.specs.Lists.{if_then_else_, sum, howMany}
 
 -- the volume that is quoted in a minute
 pub data Volume : Type 0 where

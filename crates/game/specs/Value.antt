@@ -2,7 +2,7 @@
 -- are what the maker can force is `forced` in proofs/Theorem.
 use Prim.Native.Nat.{ℕ, zero, suc, _+_, _-_, _/_, min, max}
 use lib.Dec.{leb}
-use Rattle.rules.specs.Lists.{if_then_else_}
+use Rattle.lists.specs.Lists.{if_then_else_}
 use Rattle.game.specs.Play.{single, double, knocksFor}
 
 -- the taker's choice at a minute that `cost` knocks of his k void: the lesser of what comes of it where it stands and where it is voided

@@ -3,7 +3,7 @@
 use Prim.Native.Nat.{ℕ, _+_, _-_}
 use lib.Dec.{leb, ltb}
 use lib.ListN.{length}
-use Rattle.rules.specs.Lists.{if_then_else_}
+use Rattle.lists.specs.Lists.{if_then_else_}
 use Rattle.game.specs.Play.{Volume, single, double, History, doubles, knocks, knocksFor, Maker, Taker}
 
 -- The maker quotes double until his h double minutes are used, and then single.

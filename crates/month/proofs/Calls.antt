@@ -20,7 +20,7 @@ use Rattle.rules.specs.declared.Answer.the-variants.{Accepted, Refused}
 use Rattle.rules.specs.declared.Refusal.{Refusal}
 use Rattle.rules.specs.declared.Quote.{Quote}
 use Rattle.rules.specs.declared.Outlook.{Outlook}
-use Rattle.rules.specs.Lists.{within, filter, countBelow}
+use Rattle.lists.specs.Lists.{within, filter, countBelow}
 use Rattle.rules.specs.Terms.{paper}
 use Rattle.rules.specs.Units.{millis, steps, kopecks}
 use Rattle.rules.specs.Rows.{rowOf, goodRowFor}

@@ -11,15 +11,15 @@ use Rattle.rules.specs.declared.SpreadRule.{SpreadRule}
 use Rattle.rules.specs.declared.Opening.{Opening}
 use Rattle.rules.specs.declared.Cell.{Cell}
 use Rattle.rules.specs.declared.Event.{Event}
-use Rattle.rules.specs.Lists.{within}
+use Rattle.lists.specs.Lists.{within}
 use Rattle.rules.specs.Terms.{paper}
 use Rattle.rules.specs.Rows.{goodRowFor}
 use Rattle.rules.specs.Cells.{goodCell, cellAt, blankCell, blankCells}
 use Rattle.rules.specs.Calls.{Running, Idle, Quoting, Book, isOpen, freshBook}
 use Rattle.rules.specs.Book.{run, after}
 use Rattle.rules.specs.Bounds.{OpenBounds, RunningBounds, CellBounds, BookBounds}
-use Rattle.rules.proofs.Lists.{and}
-use Rattle.rules.proofs.Members.{getD-in}
+use Rattle.lists.proofs.Lists.{and}
+use Rattle.lists.proofs.Members.{getD-in}
 use Rattle.rules.proofs.Bounds.{bounds, read-bounds}
 use Rattle.quantum.specs.declared.Quantum.{Quantum}
 use Rattle.quantum.specs.Represents as S

@@ -8,7 +8,7 @@ use lib.ListN.{length, getD}
 use borrow.Author.Tests.{eq-eqb}
 use Rattle.rules.specs.declared.Side.the-variants.{Buy, Sell}
 use Rattle.rules.specs.Orders.{hasId, isLive}
-use Rattle.rules.proofs.Members.{getD-in}
+use Rattle.lists.proofs.Members.{getD-in}
 use Rattle.rules.proofs.Orders.{live-at}
 use Rattle.best_quote.specs.declared.Level.{Level}
 use Rattle.order_side.specs.Slots.{Slot, orderOf, sideOf, keptIn, seen}

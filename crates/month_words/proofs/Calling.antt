@@ -7,13 +7,13 @@ use lib.Dec.{eqb, leb}
 use lib.ListN.{length, take, drop}
 use native.Mathlib.Omega.{arith}
 use borrow.Author.Tests.{eq-eqb}
-use Rattle.rules.specs.Lists.{if_then_else_}
+use Rattle.lists.specs.Lists.{if_then_else_}
 use Rattle.rules.specs.Terms.{paper}
 use Rattle.rules.specs.Answers.{accepted, refused, Reply, done, cell, asked, report, outlook}
 use Rattle.rules.specs.Answers as A
 use Rattle.rules.specs.Calls.{Call}
 use Rattle.rules.specs.Book.{after, answerOf}
-use Rattle.rules.proofs.Lists.{both}
+use Rattle.lists.proofs.Lists.{both}
 use Rattle.words.specs.Bytes.{wordsIn}
 use Rattle.call_blocks.specs.Kinds.{blockSize, callOf}
 use Rattle.month.specs.declared.Month.{Month}

@@ -12,7 +12,7 @@ ghost use Prim.Native.Nat.{_+_, _*_, _≤_, _<_};
 ghost use lib.Dec.{leb};
 ghost use lib.ListN.{length, drop, getD};
 ghost use Rattle.rules.specs.declared.Event.{Event};
-ghost use Rattle.rules.specs.Lists.{if_then_else_};
+ghost use Rattle.lists.specs.Lists.{if_then_else_};
 ghost use Rattle.rules.specs.Terms.{paper};
 ghost use Rattle.rules.specs.Calls.{Send, Look, Ask};
 ghost use Rattle.rules.specs.Book.{after};

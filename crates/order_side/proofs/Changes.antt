@@ -8,8 +8,8 @@ use mathlib.Core.Logic.{⊎-elim}
 use mathlib.Core.List.{List, [], _∷_, _++_, List·Memᴰ, List·Memᴰ·append-cases, List·Memᴰ·eq-of-singleton}
 use native.Mathlib.Omega.{arith}
 use lib.ListN.{length, take, drop, set, getD, length-append, length-set, length-take, length-drop}
-use Rattle.rules.specs.Lists.{if_then_else_}
-use Rattle.rules.proofs.Members.{in-set}
+use Rattle.lists.specs.Lists.{if_then_else_}
+use Rattle.lists.proofs.Members.{in-set}
 use Rattle.best_quote.specs.Levels.{held}
 use Rattle.order_side.specs.Slots.{Slot, slot, blankSlot, heldIn, GoodSlots}
 use Rattle.order_side.specs.declared.Change.{Change}

@@ -8,7 +8,7 @@ use lib.Dec.{eqb}
 use lib.ListN.{length, take, drop, getD, replicate, drop-of-length-le}
 use lib.Seq.{drop-cons}
 use borrow.Author.Tests.{ne-eqb}
-use Rattle.rules.specs.Lists.{if_then_else_}
+use Rattle.lists.specs.Lists.{if_then_else_}
 use Rattle.best_quote.specs.declared.Level.{Level}
 use Rattle.order_side.specs.Slots.{Slot, idsOf, sideOf, seenFrom, seen}
 use Rattle.order_side.proofs.Words.{count-is, ids-taken}

@@ -6,7 +6,7 @@ use native.Mathlib.Omega.{arith}
 use mathlib.Core.Bool.{Bool, true, false}
 use borrow.Author.Tests.{le-leb}
 use lib.Dec.{leb}
-use Rattle.rules.specs.Lists.{if_then_else_}
+use Rattle.lists.specs.Lists.{if_then_else_}
 use Rattle.best_quote.specs.Levels.{levelAt, levelOf}
 use lib.ListN.{length, take, drop, getD, replicate, length-map, List·getD-map}
 use Rattle.best_quote.specs.declared.Level.{Level}

@@ -6,7 +6,7 @@ use mathlib.Core.Bool.{Bool, _&&_}
 use lib.Dec.{leb, ltb, eqb}
 use lib.ListN.{length, getD, take, drop, set}
 use Rattle.rules.specs.declared.Order.{Order}
-use Rattle.rules.specs.Lists.{if_then_else_}
+use Rattle.lists.specs.Lists.{if_then_else_}
 use Rattle.rules.specs.Units.{contracts}
 use Rattle.best_quote.specs.declared.Level.{Level}
 use Rattle.price_keys.specs.Keys.{keyIn}

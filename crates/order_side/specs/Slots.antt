@@ -8,7 +8,7 @@ use lib.Dec.{leb, eqb}
 use lib.ListN.{length, replicate}
 use Rattle.rules.specs.declared.Side.{Side}
 use Rattle.rules.specs.declared.Order.{Order}
-use Rattle.rules.specs.Lists.{if_then_else_}
+use Rattle.lists.specs.Lists.{if_then_else_}
 use Rattle.rules.specs.Units.{steps, contracts}
 use Rattle.best_quote.specs.declared.Level.{Level}
 use Rattle.price_keys.specs.Keys.{priceAt, keyIn}

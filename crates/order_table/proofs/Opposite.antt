@@ -10,7 +10,7 @@ use borrow.Author.Tests.{lt-ltb}
 use Rattle.rules.specs.declared.Side.{Side}
 use Rattle.rules.specs.declared.Side.the-variants.{Buy, Sell}
 use Rattle.rules.specs.declared.Order.{Order}
-use Rattle.rules.specs.Lists.{if_then_else_, filter, any}
+use Rattle.lists.specs.Lists.{if_then_else_, filter, any}
 use Rattle.rules.specs.Orders.{hasId, isLive}
 use Rattle.rules.specs.Quotes.{same}
 use Rattle.best_quote.specs.declared.Level.{Level}

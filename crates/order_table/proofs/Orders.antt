@@ -10,8 +10,8 @@ use Rattle.rules.specs.declared.Order.{Order}
 use Rattle.rules.specs.Units.{goodPrice, steps}
 use Rattle.rules.specs.Orders.{left}
 use Rattle.rules.specs.Quotes.{same}
-use Rattle.rules.proofs.Lists.{kept-in}
-use Rattle.rules.proofs.Members.{getD-in}
+use Rattle.lists.proofs.Lists.{kept-in}
+use Rattle.lists.proofs.Members.{getD-in}
 use Rattle.rules.proofs.Bounds.{volume-bounds}
 use Rattle.price_keys.proofs.Keys.{key-least, key-most, price-key}
 use Rattle.order_side.specs.Slots.{Slot, blankSlot, slotOf, orderOf, keptIn, GoodSlots}

@@ -10,11 +10,11 @@ use Rattle.rules.specs.declared.Side.the-variants.{Buy, Sell}
 use Rattle.rules.specs.declared.Order.{Order}
 use Rattle.rules.specs.declared.Row.{Row}
 use Rattle.rules.specs.declared.SpreadRule.{SpreadRule}
-use Rattle.rules.specs.Lists.{if_then_else_}
+use Rattle.lists.specs.Lists.{if_then_else_}
 use Rattle.rules.specs.Quotes.{best, volumeOf}
 use Rattle.rules.specs.Kept.{quotesKeep, ordersKeep}
 use Rattle.rules.specs.States.{stateWord, quotesState, ordersState}
-use Rattle.rules.proofs.Lists.{kept-in}
+use Rattle.lists.proofs.Lists.{kept-in}
 use Rattle.rules.proofs.Best.{sided}
 use Rattle.price_keys.specs.Keys.{keyIn, quoteKey, quoteAt}
 use Rattle.best_quote.specs.Levels.{bestKey}

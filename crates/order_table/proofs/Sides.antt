@@ -9,12 +9,12 @@ use borrow.Author.Tests.{eqb-true}
 use Rattle.rules.specs.declared.Side.{Side}
 use Rattle.rules.specs.declared.Side.the-variants.{Buy, Sell}
 use Rattle.rules.specs.declared.Order.{Order}
-use Rattle.rules.specs.Lists.{if_then_else_, filter, any}
+use Rattle.lists.specs.Lists.{if_then_else_, filter, any}
 use Rattle.rules.specs.Orders.{hasId, isLive, left}
 use Rattle.rules.specs.Quotes.{same}
 use Rattle.rules.specs.Bounds.{Distinct}
-use Rattle.rules.proofs.Lists.{kept-in}
-use Rattle.rules.proofs.Members.{any-none, none-any, length-filter}
+use Rattle.lists.proofs.Lists.{kept-in}
+use Rattle.lists.proofs.Members.{any-none, none-any, length-filter}
 use Rattle.rules.proofs.Orders.{distinct-filter}
 use Rattle.order_table.specs.Table.{ofSide, GoodOrders}
 use Rattle.order_table.specs.Internal.{other}

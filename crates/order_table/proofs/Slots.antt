@@ -11,10 +11,10 @@ use borrow.Author.Tests.{eqb-true, lt-ltb}
 use Rattle.rules.specs.declared.Side.{Side}
 use Rattle.rules.specs.declared.Side.the-variants.{Buy, Sell}
 use Rattle.rules.specs.declared.Order.{Order}
-use Rattle.rules.specs.Lists.{if_then_else_, any}
+use Rattle.lists.specs.Lists.{if_then_else_, any}
 use Rattle.rules.specs.Orders.{hasId, isLive}
 use Rattle.rules.specs.Bounds.{Distinct}
-use Rattle.rules.proofs.Members.{or-false, getD-in}
+use Rattle.lists.proofs.Members.{or-false, getD-in}
 use Rattle.rules.proofs.Orders.{live-at}
 use Rattle.order_side.specs.Slots.{slotOf, idsOf, seenFrom, seen}
 use Rattle.order_table.specs.Table.{ofSide, slotsIn, slotIn, GoodOrders}

@@ -13,8 +13,8 @@ use Rattle.rules.specs.declared.Side.{Side}
 use Rattle.rules.specs.declared.Side.the-variants.{Buy, Sell}
 use Rattle.rules.specs.declared.Order.{Order}
 use Rattle.rules.specs.Quotes.{same}
-use Rattle.rules.proofs.Lists.{both}
-use Rattle.rules.proofs.Members.{length-filter}
+use Rattle.lists.proofs.Lists.{both}
+use Rattle.lists.proofs.Members.{length-filter}
 use Rattle.best_quote.specs.declared.Level.{Level}
 use Rattle.order_side.specs.Slots.{Slot, blankSlot, slotOf, sideOf, keptIn, seen}
 use Rattle.order_side.specs.Internal.{Sized}

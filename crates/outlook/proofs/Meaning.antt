@@ -21,8 +21,8 @@ use Rattle.rules.specs.Pay.{cellMet}
 use Rattle.rules.specs.Bounds.{EventBounds}
 use Rattle.rules.specs.Outlook.{needOf, canKeep, cellResting, isNever, maySo, latestRest, outlookOf}
 use Rattle.rules.proofs.Bounds.{read-bounds}
-use Rattle.rules.proofs.Counting.{count-none}
-use Rattle.rules.proofs.Lists.{both, and}
+use Rattle.lists.proofs.Counting.{count-none}
+use Rattle.lists.proofs.Lists.{both, and}
 use Rattle.continuations.proofs.Latest.{Found, latest-at, latest-found}
 use Rattle.continuations.proofs.Events.{nothing-keeps}
 use Rattle.outlook.proofs.Until.{by-law, never-law}

@@ -13,7 +13,7 @@ use Rattle.rules.specs.declared.CellView.{CellView}
 use Rattle.rules.specs.declared.Possible.{Possible}
 use Rattle.rules.specs.declared.LapsesLeft.{LapsesLeft}
 use Rattle.rules.specs.declared.Outlook.{Outlook}
-use Rattle.rules.specs.Lists.{if_then_else_}
+use Rattle.lists.specs.Lists.{if_then_else_}
 use Rattle.rules.specs.Terms.{paper}
 use Rattle.rules.specs.Units.{millis}
 use Rattle.rules.specs.Orders.{present}

@@ -6,11 +6,11 @@ use mathlib.Core.Bool.{Bool, true, false}
 use lib.Dec.{ltb}
 use lib.ListN.{length}
 use borrow.Author.Tests.{le-leb, lt-leb, lt-ltb, le-ltb, ltb-true, ltb-false, ne-eqb}
-use Rattle.rules.specs.Lists.{if_then_else_, countBelow}
+use Rattle.lists.specs.Lists.{if_then_else_, countBelow}
 use Rattle.rules.specs.Runs.{before}
 use Rattle.rules.specs.Lapses.{lapses, begins, lapseStarts}
 use Rattle.rules.specs.Outlook.{restingTill}
-use Rattle.rules.proofs.Counting.{count-ext, count-stretch}
+use Rattle.lists.proofs.Counting.{count-ext, count-stretch}
 use Rattle.rules.proofs.Lapses.{lapses-counted}
 
 abbrev pub oneIf : Bool → ℕ

@@ -7,13 +7,13 @@ use lib.Dec.{leb, ltb, eqb}
 use borrow.Author.Tests.{leb-true, leb-false, le-leb, lt-leb, lt-ltb, le-ltb, ltb-true, eqb-true, eq-eqb}
 use Rattle.rules.specs.declared.Millis.{Millis}
 use Rattle.rules.specs.declared.Possible.the-variants.{Never, At}
-use Rattle.rules.specs.Lists.{if_then_else_}
+use Rattle.lists.specs.Lists.{if_then_else_}
 use Rattle.rules.specs.Terms.{paper}
 use Rattle.rules.specs.Units.{millis}
 use Rattle.rules.specs.Lapses.{withinLapseLimit}
 use Rattle.rules.specs.Pay.{met}
 use Rattle.rules.specs.Outlook.{needOf, latest, isNever}
-use Rattle.rules.proofs.Lists.{both, and}
+use Rattle.lists.proofs.Lists.{both, and}
 use Rattle.outlook.specs.Internal.{byOf}
 use Rattle.continuations.proofs.Latest.{latest-none, latest-at}
 use Rattle.continuations.proofs.Cells.{within-fewer}

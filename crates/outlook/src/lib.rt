@@ -6,7 +6,7 @@ ghost use Prim.Native.Nat.{_-_, _≤_};
 ghost use Rattle.rules.specs.declared.Event.{Event};
 ghost use Rattle.rules.specs.declared.Opening.{Opening};
 ghost use Rattle.rules.specs.declared.Row.{Row};
-ghost use Rattle.rules.specs.Lists.{if_then_else_};
+ghost use Rattle.lists.specs.Lists.{if_then_else_};
 ghost use Rattle.rules.specs.Terms.{paper};
 ghost use Rattle.rules.specs.Pay.{viewOf};
 ghost use Rattle.rules.specs.Outlook.{needOf, lapsesLeft, isNever, outlookOf};

@@ -12,9 +12,9 @@ use Rattle.rules.specs.declared.Cell.{Cell}
 use Rattle.rules.specs.Terms.{paper}
 use Rattle.rules.specs.Cells.{placeOf, cellAt}
 use Rattle.rules.specs.Pay.{cellFailed, allFailures, earned, fee}
-use Rattle.rules.specs.Lists.{if_then_else_, sum, below, any, howMany}
-use Rattle.rules.proofs.Lists.{sum-append}
-use Rattle.rules.proofs.Members.{any-append}
+use Rattle.lists.specs.Lists.{if_then_else_, sum, below, any, howMany}
+use Rattle.lists.proofs.Lists.{sum-append}
+use Rattle.lists.proofs.Members.{any-append}
 
 sum-one : (n : ℕ) → sum (n ∷ []) ≡ n
 unfolding sum

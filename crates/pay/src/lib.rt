@@ -5,7 +5,7 @@ ghost use mathlib.Core.List.{List·Memᴰ, map};
 ghost use Prim.Native.Nat.{ℕ, _≤_, min};
 ghost use lib.Dec.{ltb};
 ghost use Rattle.rules.specs.declared.Cell.{Cell};
-ghost use Rattle.rules.specs.Lists.{if_then_else_, sum, any};
+ghost use Rattle.lists.specs.Lists.{if_then_else_, sum, any};
 ghost use Rattle.rules.specs.Units.{kopecks};
 ghost use Rattle.rules.specs.Terms.{paper};
 ghost use Rattle.rules.specs.Bounds.{CellBounds};

@@ -11,10 +11,10 @@ use Rattle.rules.specs.declared.Side.the-variants.{Buy, Sell}
 use Rattle.rules.specs.declared.Quote.{Quote}
 use Rattle.rules.specs.declared.Quote.the-variants.{Absent, At}
 use Rattle.rules.specs.declared.Steps.{Steps}
-use Rattle.rules.specs.Lists.{if_then_else_}
+use Rattle.lists.specs.Lists.{if_then_else_}
 use Rattle.rules.specs.Units.{goodPrice, steps}
 use Rattle.rules.specs.Quotes.{atLeast, better}
-use Rattle.rules.proofs.Lists.{both}
+use Rattle.lists.proofs.Lists.{both}
 use Rattle.price_keys.specs.Keys.{keyOf, priceAt, quoteKey, quoteAt}
 
 -- ---- a price in its range, by its sign

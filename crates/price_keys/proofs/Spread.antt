@@ -15,7 +15,7 @@ use Rattle.rules.specs.declared.Quote.the-variants.{Absent, At}
 use Rattle.rules.specs.declared.Row.{Row}
 use Rattle.rules.specs.declared.SpreadRule.{SpreadRule}
 use Rattle.rules.specs.Units.{goodPrice}
-use Rattle.rules.specs.Lists.{if_then_else_}
+use Rattle.lists.specs.Lists.{if_then_else_}
 use Rattle.rules.specs.Kept.{gap, spreadWithin, spreadKeeps, quotesKeep}
 use Rattle.rules.specs.States.{kept, crossed, wide, stateWord, quotesState}
 use Rattle.price_keys.specs.Keys.{keyOf, quoteKey}

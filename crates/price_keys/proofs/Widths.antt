@@ -12,7 +12,7 @@ use mir.Val.{Fits, SFits, ofZ, toZ}
 use mir.ValLaws.{toZ-ofZ}
 use Rattle.rules.specs.declared.Side.{Side}
 use Rattle.rules.specs.declared.Side.the-variants.{Buy, Sell}
-use Rattle.rules.specs.Lists.{if_then_else_}
+use Rattle.lists.specs.Lists.{if_then_else_}
 use Rattle.rules.specs.Units.{goodPrice}
 use Rattle.price_keys.specs.Widest.{positivePart}
 use Rattle.price_keys.specs.Keys.{keyOf, priceAt}

@@ -8,7 +8,7 @@ use lib.Signed.{leZ}
 use mathlib.Core.Path.{_≡_}
 use Rattle.rules.specs.declared.Row.{Row}
 use Rattle.rules.specs.declared.SpreadRule.{SpreadRule}
-use Rattle.rules.specs.Lists.{if_then_else_}
+use Rattle.lists.specs.Lists.{if_then_else_}
 use Rattle.rules.specs.Kept.{spreadWithin}
 
 -- the price, or 0 where it is negative

@@ -12,7 +12,7 @@ ghost use lib.Signed.{leZ};
 ghost use lib.Dec.{eqb};
 ghost use Rattle.rules.specs.declared.Steps.{Steps};
 ghost use Rattle.rules.specs.declared.Quote.the-variants.{At};
-ghost use Rattle.rules.specs.Lists.{if_then_else_};
+ghost use Rattle.lists.specs.Lists.{if_then_else_};
 ghost use Rattle.rules.specs.Units.{steps, goodPrice};
 ghost use Rattle.price_keys.specs.Widest.{positivePart, widestOf, keysKeep, keysState};
 ghost use Rattle.price_keys.specs.Keys.{keyOf, priceAt, quoteKey, quoteAt};

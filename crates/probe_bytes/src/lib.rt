@@ -1,6 +1,6 @@
 // The cases of `probe` that read and write bytes: event records (case 3), and FIX messages (cases 9 to 11).
 ghost use mathlib.Core.Path.{_≡_};
-ghost use Rattle.rules.specs.Lists.{within};
+ghost use Rattle.lists.specs.Lists.{within};
 ghost use Prim.Native.Nat.{_≤_};
 ghost use lib.ListN.{length};
 

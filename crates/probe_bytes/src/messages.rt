@@ -11,7 +11,7 @@ use rules::Contracts;
 use rules::Side;
 use rules::Steps;
 use rules::Timestamp;
-ghost use Rattle.rules.specs.Lists.{within};
+ghost use Rattle.lists.specs.Lists.{within};
 ghost use mathlib.Core.Path.{_≡_};
 ghost use Prim.Native.Nat.{_≤_};
 ghost use lib.ListN.{length};

@@ -9,7 +9,7 @@ ghost use Rattle.rules.specs.declared.Order.{Order};
 ghost use Rattle.rules.specs.Terms.{paper};
 ghost use Rattle.rules.specs.declared.SpreadRule.{SpreadRule};
 ghost use Rattle.rules.specs.Rows.{goodRowFor};
-ghost use Rattle.rules.specs.Lists.{any};
+ghost use Rattle.lists.specs.Lists.{any};
 ghost use Rattle.rules.specs.Orders.{hasId, live as liveOrders};
 ghost use Rattle.rules.specs.Quotes.{same, best as bestQuote};
 ghost use Rattle.rules.specs.Kept.{bestBid, bestAsk, keptBelow};

@@ -2,7 +2,7 @@
 ghost use mathlib.Core.Path.{_≡_};
 ghost use lib.Dec.{leb};
 ghost use lib.Signed.{leZ};
-ghost use Rattle.rules.specs.Lists.{within};
+ghost use Rattle.lists.specs.Lists.{within};
 ghost use Rattle.rules.specs.Terms.{paper};
 ghost use Rattle.rules.specs.Units.{goodPrice, goodVolume, goodCharge};
 ghost use Rattle.rules.specs.Cells.{goodCell};

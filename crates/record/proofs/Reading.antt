@@ -11,13 +11,13 @@ use Rattle.rules.specs.declared.Steps.{Steps}
 use Rattle.rules.specs.declared.Side.the-variants.{Buy, Sell}
 use Rattle.rules.specs.declared.Event.{Event}
 use Rattle.rules.specs.declared.Event.the-variants.{Add, Amend, Cancel, Deal, Tick}
-use Rattle.rules.specs.Lists.{if_then_else_, within}
+use Rattle.lists.specs.Lists.{if_then_else_, within}
 use Rattle.rules.specs.Units.{millis, steps, contracts}
 use Rattle.rules.specs.Widths.{Word}
 use Rattle.rules.specs.Orders.{timeOf}
 use Rattle.rules.specs.Answers.{Outcome, accepted, refused}
 use Rattle.rules.specs.Records.{wordAt, signedOf, unsignedOf, fieldsOf, eventOf, unusedZero, paddingZero, goodRecord, readRecord}
-use Rattle.rules.proofs.Lists.{both}
+use Rattle.lists.proofs.Lists.{both}
 use Rattle.rules.proofs.Records.{unsigned-signed}
 use Rattle.record.specs.declared.Fields.{Fields}
 use Rattle.record.specs.Fields.{fieldsIn, fieldsFor, goodFields, eventBy, readFields}

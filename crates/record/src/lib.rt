@@ -11,7 +11,7 @@ ghost use Prim.Native.Nat.{_+_, _/_, _≤_, _%_};
 ghost use lib.Dec.{eqb};
 ghost use lib.ListN.{length};
 ghost use Rattle.rules.specs.declared.Event.the-variants.{Add};
-ghost use Rattle.rules.specs.Lists.{within};
+ghost use Rattle.lists.specs.Lists.{within};
 ghost use Rattle.rules.specs.Answers.{shownRecord};
 ghost use Rattle.rules.specs.Records.{unsignedOf, addKind, fieldBytes, recordOf, readRecord};
 ghost use Rattle.record.specs.Fields.{fieldsIn, fieldsFor, goodFields, eventBy, readFields};

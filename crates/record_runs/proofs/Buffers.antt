@@ -8,7 +8,7 @@ use lib.Dec.{leb}
 use lib.ListN.{length, take, drop, length-append}
 use lib.Seq.{sets, sets-eq, length-sets, take-at, drop-drop, drop-append-add}
 use borrow.Author.Tests.{le-leb, lt-leb, leb-true, leb-false}
-use Rattle.rules.specs.Lists.{if_then_else_}
+use Rattle.lists.specs.Lists.{if_then_else_}
 use Rattle.record_runs.specs.Internal.{Front, putWords}
 
 pub put-fits : (buffer : List ℕ) (at : ℕ) (new : List ℕ) → at + length new ≤ length buffer → sets buffer at new ≡ putWords buffer at new

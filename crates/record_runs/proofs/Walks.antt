@@ -12,7 +12,7 @@ use lib.Seq.{drop-drop}
 use borrow.Author.Tests.{lt-leb, leb-true, leb-false, ltb-true, ltb-false}
 use Rattle.rules.specs.declared.Row.{Row}
 use Rattle.rules.specs.declared.Event.{Event}
-use Rattle.rules.specs.Lists.{if_then_else_, below}
+use Rattle.lists.specs.Lists.{if_then_else_, below}
 use Rattle.rules.specs.Answers.{Outcome, accepted, refused}
 use Rattle.rules.specs.Causes.{eventRefusal}
 use Rattle.rules.specs.Records.{fieldsOf, eventOf, goodRecord, readRecord}

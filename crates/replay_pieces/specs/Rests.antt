@@ -2,7 +2,7 @@
 use Prim.Native.Nat.{ℕ}
 use mathlib.Core.List.{List}
 use lib.Dec.{ltb, eqb}
-use Rattle.rules.specs.Lists.{if_then_else_}
+use Rattle.lists.specs.Lists.{if_then_else_}
 use Rattle.call_blocks.specs.Kinds.{dueAt}
 use Rattle.call_blocks.specs.Pieces.{isTold}
 use Rattle.replay_pieces.specs.declared.Rest.{Rest}

@@ -16,7 +16,7 @@ use Rattle.rules.specs.declared.Kopecks.{Kopecks}
 use Rattle.rules.specs.declared.Row.{Row}
 use Rattle.rules.specs.declared.Cell.{Cell}
 use Rattle.rules.specs.declared.Event.{Event}
-use Rattle.rules.specs.Lists.{if_then_else_, sum, All}
+use Rattle.lists.specs.Lists.{if_then_else_, sum, All}
 use Rattle.rules.specs.Terms.{Terms}
 use Rattle.rules.specs.Rows.{rowOf}
 use Rattle.rules.specs.Cells.{blankCell, placeOf, cellAt}

@@ -8,7 +8,7 @@ use mathlib.Core.Bool.{Bool, not, _&&_}
 use borrow.Author.Tests.{le-leb}
 use Rattle.rules.specs.declared.Kopecks.{Kopecks}
 use Rattle.rules.specs.declared.Cell.{Cell}
-use Rattle.rules.specs.Lists.{All}
+use Rattle.lists.specs.Lists.{All}
 use Rattle.rules.specs.Terms.{Terms}
 use Rattle.rules.specs.Units.{goodCharge}
 use Rattle.rules.specs.Rows.{goodRow, goodRowFor}

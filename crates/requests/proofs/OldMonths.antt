@@ -20,7 +20,7 @@ use Rattle.rules.specs.declared.SpreadRule.{SpreadRule}
 use Rattle.rules.specs.declared.SpreadRule.the-variants.{Settled, OfStrike}
 use Rattle.rules.specs.declared.Event.{Event}
 use Rattle.rules.specs.declared.Amendment.{Amendment}
-use Rattle.rules.specs.Lists.{if_then_else_, within, sum, countBelow, below, any, howMany, All}
+use Rattle.lists.specs.Lists.{if_then_else_, within, sum, countBelow, below, any, howMany, All}
 use Rattle.rules.specs.Units.{millis, contracts, kopecks, goodCharge}
 use Rattle.rules.specs.Rows.{goodExpiry, goodQuantum, goodLength, rowOf, goodRow, asRead, goodRowFor}
 use Rattle.rules.specs.Cells.{blankCell, goodCell, placeOf, cellAt, series}

@@ -3,7 +3,7 @@ use Prim.Native.Nat.{ℕ, zero, suc}
 use mathlib.Core.Path.{_≡_, refl, sym, ap, _∙_}
 use mathlib.Core.List.{List, [], _∷_}
 use mathlib.Core.Bool.{Bool, true, false, false≢true, not}
-use Rattle.rules.specs.Lists.{if_then_else_, filter}
+use Rattle.lists.specs.Lists.{if_then_else_, filter}
 use Rattle.rules.specs.Terms.{Terms}
 use Rattle.rules.specs.Calls.{Call, Open, Send, Message, Ask, Commit, Close, Drop, Charge, Withdraw, Look, Report, Outlook, Book, freshBook}
 use Rattle.rules.specs.Causes.{refusalOf}

@@ -11,7 +11,7 @@ use Rattle.rules.specs.declared.Cell.{Cell}
 use Rattle.rules.specs.declared.Event.{Event}
 use Rattle.rules.specs.declared.Amendment.{Amendment}
 use Rattle.rules.specs.declared.Ticket.{Ticket}
-use Rattle.rules.specs.Lists.{sum, All}
+use Rattle.lists.specs.Lists.{sum, All}
 use Rattle.rules.specs.Terms.{Terms}
 use Rattle.rules.specs.Rows.{rowOf}
 use Rattle.rules.specs.Cells.{placeOf, cellAt}

@@ -4,7 +4,7 @@ use Prim.Native.Nat.{ℕ, _≤_}
 use mathlib.Core.Path.{_≡_}
 use mathlib.Core.List.{List}
 use Rattle.rules.specs.declared.Kopecks.{Kopecks}
-use Rattle.rules.specs.Lists.{All}
+use Rattle.lists.specs.Lists.{All}
 use Rattle.rules.specs.Terms.{Terms}
 use Rattle.rules.specs.Pay.{allFailures, fee}
 use Rattle.rules.specs.Calls.{Call, chargesIn, freshBook}

@@ -8,7 +8,7 @@ use lib.ListN.{length, getD, set}
 use Rattle.rules.specs.declared.Row.{Row}
 use Rattle.rules.specs.declared.Cell.{Cell}
 use Rattle.rules.specs.declared.CellView.{CellView}
-use Rattle.rules.specs.Lists.{if_then_else_, All}
+use Rattle.lists.specs.Lists.{if_then_else_, All}
 use Rattle.rules.specs.Cells.{cellAt}
 use Rattle.rules.specs.Pay.{viewOf, allFailures, fee}
 use Rattle.rules.specs.Answers.{Outcome, accepted, refused, Reply, done, cell, asked, report, outlook}

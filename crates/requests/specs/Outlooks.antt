@@ -3,7 +3,7 @@
 use mathlib.Core.Path.{_≡_}
 use mathlib.Core.List.{List, [], _∷_}
 use mathlib.Core.Bool.{Bool, true, false, not}
-use Rattle.rules.specs.Lists.{if_then_else_, filter}
+use Rattle.lists.specs.Lists.{if_then_else_, filter}
 use Rattle.rules.specs.Terms.{Terms}
 use Rattle.rules.specs.Calls.{Call, Open, Send, Message, Ask, Commit, Close, Drop, Charge, Withdraw, Look, Report, Outlook, freshBook}
 use Rattle.rules.specs.Book.{answerOf, after}

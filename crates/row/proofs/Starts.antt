@@ -5,7 +5,7 @@ use mathlib.Core.List.{List, [], _∷_, map}
 use mathlib.Core.Bool.{Bool, true, false}
 use native.Mathlib.Omega.{arith}
 use lib.ListN.{length}
-use Rattle.rules.specs.Lists.{below}
+use Rattle.lists.specs.Lists.{below}
 use Rattle.rules.specs.Choosing.{rowWords, isFor, firstRow}
 use Rattle.rules.proofs.Choosing.{first-none, first-at}
 use Rattle.row.specs.Starts.{Place, firstAt, startIn, startOr, chosenStart}

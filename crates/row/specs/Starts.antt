@@ -3,7 +3,7 @@ use Prim.Native.Nat.{ℕ, _+_, _*_, _/_}
 use mathlib.Core.List.{List, [], _∷_}
 use mathlib.Core.Bool.{Bool, true, false}
 use lib.ListN.{length}
-use Rattle.rules.specs.Lists.{below, firstOr}
+use Rattle.lists.specs.Lists.{below, firstOr}
 use Rattle.rules.specs.Choosing.{rowWords, isFor, firstRow}
 
 -- "the first row with that expiry and quantum", counted from 0; 0 where none has them

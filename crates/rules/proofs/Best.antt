@@ -12,9 +12,9 @@ use Rattle.rules.specs.declared.Quote.{Quote}
 use Rattle.rules.specs.declared.Quote.the-variants.{Absent, At}
 use Rattle.rules.specs.declared.Order.{Order}
 use Rattle.rules.specs.declared.Steps.{Steps}
-use Rattle.rules.specs.Lists.{if_then_else_, sum, filter}
+use Rattle.lists.specs.Lists.{if_then_else_, sum, filter}
 use Rattle.rules.specs.Quotes.{same, atLeast, inDepth, volumeOf, depth, qualifies, better, lead, best, Means}
-use Rattle.rules.proofs.Lists.{sum-append, filter-append, filter-filter, kept-in, in-kept, both}
+use Rattle.lists.proofs.Lists.{sum-append, filter-append, filter-filter, kept-in, in-kept, both}
 use Rattle.rules.proofs.Prices.{atLeast-refl, atLeast-trans, atLeast-total, atLeast-antisym}
 
 -- ---- depth, order by order

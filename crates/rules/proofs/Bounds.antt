@@ -19,7 +19,7 @@ use Rattle.rules.specs.declared.SpreadRule.{SpreadRule}
 use Rattle.rules.specs.declared.SpreadRule.the-variants.{Settled, OfStrike}
 use Rattle.rules.specs.declared.Event.{Event}
 use Rattle.rules.specs.declared.Event.the-variants.{Add, Amend, Cancel, Deal, Tick}
-use Rattle.rules.specs.Lists.{within}
+use Rattle.lists.specs.Lists.{within}
 use Rattle.rules.specs.Terms.{Terms}
 use Rattle.rules.specs.Units.{goodPrice, goodVolume, goodCharge}
 use Rattle.rules.specs.Rows.{goodExpiry, goodQuantum, goodLength, rowOf, goodRow, asRead, goodRowFor}
@@ -31,8 +31,8 @@ use Rattle.rules.specs.MessageCalls.{messageIn, eventsOf}
 use Rattle.rules.specs.Changes.{noted, notedAll, closedCell, closed, charged, changed}
 use Rattle.rules.specs.Book.{stepBy, step, run, after}
 use Rattle.rules.specs.Bounds.{Distinct, EventBounds, OpenBounds, RunningBounds, CellBounds, BookBounds}
-use Rattle.rules.proofs.Lists.{both, and}
-use Rattle.rules.proofs.Members.{getD-in, in-set, in-replicate}
+use Rattle.lists.proofs.Lists.{both, and}
+use Rattle.lists.proofs.Members.{getD-in, in-set, in-replicate}
 use Rattle.rules.proofs.Orders.{live-snoc, present-snoc, amended-price, amended-volume, lessened-price, lessened-volume, length-add, distinct-add, all-add, length-amend, distinct-amend, all-amend, length-cancel, distinct-cancel, in-cancel, length-deal, distinct-deal, all-deal}
 use Rattle.rules.proofs.Kept.{ordered-snoc, kept-le}
 pub use Rattle.rules.proofs.Places.{place-small, cell-small}

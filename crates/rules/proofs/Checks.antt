@@ -1,6 +1,6 @@
 -- C1 to C12 and the unmarked checks follow from the definitions: one computation over their list.
 use mathlib.Core.Path.{_≡_, refl}
-use Rattle.rules.specs.Lists.{sum, countBelow, below, filter, any, howMany}
+use Rattle.lists.specs.Lists.{sum, countBelow, below, filter, any, howMany}
 use Rattle.rules.specs.Cells.{series}
 use Rattle.rules.specs.Orders.{apply, applyAll, live}
 use Rattle.rules.specs.Quotes.{depth, qualifies, lead, best}

@@ -7,7 +7,7 @@ use mathlib.Core.Logic.{⊎-elim}
 use native.Mathlib.Omega.{arith}
 use native.Mathlib.Nat.{eq-or-lt-of-le}
 use lib.ListN.{length}
-use Rattle.rules.specs.Lists.{if_then_else_, below, firstOr}
+use Rattle.lists.specs.Lists.{if_then_else_, below, firstOr}
 use Rattle.rules.specs.Choosing.{rowWords, isFor, rows, firstRow, orIfEmpty, chosenRow}
 
 module _ {A : Type 0} where

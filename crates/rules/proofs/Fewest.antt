@@ -13,13 +13,13 @@ use borrow.Author.Tests.{lt-ltb, leb-true, leb-false, ltb-true, ltb-false, eq-eq
 use Rattle.rules.specs.declared.Row.{Row}
 use Rattle.rules.specs.declared.SpreadRule.{SpreadRule}
 use Rattle.rules.specs.declared.Event.{Event}
-use Rattle.rules.specs.Lists.{if_then_else_, any, countBelow}
+use Rattle.lists.specs.Lists.{if_then_else_, any, countBelow}
 use Rattle.rules.specs.Kept.{keptAt}
 use Rattle.rules.specs.Stretches.{Stretch, stretch, stretches, keptStretches}
 use Rattle.rules.specs.Runs.{end, Apart, holds, covers, before}
 use Rattle.rules.specs.Fewest.{Sorted, NoneEmpty, Covering, Fewest, FewestKept}
-use Rattle.rules.proofs.Lists.{both}
-use Rattle.rules.proofs.Counting.{count-more, count-or, count-none, count-is}
+use Rattle.lists.proofs.Lists.{both}
+use Rattle.lists.proofs.Counting.{count-more, count-or, count-none, count-is}
 use Rattle.rules.proofs.Stretches.{holds-in, stretches-run, stretches-false, stretches-new, stretches-longer, apart-only}
 
 -- ---- as many stretches as starts

@@ -15,11 +15,11 @@ use Rattle.rules.specs.declared.Quote.the-variants.{At}
 use Rattle.rules.specs.declared.Row.{Row}
 use Rattle.rules.specs.declared.SpreadRule.{SpreadRule}
 use Rattle.rules.specs.declared.Event.{Event}
-use Rattle.rules.specs.Lists.{if_then_else_, filter, countBelow}
+use Rattle.lists.specs.Lists.{if_then_else_, filter, countBelow}
 use Rattle.rules.specs.Orders.{live, timeOf, timeFrom, present}
 use Rattle.rules.specs.Kept.{gap, spreadKeeps, bestBid, bestAsk, quotesKeep, ordersKeep, upTo, keptAt, keptBelow}
 use Rattle.rules.specs.Bounds.{Ordered}
-use Rattle.rules.proofs.Counting.{count-ext, count-stretch, count-le}
+use Rattle.lists.proofs.Counting.{count-ext, count-stretch, count-le}
 
 -- ---- times never backwards
 

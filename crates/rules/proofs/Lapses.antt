@@ -9,14 +9,14 @@ use lib.ListN.{length, length-append}
 use Rattle.rules.specs.declared.Row.{Row}
 use Rattle.rules.specs.declared.SpreadRule.{SpreadRule}
 use Rattle.rules.specs.declared.Event.{Event}
-use Rattle.rules.specs.Lists.{if_then_else_, countBelow}
+use Rattle.lists.specs.Lists.{if_then_else_, countBelow}
 use Rattle.rules.specs.Orders.{live, timeOf, present}
 use Rattle.rules.specs.Kept.{ordersKeep, keptAt}
 use Rattle.rules.specs.Stretches.{stretch, stretches}
 use Rattle.rules.specs.Runs.{Runs, before}
 use Rattle.rules.specs.Lapses.{missing, lapses, lapsesBelow, begins, lapseStarts}
 use Rattle.rules.specs.Bounds.{Ordered}
-use Rattle.rules.proofs.Counting.{count-ext}
+use Rattle.lists.proofs.Counting.{count-ext}
 use Rattle.rules.proofs.Stretches.{stretches-run, stretches-ext, stretches-false, stretches-new, stretches-longer, stretches-few}
 use Rattle.rules.proofs.Fewest.{stretches-starts}
 use Rattle.rules.proofs.Kept.{keptAt-now, keptAt-snoc}

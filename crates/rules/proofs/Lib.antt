@@ -1,13 +1,10 @@
 -- Laws about the definitions, by subject.
-pub mod Lists
-pub mod Counting
 pub mod Prices
 pub mod Best
 pub mod Stretches
 pub mod Fewest
 pub mod Checks
 pub mod Answers
-pub mod Members
 pub mod Orders
 pub mod Kept
 pub mod States

@@ -11,7 +11,7 @@ use Rattle.rules.specs.declared.Row.{Row}
 use Rattle.rules.specs.declared.Event.{Event}
 use Rattle.rules.specs.declared.Event.the-variants.{Add, Amend, Cancel, Deal, Tick}
 use Rattle.rules.specs.declared.Amendment.{Amendment}
-use Rattle.rules.specs.Lists.{any, All}
+use Rattle.lists.specs.Lists.{any, All}
 use Rattle.rules.specs.Orders.{live}
 use Rattle.rules.specs.Terms.{Terms}
 use Rattle.rules.specs.Calls.{Call, Book, Running, Idle, Quoting, amendOf, Open, Send, Message, Ask, Commit, Close, Drop, Charge, Withdraw, Look, Report, Outlook}

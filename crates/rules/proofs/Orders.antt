@@ -17,12 +17,12 @@ use Rattle.rules.specs.declared.Steps.{Steps}
 use Rattle.rules.specs.declared.Contracts.{Contracts}
 use Rattle.rules.specs.declared.Event.{Event}
 use Rattle.rules.specs.declared.Event.the-variants.{Add, Amend, Cancel, Deal}
-use Rattle.rules.specs.Lists.{if_then_else_, filter, any}
+use Rattle.lists.specs.Lists.{if_then_else_, filter, any}
 use Rattle.rules.specs.Units.{contracts}
 use Rattle.rules.specs.Orders.{hasId, isLive, left, amendedOrder, lessenedOrder, somethingLeft, apply, applyAll, live, timeOf, timeFrom, present}
 use Rattle.rules.specs.Bounds.{Distinct}
-use Rattle.rules.proofs.Lists.{filter-append, filter-skip, filter-one, kept-in}
-use Rattle.rules.proofs.Members.{or-false, any-append, none-any, some-any, any-filter, length-filter, filter-all, map-same, getD-in}
+use Rattle.lists.proofs.Lists.{filter-append, filter-skip, filter-one, kept-in}
+use Rattle.lists.proofs.Members.{or-false, any-append, none-any, some-any, any-filter, length-filter, filter-all, map-same, getD-in}
 
 -- ---- one more event
 

@@ -5,10 +5,10 @@ use mathlib.Core.Path.{_≡_}
 use mathlib.Core.Bool.{true, _&&_}
 use lib.Dec.{leb}
 use borrow.Author.Tests.{leb-true, le-leb}
-use Rattle.rules.specs.Lists.{within}
+use Rattle.lists.specs.Lists.{within}
 use Rattle.rules.specs.Cells.{goodCell, placeOf}
 use Rattle.rules.specs.Places.{dayAt, expiryAt, quantumAt, OnePlaceEach}
-use Rattle.rules.proofs.Lists.{both, and}
+use Rattle.lists.proofs.Lists.{both, and}
 use Rattle.rules.proofs.Refusals.{within-parts}
 
 pub record InRange (day expiry quantum : ℕ) : Type 0 where

@@ -13,12 +13,12 @@ use lib.Seq.{length-take-le, drop-cons, drop-length, getD-take}
 use Rattle.rules.specs.declared.Side.the-variants.{Buy, Sell}
 use Rattle.rules.specs.declared.Event.{Event}
 use Rattle.rules.specs.declared.Event.the-variants.{Add, Amend, Cancel, Deal, Tick}
-use Rattle.rules.specs.Lists.{if_then_else_, within}
+use Rattle.lists.specs.Lists.{if_then_else_, within}
 use Rattle.rules.specs.Units.{steps}
 use Rattle.rules.specs.Answers.{accepted, refused}
 use Rattle.rules.specs.Records.{wordAt, wordBytes, signedOf, unsignedOf, Fields, fields, eventFields, fieldBytes, recordOf, fieldsOf, eventOf, unusedZero, paddingZero, goodRecord, readRecord}
 use Rattle.rules.specs.Widths.{Word, SignedWord, Fits, Bytes}
-use Rattle.rules.proofs.Lists.{both, and}
+use Rattle.lists.proofs.Lists.{both, and}
 use Rattle.rules.proofs.Answers.{not-refused}
 
 -- ---- words and their bytes

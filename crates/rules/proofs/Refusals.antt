@@ -18,7 +18,7 @@ use Rattle.rules.specs.declared.Event.{Event}
 use Rattle.rules.specs.declared.Event.the-variants.{Add, Amend, Cancel, Deal, Tick}
 use Rattle.rules.specs.declared.Amendment.{Amendment}
 use Rattle.rules.specs.declared.Ticket.{Ticket}
-use Rattle.rules.specs.Lists.{if_then_else_, within, All}
+use Rattle.lists.specs.Lists.{if_then_else_, within, All}
 use Rattle.rules.specs.Terms.{Terms}
 use Rattle.rules.specs.Units.{goodPrice, goodVolume, goodCharge}
 use Rattle.rules.specs.Rows.{rowOf, goodRowFor}
@@ -35,7 +35,7 @@ use Rattle.rules.specs.Lowest.{Ascend}
 use Rattle.rules.specs.Changes.{changed}
 use Rattle.rules.specs.Replies.{replyOf}
 use Rattle.rules.specs.Book.{answerOf, stepBy, step}
-use Rattle.rules.proofs.Lists.{both, and}
+use Rattle.lists.proofs.Lists.{both, and}
 use Rattle.rules.proofs.Lowest.{event-ascends, send-ascends}
 
 -- ---- the lowest number

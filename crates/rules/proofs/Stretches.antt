@@ -10,7 +10,7 @@ use borrow.Author.Tests.{le-leb, lt-leb, leb-true, leb-false, lt-ltb, le-ltb, lt
 use Rattle.rules.specs.declared.Row.{Row}
 use Rattle.rules.specs.declared.SpreadRule.{SpreadRule}
 use Rattle.rules.specs.declared.Event.{Event}
-use Rattle.rules.specs.Lists.{if_then_else_, any, sum, countBelow}
+use Rattle.lists.specs.Lists.{if_then_else_, any, sum, countBelow}
 use Rattle.rules.specs.Kept.{keptAt, keptBelow}
 use Rattle.rules.specs.Stretches.{Stretch, stretch, grown, grownIf, stretches, keptStretches, pairWords}
 use Rattle.rules.specs.Runs.{end, lengthOf, Apart, Inside, holds, covers, Runs, before, endsAt, lengthened, extended}

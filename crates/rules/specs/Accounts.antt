@@ -11,7 +11,7 @@ use Rattle.rules.specs.declared.Row.{Row}
 use Rattle.rules.specs.declared.SpreadRule.{SpreadRule}
 use Rattle.rules.specs.declared.Opening.{Opening}
 use Rattle.rules.specs.declared.Event.{Event}
-use Rattle.rules.specs.Lists.{if_then_else_, filter, countBelow, All}
+use Rattle.lists.specs.Lists.{if_then_else_, filter, countBelow, All}
 use Rattle.rules.specs.Terms.{Terms}
 use Rattle.rules.specs.States.{State, kept, noBid, noAsk, neither, crossed, wide, stateWord, isKept, stateAt}
 use Rattle.rules.specs.Stretches.{Stretch, stretch}

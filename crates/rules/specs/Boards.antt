@@ -4,7 +4,7 @@ use mathlib.Core.List.{List, [], _∷_, map}
 use mathlib.Core.Bool.{Bool, not, _&&_}
 use lib.Dec.{leb, eqb}
 use lib.ListN.{length, getD}
-use Rattle.rules.specs.Lists.{within, sum, any}
+use Rattle.lists.specs.Lists.{within, sum, any}
 use Rattle.rules.specs.Rows.{goodLength}
 use Rattle.rules.specs.Answers.{Outcome, outcomeBy}
 use Rattle.rules.specs.Causes.{cause, firstNumber}

@@ -15,7 +15,7 @@ use Rattle.rules.specs.declared.Event.{Event}
 use Rattle.rules.specs.declared.Event.the-variants.{Add, Amend, Cancel, Deal, Tick}
 use Rattle.rules.specs.declared.Amendment.{Amendment}
 use Rattle.rules.specs.declared.Ticket.{Ticket}
-use Rattle.rules.specs.Lists.{if_then_else_, within, any}
+use Rattle.lists.specs.Lists.{if_then_else_, within, any}
 use Rattle.rules.specs.Terms.{Terms}
 use Rattle.rules.specs.Units.{goodPrice, goodVolume, goodCharge}
 use Rattle.rules.specs.Rows.{rowOf, goodRowFor}

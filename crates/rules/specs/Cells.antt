@@ -4,7 +4,7 @@ use mathlib.Core.List.{List, map}
 use mathlib.Core.Bool.{Bool, false, _&&_}
 use lib.ListN.{getD, replicate}
 use Rattle.rules.specs.declared.Cell.{Cell}
-use Rattle.rules.specs.Lists.{within, below}
+use Rattle.lists.specs.Lists.{within, below}
 use Rattle.rules.specs.Units.{millis, kopecks}
 use Rattle.rules.specs.Rows.{goodExpiry, goodQuantum}
 

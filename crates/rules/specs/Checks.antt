@@ -16,7 +16,7 @@ use Rattle.rules.specs.declared.Cell.{Cell}
 use Rattle.rules.specs.declared.SpreadRule.the-variants.{Settled, OfStrike}
 use Rattle.rules.specs.declared.Event.{Event}
 use Rattle.rules.specs.declared.Event.the-variants.{Add, Cancel}
-use Rattle.rules.specs.Lists.{below}
+use Rattle.lists.specs.Lists.{below}
 use Rattle.rules.specs.Terms.{paper}
 use Rattle.rules.specs.Units.{millis, steps, contracts, kopecks}
 use Rattle.rules.specs.Cells.{blankCells, placeOf}

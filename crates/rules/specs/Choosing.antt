@@ -4,7 +4,7 @@ use mathlib.Core.List.{List, [], _∷_, map}
 use mathlib.Core.Bool.{Bool, true, false, _&&_}
 use lib.Dec.{eqb}
 use lib.ListN.{length, getD, take, drop}
-use Rattle.rules.specs.Lists.{below, firstOr}
+use Rattle.lists.specs.Lists.{below, firstOr}
 
 -- the seven words of the row counted k from 0
 abbrev pub rowWords : List ℕ → ℕ → List ℕ

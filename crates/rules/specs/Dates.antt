@@ -6,7 +6,7 @@ use mathlib.Core.Option.{Option, none, some}
 use lib.Dec.{eqb, leb, ltb}
 use lib.ListN.{take, drop}
 use Rattle.rules.specs.declared.Timestamp.{Timestamp}
-use Rattle.rules.specs.Lists.{if_then_else_, within}
+use Rattle.lists.specs.Lists.{if_then_else_, within}
 use Rattle.rules.specs.Answers.{Outcome, accepted, refused}
 use Rattle.rules.specs.Text.{ascii}
 use Rattle.rules.specs.Digits.{isDigit, numberFrom}

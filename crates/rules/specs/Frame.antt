@@ -5,7 +5,7 @@ use mathlib.Core.List.{List, [], _∷_}
 use mathlib.Core.Option.{Option, none, some}
 use lib.Dec.{eqb}
 use lib.ListN.{length}
-use Rattle.rules.specs.Lists.{if_then_else_, sum, any}
+use Rattle.lists.specs.Lists.{if_then_else_, sum, any}
 use Rattle.rules.specs.Text.{ascii}
 use Rattle.rules.specs.Digits.{inDigits, threeDigits}
 use Rattle.rules.specs.Fields.{Field, fieldsBytes, fieldsOf, sameBytes, hasTag}

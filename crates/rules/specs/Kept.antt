@@ -14,7 +14,7 @@ use Rattle.rules.specs.declared.Row.{Row}
 use Rattle.rules.specs.declared.SpreadRule.{SpreadRule}
 use Rattle.rules.specs.declared.SpreadRule.the-variants.{Settled, OfStrike}
 use Rattle.rules.specs.declared.Event.{Event}
-use Rattle.rules.specs.Lists.{filter, countBelow}
+use Rattle.lists.specs.Lists.{filter, countBelow}
 use Rattle.rules.specs.Orders.{timeOf, live}
 use Rattle.rules.specs.Quotes.{best}
 use Rattle.rules.specs.Strikes.{strikeWithin}

@@ -1,5 +1,4 @@
--- Document 01 as definitions, in its order: read from the top. Lists and Terms are the words that they use.
-pub mod Lists
+-- Document 01 as definitions, in its order: read from the top. Terms are the words that they use; `lists` has those of general use.
 pub mod Terms
 -- "Units"
 pub mod Units

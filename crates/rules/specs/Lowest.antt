@@ -14,7 +14,7 @@ use Rattle.rules.specs.declared.Order.{Order}
 use Rattle.rules.specs.declared.Row.{Row}
 use Rattle.rules.specs.declared.SpreadRule.{SpreadRule}
 use Rattle.rules.specs.declared.Event.{Event}
-use Rattle.rules.specs.Lists.{any, All}
+use Rattle.lists.specs.Lists.{any, All}
 use Rattle.rules.specs.Terms.{Terms}
 use Rattle.rules.specs.Calls.{Call, Book, Open, Send, Message, Ask, Commit, Close, Drop, Charge, Withdraw, Look, Report, Outlook}
 use Rattle.rules.specs.Causes.{Cause, firstNumber, traderCauses, eventCauses, eventRefusal, rowCauses, causes, refusalOf}

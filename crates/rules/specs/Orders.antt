@@ -8,7 +8,7 @@ use Rattle.rules.specs.declared.Steps.{Steps}
 use Rattle.rules.specs.declared.Contracts.{Contracts}
 use Rattle.rules.specs.declared.Event.{Event}
 use Rattle.rules.specs.declared.Event.the-variants.{Add, Amend, Cancel, Deal, Tick}
-use Rattle.rules.specs.Lists.{if_then_else_, filter, any}
+use Rattle.lists.specs.Lists.{if_then_else_, filter, any}
 use Rattle.rules.specs.Units.{contracts}
 
 abbrev pub hasId : ℕ → Order → Bool

@@ -17,7 +17,7 @@ use Rattle.rules.specs.declared.Possible.the-variants.{Never, At}
 use Rattle.rules.specs.declared.LapsesLeft.{LapsesLeft}
 use Rattle.rules.specs.declared.LapsesLeft.the-variants.{Unlimited, Over, Left}
 use Rattle.rules.specs.declared.Outlook.{Outlook}
-use Rattle.rules.specs.Lists.{if_then_else_, countBelow}
+use Rattle.lists.specs.Lists.{if_then_else_, countBelow}
 use Rattle.rules.specs.Terms.{Terms}
 use Rattle.rules.specs.Units.{millis, kopecks}
 use Rattle.rules.specs.Orders.{present}

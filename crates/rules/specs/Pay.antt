@@ -5,7 +5,7 @@ use mathlib.Core.Bool.{Bool, not, _&&_}
 use lib.Dec.{leb, ltb}
 use Rattle.rules.specs.declared.Cell.{Cell}
 use Rattle.rules.specs.declared.CellView.{CellView}
-use Rattle.rules.specs.Lists.{if_then_else_, sum, any, howMany}
+use Rattle.lists.specs.Lists.{if_then_else_, sum, any, howMany}
 use Rattle.rules.specs.Terms.{Terms}
 use Rattle.rules.specs.Cells.{series}
 use Rattle.rules.specs.Lapses.{withinLapseLimit}

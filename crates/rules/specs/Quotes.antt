@@ -11,7 +11,7 @@ use Rattle.rules.specs.declared.Side.the-variants.{Buy, Sell}
 use Rattle.rules.specs.declared.Quote.{Quote}
 use Rattle.rules.specs.declared.Quote.the-variants.{Absent, At}
 use Rattle.rules.specs.declared.Order.{Order}
-use Rattle.rules.specs.Lists.{if_then_else_, sum, filter}
+use Rattle.lists.specs.Lists.{if_then_else_, sum, filter}
 
 abbrev pub same : Side → Side → Bool
 same Buy Buy = true

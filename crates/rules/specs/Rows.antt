@@ -7,7 +7,7 @@ use lib.ListN.{getD}
 use Rattle.rules.specs.declared.Row.{Row}
 use Rattle.rules.specs.declared.SpreadRule.{SpreadRule}
 use Rattle.rules.specs.declared.SpreadRule.the-variants.{Settled, OfStrike}
-use Rattle.rules.specs.Lists.{within}
+use Rattle.lists.specs.Lists.{within}
 use Rattle.rules.specs.Terms.{Terms}
 use Rattle.rules.specs.Units.{millis, contracts}
 

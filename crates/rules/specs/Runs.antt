@@ -5,7 +5,7 @@ use mathlib.Core.Path.{_≡_}
 use mathlib.Core.List.{List, [], _∷_, map}
 use mathlib.Core.Bool.{Bool, false, _&&_}
 use lib.Dec.{leb, ltb, eqb}
-use Rattle.rules.specs.Lists.{if_then_else_, any, sum, countBelow}
+use Rattle.lists.specs.Lists.{if_then_else_, any, sum, countBelow}
 use Rattle.rules.specs.Stretches.{Stretch, stretch}
 
 -- the first number past a stretch

@@ -4,7 +4,7 @@ use mathlib.Core.List.{List, [], _∷_, _++_}
 use mathlib.Core.Bool.{Bool, not, _&&_}
 use Rattle.rules.specs.declared.Side.{Side}
 use Rattle.rules.specs.declared.Order.{Order}
-use Rattle.rules.specs.Lists.{if_then_else_, any, filter}
+use Rattle.lists.specs.Lists.{if_then_else_, any, filter}
 use Rattle.rules.specs.Quotes.{same, atLeast, qualifies}
 
 -- an order's price is at that of another or worse

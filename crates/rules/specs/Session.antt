@@ -10,7 +10,7 @@ use Rattle.rules.specs.declared.Opening.{Opening}
 use Rattle.rules.specs.declared.Event.{Event}
 use Rattle.rules.specs.declared.SessionAnswer.{SessionAnswer}
 use Rattle.rules.specs.declared.SessionAnswer.the-variants as S
-use Rattle.rules.specs.Lists.{if_then_else_, below}
+use Rattle.lists.specs.Lists.{if_then_else_, below}
 use Rattle.rules.specs.Terms.{Terms}
 use Rattle.rules.specs.Units.{steps, kopecks}
 use Rattle.rules.specs.Rows.{rowOf}

@@ -7,7 +7,7 @@ use Rattle.rules.specs.declared.Millis.{Millis}
 use Rattle.rules.specs.declared.Steps.{Steps}
 use Rattle.rules.specs.declared.Contracts.{Contracts}
 use Rattle.rules.specs.declared.Kopecks.{Kopecks}
-use Rattle.rules.specs.Lists.{within, withinZ}
+use Rattle.lists.specs.Lists.{within, withinZ}
 use Rattle.rules.specs.Terms.{Terms}
 
 -- "Milliseconds, price steps, contracts and kopecks each travel under a name of their own."

@@ -14,7 +14,7 @@ use Rattle.rules.specs.declared.Refusal.{Refusal}
 use Rattle.rules.specs.declared.Refusal.the-variants.{BufferShort}
 use Rattle.rules.specs.declared.SessionAnswer.{SessionAnswer}
 use Rattle.rules.specs.declared.SessionAnswer.the-variants as S
-use Rattle.rules.specs.Lists.{if_then_else_, below}
+use Rattle.lists.specs.Lists.{if_then_else_, below}
 use Rattle.rules.specs.Terms.{paper}
 use Rattle.rules.specs.Units.{steps}
 use Rattle.rules.specs.Stretches.{Stretch, pairWords}

@@ -25,7 +25,7 @@ use Rattle.rules.specs.Changes.{closedCell}
 use Rattle.rules.specs.Book.{answerOf, step, run, after}
 use Rattle.rules.specs.Records.{readRecord}
 use Rattle.rules.specs.Session.{Session, recordsOf, withoutLapseLimit, session}
-use Rattle.rules.proofs.Lists.{and}
+use Rattle.lists.proofs.Lists.{and}
 use Rattle.rules.proofs.Refusals.{passes-call, answer-accepted}
 use Rattle.rules.proofs.Histories.{run-append}
 use Rattle.rules.proofs.Bounds.{row-bounds, after-snoc}

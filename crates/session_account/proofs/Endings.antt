@@ -11,7 +11,7 @@ use Rattle.rules.specs.declared.Row.{Row}
 use Rattle.rules.specs.declared.SpreadRule.{SpreadRule}
 use Rattle.rules.specs.declared.Refusal.{Refusal}
 use Rattle.rules.specs.declared.Refusal.the-variants.{ArgumentOutOfRange, BufferShort, StrikesOutOfRange}
-use Rattle.rules.specs.Lists.{if_then_else_}
+use Rattle.lists.specs.Lists.{if_then_else_}
 use Rattle.rules.specs.Terms.{paper}
 use Rattle.rules.specs.Causes.{readRow, goodSettlement, goodSpreadRule}
 use Rattle.rules.specs.Answers.{accepted, refused, numberOf}

@@ -9,10 +9,10 @@ use mathlib.Core.Bool.{Bool, true, false}
 use lib.Dec.{eqb, leb}
 use lib.ListN.{length}
 use borrow.Author.Tests.{eq-eqb, eqb-true, eqb-false, leb-true, leb-false}
-use Rattle.rules.specs.Lists.{if_then_else_, sum, All}
+use Rattle.lists.specs.Lists.{if_then_else_, sum, All}
 use Rattle.rules.specs.States.{State, kept, noBid, noAsk, neither, crossed, wide, stateWord}
 use Rattle.rules.specs.Accounts.{Part, part, sameState, grownBy, parts, inState, timeIn, Tiles, Stays, Differ, AccountOf}
-use Rattle.rules.proofs.Counting.{count-stretch, count-le, count-ext}
+use Rattle.lists.proofs.Counting.{count-stretch, count-le, count-ext}
 
 -- ---- states by their words
 

@@ -12,7 +12,7 @@ use Rattle.rules.specs.declared.Row.{Row}
 use Rattle.rules.specs.declared.SpreadRule.{SpreadRule}
 use Rattle.rules.specs.declared.SpreadRule.the-variants.{Settled}
 use Rattle.rules.specs.declared.Event.{Event}
-use Rattle.rules.specs.Lists.{if_then_else_, filter, sum, countBelow, All}
+use Rattle.lists.specs.Lists.{if_then_else_, filter, sum, countBelow, All}
 use Rattle.rules.specs.Terms.{paper}
 use Rattle.rules.specs.Rows.{rowOf}
 use Rattle.rules.specs.Units.{kopecks}
@@ -29,7 +29,7 @@ use Rattle.rules.specs.Book.{step}
 use Rattle.rules.specs.Records.{readRecord}
 use Rattle.rules.specs.Session as S
 use Rattle.rules.specs.Accounts.{Part, sameState, parts, inState, timeIn, totals, Tiles, Stays, Differ, AccountOf, joinedUp, asStretch, keptParts, lostParts, Account, accountUnless, noLimit, accountOf, accountIn, accountRecords, account}
-use Rattle.rules.proofs.Counting.{count-ext}
+use Rattle.lists.proofs.Counting.{count-ext}
 use Rattle.rules.proofs.States.{kept-state}
 use Rattle.rules.proofs.Stretches.{stretches-ext, stretches-false, stretches-new, stretches-longer, stretches-ends}
 use Rattle.session_account.proofs.Parts.{parts-account, account-only, tiles-sum, time-run}

@@ -9,8 +9,8 @@ use borrow.Author.Tests.{lt-ltb, le-ltb, eq-eqb, ne-eqb, ltb-false}
 use lib.Dec.{ltb}
 use lib.IntN.{ℤ, pos, negsuc, negℤ, natAbs, subℕ, _+ℤ_, _*ℤ_}
 use lib.Signed.{mag, quotZ}
-use Rattle.rules.specs.Lists.{if_then_else_}
-use Rattle.rules.proofs.Members.{or-false}
+use Rattle.lists.specs.Lists.{if_then_else_}
+use Rattle.lists.proofs.Members.{or-false}
 use Rattle.sigma.specs.declared.Change.{Change}
 use Rattle.sigma.specs.declared.Change.the-variants.{Unusable, By}
 use Rattle.sigma.specs.Changes.{changeOf, isZero, isBeyond}

@@ -3,7 +3,7 @@ use mathlib.Core.Path.{_≡_, refl}
 use mathlib.Core.List.{[], _∷_}
 use mathlib.Core.Bool.{true, false}
 use lib.IntN.{pos, negsuc}
-use Rattle.rules.specs.Lists.{any}
+use Rattle.lists.specs.Lists.{any}
 use Rattle.numbers.specs.Greatest.{greatestUpTo}
 use Rattle.sigma.specs.Changes.{changeOf, changes, previous, badPrices}
 use Rattle.sigma.specs.Sigmas.{rootOf, squaresOf, sigmaOf, sigmas}

@@ -9,7 +9,7 @@ use lib.Dec.{ltb}
 use lib.IntN.{ℤ, pos}
 use lib.ListN.{length, getD, drop, drop-of-length-le}
 use lib.Seq.{drop-cons}
-use Rattle.rules.specs.Lists.{if_then_else_, any}
+use Rattle.lists.specs.Lists.{if_then_else_, any}
 use Rattle.sigma.specs.declared.Change.{Change}
 use Rattle.sigma.specs.declared.Change.the-variants.{Unusable, By}
 use Rattle.sigma.specs.declared.SigmaAnswer.{SigmaAnswer}

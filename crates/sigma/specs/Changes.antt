@@ -4,7 +4,7 @@ use mathlib.Core.Bool.{Bool, _||_}
 use lib.Dec.{ltb, eqb}
 use lib.IntN.{ℤ, pos, natAbs, _-ℤ_, _*ℤ_}
 use lib.Signed.{quotZ}
-use Rattle.rules.specs.Lists.{any}
+use Rattle.lists.specs.Lists.{any}
 
 -- "R is (P - previous P) × 1,000,000 / |previous P|, rounded toward zero"; `quotZ` rounds toward zero
 unfoldable pub changeOf : ℤ → ℤ → ℤ

@@ -3,7 +3,7 @@ use Prim.Native.Nat.{ℕ, _+_, _-_, _≤_}
 use lib.Dec.{ltb}
 use lib.IntN.{ℤ, pos, negsuc, natAbs, _+ℤ_, _-ℤ_}
 use mathlib.Core.Bool.{_||_}
-use Rattle.rules.specs.Lists.{if_then_else_}
+use Rattle.lists.specs.Lists.{if_then_else_}
 use Rattle.sigma.specs.declared.Change.{Change}
 use Rattle.sigma.specs.declared.Change.the-variants.{Unusable, By}
 use Rattle.sigma.specs.declared.SigmaAnswer.{SigmaAnswer}

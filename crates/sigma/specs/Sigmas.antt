@@ -5,7 +5,7 @@ use mathlib.Core.Bool.{_||_}
 use lib.Dec.{leb, ltb}
 use lib.IntN.{ℤ, pos, natAbs, _+ℤ_, _-ℤ_, _*ℤ_}
 use lib.ListN.{length, getD, drop}
-use Rattle.rules.specs.Lists.{if_then_else_}
+use Rattle.lists.specs.Lists.{if_then_else_}
 use Rattle.numbers.specs.Greatest.{greatestUpTo}
 use Rattle.sigma.specs.declared.SigmaAnswer.{SigmaAnswer}
 use Rattle.sigma.specs.declared.SigmaAnswer.the-variants.{Absent, Of}

@@ -7,7 +7,7 @@ use mathlib.Core.List.{List, [], _∷_}
 use borrow.Author.Tests.{leb-true, leb-false}
 use lib.Dec.{leb}
 use lib.ListN.{length, getD}
-use Rattle.rules.specs.Lists.{if_then_else_, sum}
+use Rattle.lists.specs.Lists.{if_then_else_, sum}
 use Rattle.best_quote.specs.Levels.{held, Columns}
 use Rattle.small_side.specs.Internal.{keyIn, volumeIn, heldOne, heldAll, four, Descending}
 

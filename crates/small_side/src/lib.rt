@@ -8,7 +8,7 @@ ghost use mathlib.Core.Bool.{true};
 ghost use Prim.Native.Nat.{_+_, _*_, _≤_, _%_, min, max};
 ghost use lib.Dec.{ltb};
 ghost use lib.ListN.{length};
-ghost use Rattle.rules.specs.Lists.{if_then_else_, howMany};
+ghost use Rattle.lists.specs.Lists.{if_then_else_, howMany};
 ghost use Rattle.best_quote.specs.Levels.{isBest, Columns};
 ghost use Rattle.small_side.specs.Small.{Finds};
 ghost use Rattle.small_side.specs.Internal.{Descending, four, levelIn};

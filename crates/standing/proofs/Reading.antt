@@ -8,7 +8,7 @@ use lib.Dec.{eqb}
 use lib.ListN.{length, getD, drop, length-drop}
 use lib.Seq.{getD-drop, drop-drop}
 use borrow.Author.Tests.{eq-eqb, ne-eqb, eqb-true, eqb-false, le-leb, lt-leb}
-use Rattle.rules.specs.Lists.{if_then_else_}
+use Rattle.lists.specs.Lists.{if_then_else_}
 use Rattle.standing_rules.specs.Calls.{Call, asked, callOf}
 use Rattle.standing.specs.declared.Measured.{Measured}
 use Rattle.standing.specs.Words.{isCall, readable, callsOf}

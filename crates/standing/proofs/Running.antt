@@ -9,8 +9,8 @@ use lib.Dec.{leb}
 use lib.ListN.{length, getD, take, drop, set, length-append, length-drop}
 use lib.Seq.{take-suc, drop-cons, set-at, take-length, length-take-le}
 use borrow.Author.Tests.{leb-true}
-use Rattle.rules.specs.Lists.{if_then_else_}
-use Rattle.rules.proofs.Lists.{both}
+use Rattle.lists.specs.Lists.{if_then_else_}
+use Rattle.lists.proofs.Lists.{both}
 use Rattle.standing_rules.specs.Calls.{Standing, Call, Leave, asked, callOf, wrong, refusalOf, step, after, outcomesFrom}
 use Rattle.standing_rules.proofs.Working.{wrong-after}
 use Rattle.standing.specs.declared.Ready.{Ready}

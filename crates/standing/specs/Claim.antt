@@ -5,7 +5,7 @@ use mathlib.Core.List.{List, [], _++_, List·Memᴰ}
 use mathlib.Core.Bool.{true, _&&_}
 use lib.Dec.{leb}
 use lib.ListN.{length, drop}
-use Rattle.rules.specs.Lists.{if_then_else_}
+use Rattle.lists.specs.Lists.{if_then_else_}
 use Rattle.standing_rules.specs.declared.Maker.{Maker}
 use Rattle.standing_rules.specs.Order.{sorted}
 use Rattle.standing_rules.specs.Calls.{Standing, standing, used, after, outcomesFrom}

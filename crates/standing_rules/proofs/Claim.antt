@@ -13,9 +13,9 @@ use lib.Dec.{eqb, leb}
 use lib.ListN.{length, take, drop, length-append, length-drop}
 use lib.Seq.{take-at}
 use borrow.Author.Tests.{eqb-true, eqb-false, eq-eqb, ne-eqb}
-use Rattle.rules.specs.Lists.{if_then_else_}
+use Rattle.lists.specs.Lists.{if_then_else_}
 use Rattle.rules.specs.Causes.{cause}
-use Rattle.rules.proofs.Members.{any-none, some-any}
+use Rattle.lists.proofs.Members.{any-none, some-any}
 use Rattle.rules.proofs.Refusals.{skip}
 use Rattle.standing_rules.specs.declared.Maker.{Maker}
 use Rattle.standing_rules.specs.Order.{maker, above, sorted, isOf, present, once}

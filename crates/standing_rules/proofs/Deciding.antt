@@ -5,7 +5,7 @@ use mathlib.Core.Path.{_≡_, refl, ap, sym, _∙_}
 use mathlib.Core.Bool.{Bool, true, false}
 use lib.Dec.{eqb}
 use borrow.Author.Tests.{eq-eqb, ne-eqb}
-use Rattle.rules.specs.Lists.{if_then_else_}
+use Rattle.lists.specs.Lists.{if_then_else_}
 use Rattle.standing_rules.specs.declared.Asked.{Asked}
 use Rattle.standing_rules.specs.Order.{maker}
 use Rattle.standing_rules.specs.Calls.{Call, Join, Change, Leave, callOf}

@@ -12,9 +12,9 @@ use lib.Dec.{eqb, ltb}
 use lib.ListN.{length, take, getD, set, length-set, length-replicate, getD-replicate}
 use lib.Seq.{take-suc, getD-set-same, getD-set-other}
 use borrow.Author.Tests.{eq-eqb, ne-eqb, eqb-true, eqb-false, ltb-false}
-use Rattle.rules.specs.Lists.{if_then_else_, any, every}
-use Rattle.rules.proofs.Lists.{both}
-use Rattle.rules.proofs.Members.{any-append, any-none, none-any}
+use Rattle.lists.specs.Lists.{if_then_else_, any, every}
+use Rattle.lists.proofs.Lists.{both}
+use Rattle.lists.proofs.Members.{any-append, any-none, none-any}
 use Rattle.standing_rules.specs.declared.Maker.{Maker}
 use Rattle.standing_rules.specs.Order.{above, sorted, isOf, present, once}
 use Rattle.standing_rules.specs.Calls.{standing, wrong}

@@ -8,9 +8,9 @@ use mathlib.Core.List.{List, [], _∷_, _++_, List·Memᴰ, List·Memᴰ·head, 
 use mathlib.Core.Bool.{Bool, true, false, not, _&&_, _||_, and-assoc, and-true, or-false}
 use lib.Dec.{eqb, ltb}
 use borrow.Author.Tests.{ltb-true, ltb-false, lt-ltb, eqb-true, eqb-false, eq-eqb, ne-eqb, not-true}
-use Rattle.rules.specs.Lists.{if_then_else_, any, filter, every}
-use Rattle.rules.proofs.Lists.{both, and, kept-in}
-use Rattle.rules.proofs.Members.{any-append, any-filter}
+use Rattle.lists.specs.Lists.{if_then_else_, any, filter, every}
+use Rattle.lists.proofs.Lists.{both, and, kept-in}
+use Rattle.lists.proofs.Members.{any-append, any-filter}
 use Rattle.standing_rules.specs.declared.Maker.{Maker}
 use Rattle.standing_rules.specs.Order.{above, sorted, isOf, present, once}
 

@@ -9,9 +9,9 @@ use mathlib.Core.Bool.{Bool, true, false, true≢false, not, _&&_, _||_}
 use lib.ListN.{length, take, drop}
 use lib.Seq.{take-append-le, drop-append-le, take-at, drop-at}
 use borrow.Author.Tests.{eqb-true, eqb-false, ne-eqb, not-true}
-use Rattle.rules.specs.Lists.{if_then_else_, any, filter, howMany, every}
-use Rattle.rules.proofs.Lists.{kept-in, in-kept}
-use Rattle.rules.proofs.Members.{any-none, none-any, or-false, filter-all}
+use Rattle.lists.specs.Lists.{if_then_else_, any, filter, howMany, every}
+use Rattle.lists.proofs.Lists.{kept-in, in-kept}
+use Rattle.lists.proofs.Members.{any-none, none-any, or-false, filter-all}
 use Rattle.standing_rules.specs.declared.Maker.{Maker}
 use Rattle.standing_rules.specs.Order.{above, sorted, isOf, present, once}
 use Rattle.standing_rules.specs.Calls.{placed, without}

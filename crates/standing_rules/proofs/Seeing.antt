@@ -7,9 +7,9 @@ use mathlib.Core.Bool.{Bool, true, false, true≢false, not, _&&_, _||_}
 use lib.ListN.{length, take, drop, getD, length-append, drop-of-length-le}
 use lib.Seq.{take-suc, take-at, take-append-le, drop-append-le, length-take-le}
 use borrow.Author.Tests.{eqb-true, not-true}
-use Rattle.rules.specs.Lists.{if_then_else_, any, filter, howMany, every}
-use Rattle.rules.proofs.Lists.{both, filter-append, filter-one}
-use Rattle.rules.proofs.Members.{any-append}
+use Rattle.lists.specs.Lists.{if_then_else_, any, filter, howMany, every}
+use Rattle.lists.proofs.Lists.{both, filter-append, filter-one}
+use Rattle.lists.proofs.Members.{any-append}
 use Rattle.standing_rules.specs.declared.Maker.{Maker}
 use Rattle.standing_rules.specs.declared.Seen.{Seen}
 use Rattle.standing_rules.specs.Order.{above, isOf, present, once}

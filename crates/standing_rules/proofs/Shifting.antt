@@ -10,7 +10,7 @@ use lib.Dec.{ltb}
 use lib.ListN.{length, take, drop, set, getD, length-append, length-take, length-drop}
 use lib.Seq.{take-suc, drop-cons, split-at, set-at, getD-at, length-take-le, getD-append-add}
 use borrow.Author.Tests.{ltb-true, ltb-false}
-use Rattle.rules.specs.Lists.{if_then_else_}
+use Rattle.lists.specs.Lists.{if_then_else_}
 use Rattle.standing_rules.specs.Internal.{inserted, removed, shifted, nearer}
 use Rattle.standing_rules.proofs.Placing.{inserted-between}
 

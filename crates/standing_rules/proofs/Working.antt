@@ -9,11 +9,11 @@ use lib.Dec.{leb, ltb}
 use lib.ListN.{length, take, drop, take-append-drop, length-append}
 use lib.Seq.{take-append-le, drop-append-le, take-at, length-take-le}
 use borrow.Author.Tests.{ltb-false, le-ltb, leb-false, eq-eqb, ne-eqb, not-false}
-use Rattle.rules.specs.Lists.{if_then_else_, howMany}
+use Rattle.lists.specs.Lists.{if_then_else_, howMany}
 use Rattle.rules.specs.Answers.{outcomeBy}
 use Rattle.rules.specs.Causes.{cause, firstNumber}
-use Rattle.rules.proofs.Lists.{both}
-use Rattle.rules.proofs.Members.{or-false}
+use Rattle.lists.proofs.Lists.{both}
+use Rattle.lists.proofs.Members.{or-false}
 use Rattle.rules.proofs.Refusals.{passed}
 use Rattle.standing_rules.specs.declared.Maker.{Maker}
 use Rattle.standing_rules.specs.declared.Seen.{Seen}

@@ -3,7 +3,7 @@ use Prim.Native.Nat.{ℕ}
 use mathlib.Core.List.{List, [], _∷_}
 use mathlib.Core.Bool.{Bool, true, not, _&&_}
 use lib.Dec.{eqb, ltb}
-use Rattle.rules.specs.Lists.{if_then_else_, any, every}
+use Rattle.lists.specs.Lists.{if_then_else_, any, every}
 use Rattle.standing_rules.specs.declared.Maker.{Maker}
 
 abbrev pub maker : ℕ → ℕ → Maker

@@ -7,7 +7,7 @@ use mathlib.Core.List.{List, [], _∷_, List·Memᴰ}
 use mathlib.Core.Bool.{Bool, true, false, not}
 use lib.Dec.{eqb, leb}
 use lib.ListN.{length}
-use Rattle.rules.specs.Lists.{if_then_else_}
+use Rattle.lists.specs.Lists.{if_then_else_}
 use Rattle.rules.specs.Causes.{Cause, cause, firstNumber}
 use Rattle.standing_rules.specs.declared.Maker.{Maker}
 use Rattle.standing_rules.specs.Order.{sorted, once}

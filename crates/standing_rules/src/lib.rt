@@ -4,7 +4,7 @@ ghost use mathlib.Core.Path.{_≡_};
 ghost use mathlib.Core.Bool.{true, not, _&&_, _||_};
 ghost use Prim.Native.Nat.{_+_, _≤_, _<_, _^_, min};
 ghost use lib.Dec.{leb, ltb};
-ghost use Rattle.rules.specs.Lists.{if_then_else_};
+ghost use Rattle.lists.specs.Lists.{if_then_else_};
 ghost use Rattle.standing_rules.specs.Order.{above};
 ghost use Rattle.standing_rules.specs.Calls.{callOf};
 ghost use Rattle.standing_rules.specs.Internal.{lookOf, backTo, marked, isBehind, checkOf, nearer, recordOf, judged, accepted, planned};

@@ -8,7 +8,7 @@ use borrow.Author.Tests.{leb-true}
 use lib.Dec.{leb}
 use Rattle.rules.specs.declared.Strike.{Strike}
 use Rattle.rules.specs.Strikes.{goodStrike}
-use Rattle.rules.proofs.Lists.{both}
+use Rattle.lists.proofs.Lists.{both}
 
 pub square-is : (x : ℕ) → x ^ 2 ≡ x * x
 square-is x = simp (pow-suc x 1, pow-suc x 0, pow-zero x, one-mul)

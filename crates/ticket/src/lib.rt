@@ -3,7 +3,7 @@
 // A crate of its own, so that an edit of the test of a ticket proves little again.
 ghost use mathlib.Core.Path.{_≡_};
 ghost use lib.Dec.{eqb};
-ghost use Rattle.rules.specs.Lists.{if_then_else_};
+ghost use Rattle.lists.specs.Lists.{if_then_else_};
 ghost use Rattle.rules.specs.Causes.{samePrice, sameAmendment, goodTicket};
 ghost use Rattle.rules.specs.Changes.{following};
 use numbers::both;

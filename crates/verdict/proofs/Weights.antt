@@ -6,7 +6,7 @@ use mathlib.Core.Path.{_≡_, refl}
 use mathlib.Core.Bool.{Bool, true, false, _&&_, and-true, and-false}
 use borrow.Author.Tests.{leb-true, leb-false, le-leb, lt-leb}
 use lib.Dec.{leb}
-use Rattle.rules.specs.Lists.{if_then_else_}
+use Rattle.lists.specs.Lists.{if_then_else_}
 use Rattle.rules.specs.Terms.{paper}
 use Rattle.rules.specs.Pay.{thousandths, met, weightMet, weightBy, weight}
 

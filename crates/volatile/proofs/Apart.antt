@@ -7,9 +7,9 @@ use mathlib.Core.List.{List, [], _∷_, _++_}
 use mathlib.Core.Bool.{Bool, true, false, true≢false, not}
 use borrow.Author.Tests.{leb-true, leb-false, not-true}
 use lib.Dec.{leb}
-use Rattle.rules.specs.Lists.{any, All}
-use Rattle.rules.proofs.Lists.{both}
-use Rattle.rules.proofs.Members.{or-false}
+use Rattle.lists.specs.Lists.{any, All}
+use Rattle.lists.proofs.Lists.{both}
+use Rattle.lists.proofs.Members.{or-false}
 use Rattle.volatile.specs.Periods.{Period, isIn, sigmaOn, periodFrom, periods}
 use Rattle.volatile.proofs.Periods.{all-append, in-period, Begun, begins, periods-same, periods-more, periods-begun}
 

@@ -4,7 +4,7 @@ use mathlib.Core.Path.{_≡_, refl}
 use mathlib.Core.List.{List, [], _∷_, _++_}
 use mathlib.Core.Bool.{true, false}
 use lib.ListN.{replicate}
-use Rattle.rules.specs.Lists.{sum, any}
+use Rattle.lists.specs.Lists.{sum, any}
 use Rattle.volatile.specs.Periods.{Period, firstFrom, isIn, isEarly, average, lastDay, periods}
 
 period : ℕ → ℕ → Period

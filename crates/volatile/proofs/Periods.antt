@@ -8,8 +8,8 @@ use mathlib.Core.Bool.{Bool, true, false, true≢false, not, _&&_, _||_, and-tru
 use borrow.Author.Tests.{le-leb, lt-leb, leb-true, leb-false}
 use lib.Dec.{leb, ltb}
 use lib.ListN.{length}
-use Rattle.rules.specs.Lists.{if_then_else_, any, All}
-use Rattle.rules.proofs.Members.{any-append, or-false}
+use Rattle.lists.specs.Lists.{if_then_else_, any, All}
+use Rattle.lists.proofs.Members.{any-append, or-false}
 use Rattle.sigma.proofs.Differences.{lt-or-ge}
 use Rattle.volatile.specs.Periods.{Period, firstFrom, isIn, isEarly, sigmaOn, average, lastDay, periodFrom, periods}
 

@@ -7,8 +7,8 @@ use mathlib.Core.Bool.{Bool, true, false, true≢false, _&&_}
 use borrow.Author.Tests.{ltb-true, ltb-false, lt-ltb}
 use lib.Dec.{leb, ltb}
 use lib.ListN.{length}
-use Rattle.rules.specs.Lists.{any}
-use Rattle.rules.proofs.Lists.{both}
+use Rattle.lists.specs.Lists.{any}
+use Rattle.lists.proofs.Lists.{both}
 use Rattle.volatile.specs.declared.Phase.{Phase}
 use Rattle.volatile.specs.Periods.{isIn, isEarly, sigmaOn, average, periods}
 use Rattle.volatile.specs.Internal.{phase, ends, phaseAfter, early}

@@ -8,8 +8,8 @@ use mathlib.Core.Bool.{Bool, true, false, _||_}
 use lib.IntN.{ℤ, pos}
 use lib.ListN.{length, getD, take}
 use lib.Seq.{take-suc, take-all}
-use Rattle.rules.specs.Lists.{any}
-use Rattle.rules.proofs.Members.{or-second, some-any, getD-in}
+use Rattle.lists.specs.Lists.{any}
+use Rattle.lists.proofs.Members.{or-second, some-any, getD-in}
 use Rattle.sigma.specs.Changes.{changeOf, changes, previous, isZero, isBeyond, badPrices}
 use Rattle.sigma.specs.Sigmas.{sigmas}
 use Rattle.sigma.specs.Internal.{lowered}

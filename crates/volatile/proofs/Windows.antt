@@ -7,7 +7,7 @@ use mathlib.Core.Logic.{_⊎_, inl, inr}
 use mathlib.Core.List.{List, [], _∷_, _++_}
 use lib.ListN.{length, getD, take, drop, set, replicate, length-append, length-set, length-drop, getD-replicate, List·getD-append}
 use lib.Seq.{take-suc, drop-cons, getD-drop, getD-append-add, drop-append-add, getD-set-same, getD-set-other}
-use Rattle.rules.specs.Lists.{sum}
+use Rattle.lists.specs.Lists.{sum}
 use Rattle.sigma.proofs.Differences.{lt-or-ge}
 use Rattle.volatile.specs.declared.Window.{Window}
 use Rattle.volatile.specs.Periods.{average}

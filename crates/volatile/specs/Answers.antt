@@ -4,7 +4,7 @@ use mathlib.Core.List.{List}
 use mathlib.Core.Bool.{Bool, true, false, _||_}
 use lib.IntN.{ℤ}
 use lib.ListN.{length}
-use Rattle.rules.specs.Lists.{if_then_else_, any}
+use Rattle.lists.specs.Lists.{if_then_else_, any}
 use Rattle.rules.specs.Answers.{Outcome, accepted, refused}
 use Rattle.sigma.specs.Changes.{changes, badPrices}
 use Rattle.sigma.specs.Sigmas.{sigmas}

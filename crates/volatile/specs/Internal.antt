@@ -4,7 +4,7 @@ use mathlib.Core.Path.{_≡_}
 use mathlib.Core.Bool.{Bool, true, false, _&&_}
 use lib.Dec.{leb, ltb}
 use lib.ListN.{length, getD, set, replicate}
-use Rattle.rules.specs.Lists.{if_then_else_}
+use Rattle.lists.specs.Lists.{if_then_else_}
 use Rattle.sigma.specs.Sigmas.{sigmaOf}
 use Rattle.sigma.specs.Internal.{lowered}
 use Rattle.volatile.specs.declared.Window.{Window}

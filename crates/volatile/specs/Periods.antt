@@ -5,7 +5,7 @@ use mathlib.Core.List.{List, [], _∷_, _++_}
 use mathlib.Core.Bool.{Bool, not, _&&_}
 use lib.Dec.{leb, ltb}
 use lib.ListN.{length, getD, take, drop}
-use Rattle.rules.specs.Lists.{if_then_else_, sum, any}
+use Rattle.lists.specs.Lists.{if_then_else_, sum, any}
 
 -- a period's first and last day
 pub record Period : Type 0 where

@@ -6,7 +6,7 @@ use mathlib.Core.Path.{_≡_, refl, sym, ap, _∙_}
 use mathlib.Core.Bool.{Bool, true, false, or-false}
 use borrow.Author.Tests.{leb-true, leb-false, le-leb, eqb-true, ne-eqb}
 use lib.Dec.{eqb, leb}
-use Rattle.rules.specs.Lists.{any}
+use Rattle.lists.specs.Lists.{any}
 use Rattle.rules.specs.Terms.{paper}
 use Rattle.rules.specs.Pay.{weightMet, weightAt}
 use Rattle.weights.specs.Card.{onCard}

@@ -5,7 +5,7 @@ use mathlib.Core.Bool.{Bool, true, _&&_}
 use lib.ListN.{getD}
 use Rattle.rules.specs.Terms.{paper}
 use Rattle.rules.specs.Pay.{weightMet, weightAt}
-use Rattle.rules.proofs.Lists.{both}
+use Rattle.lists.proofs.Lists.{both}
 use Rattle.weights.proofs.Constants.{card600, card700, card750}
 use Rattle.weights.proofs.Tables.{every, at}
 

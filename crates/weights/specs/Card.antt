@@ -4,7 +4,7 @@ use Prim.Native.Nat.{ℕ}
 use mathlib.Core.List.{List, [], _∷_}
 use mathlib.Core.Bool.{Bool}
 use lib.Dec.{eqb}
-use Rattle.rules.specs.Lists.{any}
+use Rattle.lists.specs.Lists.{any}
 
 -- the shares that it has
 abbrev pub shares : List ℕ

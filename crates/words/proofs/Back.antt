@@ -9,7 +9,7 @@ use borrow.Author.Tests.{ltb-true, ltb-false}
 use lib.Dec.{ltb}
 use lib.ListN.{length, getD, take, drop, length-drop, List·getD-eq-default}
 use lib.Seq.{take-add, getD-drop, drop-cons}
-use Rattle.rules.specs.Lists.{below}
+use Rattle.lists.specs.Lists.{below}
 use Rattle.rules.specs.Records.{wordAt, wordBytes}
 use Rattle.rules.specs.Widths.{Word, Bytes}
 use Rattle.rules.proofs.Records.{word-of-bytes, word-fits, bytes-of-word}

@@ -11,7 +11,7 @@ use lib.Signed.{mag, leZ, nonNeg}
 use mir.Syntax.{w32}
 use mir.Val.{toZ, ofZ, Fits, SFits}
 use mir.Facts.{toZ-ofZ}
-use Rattle.rules.specs.Lists.{if_then_else_}
+use Rattle.lists.specs.Lists.{if_then_else_}
 use Rattle.rules.specs.Units.{steps}
 use Rattle.rules.specs.Records.{signedOf, unsignedOf}
 

@@ -8,7 +8,7 @@ use borrow.Author.Tests.{ltb-true, ltb-false}
 use lib.Dec.{ltb}
 use lib.ListN.{length, getD, length-append, length-map, List·getD-append}
 use lib.Seq.{getD-at}
-use Rattle.rules.specs.Lists.{below}
+use Rattle.lists.specs.Lists.{below}
 
 below-length : (n : ℕ) → length (below n) ≡ n
 unfolding below

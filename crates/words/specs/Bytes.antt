@@ -2,7 +2,7 @@
 use Prim.Native.Nat.{ℕ, _+_, _*_, _/_}
 use mathlib.Core.List.{List, [], _∷_, _++_, map}
 use lib.ListN.{length}
-use Rattle.rules.specs.Lists.{below}
+use Rattle.lists.specs.Lists.{below}
 use Rattle.rules.specs.Records.{wordAt, wordBytes}
 
 -- the n words that start at a byte

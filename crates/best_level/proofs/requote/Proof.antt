@@ -10,7 +10,7 @@ use lib.Dec.{leb, eqb}
 use lib.ListN.{length, getD}
 use borrow.Author.Needs.{needs}
 use borrow.Author.Tests.{eqb-true}
-use Rattle.rules.proofs.Lists.{both}
+use Rattle.lists.proofs.Lists.{both}
 use Rattle.best_quote.specs.declared.Level.{Level}
 use Rattle.order_side.specs.declared.Change.{Change}
 use Rattle.order_side.specs.Slots.{keysOf, volumesOf, levelIn, bestKeyIn}

@@ -6,7 +6,7 @@ use mathlib.Core.Path.{_≡_, refl, _∙_}
 use mathlib.Core.Bool.{Bool}
 use lib.Dec.{ltb, eqb}
 use lib.ListN.{length, getD, take}
-use Rattle.rules.specs.Lists.{if_then_else_}
+use Rattle.lists.specs.Lists.{if_then_else_}
 use Rattle.best_quote.specs.Levels.{held, levelAt}
 use Rattle.best_quote.proofs.Loops.{held-next, held-fits, held-all}
 use Rattle.best_quote.proofs.measured.Statement.{statement}

@@ -9,7 +9,7 @@ use borrow.Author.Tests.{le-leb, lt-leb, le-ltb, lt-ltb}
 use lib.Dec.{leb}
 use lib.ListN.{length, getD, take}
 use lib.Seq.{take-length}
-use Rattle.rules.specs.Lists.{filter}
+use Rattle.lists.specs.Lists.{filter}
 use Rattle.price_keys.specs.Keys.{quoteAt}
 use Rattle.best_quote.specs.Levels.{enough, greatest, foundBy, shortBy, depthFrom}
 use Rattle.best_quote.specs.Levels as L

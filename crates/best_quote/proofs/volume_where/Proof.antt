@@ -4,7 +4,7 @@ use native.Mathlib.Omega.{arith}
 use mathlib.Core.Path.{_≡_}
 use mathlib.Core.Bool.{Bool, true, false}
 use mir.Val.{boolByte}
-use Rattle.rules.specs.Lists.{if_then_else_}
+use Rattle.lists.specs.Lists.{if_then_else_}
 use borrow.Author.Needs.{needs}
 use Rattle.best_quote.proofs.volume_where.Statement.{statement}
 use Rattle.best_quote.proofs.volume_where.Tie as tie

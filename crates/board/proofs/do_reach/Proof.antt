@@ -5,7 +5,7 @@ use mathlib.Core.Path.{_≡_, ap, _∙_}
 use mathlib.Core.List.{[]}
 use lib.ListN.{length, take}
 use Rattle.rules.specs.Boards.{reaches}
-use Rattle.rules.specs.Lists.{every}
+use Rattle.lists.specs.Lists.{every}
 use Rattle.board.proofs.Fronts.{every-next, every-none, whole}
 use Rattle.board.proofs.do_reach.Statement.{statement}
 use Rattle.board.proofs.do_reach.Tie as tie

@@ -4,7 +4,7 @@ use native.Mathlib.Omega.{arith}
 use mathlib.Core.Path.{_≡_, sym, ap, _∙_}
 use mathlib.Core.List.{List, [], map}
 use lib.ListN.{length, take, getD}
-use Rattle.rules.specs.Lists.{sum}
+use Rattle.lists.specs.Lists.{sum}
 use Rattle.rules.specs.Boards.{keptOf}
 use Rattle.board.proofs.Fronts.{sum-next, sum-none, whole}
 use Rattle.board.proofs.kept_sum.Statement.{statement}

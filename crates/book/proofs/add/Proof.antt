@@ -5,7 +5,7 @@ use mathlib.Core.Path.{refl, sym, _∙_, subst}
 use lib.ListN.{length, getD}
 use borrow.Author.Needs.{needs}
 use Rattle.rules.specs.Units.{goodPrice, goodVolume}
-use Rattle.rules.proofs.Lists.{both}
+use Rattle.lists.proofs.Lists.{both}
 use Rattle.book.specs.Internal.{addOf}
 use Rattle.order_table.proofs.Table.{side-few, part-sized, part-room}
 use Rattle.book.proofs.Causes.{add-known, add-outside, add-full, add-passes}

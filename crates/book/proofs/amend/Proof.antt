@@ -5,7 +5,7 @@ use borrow.Author.Needs.{needs}
 use Rattle.rules.specs.declared.Order.{Order}
 use Rattle.rules.specs.declared.Event.the-variants.{Amend}
 use Rattle.rules.specs.Units.{goodPrice, goodVolume}
-use Rattle.rules.proofs.Lists.{both}
+use Rattle.lists.proofs.Lists.{both}
 use Rattle.book.specs.Internal.{orderWith}
 use Rattle.book.proofs.Causes.{amend-unknown, amend-outside, amend-passes}
 use Rattle.order_table.proofs.Orders.{stands}

@@ -2,7 +2,7 @@
 use mathlib.Core.Path.{sym, ap, _∙_}
 use mathlib.Core.Bool.{Bool}
 use borrow.Author.Needs.{needs}
-use Rattle.rules.specs.Lists.{if_then_else_}
+use Rattle.lists.specs.Lists.{if_then_else_}
 use Rattle.book.specs.Internal.{keepsBy}
 use Rattle.book.proofs.keeps_after.Statement.{statement}
 use Rattle.book.proofs.keeps_after.Tie as tie

@@ -4,7 +4,7 @@ use native.Mathlib.Omega.{arith}
 use mathlib.Core.Path.{ap, _∙_}
 use lib.Dec.{eqb}
 use lib.ListN.{length-take}
-use Rattle.rules.specs.Lists.{if_then_else_}
+use Rattle.lists.specs.Lists.{if_then_else_}
 use Rattle.words.specs.Bytes.{wordsIn}
 use Rattle.call_blocks.specs.Kinds.{rowAt}
 use Rattle.call_step.proofs.Rows.{handed}

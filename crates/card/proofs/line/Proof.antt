@@ -1,7 +1,7 @@
 -- The three shares are on the card.
 use mathlib.Core.Path.{refl}
 use borrow.Author.Needs.{needs}
-use Rattle.rules.specs.Lists.{any}
+use Rattle.lists.specs.Lists.{any}
 use Rattle.weights.specs.Card.{onCard}
 use Rattle.card.proofs.line.Statement.{statement}
 use Rattle.card.proofs.line.Tie as tie

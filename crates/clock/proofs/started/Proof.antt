@@ -1,6 +1,6 @@
 -- No events: time 0, nothing kept, no quote, no lapse.
 use mathlib.Core.Path.{refl}
-use Rattle.rules.specs.Lists.{countBelow, filter}
+use Rattle.lists.specs.Lists.{countBelow, filter}
 use Rattle.rules.specs.Orders.{live, present, timeFrom, applyAll}
 use Rattle.rules.specs.Kept.{quotesKeep, ordersKeep, keptBelow}
 use Rattle.rules.specs.Stretches.{stretches}

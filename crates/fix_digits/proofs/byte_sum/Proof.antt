@@ -4,7 +4,7 @@ use mathlib.Core.Path.{_≡_, sym, _∙_}
 use borrow.Author.Needs.{needs}
 use native.Mathlib.Omega.{arith}
 use lib.ListN.{length, drop}
-use Rattle.rules.specs.Lists.{sum}
+use Rattle.lists.specs.Lists.{sum}
 use Rattle.fix_digits.proofs.Sums.{sum-again, sum-end}
 use Rattle.fix_digits.proofs.byte_sum.Statement.{statement}
 use Rattle.fix_digits.proofs.byte_sum.Tie as tie

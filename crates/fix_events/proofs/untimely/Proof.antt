@@ -3,7 +3,7 @@ use mathlib.Core.Path.{ap, sym, _∙_}
 use mathlib.Core.Bool.{Bool}
 use borrow.Author.Tests.{not-true, not-false}
 use Rattle.rules.specs.declared.Refusal.the-variants.{NoQuantumOpen}
-use Rattle.rules.specs.Lists.{if_then_else_}
+use Rattle.lists.specs.Lists.{if_then_else_}
 use Rattle.fix_events.specs.Internal.{unchanged}
 use borrow.Author.Needs.{needs}
 use Rattle.fix_events.proofs.untimely.Statement.{statement}

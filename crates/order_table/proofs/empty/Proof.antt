@@ -1,6 +1,6 @@
 -- `book::empty` meets its contract: both sides of no orders are blanks.
 use mathlib.Core.Path.{refl}
-use Rattle.rules.specs.Lists.{filter}
+use Rattle.lists.specs.Lists.{filter}
 use Rattle.best_quote.specs.Levels.{held, levelAt, greatest, bestKey, levelOf}
 use Rattle.order_side.specs.Slots.{column, sideOf, keptIn}
 use Rattle.order_table.specs.Table.{tableOf}

@@ -7,11 +7,11 @@ use borrow.Author.Needs.{needs}
 use lib.ListN.{length, take, getD}
 use lib.Seq.{take-all}
 use Rattle.rules.specs.declared.Cell.{Cell}
-use Rattle.rules.specs.Lists.{sum}
+use Rattle.lists.specs.Lists.{sum}
 use Rattle.rules.specs.Terms.{paper}
 use Rattle.rules.specs.Cells.{blankCell}
 use Rattle.rules.specs.Pay.{earned}
-use Rattle.rules.proofs.Members.{getD-in}
+use Rattle.lists.proofs.Members.{getD-in}
 use Rattle.pay.proofs.Series.{sum-front}
 use Rattle.pay.proofs.earned_in.Statement.{statement}
 use Rattle.pay.proofs.earned_in.Tie as tie

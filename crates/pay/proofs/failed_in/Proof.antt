@@ -3,7 +3,7 @@ use Prim.Native.Nat.{ℕ, _-_, _≤_}
 use mathlib.Core.Path.{_≡_, ap, _∙_}
 use native.Mathlib.Omega.{arith}
 use borrow.Author.Needs.{needs}
-use Rattle.rules.specs.Lists.{below, howMany}
+use Rattle.lists.specs.Lists.{below, howMany}
 use Rattle.rules.specs.Cells.{series}
 use Rattle.rules.specs.Pay.{failures}
 use Rattle.pay.proofs.Series.{failedBefore, failed-next}

@@ -1,7 +1,7 @@
 -- `fee` meets its contract, by the failure counts.
 use mathlib.Core.Path.{_≡_, sym, ap, _∙_}
 use mathlib.Core.Bool.{false}
-use Rattle.rules.specs.Lists.{any}
+use Rattle.lists.specs.Lists.{any}
 use Rattle.rules.specs.Units.{kopecks}
 use Rattle.pay.proofs.Series.{over, fee-none, fee-some}
 use borrow.Author.Needs.{needs}

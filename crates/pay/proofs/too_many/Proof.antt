@@ -7,7 +7,7 @@ use borrow.Author.Needs.{needs}
 use borrow.Author.Tests.{lt-ltb, le-ltb}
 use lib.ListN.{length, take, getD}
 use lib.Seq.{take-all}
-use Rattle.rules.specs.Lists.{any}
+use Rattle.lists.specs.Lists.{any}
 use Rattle.pay.proofs.Series.{over, any-front, any-early}
 use Rattle.pay.proofs.too_many.Statement.{statement}
 use Rattle.pay.proofs.too_many.Tie as tie

@@ -3,7 +3,7 @@ use mathlib.Core.Path.{_≡_, refl}
 use mathlib.Core.Bool.{Bool, true, false}
 use mir.Val.{boolByte}
 use borrow.Author.Needs.{needs}
-use Rattle.rules.specs.Lists.{if_then_else_}
+use Rattle.lists.specs.Lists.{if_then_else_}
 use Rattle.price_keys.specs.Widest.{keysKeep}
 use Rattle.price_keys.proofs.keys_keep.Statement.{statement}
 use Rattle.price_keys.proofs.keys_keep.Tie as tie

@@ -6,7 +6,7 @@ use mathlib.Core.Bool.{Bool, true, false}
 use mir.Val.{boolByte}
 use lib.Dec.{ltb}
 use borrow.Author.Needs.{needs}
-use Rattle.rules.specs.Lists.{if_then_else_}
+use Rattle.lists.specs.Lists.{if_then_else_}
 use Rattle.small_side.proofs.above.Statement.{statement}
 use Rattle.small_side.proofs.above.Tie as tie
 

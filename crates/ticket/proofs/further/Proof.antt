@@ -1,7 +1,7 @@
 -- One more, or as it was.
 use mathlib.Core.Path.{ap, sym, _∙_}
 use mathlib.Core.Bool.{Bool}
-use Rattle.rules.specs.Lists.{if_then_else_}
+use Rattle.lists.specs.Lists.{if_then_else_}
 use Rattle.rules.specs.Changes.{following}
 use borrow.Author.Needs.{needs}
 use Rattle.ticket.proofs.further.Statement.{statement}

@@ -11,7 +11,7 @@ use Rattle.rules.specs.Answers.{accepted, done}
 use Rattle.rules.specs.Calls.{Call, Charge}
 use Rattle.rules.specs.Causes.{goodCharges}
 use Rattle.rules.specs.Changes.{charged}
-use Rattle.rules.proofs.Lists.{and}
+use Rattle.lists.proofs.Lists.{and}
 use Rattle.rules.proofs.Bounds.{cell-small}
 use Rattle.month.specs.declared.Month.{Month}
 use Rattle.month.specs.Represents.{Answered}

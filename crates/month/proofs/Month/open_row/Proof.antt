@@ -7,11 +7,11 @@ use borrow.Author.Tests.{not-true, not-false}
 use Rattle.rules.specs.declared.Answer.the-variants.{Accepted, Refused}
 use Rattle.rules.specs.declared.Cell.{Cell}
 use Rattle.rules.specs.declared.Refusal.the-variants.{ArgumentOutOfRange, CellFilled, QuantumOpen, LapseLimitOutOfRange, StrikesOutOfRange}
-use Rattle.rules.specs.Lists.{within}
+use Rattle.lists.specs.Lists.{within}
 use Rattle.rules.specs.Cells.{goodCell, placeOf, cellAt}
 use Rattle.rules.specs.Calls.{Open}
 use Rattle.rules.specs.Causes.{goodSettlement, goodSpreadRule}
-use Rattle.rules.proofs.Lists.{both}
+use Rattle.lists.proofs.Lists.{both}
 use Rattle.rules.proofs.Bounds.{cell-small}
 use Rattle.month.proofs.Answers.{handed}
 use Rattle.month.proofs.Fields.{row-names}

@@ -7,8 +7,8 @@ use mathlib.Core.Logic.{_⊎_, inl, inr}
 use mathlib.Core.List.{List, [], _∷_, _++_, map, List·Memᴰ, List·Memᴰ·head, List·Memᴰ·tail, List·Memᴰ·not-nil}
 use mathlib.Core.Bool.{Bool, true, false, true≢false, _||_}
 use lib.ListN.{length, getD, set, replicate}
-use Rattle.rules.specs.Lists.{if_then_else_, filter, any}
-use Rattle.rules.proofs.Lists.{kept-in}
+use Rattle.lists.specs.Lists.{if_then_else_, filter, any}
+use Rattle.lists.proofs.Lists.{kept-in}
 
 -- a failed `||` and its halves
 pub or-false : (a b : Bool) → (a || b) ≡ false → (a ≡ false) × (b ≡ false)

@@ -5,7 +5,7 @@ use mathlib.Core.Bool.{Bool, true, false, true≢false, _||_}
 use lib.Dec.{eqb}
 use borrow.Author.Tests.{ne-eqb, eqb-true}
 use native.Mathlib.Omega.{arith}
-use Rattle.rules.specs.Lists.{if_then_else_, countBelow}
+use Rattle.lists.specs.Lists.{if_then_else_, countBelow}
 
 pub count-ext : (p q : ℕ → Bool) (n : ℕ) → ((m : ℕ) → m < n → p m ≡ q m) → countBelow p n ≡ countBelow q n
 unfolding countBelow

@@ -1,0 +1,4 @@
+-- Laws of lists and counts, by subject.
+pub mod Lists
+pub mod Members
+pub mod Counting

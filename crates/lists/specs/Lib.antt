@@ -1,0 +1,2 @@
+-- Words of general use.
+pub mod Lists
