@@ -35,7 +35,7 @@ use Rattle.month.proofs.Asks.{ask-idle, ask-reached, ask-done}
 use Rattle.month.proofs.Words.{month-fits, word-in}
 use Rattle.month.specs.Words.{wordsAfter, HoldsMonth}
 use Rattle.quantum_in_place.specs.Events.{HoldsQuantum, StepsWords}
-use Rattle.month_in_place.specs.Events.{Shows}
+use Rattle.month_in_place.specs.Events.{ShowsMonth}
 use Rattle.month_in_place.proofs.Months.{flag-is, flag-off, flag-on, number-is, o, next, next-sized, quantum-is, sent, went-on}
 use Rattle.month_in_place.proofs.Looks.{shown-of}
 
@@ -54,7 +54,7 @@ previewed ws a count bid ask b k q z e =
 
 -- ---- the ask
 
-pub asks-none : (ws : List ℕ) (a : Amendment) → getD ws 0 0 ≡ 0 → Shows ws (Ask a) (refused 7)
+pub asks-none : (ws : List ℕ) (a : Amendment) → getD ws 0 0 ≡ 0 → ShowsMonth ws (Ask a) (refused 7)
 asks-none ws a h =
     shown-of ws (Ask a) (refused 7) (λ calls is. ask-idle (monthOf (after paper calls)) a (flag-off _ (sym (flag-is ws calls is) ∙ h)))
 
@@ -79,7 +79,7 @@ module _ (ws : List ℕ) (a : Amendment) (h : getD ws 0 0 ≡ 0 → ⊥) (quantu
       let b = event-numbered (p .row) (p .events) (amendOf a) (omega (arith, k, l)) in
       (omega (arith, k, b .0), omega (arith, k, b .1))
 
-  pub asks-refused : (f : Refusal) → 0 < n → numberOf f ≡ n → Shows ws (Ask a) (refused (numberOf f))
+  pub asks-refused : (f : Refusal) → 0 < n → numberOf f ≡ n → ShowsMonth ws (Ask a) (refused (numberOf f))
   asks-refused f l k =
       shown-of ws (Ask a) (refused (numberOf f))
       (λ calls is.
@@ -107,7 +107,7 @@ module _ (ws : List ℕ) (a : Amendment) (h : getD ws 0 0 ≡ 0 → ⊥) (quantu
         }
 
     pub asks-shown : (count : ℕ) (p : Preview) → count ≡ getD ws 4 0 + 4294967296 * getD ws 5 0 → ((q : Quantum) → Sized q → quantum ≡ quantumWords q → Previewed q a count p)
-        → Shows ws (Ask a) (accepted (asked p))
+        → ShowsMonth ws (Ask a) (accepted (asked p))
     asks-shown count p c v =
         shown-of ws (Ask a) (accepted (asked p))
         (λ calls is.

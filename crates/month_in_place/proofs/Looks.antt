@@ -23,12 +23,12 @@ use Rattle.month.specs.Words.{monthWords, wordsAfter, HoldsMonth}
 use Rattle.month.proofs.Fields.{cell-good}
 use Rattle.month.proofs.Calls.{look-range, look-blank, look-done}
 use Rattle.month.proofs.Words.{month-fits, cells-in}
-use Rattle.month_in_place.specs.Events.{Shows}
+use Rattle.month_in_place.specs.Events.{ShowsMonth}
 use Rattle.month_in_place.proofs.Months.{whole}
 
 -- a call that the month answers without a change
 pub shown-of : (ws : List ℕ) (c : Call) (o : Outcome Reply)
-    → ((calls : List Call) → take 2464 ws ≡ wordsAfter calls → Answered (monthOf (after paper calls)) c (monthOf (after paper calls)) o) → Shows ws c o
+    → ((calls : List Call) → take 2464 ws ≡ wordsAfter calls → Answered (monthOf (after paper calls)) c (monthOf (after paper calls)) o) → ShowsMonth ws c o
 shown-of ws c o a =
     record {
       month = λ calls is. whole ws calls is ∙ ap (λ (m : Month). monthWords m ++ drop 2464 ws) (a calls is .month calls refl);
@@ -51,7 +51,7 @@ cell-read ws from k day expiry quantum c e t g n read cells is =
 -- ---- the look
 
 module _ (ws : List ℕ) (day expiry quantum : ℕ) where
-  pub looks-out : goodCell day expiry quantum ≡ false → Shows ws (Look day expiry quantum) (refused 3)
+  pub looks-out : goodCell day expiry quantum ≡ false → ShowsMonth ws (Look day expiry quantum) (refused 3)
   looks-out h = shown-of ws (Look day expiry quantum) (refused 3) (λ calls is. look-range (monthOf (after paper calls)) day expiry quantum h)
 
   module _ (g : goodCell day expiry quantum ≡ true) (c : Cell) (read : (cells : List Cell) → take 1860 (drop 604 ws) ≡ cellsWords cells → c ≡ cellAt cells (placeOf day expiry quantum)) where
@@ -62,12 +62,12 @@ module _ (ws : List ℕ) (day expiry quantum : ℕ) where
     looks-good h f =
         cell-good (monthOf (after paper (h .calls))) (record { calls = h .calls; is = refl }) (placeOf day expiry quantum) (cell-small day expiry quantum g) c (there (h .calls) (h .is)) f
 
-    pub looks-blank : c .filled ≡ false → Shows ws (Look day expiry quantum) (refused 5)
+    pub looks-blank : c .filled ≡ false → ShowsMonth ws (Look day expiry quantum) (refused 5)
     looks-blank f =
         shown-of ws (Look day expiry quantum) (refused 5)
         (λ calls is. look-blank (monthOf (after paper calls)) day expiry quantum g (ap (λ (x : Cell). x .filled) (sym (there calls is)) ∙ f))
 
-    pub looks-found : c .filled ≡ true → (v : CellView) → v ≡ viewOf paper c → Shows ws (Look day expiry quantum) (accepted (cell v))
+    pub looks-found : c .filled ≡ true → (v : CellView) → v ≡ viewOf paper c → ShowsMonth ws (Look day expiry quantum) (accepted (cell v))
     looks-found f v e =
         shown-of ws (Look day expiry quantum) (accepted (cell v))
         (λ calls is. look-done (monthOf (after paper calls)) day expiry quantum g (ap (λ (x : Cell). x .filled) (sym (there calls is)) ∙ f) v (e ∙ ap (viewOf paper) (there calls is)))

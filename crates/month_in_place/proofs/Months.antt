@@ -33,7 +33,7 @@ use Rattle.month.proofs.Fields.{Opened, opened, quantum-reached}
 use Rattle.month.proofs.Calls.{send-idle, send-refusal, send-done}
 use Rattle.month.proofs.Words.{month-fits, headOf, word-in, quantum-in}
 use Rattle.quantum_in_place.specs.Events.{HoldsQuantum, StepsWords}
-use Rattle.month_in_place.specs.Events.{Sends}
+use Rattle.month_in_place.specs.Events.{ChangesMonth}
 
 -- the words with another quantum, and with another count
 abbrev pub stepped : List ℕ → List ℕ → List ℕ
@@ -175,7 +175,7 @@ module _ (ws : List ℕ) (calls : List Call) (is : take 2464 ws ≡ wordsAfter c
 
 -- ---- the three ends
 
-pub send-none : (ws : List ℕ) (e : Event) → getD ws 0 0 ≡ 0 → Sends ws e ws 7
+pub send-none : (ws : List ℕ) (e : Event) → getD ws 0 0 ≡ 0 → ChangesMonth ws (Send e) ws 7
 send-none ws e h =
     record {
       month = λ calls is. kept ws calls is e 7 (refused 7) (idle calls is);
@@ -189,10 +189,10 @@ module _ (ws : List ℕ) (h : getD ws 0 0 ≡ 0 → ⊥) (e : Event) (quantum : 
   on : (calls : List Call) → take 2464 ws ≡ wordsAfter calls → monthOf (after paper calls) .running ≡ true
   on calls is = flag-on _ (λ z. h (flag-is ws calls is ∙ z))
 
-  pub send-stops : 0 < n → Sends ws e (stepped ws quantum) n
+  pub send-stops : 0 < n → ChangesMonth ws (Send e) (stepped ws quantum) n
   send-stops l = go n refl
     where
-      go : (k : ℕ) → n ≡ k → Sends ws e (stepped ws quantum) n
+      go : (k : ℕ) → n ≡ k → ChangesMonth ws (Send e) (stepped ws quantum) n
       go zero k = absurd (omega arith)
       go (suc j) k =
           record {
@@ -203,7 +203,7 @@ module _ (ws : List ℕ) (h : getD ws 0 0 ≡ 0 → ⊥) (e : Event) (quantum : 
   pub send-goes : n ≤ 0 → (count : List ℕ)
       → count ≡ low (following (getD (take 2 (drop 4 (stepped ws quantum))) 0 0 + 4294967296 * getD (take 2 (drop 4 (stepped ws quantum))) 1 0))
       ∷ high (following (getD (take 2 (drop 4 (stepped ws quantum))) 0 0 + 4294967296 * getD (take 2 (drop 4 (stepped ws quantum))) 1 0)) ∷ []
-      → Sends ws e (counting (stepped ws quantum) count) 0
+      → ChangesMonth ws (Send e) (counting (stepped ws quantum) count) 0
   send-goes l count c =
       let z : n ≡ 0 = omega arith in
       record {

@@ -10,7 +10,7 @@ ghost use Rattle.rules.specs.declared.Event.{Event};
 ghost use Rattle.rules.specs.declared.Cell.{Cell};
 ghost use Rattle.rules.specs.Cells.{goodCell, placeOf, cellAt};
 ghost use Rattle.rules.specs.Answers.{refused, shownLooked, shownAsked};
-ghost use Rattle.rules.specs.Calls.{Look, Ask, amendOf};
+ghost use Rattle.rules.specs.Calls.{Send, Look, Ask, amendOf};
 ghost use Rattle.rules.specs.Changes.{following};
 ghost use Rattle.lent.specs.Words.{low, high, cellsWords};
 ghost use Rattle.record.specs.Fields.{fieldsFor};
@@ -20,7 +20,7 @@ ghost use Rattle.month.specs.Internal.{Previewed};
 ghost use Rattle.month.specs.Words.{HoldsMonth};
 ghost use Rattle.quantum_in_place.specs.Events.{HoldsQuantum, SaysEvent};
 ghost use Rattle.month_in_place.specs.Entry.{mayBeMonth};
-ghost use Rattle.month_in_place.specs.Events.{Sends, Shows};
+ghost use Rattle.month_in_place.specs.Events.{ChangesMonth, ShowsMonth};
 use record::Fields;
 use rules::Amendment;
 use rules::Asked;
@@ -69,7 +69,7 @@ fn count_on(words: &mut [u32])
 // An event, by its fields, on the words of a month: the refusal's number, or 0. A refusal leaves the hints.
 pub fn send(words: &mut [u32], hints: &mut [u8], f: Fields) -> u32
     requires { ⌜ HoldsMonth (now words) × (2464 ≤ length (now words)) × (length (now hints) ≡ 2048) × SaysEvent f ⌝ }
-    ensures { λ r. ⌜ ((e : Event) → f ≡ fieldsFor e → Sends (now (words .entry)) e (now (words .exit)) r) × (0 < r → now (hints .exit) ≡ now (hints .entry)) ⌝ }
+    ensures { λ r. ⌜ ((e : Event) → f ≡ fieldsFor e → ChangesMonth (now (words .entry)) (Send e) (now (words .exit)) r) × (0 < r → now (hints .exit) ≡ now (hints .entry)) ⌝ }
 {
     if words[0] == 0 {
         return 7;
@@ -103,7 +103,7 @@ fn cell_named(words: &[u32], day: u32, expiry: u32, quantum: u32) -> Cell
 // A look: the cell with verdict and weight. The words are as they were.
 pub fn look(words: &[u32], day: u32, expiry: u32, quantum: u32) -> Looked
     requires { ⌜ HoldsMonth (now words) × (2464 ≤ length (now words)) ⌝ }
-    ensures { λ r. ⌜ Shows (now (words .entry)) (Look day expiry quantum) (shownLooked r) ⌝ }
+    ensures { λ r. ⌜ ShowsMonth (now (words .entry)) (Look day expiry quantum) (shownLooked r) ⌝ }
 {
     if !ranges::cell(day, expiry, quantum) {
         return Looked::Refused(Refusal::ArgumentOutOfRange);
@@ -152,7 +152,7 @@ fn preview(words: &[u32], a: Amendment, count: u64) -> Preview
 // too.
 pub fn ask(words: &[u32], hints: &mut [u8], a: Amendment) -> Asked
     requires { ⌜ HoldsMonth (now words) × (2464 ≤ length (now words)) × (length (now hints) ≡ 2048) ⌝ }
-    ensures { λ r. ⌜ Shows (now (words .entry)) (Ask a) (shownAsked r) × ((n : ℕ) → shownAsked r ≡ refused n → now (hints .exit) ≡ now (hints .entry)) ⌝ }
+    ensures { λ r. ⌜ ShowsMonth (now (words .entry)) (Ask a) (shownAsked r) × ((n : ℕ) → shownAsked r ≡ refused n → now (hints .exit) ≡ now (hints .entry)) ⌝ }
 {
     if words[0] == 0 {
         return Asked::Refused(Refusal::NoQuantumOpen);

@@ -14,7 +14,7 @@ use Rattle.rules.specs.Terms.{paper}
 use Rattle.rules.specs.Units.{millis, contracts}
 use Rattle.rules.specs.Answers.{Outcome, Reply, refused, accepted, done}
 use Rattle.rules.specs.Records.{addKind}
-use Rattle.rules.specs.Calls.{Call}
+use Rattle.rules.specs.Calls.{Call, Send}
 use Rattle.rules.specs.Book.{after, answerOf}
 use Rattle.lists.proofs.Lists.{both}
 use Rattle.words.specs.Bytes.{wordsIn}
@@ -25,7 +25,7 @@ use Rattle.call_blocks.specs.Kinds.{word, due, dueAt, addDue, stepsAt, sideOf, 
 use Rattle.answer_words.specs.Words.{answerWords}
 use Rattle.month.specs.Words.{wordsAfter}
 use Rattle.quantum_in_place.specs.Events.{SaysEvent}
-use Rattle.month_in_place.specs.Events.{Sends, Shows}
+use Rattle.month_in_place.specs.Events.{ChangesMonth, ShowsMonth}
 use Rattle.month_words.specs.Calling.{isCall, Performs}
 use Rattle.month_words.specs.Internal.{addIn, amendIn, cancelIn, dealIn, tickIn, SaysAdd, SaysBlock, SendsShown, ShowsWords}
 
@@ -141,11 +141,11 @@ add-said ws side t id volume price s a b c d h =
 
 -- ---- what becomes of it
 
-pub shown-refused : (ws : List ℕ) (e : Event) (ws′ out : List ℕ) (n : ℕ) → 0 < n → Sends ws e ws′ n → out ≡ answerWords (refused n) → SendsShown ws e ws′ out
+pub shown-refused : (ws : List ℕ) (e : Event) (ws′ out : List ℕ) (n : ℕ) → 0 < n → ChangesMonth ws (Send e) ws′ n → out ≡ answerWords (refused n) → SendsShown ws e ws′ out
 shown-refused ws e ws′ out zero h s a = absurd (omega arith)
 shown-refused ws e ws′ out (suc n) h s a = record { month = s .month; answer = λ calls is. a ∙ ap answerWords (s .answer calls is) }
 
-pub shown-accepted : (ws : List ℕ) (e : Event) (ws′ out : List ℕ) (n : ℕ) → n ≤ 0 → Sends ws e ws′ n → out ≡ answerWords (accepted done) → SendsShown ws e ws′ out
+pub shown-accepted : (ws : List ℕ) (e : Event) (ws′ out : List ℕ) (n : ℕ) → n ≤ 0 → ChangesMonth ws (Send e) ws′ n → out ≡ answerWords (accepted done) → SendsShown ws e ws′ out
 shown-accepted ws e ws′ out zero h s a = record { month = s .month; answer = λ calls is. a ∙ ap answerWords (s .answer calls is) }
 shown-accepted ws e ws′ out (suc n) h s a = absurd (omega arith)
 
@@ -163,7 +163,7 @@ event-performs ws out bytes ws′ out′ f s d =
 
 -- ---- a call that changes nothing
 
-pub shows-words : (ws : List ℕ) (c : Call) (o : Outcome Reply) (out : List ℕ) → Shows ws c o → out ≡ answerWords o → ShowsWords ws c out
+pub shows-words : (ws : List ℕ) (c : Call) (o : Outcome Reply) (out : List ℕ) → ShowsMonth ws c o → out ≡ answerWords o → ShowsWords ws c out
 shows-words ws c o out s a = record { month = s .month; answer = λ calls is. a ∙ ap answerWords (s .answer calls is) }
 
 pub shows-performs : (ws out bytes out′ : List ℕ) (c : Call) → c ≡ callOf (wordsIn bytes) → ShowsWords ws c out′ → Performs ws out bytes ws (out′ ++ drop 20 out)

@@ -13,7 +13,7 @@ use Rattle.rules.specs.Calls.{Call, Send, Ask}
 use Rattle.rules.proofs.Answers.{refused-by}
 use Rattle.words.specs.Bytes.{wordsIn}
 use Rattle.call_blocks.specs.Kinds.{callOf}
-use Rattle.month_in_place.specs.Events.{Sends, Shows}
+use Rattle.month_in_place.specs.Events.{ChangesMonth, ShowsMonth}
 use Rattle.month_words.specs.Calling.{LeavesHints}
 use Rattle.month_words.specs.Internal.{LeavesLent}
 
@@ -25,7 +25,7 @@ module _ (ws : List ℕ) where
   untouched c hints = record { refusal = λ calls is n e. refl; others = λ e. refl }
 
   -- an event, by its number
-  pub send-leaves : (e : Event) (ws′ : List ℕ) (n : ℕ) (hints hints′ : List ℕ) → Sends ws e ws′ n → (0 < n → hints′ ≡ hints) → LeavesLent ws (Send e) hints hints′
+  pub send-leaves : (e : Event) (ws′ : List ℕ) (n : ℕ) (hints hints′ : List ℕ) → ChangesMonth ws (Send e) ws′ n → (0 < n → hints′ ≡ hints) → LeavesLent ws (Send e) hints hints′
   send-leaves e ws′ n hints hints′ s kept =
       record {
         refusal = λ calls is k r.
@@ -35,7 +35,7 @@ module _ (ws : List ℕ) where
       }
 
   -- an ask, by what it shows
-  pub ask-leaves : (a : Amendment) (o : Outcome Reply) (hints hints′ : List ℕ) → Shows ws (Ask a) o → ((n : ℕ) → o ≡ refused n → hints′ ≡ hints)
+  pub ask-leaves : (a : Amendment) (o : Outcome Reply) (hints hints′ : List ℕ) → ShowsMonth ws (Ask a) o → ((n : ℕ) → o ≡ refused n → hints′ ≡ hints)
       → LeavesLent ws (Ask a) hints hints′
   ask-leaves a o hints hints′ s kept = record { refusal = λ calls is n r. kept n (s .answer calls is ∙ r); others = λ r. absurd (true≢false r) }
 
