@@ -68,6 +68,10 @@ class Desk:
         assert made is not None
         return made
 
+    def charges_of(self, planned: Planned) -> Optional[Charges]:
+        """The charges of a quantum; None where the file has no line for it."""
+        return self.charges.get((planned.date, planned.contract.symbol, planned.quantum))
+
     def plan(self) -> list[Planned]:
         """The month's quanta, sorted by date, instrument, expiry and quantum."""
         return list(self._planned)
