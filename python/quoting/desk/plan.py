@@ -15,8 +15,8 @@ from quoting.desk.contracts import Contract
 from quoting.desk.faults import Faults
 from quoting.desk.programme import Hours, Instrument
 from quoting.native import Refused
-from quoting.plain import choose_row, ease, sigma, volatile_day
-from quoting.rules import Row
+from quoting.calculations import choose_row, ease, sigma, volatile_day
+from quoting.rows import Row
 
 if TYPE_CHECKING:
     from quoting.desk.desks import Desk

@@ -6,7 +6,7 @@ from typing import Any, Sequence
 from quoting.desk.desks import Desk
 from quoting.desk.plan import Planned, Symbol
 from quoting.native import Refused
-from quoting.plain import sigma
+from quoting.calculations import sigma
 from quoting.settling import csv_line
 from quoting.values import share_text
 

@@ -14,7 +14,7 @@ from quoting.desk.fields import Fields
 from quoting.month_words import ROW_SPANS
 from quoting.months import Month
 from quoting.native import Refused
-from quoting.rules import Row
+from quoting.rows import Row
 from quoting.values import Tenths
 
 HOURS = re.compile(r"([0-9]{2}):([0-9]{2})(?::([0-9]{2}))?-([0-9]{2}):([0-9]{2})(?::([0-9]{2}))?")
