@@ -10,6 +10,7 @@ from typing import Any, Optional, Sequence
 from quoting import calls as c
 from quoting import native
 from quoting.answers import WORDS
+from quoting.cells import Place
 from quoting.desk.lists import Charges
 from quoting.desk.plan import Planned
 from quoting.events import SIZE, event_of, split
@@ -84,8 +85,13 @@ class Work:
         return c.block(self.opened) + blocks_of(self.carried + self.events) + c.block(self.closed)
 
     @property
+    def cell(self) -> Place:
+        """Its place in the month: day, expiry and quantum."""
+        return self.planned.date.day, self.planned.contract.expiry, self.planned.quantum
+
+    @property
     def look(self) -> bytes:
-        return c.block(c.Look(self.planned.date.day, self.planned.contract.expiry, self.planned.quantum))
+        return c.block(c.Look(*self.cell))
 
     def place_of(self, index: int) -> str:
         """Where a call of the quantum, counted from 0, comes from."""

@@ -10,15 +10,14 @@ from collections import Counter
 from dataclasses import dataclass, field
 from typing import Iterator, Optional, Sequence
 
-from quoting import calls as c
-from quoting.answers import WORDS, Cell, MonthReport, answer_of
+from quoting.answers import WORDS, Cell, MonthReport, answer_of, line
+from quoting.cells import CELLS, SHOW_ALL
 from quoting.desk.desks import Desk
 from quoting.desk.plan import Planned
 from quoting.desk.quanta import Work, answers_of, deals_of
 from quoting.events import SIZE
 from quoting.native import Refused
 
-REPORT = c.block(c.Report())
 
 
 @dataclass(frozen=True)
@@ -76,7 +75,19 @@ class InstrumentMonth:
 
     @property
     def calls(self) -> bytes:
-        return b"".join(work.blocks for work in self.works)
+        """The month's list of calls: its quanta, then a look at each of its cells and a report."""
+        return b"".join([*(work.blocks for work in self.works), *(work.look for work in self.works), SHOW_ALL[-1]])
+
+    @property
+    def calls_shown(self) -> bytes:
+        """The month's quanta, then a look at every cell and a report: what both readings answer."""
+        return b"".join([*(work.blocks for work in self.works), *SHOW_ALL])
+
+    def answers(self) -> list[str]:
+        """The proved month's answers to `calls_shown`, as `replay` prints them."""
+        words = answers_of(self.calls_shown, self.size + len(SHOW_ALL))
+        kinds = words[::WORDS]
+        return ["accepted" if kind == 0 else line(answer_of(words[WORDS * at : WORDS * (at + 1)])) for at, kind in enumerate(kinds)]
 
     @property
     def size(self) -> int:
@@ -112,14 +123,14 @@ class Settlement:
 def month_of(instrument: str, works: list[Work]) -> InstrumentMonth:
     """The month of an instrument's quanta, by one run of the library over its calls."""
     size = sum(work.size for work in works)
-    calls = b"".join([*(work.blocks for work in works), *(work.look for work in works), REPORT])
-    words = answers_of(calls, size + len(works) + 1)
+    words = answers_of(b"".join([*(work.blocks for work in works), *SHOW_ALL]), size + len(SHOW_ALL))
     refusals = refused_in(words, works)
     cells: list[Settled] = []
     wrong: list[Remark] = []
-    for at, work in enumerate(works, start=size):
+    for place, work in enumerate(works):
+        at = size + CELLS.index(work.cell)
         cell = answer_of(words[WORDS * at : WORDS * (at + 1)])
-        found = refusals.get(at - size, [])
+        found = refusals.get(place, [])
         wrong += remarks_of(work, found)
         if isinstance(cell, Cell):
             cells.append(Settled(work.planned, cell, len(work.carried) // SIZE, len(work.events) // SIZE, *deals_of(work.events), len(found)))
