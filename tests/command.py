@@ -6,7 +6,7 @@ import sys
 from collections import namedtuple
 from contextlib import redirect_stderr, redirect_stdout
 
-from quoting import volatiles
+from quoting import volatility
 from quoting.cli import main
 
 Done = namedtuple("Done", "status printed complaint")
@@ -45,4 +45,4 @@ def restore_sigint() -> None:
 
 def prices(path):
     """The days of a file of prices."""
-    return [(day.name, day.price) for day in volatiles.read(path.read_text())]
+    return [(day.name, day.price) for day in volatility.read(path.read_text())]

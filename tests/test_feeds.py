@@ -12,11 +12,10 @@ from pathlib import Path
 import pytest
 
 from quoting import calls as c
-from quoting import fix, inputs, reading
+from quoting import fix, inputs, month_sources, reading
 from quoting.events import Tick
 from quoting.reading import PLAIN, Options, TextError
-from quoting.statement import sources
-from quoting.statement.sources import Sent
+from quoting.month_sources import Sent
 from quoting.watch import feeds, messages
 from quoting.watch.clocks import FeedClock, WallClock
 from quoting.watch.feeds import CallsFeed, Changed, Trouble
@@ -71,12 +70,12 @@ class Steps:
 def test_finished_lists(tmp_path):
     """A finished file, text or bytes, gives the statement's calls; a last line without an end is read."""
     for path in sorted(EXAMPLES.glob("*.calls")):
-        due = sources.from_list(str(path), PLAIN).calls
+        due = month_sources.from_list(str(path), PLAIN).calls
         feed = CallsFeed(str(path), PLAIN, False)
         assert drained(feed) == due and feed.ended == "end" and feed.count == path.stat().st_size, path
         packed = Steps(tmp_path, "packed", b"".join(sent.block for sent in due))
         feed = packed.feed(False)
-        assert drained(feed) == sources.from_list(str(packed.path), PLAIN).calls and feed.ended == "end", path
+        assert drained(feed) == month_sources.from_list(str(packed.path), PLAIN).calls and feed.ended == "end", path
     for data in ("tick 1\nreport", "r", "", "\n"):
         feed = Steps(tmp_path, "short", data.encode()).feed(False)
         due = {"r": ["line 1"], "tick 1\nreport": ["line 1", "line 2"]}.get(data, [])
@@ -86,7 +85,7 @@ def test_finished_lists(tmp_path):
 def test_byte_by_byte(tmp_path):
     """Byte by byte: each line is read as soon as its end has come, whatever the ends are, and not before."""
     text = "\ufefftick 1\r\ntick 2\rtick 3\n\r\n\r\rtick 8 # \u2028 x\r\n\n# no call\ntick 11\r"
-    due = sources.from_list(str(Steps(tmp_path, "whole", text.encode()).path), PLAIN).calls
+    due = month_sources.from_list(str(Steps(tmp_path, "whole", text.encode()).path), PLAIN).calls
     assert len(due) == 5
     grown = Steps(tmp_path)
     feed, found, seen = grown.feed(), [], []
@@ -153,7 +152,7 @@ def test_starts(tmp_path):
     at = "20261102-10:00:00.000"
     text = f"start {at} BR\n# x\n{OPEN}\nstart {at}\nreport\nstart\nstart {at}\nstart 20261102-11:00:00.000\n{OPEN}\n{OPEN}\nstart {at} B\n"
     found = drained(Steps(tmp_path, data=text.encode()).feed(False))
-    wrong = [(f"line {line}", sources.PLACED_BEFORE) for line in (4, 6, 7, 11)]
+    wrong = [(f"line {line}", month_sources.PLACED_BEFORE) for line in (4, 6, 7, 11)]
     assert shown(found) == ["line 3", wrong[0], "line 5", wrong[1], wrong[2], "line 9", "line 10", wrong[3]], shown(found)
     assert [item.start for item in found if isinstance(item, Sent)] == [at, None, "20261102-11:00:00.000", None]
     strike = f"start {at}\nstrike {ROW} day 1 a 2 difference 3 days 4 b 5\n"
@@ -547,7 +546,7 @@ def test_months():
     """A finished month gives exactly the statement's calls."""
     for name in ("brent", "gold-mini"):
         calls, log = programme(name)
-        due = sources.from_list(calls, PLAIN, [log])
+        due = month_sources.from_list(calls, PLAIN, [log])
         feed = MessagesFeed(log, calls, PLAIN, None, FeedClock(), False)
         found = drained(feed)
         assert sent_of(found) == due.calls and feed.ended == "end" and feed.skipped == 0, name
@@ -560,7 +559,7 @@ def test_growing_months(tmp_path):
     rng = random.Random(3)
     for name in ("brent", "gold-mini"):
         calls, log = programme(name)
-        due = sources.from_list(calls, PLAIN, [log]).calls
+        due = month_sources.from_list(calls, PLAIN, [log]).calls
         month = Month(tmp_path, Path(calls).read_text())
         data, place, found = Path(log).read_bytes(), 0, []
         while place < len(data):
@@ -592,7 +591,7 @@ def test_any_months(tmp_path):
         sent = [message(id, time, rng.choice("AB")) for id, time in enumerate(times)]
         log = b"".join(each.replace(b"\x01", rng.choice([b"|", b"\x01"])) + rng.choice([b"\n", b"\r\n", b" "]) for each in sent)
         month = Month(tmp_path, calls, log + b"8=FIX.4.4|35=0|10=000|\n", follow=False)
-        due = sources.from_list(str(month.list), PLAIN, [str(month.log)])
+        due = month_sources.from_list(str(month.list), PLAIN, [str(month.log)])
         found, in_no_quantum = drained(month.feed), len(due.left) - 1
         assert sent_of(found) == due.calls and due.left[-1].endswith("refused 20: 9, the length, does not follow 8"), due.left[-1]
         assert month.feed.skipped == in_no_quantum and month.feed.ended == "end"
@@ -614,7 +613,7 @@ def test_times():
         text = f"{day}-{rng.randrange(26):02}:{rng.randrange(62):02}:{rng.randrange(62):02}.{rng.randrange(1000):03}"
         text = text[: rng.choice([21, 21, 21, 17])] + rng.choice(["", "", "", "0", "\xb2"])
         data = f"35=D\x0160={text}\x0160=20261102-10:00:00.000\x01".encode("latin-1")
-        assert messages.time_of(data) == sources.time_of(data), data
+        assert messages.time_of(data) == month_sources.time_of(data), data
         read += messages.time_of(data) is not None
     assert 100 < read < 400, read
     assert messages.time_of(b"\x0135=D\x01") is None
@@ -857,7 +856,7 @@ def test_playing_clock(tmp_path):
 def test_played_months():
     """A month with messages comes whole and in order, each message at its time; the same at any steps."""
     calls, log = programme("brent")
-    due = [sent.place for sent in sources.from_list(calls, PLAIN, [log]).calls]
+    due = [sent.place for sent in month_sources.from_list(calls, PLAIN, [log]).calls]
     for step in (0.25, 3.0):
         found, _ = played(MessagesFeed(log, calls, PLAIN, None, FeedClock(), False), 3_600, step)
         assert [place for _, items in found for place in items if isinstance(place, str)] == due, step

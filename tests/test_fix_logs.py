@@ -9,11 +9,10 @@ import time
 
 import pytest
 
-from quoting import fix, logs, scanning
+from quoting import fix, logs, month_sources, scanning
 from quoting.reading import PLAIN, TextError
 from quoting.scanning import Found, Rejected, Scanner
 from quoting.selection import Owner
-from quoting.statement import sources
 from quoting.watch import frames
 from quoting.watch.clocks import FeedClock
 from quoting.watch.feeds import Trouble
@@ -257,7 +256,7 @@ def test_item_2_a_statement_of_one_symbol(tmp_path):
     chosen = command.run("statement", *files(tmp_path, month_of("BR"), log_of(mine, its)), "--account", "A7")
     assert chosen.status == 0 and "Messages of other accounts were skipped: BR B2 (1 message)." in chosen.printed, chosen.complaint
     with pytest.raises(TextError):
-        sources.from_list(str(tmp_path / "month"), PLAIN, [str(tmp_path / "log")])
+        month_sources.from_list(str(tmp_path / "month"), PLAIN, [str(tmp_path / "log")])
 
 
 def test_item_2_the_live_page_takes_one_symbol(tmp_path):
@@ -440,6 +439,6 @@ def test_random_logs_end_well(tmp_path):
         given = files(tmp_path, month_of("BR"), log)
         made = command.run("statement", *given)
         assert made.printed and "Traceback" not in made.complaint and made.status >= bool(rejected), made.complaint
-        listed = sources.from_list(given[0], PLAIN, given[2:])
+        listed = month_sources.from_list(given[0], PLAIN, given[2:])
         meter, _ = watched(tmp_path, month_of("BR"), log)
         assert meter.calls == len(listed.calls) and meter.reports.counts == listed.reports.counts, log

@@ -15,8 +15,9 @@ from quoting.events import Add, Amend, Cancel
 from quoting.months import Month
 from quoting.native import Refused
 from quoting.reading import Options
-from quoting.statement.sources import Sent, from_list
+from quoting.month_sources import Sent, from_list
 from quoting.watch import frames
+from quoting.states import State
 from quoting.watch.course import NEWEST, Course
 from quoting.watch.feeds import Trouble
 from quoting.watch.meter import Meter
@@ -27,7 +28,7 @@ from tests.paths import EXAMPLES, PROGRAMMES
 
 pytestmark = pytest.mark.usefixtures("library")
 
-KEYS = ["kept", "nobid", "noask", "neither", "crossed", "wide"]
+KEYS = ["kept", "no-bid", "no-ask", "neither", "crossed", "wide"]
 WORDS = ["kept", "no bid", "no ask", "neither quote", "locked or crossed", "too wide"]
 SERIES = [(expiry, quantum) for expiry in (1, 2) for quantum in (0, 1, 2)]
 ROW = "1 1 8:45:00 1000 150 3 60%"
@@ -259,7 +260,7 @@ class Pair:
         if at:
             self.compare_course(found, day, ahead.quoting, at, last)
         view = theirs.view()
-        assert found["state"]["key"] == KEYS[accounts.STATES.index(view.state)]
+        assert found["state"]["key"] == KEYS[view.state]
         shown = [(int(each["id"]), each["side"], each["price"], each["volume"]) for each in found["open"]["orders"]]
         assert shown == [(each.id, each.side, str(each.price), f"{each.volume:,}") for each in view.orders]
         assert [tuple(each)[0] for each in shown] == list(ahead.quoting.live)
@@ -480,12 +481,12 @@ def test_lists(note):
 def plain_course(notes, length, width, now):
     """Parts up to the last note, and stretches, times and lapses up to now, from a list of every millisecond."""
     at, held = 0, []
-    standing = (3, None, None)
+    shown = (3, None, None)
     for t in range(now):
         while at < len(notes) and notes[at][0] <= t:
-            standing = notes[at][1:]
+            shown = notes[at][1:]
             at += 1
-        held.append(standing)
+        held.append(shown)
     last, parts = notes[-1][0] if notes else 0, []
     for first in range(0, last, width):
         inside = held[first : min(first + width, last)]
@@ -497,7 +498,7 @@ def plain_course(notes, length, width, now):
     stretches, start = [], 0
     for state, group in groupby(held, key=lambda each: each[0]):
         size = len(list(group))
-        stretches.append((start, start + size, state))
+        stretches.append((start, size, state))
         start += size
     lapses = sum(1 for is_lost, _ in groupby(held, key=lambda each: each[0] != 0) if is_lost)
     totals = tuple(sum(each[0] == state for each in held) for state in range(6))
@@ -508,7 +509,7 @@ def any_notes(rng, length):
     notes, t = [], 0
     for _ in range(rng.choice([0, 1, 5, 40, 300])):
         t = min(length, t + rng.choice([0, 0, 1, 1, 2, rng.randrange(60), rng.randrange(length // 3)]))
-        state = rng.randrange(6)
+        state = State(rng.randrange(6))
         notes.append((t, state, None if state in (1, 3) else rng.randrange(90, 99), None if state in (2, 3) else rng.randrange(100, 109)))
     return notes
 
@@ -676,7 +677,7 @@ def spoil(course, name):
     elif name == "lapses":
         course._lapses += 1
     elif name == "state":
-        course.state = 5
+        course.state = State.WIDE
     else:
         course._totals[4] += 1
 

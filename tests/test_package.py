@@ -16,7 +16,7 @@ import numpy
 import pytest
 
 import quoting
-from quoting import Add, Amend, Cancel, Deal, Refused, Row, Rule, Tenths, Tick, accounts, events, fix, inputs, native, refusals, standings, texts
+from quoting import Add, Amend, Cancel, Deal, Refused, Row, Rule, State, Tenths, Tick, events, fix, inputs, native, refusals, standings, texts
 from quoting.answers import line
 from recount import game, programs, records, standing, strikes, volatile
 from recount import account as recount_account
@@ -212,11 +212,11 @@ def test_accounts():
             assert due == run.Stopped(refused.number, refused.place), (head, data, strike)
             continue
         assert list(found.totals.values()) == list(due.times), (head, data, strike)
-        assert [(each.offset, each.length, accounts.STATES.index(each.state)) for each in found.stretches] == list(due.stretches)
+        assert [tuple(each) for each in found.stretches] == list(due.stretches)
         if strike is None:
-            assert [(each.offset, each.length) for each in found.stretches if each.state == "kept"] == quoting.session(head, data).pairs
+            assert [(each.offset, each.length) for each in found.stretches if each.state == State.KEPT] == quoting.session(head, data).pairs
         seen.update(each.state for each in found.stretches)
-    assert seen == set(accounts.STATES), seen
+    assert seen == set(State) and [state.word for state in State] == list(recount_account.STATES), seen
 
 
 # ---------------------------------------------------------------- months
@@ -252,13 +252,13 @@ def due_view(quoted):
     spread = quoting.Strike(*quoted.sp) if isinstance(quoted.sp, tuple) else quoted.sp
     sides = {1: "buy", 2: "sell"}
     orders = tuple(quoting.LiveOrder(id, sides[order.side], order.price, order.volume) for id, order in quoted.live.items())
-    state = recount_account.STATES[recount_account.state(quoted.row, quoted.sp, quoted.live)]
+    state = State(recount_account.state(quoted.row, quoted.sp, quoted.live))
     limit = None if quoted.limit == NO_LIMIT else quoted.limit
     return quoting.View(quoted.day, row, spread, limit, widest(quoted.row, quoted.sp), state, orders)
 
 
 def test_views():
-    """After every call of a list, what stands is the recount's."""
+    """After every call of a list, the view is the recount's."""
     rng = random.Random(7)
     shown = set()
     for make in (months.any_calls, message_lists.any_calls):
@@ -271,7 +271,7 @@ def test_views():
                     view = month.view()
                     assert view == due_view(book.quoting), (view, due_view(book.quoting))
                     shown.add(view and view.state)
-    assert shown >= {None, *recount_account.STATES}, shown
+    assert shown >= {None, *State}, shown
 
 
 def test_month_methods():

@@ -17,7 +17,7 @@ import pytest
 import quoting
 from quoting import inputs, reading, texts
 from quoting.events import SIZE
-from quoting.rules import HEAD
+from quoting.rows import HEAD
 from tests import command
 from tests.paths import EXAMPLES, QUOTING
 

@@ -16,8 +16,8 @@ from io import BytesIO, TextIOWrapper
 
 import pytest
 
-from quoting import clusters, parts, rules, settling
-from quoting.settling import Manner, Outcome, Settled
+from quoting import clusters, parts, rows, settling
+from quoting.settling import Outcome, ReadOptions, Settled
 from tests.paths import QUOTING
 from quoting.cli import main
 from tests import test_settle
@@ -138,7 +138,7 @@ HOLD = """
 import sys
 from pathlib import Path
 from quoting import parts, settling
-table = parts.Table(Path("on.csv"), ["day/0.csv"], settling.Manner())
+table = parts.Table(Path("on.csv"), ["day/0.csv"], settling.ReadOptions())
 print("locked", flush=True)
 sys.stdin.read()
 """
@@ -189,7 +189,7 @@ def test_the_table_is_synced_before_it_is_renamed(here, monkeypatch):
     done, sync, replace = [], os.fsync, os.replace
     monkeypatch.setattr(os, "fsync", lambda handle: (done.append(("sync", os.fstat(handle).st_ino)), sync(handle)))
     monkeypatch.setattr(os, "replace", lambda old, new: (done.append(("rename", os.stat(old).st_ino)), replace(old, new)))
-    table = parts.Table(here / "on.csv", ["day/0.csv"], Manner())
+    table = parts.Table(here / "on.csv", ["day/0.csv"], ReadOptions())
     table.write(settling.settle("day/0.csv"))
     table.finish()
     table.close()
@@ -321,9 +321,9 @@ def test_a_damaged_part_file_never_gives_a_traceback_or_a_wrong_table(here, monk
     """A fuzz run: bytes changed, lines lost, doubled and cut."""
     monkeypatch.chdir(here)
     names, rng = settling.names_in("day"), random.Random(7)
-    manner = Manner(head=rules.HEAD.pack(1, 1, 600_000, 500, 100, 3, 600, 2_000))
-    whole = {name: settling.settle(name, manner) for name in names}
-    table = parts.Table(here / "on.csv", names, manner)
+    read_options = ReadOptions(head=rows.HEAD.pack(1, 1, 600_000, 500, 100, 3, 600, 2_000))
+    whole = {name: settling.settle(name, read_options) for name in names}
+    table = parts.Table(here / "on.csv", names, read_options)
     for name in names[:5]:
         table.write(whole[name])
     table.close()
@@ -334,7 +334,7 @@ def test_a_damaged_part_file_never_gives_a_traceback_or_a_wrong_table(here, monk
             data[rng.randrange(len(data))] = rng.choice(b'\x00\n"{[,}x0123456789\xff')
         (here / "on.csv.part").write_bytes(data[: rng.choice((len(data), rng.randrange(1, len(data))))])
         try:
-            table = parts.Table(here / "on.csv", names, manner, resume=True)
+            table = parts.Table(here / "on.csv", names, read_options, resume=True)
         except parts.PartError:
             refused += 1
             continue
@@ -383,7 +383,7 @@ class Client:
     def scheduler_info(self):
         return {"workers": dict.fromkeys(range(self.workers))}
 
-    def submit(self, work, names, manner, pure):
+    def submit(self, work, names, read_options, pure):
         assert not pure
         made = Future(self.error or [Outcome(Settled(name, "settled", "1", "2"), (1, 2, 3)) for name in names])
         if any("killer" in name for name in names):
@@ -395,7 +395,7 @@ class Client:
 
 def test_a_session_that_ends_its_workers_is_the_only_row_that_says_so(monkeypatch):
     names = [f"{at:02}" + ("killer" if at in (20, 77) else "") for at in range(90)]
-    found = list(clusters.Cluster(Client(), 5, print).rows(names, Manner()))
+    found = list(clusters.Cluster(Client(), 5, print).rows(names, ReadOptions()))
     assert [each.row.file for each in found] == names
     bad = [each.row for each in found if each.row.status != "settled"]
     assert [row.file for row in bad] == ["20killer", "77killer"] and bad[0].reason == "each worker that settled it ended, 4 in a row"
@@ -405,25 +405,25 @@ def test_a_session_that_ends_its_workers_is_the_only_row_that_says_so(monkeypatc
 def test_a_cluster_without_progress_ends_after_its_patience(monkeypatch, workers, seen):
     said = []
     with pytest.raises(clusters.Lost, match=re.escape(f"nothing was settled for 0.1 s ({seen}; the next session is a)")):
-        list(clusters.Cluster(Client(workers, TimeoutError()), 0.1, said.append).rows(["a", "b"], Manner()))
+        list(clusters.Cluster(Client(workers, TimeoutError()), 0.1, said.append).rows(["a", "b"], ReadOptions()))
     assert len(said) == (0 if workers else 1) and all("no workers: waiting" in line for line in said)
 
 
 @pytest.mark.parametrize("error", [ImportError("no module"), OSError("gone"), ValueError("x"), __import__("asyncio").CancelledError()], ids=repr)
 def test_any_error_of_a_cluster_is_a_sentence(error):
     with pytest.raises(clusters.Lost):
-        list(clusters.Cluster(Client(2, error), 5, print).rows(["a"], Manner()))
+        list(clusters.Cluster(Client(2, error), 5, print).rows(["a"], ReadOptions()))
 
 
 PRELOAD = """
 import os, time
 from quoting import settling
 plain = settling.__dict__.setdefault("plain", settling.settle)  # Dask loads this file twice
-def settle(name, manner=settling.Manner()):
+def settle(name, read_options=settling.ReadOptions()):
     if "killer" in name:
         os._exit(1)
     time.sleep(0.02)
-    return plain(name, manner)
+    return plain(name, read_options)
 settling.settle = settle
 """
 

@@ -8,9 +8,10 @@ from html.parser import HTMLParser
 
 import pytest
 
-from quoting import both, reading, texts
 from quoting import calls as c
-from quoting.statement import course, figures, picture, sources
+from quoting import formats, month_sources, reading, recounted, texts
+from quoting.statement import course, figures, picture
+from quoting.states import State, Stretch
 from recount import book, programs
 from tests import command
 from tests.paths import BIN, EXAMPLES, PROGRAMMES, QUOTING
@@ -165,14 +166,14 @@ def check_quanta(page, month, starts):
 @pytest.mark.parametrize(("path", "logs"), LISTS, ids=[path.name for path, _ in LISTS])
 def test_pages(path, logs, note):
     """Every example's page."""
-    listed = sources.from_list(str(path), reading.PLAIN, [str(log) for log in logs])
+    listed = month_sources.from_list(str(path), reading.PLAIN, [str(log) for log in logs])
     month = Month([sent.block for sent in listed.calls])
     page, _ = made(path, *(["--fix", *logs] if logs else []), status=int(bool(month.refused)))
     starts = {}
     for sent in listed.calls:
         call = c.call_of(sent.block)
         if sent.start and isinstance(call, c.Open):
-            starts[call.day, *call.words[:2]] = picture.offset_of(sent.start)
+            starts[call.day, *call.words[:2]] = formats.time_of_day(sent.start)
     if path.name == "fix.calls":
         starts = {place: 10 * 3_600_000 for place in month.book.cells}
     check_top(page, month, len(listed.calls))
@@ -198,10 +199,10 @@ def test_replay():
 @pytest.fixture
 def made_beside(monkeypatch):
     """Makes the page of examples/month.calls beside a recount whose answers are changed."""
-    right = both.answer_lines
+    right = recounted.answer_lines
 
     def make(answers):
-        monkeypatch.setattr(both, "answer_lines", lambda data: answers(right(data)))
+        monkeypatch.setattr(recounted, "answer_lines", lambda data: answers(right(data)))
         return made(EXAMPLES / "month.calls", status=1)
 
     return make
@@ -225,7 +226,7 @@ def test_difference_by_a_stop(made_beside, stop):
 
 def test_misfit(monkeypatch):
     """So is a page whose own figures do not add up: a stretch too long, and the divisor taken wrongly."""
-    monkeypatch.setattr(course.Quantum, "stretches", lambda self, cell: [picture.Stretch(0, cell.length, "kept")])
+    monkeypatch.setattr(course.Quantum, "stretches", lambda self, length: [Stretch(0, length, State.KEPT)])
     monkeypatch.setattr(figures, "DIVISOR", 79_000)
     page, done = made(EXAMPLES / "month.calls", status=1)
     assert "The figures do not fit together. This statement settles nothing." in page.text and "not settled" in page.text
@@ -300,7 +301,7 @@ def test_bytes_that_stop(tmp_path):
 
 def test_crowded():
     """A column with many stretches is filled by their shares."""
-    stretches = [picture.Stretch(at, 10, "kept" if at % 20 else "no bid") for at in range(0, 20_000, 10)]
+    stretches = [Stretch(at, 10, State.KEPT if at % 20 else State.NO_BID) for at in range(0, 20_000, 10)]
     drawn = list(picture.columns(picture.Scale(20_000, []), stretches))
     heights = [float(re.search(r'height="([0-9.]+)"', each)[1]) for each in drawn if "var(--kept)" in each]
     assert len(heights) == picture.RIGHT - picture.LEFT and all(abs(tall - picture.STRIP_HEIGHT / 2) < 1.1 for tall in heights), heights[:5]

@@ -17,7 +17,7 @@ import websockets
 
 from quoting.answers import line
 from quoting.months import Month
-from quoting.statement.sources import Sent
+from quoting.month_sources import Sent
 from quoting.watch import loop, recounter, server
 from quoting.watch.changes import Changes
 from quoting.watch.clocks import FeedClock

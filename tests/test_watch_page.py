@@ -16,9 +16,10 @@ import time
 import pytest
 
 from quoting import calls as c
-from quoting import reading
-from quoting.statement import sources
-from quoting.statement.course import CELLS, cell_of, report_of
+from quoting import month_sources, reading
+from quoting.cells import CELLS
+from quoting.recounted import cell_of, report_of
+from quoting.states import State
 from tests import browser
 from tests.browser import Browser, Served, children
 from tests.paths import BIN, LIBRARY, PROGRAMMES, ROOT
@@ -102,7 +103,7 @@ def hold_open(seen, report, outlook):
     assert seen["spread-below"] == "bid {}, ask {}".format(*quotes), (seen["spread-below"], report)
     assert seen["spread"] == ("none" if "absent" in quotes else str(report.ask - report.bid)), (seen["spread"], report)
     assert len(seen["orders"]) == report.orders
-    accounts = [reading.time(seen[f"account-{key}"]) for key in ("kept", "nobid", "noask", "neither", "crossed", "wide")]
+    accounts = [reading.time(seen[f"account-{key}"]) for key in [state.word for state in State]]
     assert sum(accounts) == report.time, (accounts, report)
     need, full = int(outlook["need"]), outlook["full"]
     assert needed(seen["ahead-0"]) == (need if need <= int(outlook["left"]) else None), (seen["ahead-0"], outlook)
@@ -428,6 +429,6 @@ def test_restarted(page):
             page.leave()
             served.stop(number_)
     assert found[0] == found[1], found
-    calls = sources.from_list(str(month), reading.PLAIN, [str(log)]).calls
+    calls = month_sources.from_list(str(month), reading.PLAIN, [str(log)]).calls
     assert calls_read(seen) == len(calls), (seen["feed"], len(calls))
     hold(seen, [sent.block for sent in calls])

@@ -133,7 +133,7 @@ def test_a_cancel_written_right_after_a_truncation_is_read(watched):
     os.truncate(feed.path, len(OPEN + QUOTES))
     append(feed.path, "cancel 0:00:06 1\n")
     found = reliable(feed.read())
-    assert feed.orders == {2: 3000} and found["state"]["key"] == "nobid", feed.orders
+    assert feed.orders == {2: 3000} and found["state"]["key"] == "no-bid", feed.orders
     assert feed.problems[0] == loop.RELIABLE and feed.problems[1].startswith("the file was truncated: it had "), feed.problems
     assert feed.watch.recount.taken == 4 == feed.watch.meter.calls, "the recount has the same calls"
 

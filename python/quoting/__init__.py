@@ -11,21 +11,22 @@ if entry.is_run_as_module():  # before any module that the current folder could 
     entry.drop_current_folder()
 
 from quoting import fix
-from quoting.accounts import Account, Stretch, account
+from quoting.accounts import Account, account
 from quoting.answers import Accepted, Answer, Asked, Cell, MonthReport, Outlook
+from quoting.calculations import board, choose_row, ease, safe_minutes, sigma, volatile_day, weight
 from quoting.calls import Strike, Ticket
 from quoting.events import Add, Amend, Cancel, Deal, Event, Tick
 from quoting.months import Month, answers_to
 from quoting.native import Missing, Refused, version
-from quoting.plain import board, choose_row, ease, safe_minutes, sigma, volatile_day, weight
-from quoting.rules import Row, Rule
+from quoting.rows import Row, Rule
 from quoting.sessions import Session, session
 from quoting.standings import Standing
+from quoting.states import State, Stretch
 from quoting.values import Tenths, milliseconds, tenths
 from quoting.views import LiveOrder, View
 
 __all__ = [
     "Accepted", "Account", "Add", "Amend", "Answer", "Asked", "Cancel", "Cell", "Deal", "Event", "LiveOrder", "Missing", "Month", "MonthReport", "Outlook", "Refused", "Row",
-    "Rule", "Session", "Standing", "Stretch", "Strike", "Tenths", "Tick", "Ticket", "View", "account", "answers_to", "board", "choose_row", "ease", "fix", "milliseconds", "safe_minutes",
+    "Rule", "Session", "Standing", "State", "Stretch", "Strike", "Tenths", "Tick", "Ticket", "View", "account", "answers_to", "board", "choose_row", "ease", "fix", "milliseconds", "safe_minutes",
     "session", "sigma", "tenths", "version", "volatile_day", "weight",
 ]

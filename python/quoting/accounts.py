@@ -6,30 +6,23 @@ from typing import Any, Optional, Union
 from quoting import native, ranges
 from quoting.calls import Strike, strike_words
 from quoting.events import SIZE
-from quoting.rules import Rule
+from quoting.rows import Rule
 from quoting.sessions import Events, lent
+from quoting.states import State, Stretch
 
-STATES = ("kept", "no-bid", "no-ask", "neither", "crossed", "wide")
-FRONT = 7  # words before the stretches: the states' milliseconds, the number of stretches
-
-
-@dataclass(frozen=True)
-class Stretch:
-    offset: int
-    length: int
-    state: str
+FRONT = len(State) + 1  # words before the stretches: the states' milliseconds, the number of stretches
 
 
 @dataclass(frozen=True)
 class Account:
     """The milliseconds of each state, and the stretches in their order; together they are the quantum's length."""
 
-    totals: dict[str, int]
+    totals: dict[State, int]
     stretches: list[Stretch]
 
     def longest_lost(self, most: int = 10) -> list[Stretch]:
         """The longest stretches that were not kept, the earlier first of two of one length."""
-        lost = [stretch for stretch in self.stretches if stretch.state != "kept"]
+        lost = [stretch for stretch in self.stretches if stretch.state != State.KEPT]
         return sorted(lost, key=lambda stretch: -stretch.length)[:most]
 
 
@@ -51,14 +44,14 @@ def words(rule: Union[Rule, bytes], events: Events, strike: Optional[Strike] = N
     return buffer
 
 
-def totals(rule: Union[Rule, bytes], events: Events) -> dict[str, int]:
+def totals(rule: Union[Rule, bytes], events: Events) -> dict[State, int]:
     """The milliseconds of each state alone."""
-    return dict(zip(STATES, words(rule, events)[:6]))
+    return dict(zip(State, words(rule, events)))
 
 
 def account(rule: Union[Rule, bytes], events: Events, strike: Optional[Strike] = None) -> Account:
     """The account of a session, with a strike in place of SP where one is given. Refused as `session` is, and by 18."""
     buffer = words(rule, events, strike)
-    found = buffer[FRONT : FRONT + 3 * buffer[6]]
-    stretches = [Stretch(offset, length, STATES[state]) for offset, length, state in zip(found[::3], found[1::3], found[2::3])]
-    return Account(dict(zip(STATES, buffer[:6])), stretches)
+    found = buffer[FRONT : FRONT + 3 * buffer[FRONT - 1]]
+    stretches = [Stretch(offset, length, State(state)) for offset, length, state in zip(found[::3], found[1::3], found[2::3])]
+    return Account(dict(zip(State, buffer)), stretches)

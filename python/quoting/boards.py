@@ -4,7 +4,7 @@ from dataclasses import dataclass, replace
 from typing import Iterator, Optional
 
 from quoting import native, reading
-from quoting.plain import board
+from quoting.calculations import board
 from quoting.reading import TextError
 from quoting.values import brief
 

@@ -11,11 +11,10 @@ from dataclasses import dataclass
 from typing import Any, Callable, Optional, Sequence, Union
 
 from quoting import ranges
-from quoting.events import Add, Amend, Cancel, Deal, Event, Side, Tick, side_number
+from quoting.events import SIDE_NAMES, Add, Amend, Cancel, Deal, Event, Tick, side_number
 from quoting.values import Time, time_of
 
 NO_LIMIT = 65_535  # says that there is no lapse limit
-SIDE_NAMES: dict[int, Side] = {1: "buy", 2: "sell"}
 
 
 @dataclass(frozen=True)

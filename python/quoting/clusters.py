@@ -16,7 +16,7 @@ from typing import Any, Callable, Iterator, Sequence
 
 from quoting import settling
 from quoting.native import Missing
-from quoting.settling import Manner, Outcome, Settled
+from quoting.settling import Outcome, ReadOptions, Settled
 
 BATCH = 8  # sessions in a piece of work, so that handing it over costs little beside it
 AHEAD = 64  # pieces that are given out and not yet taken back
@@ -49,25 +49,25 @@ class Cluster:
     since: float = field(default_factory=monotonic)
     is_warned: bool = False
 
-    def rows(self, names: Sequence[str], manner: Manner) -> Iterator[Outcome]:
+    def rows(self, names: Sequence[str], read_options: ReadOptions) -> Iterator[Outcome]:
         """The outcomes in the order of the names."""
         given: deque[Piece] = deque()
         self.since = monotonic()
         for batch in settling.batches(names, BATCH):
-            given.append(self.give(batch, manner))
+            given.append(self.give(batch, read_options))
             if len(given) >= AHEAD:
-                yield from self.take(given, manner)
+                yield from self.take(given, read_options)
         while given:
-            yield from self.take(given, manner)
+            yield from self.take(given, read_options)
 
-    def give(self, names: list[str], manner: Manner) -> Piece:
+    def give(self, names: list[str], read_options: ReadOptions) -> Piece:
         """Not `pure`: a session that changed since is not to be answered from memory."""
         try:
-            return Piece(names, self.client.submit(settling.outcomes, names, manner, pure=False))
+            return Piece(names, self.client.submit(settling.outcomes, names, read_options, pure=False))
         except Exception as error:
             raise Lost(f"the scheduler takes no more work: {error}") from None
 
-    def take(self, given: deque[Piece], manner: Manner) -> list[Outcome]:
+    def take(self, given: deque[Piece], read_options: ReadOptions) -> list[Outcome]:
         """The outcomes of the first piece."""
         first = given.popleft()
         try:
@@ -75,7 +75,7 @@ class Cluster:
         except Killed:
             for each in given:
                 self.settled_or_killed(each, given)
-            return [self.alone(name, manner) for name in first.names]
+            return [self.alone(name, read_options) for name in first.names]
 
     def settled_or_killed(self, piece: Piece, given: Sequence[Piece]) -> None:
         try:
@@ -83,10 +83,10 @@ class Cluster:
         except Killed:
             pass
 
-    def alone(self, name: str, manner: Manner) -> Outcome:
+    def alone(self, name: str, read_options: ReadOptions) -> Outcome:
         """The outcome of a session while the cluster has no other work."""
         try:
-            return self.answer(self.give([name], manner), ())[0]
+            return self.answer(self.give([name], read_options), ())[0]
         except Killed as killed:
             return Outcome(Settled(name, "unreadable", reason=f"each worker that settled it ended, {killed} in a row"), None)
 

@@ -1,15 +1,18 @@
-"""What the pictures (SVG) share: elements, steps of axes, names of a bearable length."""
+"""What the pictures (SVG) share: elements, steps of axes, names short enough for one line."""
 
 from typing import Iterable
 from xml.sax.saxutils import escape
 
+from quoting.values import HOUR, MINUTE, SECOND
+
 INK, PALE = "#222222", "#888888"
-SIGN_WIDTH = 0.58  # of a sign, by the size of the letters
-NAME_SIGNS = 44
+WIDTH_OF_ONE = 0.58  # character, by the size of the letters
+MOST_CHARACTERS = 44
+TICKS = [SECOND, 5 * SECOND, 10 * SECOND, MINUTE, 5 * MINUTE, 10 * MINUTE, 30 * MINUTE, HOUR, 2 * HOUR, 4 * HOUR]  # steps of a time axis
 
 
-def short(name: str, most: int = NAME_SIGNS) -> str:
-    """A name of a bearable length, so that what stands behind it is seen; signs that no file can hold are marked.
+def short(name: str, most: int = MOST_CHARACTERS) -> str:
+    """A name cut in the middle where it is long, so that there is room for what follows it; characters that no file can hold are marked.
 
     >>> short("a" * 60, 9)
     'aaaa..aaa'
@@ -19,7 +22,7 @@ def short(name: str, most: int = NAME_SIGNS) -> str:
 
 
 def text_width(words: str, size: int) -> float:
-    return len(words) * size * SIGN_WIDTH
+    return len(words) * size * WIDTH_OF_ONE
 
 
 def rounded_step(most: float, lines: int) -> int:

@@ -56,10 +56,11 @@ class Tick:
 
 Event = Union[Add, Amend, Cancel, Deal, Tick]
 KINDS = {"add": Add, "amend": Amend, "cancel": Cancel, "deal": Deal, "tick": Tick}
-SIDES: dict[str, int] = {"buy": 1, "sell": 2}
+SIDES: dict[Side, int] = {"buy": 1, "sell": 2}  # their numbers in records, calls, views and FIX (54)
+SIDE_NAMES = {number: side for side, number in SIDES.items()}
 
 
-def side_number(side: str) -> int:
+def side_number(side: Side) -> int:
     """1 of a buy, 2 of a sell."""
     if not isinstance(side, str):
         raise type_error(side, "side", "buy or sell")

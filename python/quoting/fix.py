@@ -16,12 +16,11 @@ from datetime import datetime, timedelta
 from typing import Optional
 
 from quoting import native, ranges
-from quoting.events import Add, Cancel, Event, Side, side_number
+from quoting.events import SIDE_NAMES, Add, Cancel, Event, Side, side_number
 from quoting.ranges import word
 
 KINDS = {1: "D", 2: "F", 3: "G"}
 NUMBERS = {kind: number for number, kind in KINDS.items()}
-SIDES: dict[int, Side] = {1: "buy", 2: "sell"}
 WORDS, MOST_BYTES = 13, 114
 END = b"\x01"
 TIME = re.compile(r"[0-9]{8}-[0-9]{2}:[0-9]{2}:[0-9]{2}\.[0-9]{3}")
@@ -45,7 +44,7 @@ def read(message: bytes) -> Order:
     given, found = ranges.data(message, "message"), native.words(WORDS)
     native.call("quoting_fix", given, len(given), found, WORDS)
     kind, id, refers, side, volume, price, *time = found
-    return Order(KINDS[kind], id, refers, SIDES.get(side), volume, signed(price), "%04d%02d%02d-%02d:%02d:%02d.%03d" % tuple(time))
+    return Order(KINDS[kind], id, refers, SIDE_NAMES.get(side), volume, signed(price), "%04d%02d%02d-%02d:%02d:%02d.%03d" % tuple(time))
 
 
 def write(order: Order) -> bytes:

@@ -12,7 +12,7 @@ from quoting import reading, texts, values
 from quoting.events import SIZE
 from quoting.native import Refused
 from quoting.reading import STANDARD, Options, TextError
-from quoting.rules import HEAD
+from quoting.rows import HEAD
 
 FORMATS = ("text", "csv", "bytes")
 FRONT = 65_536  # bytes of a file that are read to see what it is

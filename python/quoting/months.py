@@ -30,7 +30,8 @@ from quoting import month_words, native, ranges
 from quoting.answers import WORDS, Answer, Asked, Cell, MonthReport, Outlook, answer_of, quote
 from quoting.events import Add, Amend, Cancel, Deal, Side, Tick
 from quoting.native import Refused
-from quoting.rules import Row
+from quoting.rows import Row
+from quoting.states import State
 from quoting.values import Time, clock
 from quoting.views import MOST_WORDS as VIEW_WORDS
 from quoting.views import View, view_of
@@ -44,10 +45,10 @@ MonthWords, AnswerWords, ViewWords = (native.WORD * count for count in (month_wo
 
 
 class Glance(NamedTuple):
-    """The time of the open quantum's last event, the number of the state that its orders are in, both best quotes."""
+    """The time of the open quantum's last event, the state that its orders are in, both best quotes."""
 
     time: int
-    state: int
+    state: State
     bid: Optional[int]
     ask: Optional[int]
 
@@ -280,7 +281,7 @@ class Month:
         ...     month.add(0, 7, "buy", 8446, 1000)
         ...     found = month.view()
         ...     found.state, found.widest, [order.id for order in found.orders]
-        ('no-ask', 12, [7])
+        (<State.NO_ASK: 2>, 12, [7])
         """
         self._check_open()
         view = ViewWords()
@@ -294,7 +295,7 @@ class Month:
         ...     month.open(Row(1, 1, "8:45:00", 1000, 150, 3, "60%"), day=1, sp=8452)
         ...     month.add("0:00:10", 7, "buy", 8446, 1000)
         ...     month.glance()
-        Glance(time=10000, state=2, bid=8446, ask=None)
+        Glance(time=10000, state=<State.NO_ASK: 2>, bid=8446, ask=None)
         """
         self._check_open()
         words = MonthWords.from_buffer_copy(self._words)  # both calls see one month, whatever another thread does
@@ -302,7 +303,7 @@ class Month:
         if not view_words(words, view):
             return None
         native.call("quoting_month_call", words, month_words.COUNT, self._hints, HINT_BYTES, REPORT_BLOCK, len(REPORT_BLOCK), w, WORDS)
-        return Glance(w[3], view[STATE_WORD], quote(w[5], w[6]), quote(w[7], w[8]))
+        return Glance(w[3], State(view[STATE_WORD]), quote(w[5], w[6]), quote(w[7], w[8]))
 
     def ask(self, t: Time, id: int, price: int, volume: int) -> Asked:
         """The quotes after an amendment, and a ticket for it; the month stays as it is."""

@@ -16,8 +16,8 @@ from pathlib import Path
 from typing import Any, BinaryIO, Iterator, Optional, Sequence
 
 from quoting import native, output, reading, settling, values
-from quoting.rules import HEAD
-from quoting.settling import COLUMNS, Manner, Outcome, Settled, Stamp
+from quoting.rows import HEAD
+from quoting.settling import COLUMNS, Outcome, ReadOptions, Settled, Stamp
 
 FORM = 1  # of the part file
 START = b'{"settle": '
@@ -32,21 +32,21 @@ class PartError(Exception):
 # ---------------------------------------------------------------- what a run is given
 
 
-def manner_words(manner: Manner) -> dict[str, str]:
+def option_words(read_options: ReadOptions) -> dict[str, str]:
     """The options that decide what the rows say, as words, without those that have their usual value.
 
-    >>> manner_words(Manner(reading.Options(start=36_000_000), form="csv"))
+    >>> option_words(ReadOptions(reading.Options(start=36_000_000), form="csv"))
     {'--start': '10:00:00', '--format': 'csv'}
     """
     found: dict[str, str] = {}
-    for each in fields(manner.options):
-        value = getattr(manner.options, each.name)
+    for each in fields(read_options.options):
+        value = getattr(read_options.options, each.name)
         if each.default is MISSING or value != each.default:
             found["--" + each.name.replace("_", "-")] = option_word(each.name, value)
-    if manner.form:
-        found["--format"] = manner.form
-    if manner.head is not None:
-        *row, sp = HEAD.unpack(manner.head)
+    if read_options.form:
+        found["--format"] = read_options.form
+    if read_options.head is not None:
+        *row, sp = HEAD.unpack(read_options.head)
         found.update({"--row": f'"{reading.row_text(row)}"', "--sp": str(sp)})
     return found
 
@@ -183,9 +183,9 @@ def holder(file: BinaryIO) -> str:
 class Table:
     """The rows of a run: in the part file until all are there, then in the table. If the run breaks off, the part file stays."""
 
-    def __init__(self, path: Path, names: Sequence[str], manner: Manner, resume: bool = False, restart: bool = False) -> None:
+    def __init__(self, path: Path, names: Sequence[str], read_options: ReadOptions, resume: bool = False, restart: bool = False) -> None:
         self.path, self.names, self.part = path, names, part_of(path)
-        self.options = manner_words(manner)
+        self.options = option_words(read_options)
         self.head = {"settle": FORM, "version": native.version(), "options": self.options}
         self.places: dict[str, int] = {}  # where the row of each session is
         self.kept: list[Settled] = []

@@ -9,13 +9,14 @@ from typing import Iterator, Optional, Sequence
 
 from quoting import calls as c
 from quoting import drawing, months
-from quoting.accounts import STATES, Account, Stretch, account
+from quoting.accounts import Account, account
 from quoting.answers import Answer, Cell, MonthReport, verdict_text
 from quoting.drawing import INK, PALE, Drawing
 from quoting.events import event_of, split
 from quoting.native import Refused
-from quoting.rules import HEAD, Row, Rule
+from quoting.rows import HEAD, Row, Rule
 from quoting.sessions import session
+from quoting.states import State, Stretch
 from quoting.values import HOUR, MINUTE, SECOND, clock, milliseconds, part_text, share_text
 
 WIDTH, HEIGHT = 920, 650
@@ -27,8 +28,7 @@ CROWD = 300  # quotes, from which on their lines are pale, so that the shading i
 
 BID, ASK = "#1f5fa8", "#b3381f"
 MET_BAR, FAILED_BAR = "#6fb56f", "#d99a4e"
-COLOURS = {"kept": "#cfe8cf", "no-bid": "#cfdff2", "no-ask": "#f4d3cb", "neither": "#e2e2e2", "crossed": "#e3d0ee", "wide": "#fbe6b8"}
-WORDS = {"kept": "kept", "no-bid": "no bid", "no-ask": "no ask", "neither": "neither", "crossed": "crossed", "wide": "too wide"}
+COLOURS = dict(zip(State, ("#cfe8cf", "#cfdff2", "#f4d3cb", "#e2e2e2", "#e3d0ee", "#fbe6b8")))
 
 TIME_STEPS = [
     1, 2, 5, 10, 20, 50, 100, 200, 500, SECOND, 2 * SECOND, 5 * SECOND, 10 * SECOND, 30 * SECOND,
@@ -82,15 +82,15 @@ def crowded(stretches: Sequence[Stretch], length: int) -> list[int]:
     found: set[int] = set()
     for each in stretches:
         if each.length < pixel:
-            found.update((int(each.offset / pixel), int((each.offset + each.length - 1) / pixel)))
+            found.update((int(each.offset / pixel), int((each.end - 1) / pixel)))
     return sorted(found)
 
 
-def column_shares(stretches: Sequence[Stretch], length: int, columns: Sequence[int]) -> dict[int, dict[str, float]]:
+def column_shares(stretches: Sequence[Stretch], length: int, columns: Sequence[int]) -> dict[int, dict[State, float]]:
     """What part of each of these columns each state has."""
-    pixel, shares = length / COLUMNS, {column: dict.fromkeys(STATES, 0.0) for column in columns}
+    pixel, shares = length / COLUMNS, {column: dict.fromkeys(State, 0.0) for column in columns}
     for each in stretches:
-        start, end = each.offset, each.offset + each.length
+        start, end = each.offset, each.end
         for column in columns[bisect_left(columns, int(start / pixel)) : bisect_left(columns, end / pixel)]:
             inside = min(end, (column + 1) * pixel) - max(start, column * pixel)
             shares[column][each.state] += max(0.0, inside) / pixel
@@ -99,7 +99,7 @@ def column_shares(stretches: Sequence[Stretch], length: int, columns: Sequence[i
 
 def outside(each: Stretch, length: int, columns: Sequence[int]) -> Iterator[tuple[float, float]]:
     """The parts of a stretch that lie in no crowded column, as start and end in pixels."""
-    start, end = each.offset * COLUMNS / length, (each.offset + each.length) * COLUMNS / length
+    start, end = each.offset * COLUMNS / length, each.end * COLUMNS / length
     for column in columns[bisect_left(columns, int(start)) : bisect_left(columns, end)]:
         if start < column:
             yield start, column
@@ -108,7 +108,7 @@ def outside(each: Stretch, length: int, columns: Sequence[int]) -> Iterator[tupl
         yield start, end
 
 
-def draw_column(d: Drawing, column: int, shares: dict[str, float]) -> None:
+def draw_column(d: Drawing, column: int, shares: dict[State, float]) -> None:
     """A crowded column: the states' parts one upon the other, what was kept at the bottom."""
     bottom = float(BOTTOM)
     for state, share in shares.items():
@@ -132,7 +132,7 @@ def draw_totals(d: Drawing, spent: Account) -> None:
     for at, (state, time) in enumerate(spent.totals.items()):
         x, y = LEFT + COLUMNS // 3 * (at % 3), STATES_TOP + 22 * (at // 3)
         d.rect(x, y - 12, 26, 15, COLOURS[state])
-        d.text(x + 32, y, f"{WORDS[state]} {clock(time)}")
+        d.text(x + 32, y, f"{state.label} {clock(time)}")
 
 
 def draw_longest(d: Drawing, spent: Account) -> None:
@@ -142,7 +142,7 @@ def draw_longest(d: Drawing, spent: Account) -> None:
     for at, each in enumerate(lost):
         x, y = LEFT + COLUMNS // 2 * (at // (LONGEST // 2)), LOST_TOP + 20 * (1 + at % (LONGEST // 2))
         d.rect(x, y - 11, 12, 12, COLOURS[each.state])
-        d.text(x + 20, y, f"{clock(each.offset)} to {clock(each.offset + each.length)}: {clock(each.length)}, {WORDS[each.state]}", size=12)
+        d.text(x + 20, y, f"{clock(each.offset)} to {clock(each.end)}: {clock(each.length)}, {each.state.label}", size=12)
 
 
 # ---------------------------------------------------------------- axes, lines, bars

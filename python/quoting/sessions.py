@@ -19,7 +19,7 @@ from typing import Any, Iterable, Union
 from quoting import events as lists
 from quoting import native, ranges, texts
 from quoting.events import Event
-from quoting.rules import HEAD, Rule
+from quoting.rows import HEAD, Rule
 
 Events = Union[str, bytes, bytearray, memoryview, Iterable[Event]]
 FRONT = 3  # words before the pairs: K, the weight, the number of pairs

@@ -17,7 +17,7 @@ from quoting.answers import verdict_text
 from quoting.events import SIZE
 from quoting.native import Refused
 from quoting.reading import PLAIN, Options, TextError
-from quoting.rules import HEAD
+from quoting.rows import HEAD
 from quoting.sessions import Session, session
 from quoting.values import part_text
 
@@ -66,7 +66,7 @@ COLUMNS = tuple(field.name for field in fields(Settled))
 
 
 @dataclass(frozen=True)
-class Manner:
+class ReadOptions:
     """How the sessions are read: as the options of `sheet`."""
 
     options: Options = PLAIN
@@ -205,19 +205,19 @@ def lapses_of(done: Session) -> int:
     return count + 1 - int(starts_at_once) - int(ends_late)
 
 
-def settle(name: str, manner: Manner = Manner()) -> Outcome:
+def settle(name: str, read_options: ReadOptions = ReadOptions()) -> Outcome:
     """A session's row; whatever is wrong with the file is in it."""
     try:
         data, stamp = content(name)
     except (OSError, ValueError, TextError, MemoryError) as error:
         return Outcome(unreadable(name, error), None)
-    return Outcome(row_of(name, data, manner), stamp)
+    return Outcome(row_of(name, data, read_options), stamp)
 
 
-def row_of(name: str, data: bytes, manner: Manner) -> Settled:
+def row_of(name: str, data: bytes, read_options: ReadOptions) -> Settled:
     """The row of a session's bytes."""
     try:
-        source = inputs.session_of(name, data, manner.options, manner.head, manner.form)
+        source = inputs.session_of(name, data, read_options.options, read_options.head, read_options.form)
         head, events = source.data[: HEAD.size], source.data[HEAD.size :]
         done, states = session(head, events), accounts.totals(head, events)
     except Refused as refused:
@@ -244,8 +244,8 @@ def place_of(source: inputs.Source, refused: Refused) -> str:
     return f"{record}, line {line}" if line else record
 
 
-def outcomes(names: Sequence[str], manner: Manner) -> list[Outcome]:
-    return [settle(name, manner) for name in names]
+def outcomes(names: Sequence[str], read_options: ReadOptions) -> list[Outcome]:
+    return [settle(name, read_options) for name in names]
 
 
 # ---------------------------------------------------------------- many
@@ -273,11 +273,11 @@ def batches(names: Iterable[str], size: int) -> Iterator[list[str]]:
         yield batch
 
 
-def rows(workers: Workers, names: Iterable[str], manner: Manner, ahead: int) -> Iterator[Outcome]:
+def rows(workers: Workers, names: Iterable[str], read_options: ReadOptions, ahead: int) -> Iterator[Outcome]:
     """The outcomes in the order of the names; at most `ahead` sessions are given out and not yet taken back."""
     given: deque[Answering] = deque()
     for name in names:
-        given.append(workers.submit(settle, name, manner))
+        given.append(workers.submit(settle, name, read_options))
         if len(given) >= ahead:
             yield given.popleft().result()
     while given:

@@ -18,7 +18,7 @@ from quoting import calls as c
 from quoting import fix, reading, values
 from quoting.events import KINDS, SIDES, SIZE, Add, Amend, Cancel, Deal, Event, Tick, event_of, record, split
 from quoting.reading import PLAIN, Options, TextError
-from quoting.rules import COLUMNS, HEAD
+from quoting.rows import COLUMNS, HEAD
 
 EVENT_COLUMNS = {
     "add": "t id side price volume", "amend": "t id price volume", "cancel": "t id", "deal": "t id volume", "tick": "t",

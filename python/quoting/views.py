@@ -3,10 +3,10 @@
 from dataclasses import dataclass
 from typing import Optional, Sequence, Union
 
-from quoting.accounts import STATES
 from quoting.calls import NO_LIMIT, Strike, signed
-from quoting.events import Side
-from quoting.rules import Row
+from quoting.events import SIDE_NAMES, Side
+from quoting.rows import Row
+from quoting.states import State
 
 HEAD_WORDS = 17
 MOST_WORDS = HEAD_WORDS + 4 * 64
@@ -30,7 +30,7 @@ class View:
     spread: Union[int, Strike]
     limit: Optional[int]
     widest: int
-    state: str
+    state: State
     orders: tuple[LiveOrder, ...]
 
 
@@ -44,6 +44,6 @@ def view_of(words: Sequence[int]) -> View:
         Strike(*limit) if by_strike else signed(limit[0]),
         None if words[13] == NO_LIMIT else words[13],
         words[14],
-        STATES[words[15]],
-        tuple(LiveOrder(id, "buy" if side == 1 else "sell", signed(price), volume) for id, side, price, volume in orders),
+        State(words[15]),
+        tuple(LiveOrder(id, SIDE_NAMES[side], signed(price), volume) for id, side, price, volume in orders),
     )

@@ -9,10 +9,10 @@ examples:
 
 import argparse
 
-from quoting import both, inputs, output
-from quoting.accounts import STATES, Account, account
+from quoting import inputs, output, recounted
+from quoting.accounts import Account, account
 from quoting.native import Refused
-from quoting.rules import HEAD
+from quoting.rows import HEAD
 from quoting.values import clock, part_text
 
 
@@ -25,15 +25,20 @@ def add(parser: argparse.ArgumentParser) -> None:
 
 def lines(found: Account) -> list[str]:
     """As the program `account` prints them."""
-    stretches = [f"from {each.offset} for {each.length} {each.state}" for each in found.stretches]
-    return [*stretches, *(f"total {state} {found.totals[state]}" for state in STATES)]
+    stretches = [f"from {each.offset} for {each.length} {each.state.word}" for each in found.stretches]
+    return [*stretches, *(f"total {state.word} {time}" for state, time in found.totals.items())]
+
+
+def as_json(found: Account) -> object:
+    stretches = [{**each._asdict(), "state": each.state.word} for each in found.stretches]
+    return {"totals": {state.word: time for state, time in found.totals.items()}, "stretches": stretches}
 
 
 def show(args: argparse.Namespace, found: Account, agreed: str) -> None:
     """For a person at a terminal."""
     whole = sum(found.totals.values())
-    rows = [[clock(each.offset), clock(each.offset + each.length), clock(each.length), each.state] for each in found.stretches]
-    totals = [f"{state} {clock(time)}, {part_text(time, whole)}\n" for state, time in found.totals.items()]
+    rows = [[clock(each.offset), clock(each.end), clock(each.length), each.state.word] for each in found.stretches]
+    totals = [f"{state.word} {clock(time)}, {part_text(time, whole)}\n" for state, time in found.totals.items()]
     output.table(args.output, ["from", "to", "time", "state"], rows, "".join(totals) + agreed)
 
 
@@ -44,9 +49,9 @@ def run(args: argparse.Namespace) -> int:
     except Refused as refused:
         output.complain(inputs.refusal_text(source, refused))
         return 1
-    agreed = both.agreement(lines(found), both.account_lines(source.data)) if args.both else ""
+    agreed = recounted.agreement(lines(found), recounted.account_lines(source.data)) if args.both else ""
     if args.json:
-        output.write(args.output, output.json_text(found))
+        output.write(args.output, output.json_text(as_json(found)))
     elif output.is_terminal(args.output):
         show(args, found, agreed)
     else:

@@ -12,7 +12,7 @@ examples:
 import argparse
 from pathlib import Path
 
-from quoting import boards, both, inputs, output, reading, values
+from quoting import boards, inputs, output, reading, recounted, values
 from quoting.answers import verdict_text
 
 
@@ -49,8 +49,8 @@ def run(args: argparse.Namespace) -> int:
     met = boards.verdict(args.first, args.second, strikes)
     lines = boards.lines(args.first, args.second, strikes)
     said = f"board {verdict_text(met)}"
-    theirs = both.recount("strikes").board(args.first, args.second, [(s.kept, s.length) for s in strikes]) if args.both else None
-    agreed = both.agreement([said], [f"board {theirs}"]) if args.both else ""
+    theirs = recounted.recount("strikes").board(args.first, args.second, [(s.kept, s.length) for s in strikes]) if args.both else None
+    agreed = recounted.agreement([said], [f"board {theirs}"]) if args.both else ""
     if args.json:
         output.write(args.output, output.json_text({"met": met, "lines": lines}))
     else:

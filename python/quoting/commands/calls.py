@@ -10,7 +10,7 @@ examples:
 
 import argparse
 
-from quoting import both, inputs, output, reading, texts
+from quoting import inputs, output, reading, recounted, texts
 from quoting.answers import Answer, line
 from quoting.inputs import CallList
 from quoting.months import answers_to
@@ -36,7 +36,7 @@ def run(args: argparse.Namespace) -> int:
     said = list(answers_to(data))
     after = f"stopped at word {found.stop}\n" if found.stop else ""
     if args.both:
-        after += both.agreement([line(answer) for answer in said], both.answer_lines(b"".join(data)))
+        after += recounted.agreement([line(answer) for answer in said], recounted.answer_lines(b"".join(data)))
     if args.json:
         output.write(args.output, output.json_text(as_json(found, said)))
     elif args.lines:

@@ -14,8 +14,8 @@ import argparse
 import sys
 from typing import Callable, Iterable, Iterator
 
-from quoting import both, inputs, output, reading, values
-from quoting.plain import safe_minutes
+from quoting import inputs, output, reading, recounted, values
+from quoting.calculations import safe_minutes
 from quoting.reading import STANDARD, TextError
 
 MOST = 60
@@ -114,7 +114,7 @@ def run(args: argparse.Namespace) -> int:
         args.parser.error("M H K, or --table M")
     numbers: list[int] = args.numbers
     safe = safe_minutes(*numbers)
-    agreed = both.agreement([str(safe)], [str(both.recount("game").closed(*numbers))]) if args.both else ""
+    agreed = recounted.agreement([str(safe)], [str(recounted.recount("game").closed(*numbers))]) if args.both else ""
     if args.json:
         output.write(args.output, output.json_text({"safe": safe}))
         return 0

@@ -17,7 +17,7 @@ from quoting.answers import OVER, Outlook
 from quoting.events import event_of, split
 from quoting.months import Month
 from quoting.native import Refused
-from quoting.rules import HEAD, Rule
+from quoting.rows import HEAD, Rule
 from quoting.values import clock
 
 

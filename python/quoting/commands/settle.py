@@ -27,7 +27,7 @@ from typing import Any, Callable, Iterator, Optional, Sequence, Union
 from quoting import clusters, inputs, output, settling
 from quoting.parts import PartError, Table, part_of
 from quoting.reading import STANDARD
-from quoting.settling import Manner, Outcome, Summary
+from quoting.settling import Outcome, ReadOptions, Summary
 
 PATIENCE = 300.0  # seconds
 
@@ -61,18 +61,18 @@ def add(parser: argparse.ArgumentParser) -> None:
 
 
 @contextmanager
-def rows(args: argparse.Namespace, names: Sequence[str], manner: Manner, say: Callable[[str], None]) -> Iterator[Iterator[Outcome]]:
+def rows(args: argparse.Namespace, names: Sequence[str], read_options: ReadOptions, say: Callable[[str], None]) -> Iterator[Iterator[Outcome]]:
     """The outcomes to come, by threads of this process or by a cluster."""
     if args.scheduler is None:
         pool = ThreadPoolExecutor(args.threads)
         try:
-            yield settling.rows(pool, names, manner, ahead=4 * args.threads)
+            yield settling.rows(pool, names, read_options, ahead=4 * args.threads)
         finally:
             pool.shutdown(cancel_futures=True)
         return
     with clusters.cluster(args.scheduler, args.patience, say) as cluster:
         placed = [os.path.abspath(name) for name in names]  # a worker runs in another folder
-        yield (settling.renamed(outcome, name) for outcome, name in zip(cluster.rows(placed, manner), names))
+        yield (settling.renamed(outcome, name) for outcome, name in zip(cluster.rows(placed, read_options), names))
 
 
 # ---------------------------------------------------------------- what is seen of it
@@ -134,12 +134,12 @@ def run(args: argparse.Namespace) -> int:
     if args.restart and path is None:
         args.parser.error("--restart needs -o FILE")
     settling.need_library()
-    manner = Manner(inputs.options_of(args), inputs.head_of(args), args.format)
-    names = without_table(settling.names_of(args.where, args.patience, manner.options), path)
+    read_options = ReadOptions(inputs.options_of(args), inputs.head_of(args), args.format)
+    names = without_table(settling.names_of(args.where, args.patience, read_options.options), path)
     if not names:
         raise ValueError(f"{args.where}: no session but the table itself is there")
     try:
-        summary = to_table(args, names, manner, path) if path and not is_device(path) else to_stream(args, names, manner, path)
+        summary = to_table(args, names, read_options, path) if path and not is_device(path) else to_stream(args, names, read_options, path)
     except PartError as error:
         output.complain(str(error))
         return 1
@@ -177,15 +177,15 @@ def is_table(path: Path) -> bool:
         return file.read(len(settling.HEADER)) in (b"", settling.HEADER.encode())
 
 
-def to_table(args: argparse.Namespace, names: list[str], manner: Manner, path: Path) -> Summary:
+def to_table(args: argparse.Namespace, names: list[str], read_options: ReadOptions, path: Path) -> Summary:
     """Rows beside the file; if the run breaks off, they stay."""
-    table, summary = Table(path, names, manner, args.resume, args.restart), Summary()
+    table, summary = Table(path, names, read_options, args.resume, args.restart), Summary()
     try:
         for note in table.notes:
             output.complain(note)
         for row in table.kept:
             summary.take(row)
-        settle(args, table.todo, manner, summary, table.write)
+        settle(args, table.todo, read_options, summary, table.write)
         table.finish()
     except clusters.Lost as lost:
         kept = f"; {table.part} has {len(table.places)} row(s): --resume goes on with it" if table.places else ""
@@ -195,12 +195,12 @@ def to_table(args: argparse.Namespace, names: list[str], manner: Manner, path: P
     return summary
 
 
-def to_stream(args: argparse.Namespace, names: list[str], manner: Manner, path: Optional[Path]) -> Summary:
+def to_stream(args: argparse.Namespace, names: list[str], read_options: ReadOptions, path: Optional[Path]) -> Summary:
     """Rows as they come, to standard output or a device."""
     summary = Summary()
     if path is None:
         output.write(None, settling.HEADER.encode())
-        settle(args, names, manner, summary, lambda outcome: output.write(None, outcome.row.line.encode()))
+        settle(args, names, read_options, summary, lambda outcome: output.write(None, outcome.row.line.encode()))
         return summary
     with open(path, "w", encoding="utf-8", newline="") as file:
 
@@ -208,15 +208,15 @@ def to_stream(args: argparse.Namespace, names: list[str], manner: Manner, path: 
             file.write(outcome.row.line)
 
         file.write(settling.HEADER)
-        settle(args, names, manner, summary, write)
+        settle(args, names, read_options, summary, write)
     return summary
 
 
-def settle(args: argparse.Namespace, names: Sequence[str], manner: Manner, summary: Summary, write: Callable[[Outcome], None]) -> None:
+def settle(args: argparse.Namespace, names: Sequence[str], read_options: ReadOptions, summary: Summary, write: Callable[[Outcome], None]) -> None:
     done = summary.sessions
     if not names:
         return
-    with watched(done + len(names), done) as seen, rows(args, names, manner, seen.say) as found:
+    with watched(done + len(names), done) as seen, rows(args, names, read_options, seen.say) as found:
         for outcome in found:
             write(outcome)
             summary.take(outcome.row)

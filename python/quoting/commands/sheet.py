@@ -10,10 +10,10 @@ examples:
 
 import argparse
 
-from quoting import both, inputs, output
+from quoting import inputs, output, recounted
 from quoting.answers import verdict_text
 from quoting.native import Refused
-from quoting.rules import HEAD
+from quoting.rows import HEAD
 from quoting.sessions import Session, session
 from quoting.values import clock, part_text
 
@@ -37,7 +37,7 @@ def run(args: argparse.Namespace) -> int:
         done = session(source.data[: HEAD.size], source.data[HEAD.size :])
     except Refused as refused:
         return refuse(args, source, refused)
-    agreed = both.agreement(lines(done), both.session_lines(source.data)) if args.both else ""
+    agreed = recounted.agreement(lines(done), recounted.session_lines(source.data)) if args.both else ""
     if args.json:
         share = part_text(done.kept, done.length)
         found = {"kept": done.kept, "length": done.length, "share": share, "met": done.met, "weight": done.weight, "pairs": done.pairs}
@@ -61,7 +61,7 @@ def refuse(args: argparse.Namespace, source: inputs.Source, refused: Refused) ->
     if args.json:
         line = inputs.line_of_record(source, refused.place)
         output.write(args.output, output.json_text({"refused": {**vars(refused), "line": line}}))
-    agreed = both.agreement([f"refused {refused.number} at {refused.place}"], both.session_lines(source.data)) if args.both else ""
+    agreed = recounted.agreement([f"refused {refused.number} at {refused.place}"], recounted.session_lines(source.data)) if args.both else ""
     output.complain(inputs.refusal_text(source, refused))
     if agreed:
         output.complain(agreed.strip())

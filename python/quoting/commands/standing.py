@@ -9,7 +9,7 @@ examples:
 
 import argparse
 
-from quoting import both, inputs, output, reading, standings
+from quoting import inputs, output, reading, recounted, standings
 
 
 def add(parser: argparse.ArgumentParser) -> None:
@@ -21,7 +21,7 @@ def add(parser: argparse.ArgumentParser) -> None:
 
 def theirs(given: standings.Calls) -> list[str]:
     """The recount's places."""
-    recount = both.recount("standing")
+    recount = recounted.recount("standing")
     ratings, _ = recount.after(given.size, [(standings.KINDS[call.name], call.maker, call.rating) for call in given.calls])
     return [f"{maker} {rating}" for maker, rating in recount.in_order(ratings.items())]
 
@@ -33,7 +33,7 @@ def run(args: argparse.Namespace) -> int:
         error.file = args.file
         raise
     found = standings.played(given)
-    agreed = both.agreement([f"{maker} {rating}" for maker, rating in found.places], theirs(given)) if args.both else ""
+    agreed = recounted.agreement([f"{maker} {rating}" for maker, rating in found.places], theirs(given)) if args.both else ""
     if args.json:
         refused = [{"line": call.line, "call": str(call), **vars(why)} for call, why in found.refused]
         output.write(args.output, output.json_text({"refused": refused, "places": found.places}))

@@ -25,10 +25,10 @@ import argparse
 from pathlib import Path
 from typing import Iterator
 
-from quoting import inputs, output
+from quoting import inputs, month_sources, output
 from quoting.reading import STANDARD
 from quoting.selection import Owner
-from quoting.statement import page, sources
+from quoting.statement import page
 
 
 def add(parser: argparse.ArgumentParser) -> None:
@@ -44,7 +44,7 @@ def add(parser: argparse.ArgumentParser) -> None:
     parser.set_defaults(parser=parser)
 
 
-def listed_of(args: argparse.Namespace) -> sources.Listed:
+def listed_of(args: argparse.Namespace) -> month_sources.Listed:
     if (args.file is None) == (args.sessions is None):
         args.parser.error("a list of calls, or --sessions FOLDER, is needed, and not both")
     if not args.fix and (args.symbol, args.account) != (None, None):
@@ -52,10 +52,10 @@ def listed_of(args: argparse.Namespace) -> sources.Listed:
     if args.sessions is None:
         if args.charges is not None:
             args.parser.error("--charges goes with --sessions")
-        return sources.from_list(args.file, inputs.options_of(args), args.fix, Owner.named(args.symbol, args.account))
+        return month_sources.from_list(args.file, inputs.options_of(args), args.fix, Owner.named(args.symbol, args.account))
     if args.fix:
         args.parser.error("--fix goes with a list of calls")
-    return sources.from_sessions(args.sessions, args.charges, inputs.options_of(args))
+    return month_sources.from_sessions(args.sessions, args.charges, inputs.options_of(args))
 
 
 def complaints(made: page.Statement) -> Iterator[str]:

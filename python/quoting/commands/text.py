@@ -14,7 +14,7 @@ from dataclasses import replace
 from quoting import calls as c
 from quoting import inputs, output, reading, texts
 from quoting.commands.bytes import kind_of
-from quoting.rules import HEAD
+from quoting.rows import HEAD
 
 
 def add(parser: argparse.ArgumentParser) -> None:

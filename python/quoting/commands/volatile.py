@@ -11,8 +11,8 @@ examples:
 import argparse
 from pathlib import Path
 
-from quoting import both, inputs, output, reading, values, volatiles
-from quoting.volatiles import Day, Judged
+from quoting import inputs, output, reading, recounted, values, volatility
+from quoting.volatility import Day, Judged
 
 
 def threshold_of(word: str) -> int:
@@ -38,20 +38,20 @@ def rows(days: list[Day], judged: Judged) -> list[list[object]]:
 
 def run(args: argparse.Namespace) -> int:
     try:
-        days = volatiles.read(reading.whole_text(reading.read_bytes(args.file), reading.Options(complete=args.complete)))
+        days = volatility.read(reading.whole_text(reading.read_bytes(args.file), reading.Options(complete=args.complete)))
     except reading.TextError as error:
         error.file = args.file
         raise
     prices = [day.price for day in days]
-    judged = volatiles.judge(prices, args.threshold)
-    theirs = both.recount("volatile").answer(prices, args.threshold) if args.both else ""
+    judged = volatility.judge(prices, args.threshold)
+    theirs = recounted.recount("volatile").answer(prices, args.threshold) if args.both else ""
     ours = "refused 22" if judged.inside is None else f"inside {'yes' if judged.inside[-1] else 'no'}"
-    agreed = both.agreement([ours], [theirs]) if args.both else ""
+    agreed = recounted.agreement([ours], [theirs]) if args.both else ""
     if args.picture:
-        output.write(args.output, volatiles.picture(Path(args.file).stem, days, args.threshold, judged))
+        output.write(args.output, volatility.picture(Path(args.file).stem, days, args.threshold, judged))
     elif args.json:
         output.write(args.output, output.json_text({"days": days, "sigmas": judged.sigmas, "inside": judged.inside, "refused_day": judged.refused}))
     else:
         heads = ["day", "date", "price", "sigma", "inside"]
-        output.table(args.output, heads, rows(days, judged), f"{volatiles.last_line(judged)}\n{agreed}")
+        output.table(args.output, heads, rows(days, judged), f"{volatility.last_line(judged)}\n{agreed}")
     return int(judged.inside is None or "DIFFER" in agreed)

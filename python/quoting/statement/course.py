@@ -1,115 +1,69 @@
 """The course of a month: every call on the proved month of the library, and the same calls by the recount.
 
-What a quantum's stretches are follows from the month's own reports: between two events a quantum was kept if its kept time grew.
+The state and the best quotes after each event are the library's (`Month.glance`); a stretch lasts until they change.
 """
 
 from dataclasses import dataclass, field
 from itertools import zip_longest
 from typing import Optional, Sequence
 
-from quoting import both, fix, texts
 from quoting import calls as c
+from quoting import recounted
 from quoting.answers import Answer, Cell, MonthReport, line
+from quoting.cells import CELLS, SERIES, SHOW_ALL, Place
 from quoting.events import Add, Amend, Cancel, Deal, Tick
-from quoting.months import Month
+from quoting.formats import call_text
+from quoting.month_sources import Listed, Sent
+from quoting.months import Glance, Month
 from quoting.native import Refused
-from quoting.statement.sources import Listed, Sent
-from quoting.values import Tenths
+from quoting.states import State, Stretch
 
-DAYS, SERIES = range(1, 32), [(expiry, quantum) for expiry in (1, 2) for quantum in (0, 1, 2)]
-CELLS = [(day, *series) for day in DAYS for series in SERIES]
-LOOKS = [c.block(c.Look(*cell)) for cell in CELLS] + [c.block(c.Report())]
-Place = tuple[int, ...]  # day, expiry and quantum; without the day, a series
 EVENTS = (Add, Amend, Cancel, Deal, Tick, c.Commit, c.Message)
-USED = (b"35", b"11", b"41", b"54", b"38", b"44", b"60", b"10")  # tags of a message
-
-KEPT, NO_BID, NO_ASK, NEITHER, CROSSED, WIDE = STATES = ("kept", "no bid", "no ask", "neither quote", "locked or crossed", "too wide")
-
-
-@dataclass(frozen=True)
-class Mark:
-    """Both best quotes from a time on, and the time kept before it."""
-
-    time: int
-    bid: Optional[int]
-    ask: Optional[int]
-    kept: int
-
-
-@dataclass(frozen=True)
-class Stretch:
-    start: int
-    length: int
-    state: str
 
 
 @dataclass
 class Quantum:
-    """A quantum's course: the open, and the marks up to its close."""
+    """A quantum's course: the open, and what is seen after its open and after its events, up to its close."""
 
     opened: c.Open
     start: Optional[str]
-    marks: list[Mark] = field(default_factory=lambda: [Mark(0, None, None, 0)])
+    glances: list[Glance] = field(default_factory=lambda: [Glance(0, State.NEITHER, None, None)])
 
     @property
     def cell(self) -> Place:
         return self.opened.day, self.opened.words[0], self.opened.words[1]
 
-    def see(self, report: MonthReport) -> None:
+    def see(self, glance: Glance) -> None:
         """Of several events at one time the last one counts."""
-        if self.marks[-1].time == report.time:
-            self.marks.pop()
-        self.marks.append(Mark(report.time, report.bid, report.ask, report.kept))
+        if self.glances[-1].time == glance.time:
+            self.glances.pop()
+        self.glances.append(glance)
 
-    def stretches(self, cell: Cell) -> list[Stretch]:
+    def stretches(self, length: int) -> list[Stretch]:
         """The stretches of one state, each as long as it can be."""
         found: list[Stretch] = []
-        for mark, then in zip(self.marks, [*self.marks[1:], Mark(cell.length, None, None, cell.kept)]):
-            length, state = then.time - mark.time, state_of(mark, then.kept > mark.kept)
-            if found and found[-1].state == state:
-                found[-1] = Stretch(found[-1].start, found[-1].length + length, state)
-            elif length:
-                found.append(Stretch(mark.time, length, state))
+        for glance, end in zip(self.glances, [*(each.time for each in self.glances[1:]), length]):
+            if found and found[-1].state == glance.state:
+                found[-1] = found[-1]._replace(length=end - found[-1].offset)
+            elif end > glance.time:
+                found.append(Stretch(glance.time, end - glance.time, glance.state))
         return found
-
-
-def state_of(mark: Mark, is_kept: bool) -> str:
-    """Why a stretch was not kept, where it was not: with both quotes apart it can only be too wide."""
-    if is_kept:
-        return KEPT
-    if mark.bid is None or mark.ask is None:
-        return NEITHER if mark.bid is mark.ask else NO_BID if mark.bid is None else NO_ASK
-    return CROSSED if mark.ask <= mark.bid else WIDE
 
 
 def lapses_of(stretches: Sequence[Stretch]) -> list[list[Stretch]]:
     """What was not kept, joined where it touches."""
     found: list[list[Stretch]] = []
-    before = KEPT
+    before = State.KEPT
     for stretch in stretches:
-        if stretch.state != KEPT and before == KEPT:
+        if stretch.state != State.KEPT and before == State.KEPT:
             found.append([])
-        if stretch.state != KEPT:
+        if stretch.state != State.KEPT:
             found[-1].append(stretch)
         before = stretch.state
     return found
 
 
 # ---------------------------------------------------------------- a reading
-
-
-def cell_of(text: str) -> Cell:
-    """The cell of a line of `replay`, which the recount answers in too."""
-    w = text.split()
-    limit = None if w[10] == "none" else int(w[10])
-    return Cell(int(w[2]), int(w[4]), Tenths(w[6]), int(w[8]), limit, int(w[12]), int(w[14]), w[16] == "met", int(w[18]))
-
-
-def report_of(text: str) -> MonthReport:
-    """The report of a line."""
-    w = text.split()
-    bid, ask = (None if word == "absent" else int(word) for word in (w[8], w[10]))
-    return MonthReport(w[2] == "yes", int(w[4]), int(w[6]), bid, ask, int(w[12]), int(w[14]), tuple(map(int, w[16:22])), int(w[23]))
 
 
 @dataclass(frozen=True)
@@ -123,37 +77,21 @@ class RefusedCall:
     refused: Refused
 
 
-def call_text(block: bytes) -> str:
-    """A call's line; of a message the fields that are read, and its checksum."""
-    call = c.call_of(block)
-    if not isinstance(call, c.Message):
-        return texts.block_line(block)
-    fields = [texts.message_text(each) for each in call.bytes.split(fix.END) if each.split(b"=")[0] in USED]
-    return " ".join(["message", *fields])
-
-
 NOTHING = MonthReport(False, 0, 0, None, None, 0, 0, (0,) * len(SERIES), 0)
 
 
 @dataclass
 class Reading:
-    """What one reading answers: to each call of the month, then to a look at each cell, then to a report."""
+    """What one reading answers: lines to each call of the month, to a look at each cell and to a report; and those cells and that report
+    as values."""
 
     answers: list[str]
     cells: dict[Place, Cell]
     report: MonthReport
 
-    @classmethod
-    def of(cls, answers: list[str]) -> "Reading":
-        *looks, report = [""] * len(LOOKS) + answers[-len(LOOKS) :]
-        if not report.startswith("report"):  # it stopped before the end, and shows nothing
-            return cls(answers, {}, NOTHING)
-        cells: dict[Place, Cell] = {place: cell_of(look) for place, look in zip(CELLS, looks[-len(CELLS) :]) if look.startswith("cell")}
-        return cls(answers, cells, report_of(report))
-
     @property
     def refused(self) -> int:
-        return sum(answer.startswith("refused") for answer in self.answers[: -len(LOOKS)])
+        return sum(answer.startswith("refused") for answer in self.answers[: -len(SHOW_ALL)])
 
 
 @dataclass
@@ -176,7 +114,9 @@ class Course:
         elif isinstance(call, EVENTS) and self.opened is not None:
             if isinstance(call, c.Message):
                 self.opened.start = call.start.decode("latin-1")
-            self.opened.see(month.report())
+            glance = month.glance()
+            assert glance is not None
+            self.opened.see(glance)
         elif isinstance(call, c.Withdraw):
             self.quanta.pop((call.day, call.expiry, call.quantum), None)
         elif isinstance(call, (c.Close, c.Drop)) and self.opened is not None:
@@ -193,17 +133,25 @@ def by_meter(listed: Listed) -> tuple[Reading, Course]:
             answer = month.block(sent.block)
             answers.append(line(answer))
             course.take(month, number, sent, answer)
-        answers += [line(month.block(look)) for look in LOOKS]
-    return Reading.of(answers), course
+        looks = [month.block(look) for look in SHOW_ALL]
+    cells = {place: cell for place, cell in zip(CELLS, looks) if isinstance(cell, Cell)}
+    report = looks[-1]
+    assert isinstance(report, MonthReport)
+    return Reading([*answers, *map(line, looks)], cells, report), course
 
 
 def by_recount(listed: Listed) -> Reading:
-    """The recount's reading of the same bytes."""
-    return Reading.of(both.answer_lines(b"".join([sent.block for sent in listed.calls] + LOOKS)))
+    """The recount's reading of the same bytes. One that stops before the end shows nothing."""
+    answers = recounted.answer_lines(b"".join([sent.block for sent in listed.calls] + SHOW_ALL))
+    looks = answers[-len(SHOW_ALL) :]
+    if not looks or not looks[-1].startswith("report"):
+        return Reading(answers, {}, NOTHING)
+    cells = {place: recounted.cell_of(look) for place, look in zip(CELLS, looks) if look.startswith("cell")}
+    return Reading(answers, cells, recounted.report_of(looks[-1]))
 
 
 def first_difference(ours: Reading, theirs: Reading) -> Optional[tuple[int, str, str]]:
-    """The first call, counted from 1, on which the readings differ, with both answers; a look or a report behind the list may be it."""
+    """The first call, counted from 1, on which the readings differ, with both answers; a look or a report after the list may be it."""
     for number, (left, right) in enumerate(zip_longest(ours.answers, theirs.answers, fillvalue="nothing"), start=1):
         if left != right:
             return number, left, right

@@ -1,28 +1,18 @@
-"""The figures of a statement as the page shows them, all from a reading's cells and report.
-
->>> roubles(46_633_314)
-'466,333 roubles 14 kopecks'
-"""
+"""The figures of a statement as the page shows them, all from a reading's cells and report."""
 
 from dataclasses import dataclass
 from typing import Optional, Sequence
 
 from quoting import calls as c
 from quoting.answers import Cell
-from quoting.statement.course import KEPT, LOOKS, SERIES, STATES, Place, Quantum, Reading, Stretch, lapses_of
-from quoting.statement.picture import offset_of, picture
+from quoting.cells import ALLOWED, CAP, DIVISOR, SERIES, SHOW_ALL, Place
+from quoting.formats import place_text, spread_text, thousands, time_of_day
+from quoting.statement.course import Quantum, Reading, lapses_of
+from quoting.statement.picture import picture
+from quoting.states import State, Stretch
 from quoting.values import clock, share_text
 
-DIVISOR, CAP, ALLOWED = 80_000, 120_000_000, 15  # document 01: the fee's division, its cap in kopecks, failed quanta of a series
-LISTED = 8  # lines of lapses beside a picture, so that eight or nine quanta stand on a printed page
-
-
-def thousands(value: int) -> str:
-    return f"{value:,}"
-
-
-def roubles(kopecks: int) -> str:
-    return f"{kopecks // 100:,} roubles {kopecks % 100:02} kopecks"
+LISTED = 8  # lines of lapses beside a picture, so that eight or nine quanta are on a printed page
 
 
 def charge_sum(cell: Cell) -> int:
@@ -101,7 +91,7 @@ def totals(reading: Reading, calls: int) -> list[tuple[str, str]]:
 
 def compared(meter: Reading, recount: Reading) -> list[Compared]:
     """Both readings' figures, those that differ first."""
-    sizes = [max(0, len(reading.answers) - len(LOOKS)) for reading in (meter, recount)]
+    sizes = [max(0, len(reading.answers) - len(SHOW_ALL)) for reading in (meter, recount)]
     pairs = zip(totals(meter, sizes[0]), totals(recount, sizes[1]))
     rows = [Compared(name, ours, theirs) for (name, ours), (_, theirs) in pairs]
     return sorted(rows, key=lambda row: row.same)
@@ -125,10 +115,10 @@ class Shown:
     place: Place
     cell: Cell
     rule: str
-    told: str
+    spread: str
     hours: str
     svg: str
-    account: list[tuple[str, int]]
+    account: list[tuple[State, int]]
     count: int  # of the lapses that are drawn
     lapses: list[Lapse]
     more: str
@@ -162,16 +152,8 @@ def rule_text(opened: c.Open) -> str:
     return f"least volume {thousands(least)}, {spread}, required {share_text(share)}, {limit}"
 
 
-def told_text(opened: c.Open) -> str:
-    """What the open was told of the day."""
-    told = opened.spread
-    if isinstance(told, c.Strike):
-        return f"strike: a {told.a / 10:g}%, difference {told.difference}, {told.days} days, b {told.b}"
-    return f"SP {thousands(told)}"
-
-
 def hours_text(quantum: Quantum, length: int) -> str:
-    first = offset_of(quantum.start)
+    first = time_of_day(quantum.start)
     return f"{clock(first)} to {clock(first + length)}" if quantum.start else f"{clock(length)} long"
 
 
@@ -181,7 +163,7 @@ def lapse_rows(stretches: Sequence[Stretch], first: int) -> tuple[list[Lapse], s
     size = {at: sum(part.length for part in lapse) for at, lapse in found}
     shown = set(sorted(size, key=lambda at: (-size[at], at))[: LISTED if len(found) <= LISTED else LISTED - 1])
     rows = [
-        Lapse(at, clock(first + lapse[0].start), clock(size[at]), ", ".join(dict.fromkeys(part.state for part in lapse)))
+        Lapse(at, clock(first + lapse[0].offset), clock(size[at]), ", ".join(dict.fromkeys(part.state.label for part in lapse)))
         for at, lapse in found
         if at in shown
     ]
@@ -190,17 +172,17 @@ def lapse_rows(stretches: Sequence[Stretch], first: int) -> tuple[list[Lapse], s
 
 
 def shown(quantum: Quantum, cell: Cell) -> Shown:
-    stretches = quantum.stretches(cell)
-    account = [(state, sum(part.length for part in stretches if part.state == state)) for state in STATES]
-    rows, more = lapse_rows(stretches, offset_of(quantum.start))
+    stretches = quantum.stretches(cell.length)
+    account = [(state, sum(part.length for part in stretches if part.state == state)) for state in State]
+    rows, more = lapse_rows(stretches, time_of_day(quantum.start))
     svg = picture(quantum, stretches, cell.length)
     return Shown(
-        quantum.cell, cell, rule_text(quantum.opened), told_text(quantum.opened), hours_text(quantum, cell.length), svg, account,
+        quantum.cell, cell, rule_text(quantum.opened), spread_text(quantum.opened.spread), hours_text(quantum, cell.length), svg, account,
         len(lapses_of(stretches)), rows, more)
 
 
 def unsound(each: Shown) -> Optional[str]:
     """What is wrong where the stretches that are drawn do not have the kept time and the lapses of the cell."""
-    if (dict(each.account)[KEPT], each.count) != (each.cell.kept, each.cell.lapses):
-        return "day {}, expiry {}, quantum {}: the stretches drawn are not those of the cell".format(*each.place)
+    if (dict(each.account)[State.KEPT], each.count) != (each.cell.kept, each.cell.lapses):
+        return f"{place_text(each.place)}: the stretches drawn are not those of the cell"
     return None

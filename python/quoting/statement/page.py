@@ -6,16 +6,17 @@ from pathlib import Path
 from typing import Any, Optional
 
 from quoting import native
+from quoting.cells import ALLOWED, CAP, CELLS, DAYS, DIVISOR, SERIES
+from quoting.formats import brief, place_text, roubles, thousands
+from quoting.month_sources import Listed
 from quoting.native import Missing
 from quoting.statement import figures
-from quoting.statement.course import CELLS, DAYS, SERIES, RefusedCall, Course, Reading, by_meter, by_recount, first_difference
+from quoting.statement.course import Course, Reading, RefusedCall, by_meter, by_recount, first_difference
 from quoting.statement.figures import Fee, Shown
-from quoting.statement.picture import KEYS
-from quoting.statement.sources import Listed
 from quoting.values import clock, part_text
 
 TEMPLATE = Path(__file__).resolve().parent / "page.html"
-MOST_CHARACTERS = 96  # of a refused call, as it is listed
+PALETTE = TEMPLATE.parent.parent / "palette.css"  # which the live page has too
 
 
 @dataclass(frozen=True)
@@ -61,19 +62,14 @@ def statement(title: str, listed: Listed) -> Statement:
 # ---------------------------------------------------------------- into the template
 
 
-def brief(text: str) -> str:
-    """A call's line, shortened where it is long."""
-    return text if len(text) <= MOST_CHARACTERS else text[:MOST_CHARACTERS] + " .."
-
-
 def small(time: str) -> str:
     """A time with its thousandths in small."""
     whole, _, rest = time.partition(".")
     return f"{whole}<small>.{rest}</small>" if rest else whole
 
 
-def place_text(call: RefusedCall) -> str:
-    return "day {}, expiry {}, quantum {}".format(*call.cell) if call.cell else "no quantum open"
+def where(call: RefusedCall) -> str:
+    return place_text(call.cell) if call.cell else "no quantum open"
 
 
 def depth(weight: int) -> int:
@@ -90,7 +86,7 @@ def difference_text(made: Statement) -> str:
     if number <= len(calls):
         place = f"call {number:,}, {calls[number - 1].place}"
     elif number <= len(calls) + len(CELLS):
-        place = "the cell of day {}, expiry {}, quantum {}".format(*CELLS[number - len(calls) - 1])
+        place = f"the cell of {place_text(CELLS[number - len(calls) - 1])}"
     else:
         place = "the report at the end"
     return f"They differ first at {place}: the meter answers “{ours}”, the recount “{theirs}”."
@@ -104,7 +100,7 @@ def template() -> Any:
     mark = jinja.utils.markupsafe.Markup
     made = jinja.Environment(autoescape=True, trim_blocks=True, lstrip_blocks=True, undefined=jinja.StrictUndefined)
     made.filters.update(
-        n=figures.thousands, roubles=figures.roubles, clock=clock, brief=brief, depth=depth, safe_svg=mark,
+        n=thousands, roubles=roubles, clock=clock, brief=brief, depth=depth, safe_svg=mark,
         small=lambda time: mark(small(time)), exact=lambda time: mark(small(clock(time))))
     return made.from_string(TEMPLATE.read_text(encoding="utf-8"))
 
@@ -117,13 +113,13 @@ def html(made: Statement) -> str:
     text: str = template().render(
         made=made, fee=made.fee, report=made.meter.report, cells=cells, days=DAYS, series=SERIES, met=met,
         by_series=[pair for pair in by_series if pair[1]], both=figures.compared(made.meter, made.recount),
-        difference=difference_text(made), place_text=place_text, part=part_text, charge_sum=figures.charge_sum, term=figures.term,
-        cap=figures.CAP, divisor=figures.DIVISOR, allowed=figures.ALLOWED, keys=KEYS, version=native.version(), foot=foot_text(made))
+        difference=difference_text(made), where=where, part=part_text, charge_sum=figures.charge_sum, term=figures.term,
+        cap=CAP, divisor=DIVISOR, allowed=ALLOWED, palette=PALETTE.read_text(encoding="utf-8"), version=native.version(), foot=foot_text(made))
     return text
 
 
 def foot_text(made: Statement) -> str:
     """The foot of each printed page, a string of CSS: characters that could end it are dropped."""
     title = "".join(letter for letter in made.title if letter.isprintable() and letter not in "\"'\\<>&{}")
-    fee = "Not settled" if made.differs else f"Fee {figures.roubles(made.meter.report.fee)}"
+    fee = "Not settled" if made.differs else f"Fee {roubles(made.meter.report.fee)}"
     return f"Statement: {title}. {fee}{', without what the exchange answered' if made.listed.reports.answers else ''}."

@@ -5,38 +5,31 @@ A lapse is seen however short it is; where stretches are too many for that, each
 
 from typing import Iterator, Optional, Sequence
 
-from quoting import drawing, fix
-from quoting.statement.course import KEPT, STATES, Mark, Quantum, Stretch, lapses_of
-from quoting.values import HOUR, MINUTE, SECOND
+from quoting import drawing
+from quoting.drawing import TICKS
+from quoting.formats import place_text, time_of_day
+from quoting.months import Glance
+from quoting.statement.course import Quantum, lapses_of
+from quoting.states import State, Stretch
+from quoting.values import MINUTE, SECOND
 
 WIDTH, HEIGHT, LEFT, RIGHT = 420, 113, 34, 416
 TOP, BOTTOM, STRIP, STRIP_HEIGHT = 12, 82, 87, 11
 FEW = 60  # stretches that are drawn one by one
 NUMBERED = 8  # lapses that are numbered
-KEYS = dict(zip(STATES, ("kept", "nobid", "noask", "neither", "crossed", "wide")))
-TICKS = [SECOND, 5 * SECOND, 10 * SECOND, MINUTE, 5 * MINUTE, 10 * MINUTE, 30 * MINUTE, HOUR, 2 * HOUR, 4 * HOUR]
 
 number = drawing.number
 
 
-def fill(state: str) -> str:
-    return "var(--kept)" if state == KEPT else f"url(#p-{KEYS[state]})"
-
-
-def offset_of(start: Optional[str]) -> int:
-    """The time of day of a start, in milliseconds; 0 where it is not known."""
-    try:
-        at = fix.moment(start or "")
-    except ValueError:
-        return 0
-    return ((at.hour * 60 + at.minute) * 60 + at.second) * SECOND + at.microsecond // 1000
+def fill(state: State) -> str:
+    return "var(--kept)" if state == State.KEPT else f"url(#p-{state.word})"
 
 
 class Scale:
-    """Where times and prices stand."""
+    """Where times and prices are in the picture."""
 
-    def __init__(self, length: int, marks: Sequence[Mark]) -> None:
-        prices = [price for mark in marks for price in (mark.bid, mark.ask) if price is not None] or [0]
+    def __init__(self, length: int, glances: Sequence[Glance]) -> None:
+        prices = [price for each in glances for price in (each.bid, each.ask) if price is not None] or [0]
         self.length, self.low, self.high = length, min(prices) - 1, max(prices) + 1
 
     def x(self, t: float) -> float:
@@ -73,9 +66,9 @@ def steps(scale: Scale, points: Sequence[tuple[int, Optional[int]]]) -> Iterator
 def bands(scale: Scale, stretches: Sequence[Stretch]) -> Iterator[str]:
     """The kept stretches, shaded behind the lines."""
     for stretch in stretches:
-        if stretch.state == KEPT:
+        if stretch.state == State.KEPT:
             wide = scale.x(stretch.length) - LEFT
-            yield rect(scale.x(stretch.start), TOP - 2, wide, BOTTOM - TOP + 4, 'class="band"')
+            yield rect(scale.x(stretch.offset), TOP - 2, wide, BOTTOM - TOP + 4, 'class="band"')
 
 
 def strip(scale: Scale, stretches: Sequence[Stretch]) -> Iterator[str]:
@@ -83,33 +76,32 @@ def strip(scale: Scale, stretches: Sequence[Stretch]) -> Iterator[str]:
     if len(stretches) > FEW:
         yield from columns(scale, stretches)
     else:
-        for stretch in sorted(stretches, key=lambda each: each.state != KEPT):  # a short lapse stands above what is kept
-            wide = max(scale.x(stretch.length) - LEFT, 0.5 if stretch.state == KEPT else 1.6)
-            yield rect(scale.x(stretch.start), STRIP, wide, STRIP_HEIGHT, f'fill="{fill(stretch.state)}"')
+        for stretch in sorted(stretches, key=lambda each: each.state != State.KEPT):  # a short lapse is drawn over what is kept
+            wide = max(scale.x(stretch.length) - LEFT, 0.5 if stretch.state == State.KEPT else 1.6)
+            yield rect(scale.x(stretch.offset), STRIP, wide, STRIP_HEIGHT, f'fill="{fill(stretch.state)}"')
     yield rect(LEFT, STRIP, RIGHT - LEFT, STRIP_HEIGHT, 'class="frame"')
 
 
 def columns(scale: Scale, stretches: Sequence[Stretch]) -> Iterator[str]:
     """Each pixel's column by the shares of the states."""
     pixel = scale.length / (RIGHT - LEFT)
-    shares: list[dict[str, float]] = [{} for _ in range(RIGHT - LEFT)]
+    shares: list[dict[State, float]] = [{} for _ in range(RIGHT - LEFT)]
     for stretch in stretches:
         share_out(shares, stretch, pixel)
     return (part for column, each in enumerate(shares) for part in stacked(LEFT + column, each))
 
 
-def share_out(shares: list[dict[str, float]], stretch: Stretch, pixel: float) -> None:
+def share_out(shares: list[dict[State, float]], stretch: Stretch, pixel: float) -> None:
     """Adds what a stretch has of each column."""
-    end = stretch.start + stretch.length
-    for column in range(int(stretch.start / pixel), min(int((end - 1) / pixel) + 1, len(shares))):
-        inside = min(end, (column + 1) * pixel) - max(stretch.start, column * pixel)
+    for column in range(int(stretch.offset / pixel), min(int((stretch.end - 1) / pixel) + 1, len(shares))):
+        inside = min(stretch.end, (column + 1) * pixel) - max(stretch.offset, column * pixel)
         shares[column][stretch.state] = shares[column].get(stretch.state, 0) + max(0, inside) / pixel
 
 
-def stacked(x: int, shares: dict[str, float]) -> Iterator[str]:
+def stacked(x: int, shares: dict[State, float]) -> Iterator[str]:
     """A column, what is kept at the bottom."""
     bottom: float = STRIP + STRIP_HEIGHT
-    for state in STATES:
+    for state in State:
         tall = STRIP_HEIGHT * shares.get(state, 0)
         bottom -= tall
         if tall > 0.05:
@@ -119,7 +111,7 @@ def stacked(x: int, shares: dict[str, float]) -> Iterator[str]:
 def ticks(scale: Scale, start: Optional[str]) -> Iterator[str]:
     """Times of day where the start is known, else times from it."""
     step = next((each for each in TICKS if scale.length / each <= 6), TICKS[-1])
-    first = offset_of(start)
+    first = time_of_day(start)
     for t in range(0, scale.length, step):
         seconds = (first + t) // SECOND % 86_400
         label = f"{seconds // 3600}:{seconds // 60 % 60:02}" + ("" if step >= MINUTE else f":{seconds % 60:02}")
@@ -131,18 +123,17 @@ def numbers(scale: Scale, stretches: Sequence[Stretch]) -> Iterator[str]:
     """A number above each lapse, as the table beside the picture has them, unless there are too many."""
     lapses = lapses_of(stretches)
     for at, lapse in enumerate(lapses if len(lapses) <= NUMBERED else [], start=1):
-        middle = (lapse[0].start + lapse[-1].start + lapse[-1].length) / 2
+        middle = (lapse[0].offset + lapse[-1].end) / 2
         yield f'<text class="no" x="{number(scale.x(middle))}" y="7.5" text-anchor="middle">{at}</text>'
 
 
 def picture(quantum: Quantum, stretches: Sequence[Stretch], length: int) -> str:
     """The SVG of a quantum; its colours and patterns are the page's."""
-    scale = Scale(length, quantum.marks)
-    day, expiry, place = quantum.cell
-    label = f"Best bid and ask, day {day}, expiry {expiry}, quantum {place}"
+    scale = Scale(length, quantum.glances)
+    label = f"Best bid and ask, {place_text(quantum.cell)}"
     parts = [*bands(scale, stretches), *rules(scale)]
     for name in ("ask", "bid"):
-        points = [(mark.time, mark.ask if name == "ask" else mark.bid) for mark in quantum.marks]
+        points = [(each.time, each.ask if name == "ask" else each.bid) for each in quantum.glances]
         parts.append(f'<path class="{name}" d="{"".join(steps(scale, points))}"/>')
     parts += [*strip(scale, stretches), *numbers(scale, stretches), *ticks(scale, quantum.start)]
     return f'<svg class="pic" viewBox="0 0 {WIDTH} {HEIGHT}" role="img" aria-label="{label}">{"".join(parts)}</svg>'

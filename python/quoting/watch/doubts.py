@@ -19,12 +19,11 @@ import time
 from dataclasses import dataclass, field
 from typing import Optional
 
-from quoting.statement.course import Place
-from quoting.statement.figures import thousands
-from quoting.statement.sources import Sent
+from quoting.cells import Place
+from quoting.formats import counted, place_text, thousands
+from quoting.month_sources import Sent
 from quoting.values import clock
 from quoting.watch.meter import CLOSE, DROP, EVENT_KINDS, OPEN_KINDS, Meter
-from quoting.watch.sentences import counted_calls, place_text
 
 SETTLING = 10.0  # seconds after a change in which the file may be written on: later lines are new ones, and don't bring back lost ones
 PLACED_KINDS = frozenset((*OPEN_KINDS, *EVENT_KINDS, CLOSE, DROP))  # calls that show whether a file goes on where another ended
@@ -51,7 +50,7 @@ class Reading:
             return f"it lacks {place_text(missing[0])}"
         if self.opened is not None and self.opened == other.opened and other.time < self.time:
             return f"it ends at {clock(other.time)} of a quantum that was read up to {clock(self.time)}"
-        return f"it has {counted_calls(other.calls)}, and {thousands(self.calls)} were read before" if other.calls < self.calls else ""
+        return f"it has {counted(other.calls, 'call')}, and {thousands(self.calls)} were read before" if other.calls < self.calls else ""
 
 
 @dataclass
@@ -92,7 +91,7 @@ class Doubt:
         if self.is_lost:
             return "What is lost can't be read again here: start quoting watch again, with the whole feed."
         if not self.missing:
-            return f"The feed is being read again from its start: {counted_calls(calls)} so far."
+            return f"The feed is being read again from its start: {counted(calls, 'call')} so far."
         more = "" if self.is_final else " More may follow."
         return f"The feed was read again from its start, but {self.missing}.{more} Start quoting watch again to use the file as it is now."
 

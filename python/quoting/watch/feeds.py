@@ -21,7 +21,7 @@ from quoting import calls as c
 from quoting import reading, texts
 from quoting.reading import STANDARD, Options, TextError
 from quoting.reports import Omission
-from quoting.statement.sources import PLACED_BEFORE, Sent, start_of
+from quoting.month_sources import PLACED_BEFORE, Sent, start_of
 from quoting.watch.names import name_text
 
 PIECE = 65_536  # bytes that are read at once

@@ -7,20 +7,16 @@ import time
 from dataclasses import dataclass, field
 from typing import Any, Mapping, Optional, Sequence
 
-from quoting import calls as c
-from quoting.accounts import STATES as NAMES
 from quoting.answers import Cell, MonthReport, verdict_text
-from quoting.statement.course import CROSSED, SERIES, STATES, Place
-from quoting.statement.figures import ALLOWED, CAP, roubles, thousands, told_text
-from quoting.statement.picture import KEYS, TICKS
+from quoting.cells import ALLOWED, CAP, SERIES, Place
+from quoting.drawing import TICKS
+from quoting.formats import counted, place_text, roubles, series_text, spread_text, thousands
+from quoting.states import State, Stretch
 from quoting.values import MINUTE, SECOND, clock, milliseconds, part_text, share_text
 from quoting.watch import sentences as s
-from quoting.watch.course import Stretch
 from quoting.watch.meter import Meter, Opened, Problem, Shown, wall_text
 
 Section = dict[str, Any]
-STATE_KEYS = [KEYS[state] for state in STATES]
-SHORT = {CROSSED: "crossed"}  # beside the headline there is little room
 MOST_ORDERS = 64
 FULL = 800  # thousandths of the length: the full weight's share
 ALERT = 300.0  # seconds for which the newest problem is shown under the band
@@ -95,7 +91,7 @@ def head(meter: Meter, shown: Optional[Shown], status: Status) -> Section:
     if times.known:
         hours = f"{times.exact(0)} to {times.exact(opened.length)}{times.zone}"
     clock_text = f"{'last ' if status.is_still else ''}{times.down(shown.report.time)}{times.zone}"
-    return {"name": meter.name, "what": f"{s.series_text(tuple(series))}, day {day}, {hours}", "clock": clock_text}
+    return {"name": meter.name, "what": f"{series_text(tuple(series))}, day {day}, {hours}", "clock": clock_text}
 
 
 def wall_clock(meter: Meter, status: Status) -> str:
@@ -132,16 +128,17 @@ def title(band: s.Band, name: str) -> str:
 def state(meter: Meter, shown: Optional[Shown], status: Status) -> Optional[Section]:
     if shown is None or meter.course is None or meter.opened is None:
         return None
-    word = SHORT.get(STATES[meter.course.state], STATES[meter.course.state])
+    now = meter.course.state
+    word = now.word if now == State.CROSSED else now.label  # beside the headline there is little room
     if status.doubt is not None:
         return {"key": "unknown", "word": "not known", "since": f"by the file now: {word}"}
     if status.feed == "broken":
         return {"key": "unknown", "word": "not known", "since": f"last {word}"}
     if meter.reports_now.answers:
         return {"key": "unknown", "word": "not known", "since": f"by your requests {word}"}
-    since, now = meter.course.since, shown.report.time
-    text = f"since {meter.opened.times.down(since)}, for {s.had(now - since)}"
-    return {"key": STATE_KEYS[meter.course.state], "word": word, "since": text}
+    since = meter.course.since
+    text = f"since {meter.opened.times.down(since)}, for {s.had(shown.report.time - since)}"
+    return {"key": now.word, "word": word, "since": text}
 
 
 def feed_text(calls: int, status: Status) -> str:
@@ -154,15 +151,15 @@ def feed_text(calls: int, status: Status) -> str:
     >>> feed_text(0, Status("playing", speed=60))
     'Playing at 60 times its pace, 0 calls'
     """
-    counted = s.counted_calls(calls)
+    read = counted(calls, "call")
     if status.feed == "following":
         last = f"{status.silence:.1f} s" if status.silence < 60 else s.had(int(status.silence) * SECOND)
-        return f"Following the feed, {counted}, last one {last} ago" if calls else "Following the feed, nothing has come yet"
+        return f"Following the feed, {read}, last one {last} ago" if calls else "Following the feed, nothing has come yet"
     if status.feed == "broken":
-        return f"{silent_text(status)}, {counted} read"
+        return f"{silent_text(status)}, {read} read"
     if status.feed == "playing":
-        return f"Playing at {status.speed:g} times its pace, {counted}"
-    return f"The file has ended, {counted} read" if status.feed == "ended" else f"Reading the feed, {counted} so far"
+        return f"Playing at {status.speed:g} times its pace, {read}"
+    return f"The file has ended, {read} read" if status.feed == "ended" else f"Reading the feed, {read} so far"
 
 
 def silent_text(status: Status) -> str:
@@ -261,7 +258,7 @@ def tiles(meter: Meter, opened: Opened, shown: Shown) -> list[Section]:
 
 
 def account(totals: Sequence[int]) -> list[Section]:
-    return [{"key": key, "word": word, **figure(ms)} for key, word, ms in zip(STATE_KEYS, STATES, totals)]
+    return [{"key": state.word, "word": state.label, **figure(ms)} for state, ms in zip(State, totals)]
 
 
 def ahead(shown: Shown) -> list[Section]:
@@ -283,8 +280,7 @@ def ahead(shown: Shown) -> list[Section]:
 def orders_note(meter: Meter, shown: Shown) -> str:
     view = shown.view
     prices = "prices in steps" if meter.price_step is None else f"prices in steps of {meter.price_step:f}"
-    told = told_text(c.Open(view.row.words, view.day, view.spread))
-    return f"{len(view.orders)} live of at most {MOST_ORDERS}. Least volume {thousands(view.row.minimum)} contracts, {told}, {prices}."
+    return f"{len(view.orders)} live of at most {MOST_ORDERS}. Least volume {thousands(view.row.minimum)} contracts, {spread_text(view.spread)}, {prices}."
 
 
 def proposed(opened: Opened, now: int) -> str:
@@ -300,9 +296,9 @@ def stretches(meter: Meter, shown: Optional[Shown]) -> Section:
 
     def row(each: Stretch) -> Section:
         runs = each.end == now  # its end moves on, so it is shown to the second
-        length = s.had(each.end - each.start) if runs else clock(each.end - each.start)
+        length = s.had(each.length) if runs else clock(each.length)
         to = "now" if runs else times.exact(each.end)
-        return {"from": times.exact(each.start), "to": to, "length": length, "key": STATE_KEYS[each.state], "word": STATES[each.state]}
+        return {"from": times.exact(each.offset), "to": to, "length": length, "key": each.state.word, "word": each.state.label}
 
     return {"rows": [row(each) for each in shown.seen.stretches], "earlier": shown.seen.earlier}
 
@@ -334,7 +330,7 @@ def day(meter: Meter, now: int, status: Status, got: Optional[Got]) -> tuple[Opt
         "fresh": is_fresh, "length": course.length, "width": course.width, "start": marks(opened), "now": at,
         "now_text": f"{name} {times.down(at)}",
         "latest": None if latest is None else {"at": latest, "text": f"latest {times.down(latest)}"},
-        "running": {"from": course.time, "key": STATE_KEYS[course.state]},
+        "running": {"from": course.time, "key": course.state.word},
         "bid": best(meter, "bid", course.bid), "ask": best(meter, "ask", course.ask),
         "step": None if meter.price_step is None else f"{meter.price_step:f}", "buckets": course.parts[first:],
     }
@@ -386,7 +382,7 @@ def cell_section(place: Place, cell: Cell) -> Section:
     text = f"met, weight {thousands(cell.weight)}" if cell.met else "failed"
     return {
         "place": list(place), "kind": verdict_text(cell.met), "weight": thousands(cell.weight), "depth": depth,
-        "label": f"{s.place_text(place)}: {text}", "rows": rows,
+        "label": f"{place_text(place)}: {text}", "rows": rows,
     }
 
 
@@ -399,13 +395,13 @@ def failed_by(cell: Cell) -> str:
 
 
 def open_section(opened: Opened) -> Section:
-    label = f"{s.place_text(opened.place)}: open now"
+    label = f"{place_text(opened.place)}: open now"
     return {"place": list(opened.place), "kind": "open", "weight": "", "depth": 0.0, "label": label, "rows": [["verdict", "open now"]]}
 
 
 def failures(report: MonthReport) -> list[Section]:
     return [
-        {"word": s.series_text(each), "count": count, "of": ALLOWED, "fraction": min(1.0, count / ALLOWED)}
+        {"word": series_text(each), "count": count, "of": ALLOWED, "fraction": min(1.0, count / ALLOWED)}
         for each, count in zip(SERIES, report.failed)
     ]
 
@@ -432,7 +428,7 @@ def differs(meter: Meter, shown: Optional[Shown], status: Status) -> Optional[Se
     pairs = [
         ("kept", clock(shown.report.kept), clock(shown.seen.totals[0])),
         ("lapses", thousands(shown.report.lapses), thousands(shown.seen.lapses)),
-        ("state", shown.view.state, NAMES[meter.course.state]),
+        ("state", shown.view.state.label, meter.course.state.label),
         ("gone", clock(shown.report.time), clock(sum(shown.seen.totals))),
     ]
     rows = [{"word": word, "ours": ours, "theirs": theirs, "same": ours == theirs} for word, ours, theirs in pairs]

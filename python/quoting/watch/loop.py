@@ -8,7 +8,7 @@ from typing import Any, Mapping, Optional
 
 from quoting import calls as c
 from quoting.reading import STANDARD
-from quoting.statement.sources import Sent
+from quoting.month_sources import Sent
 from quoting.watch import frames
 from quoting.watch.changes import Changes, encoded
 from quoting.watch.clocks import Clock

@@ -12,18 +12,16 @@ from typing import TYPE_CHECKING, Any, Callable, Optional
 
 from quoting import calls as c
 from quoting import values
-from quoting.accounts import STATES
 from quoting.answers import Answer, Asked, Cell, MonthReport, Outlook
+from quoting.cells import CELLS, LOOKS, Place
 from quoting.drawing import short
 from quoting.events import Amend
+from quoting.formats import call_text, thousands, time_of_day
+from quoting.month_sources import Sent
 from quoting.months import Month
 from quoting.native import Refused
 from quoting.reports import Reports
-from quoting.statement.course import CELLS, LOOKS, Place, call_text
-from quoting.statement.course import STATES as WORDS
-from quoting.statement.figures import thousands
-from quoting.statement.picture import KEYS, offset_of
-from quoting.statement.sources import Sent
+from quoting.states import State
 from quoting.views import View
 from quoting.watch.course import Course, Seen
 from quoting.watch.sentences import DAY, Times
@@ -170,7 +168,7 @@ class Meter:
             self.closed = None
 
     def _open(self, place: Place, length: int, start: Optional[str]) -> None:
-        self.times = Times(offset_of(start), " UTC", True) if start else Times(self.day_start, "", bool(self.day_start))
+        self.times = Times(time_of_day(start), " UTC", True) if start else Times(self.day_start, "", bool(self.day_start))
         self.opened = Opened(place, length, start, self.times)
 
     # ------------------------------------------------------------ what is shown
@@ -246,15 +244,14 @@ class Meter:
 
     def _answer(self, asked: Asked, view: View) -> dict[str, Any]:
         assert self.opened is not None
-        number = STATES.index(view.state)
-        head = "Would keep" if number == 0 else f"Would not keep: {WORDS[number]}"
+        head = "Would keep" if view.state == State.KEPT else f"Would not keep: {view.state.label}"
         quotes = f"bid {self.price_text(asked.bid)}, ask {self.price_text(asked.ask)}"
         if asked.bid is not None and asked.ask is not None:
             quotes += f", D {asked.ask - asked.bid} of at most {view.widest}"
         t = asked.ticket
         at = self.opened.times.exact(t.t)
         ticket = f"ticket: {at}, order {t.id}, {self.price_text(t.price)}, {thousands(t.volume)}, count {thousands(t.count)}"
-        return {"kind": KEYS[WORDS[number]], "head": head, "lines": [quotes, ticket]}
+        return {"kind": view.state.word, "head": head, "lines": [quotes, ticket]}
 
 
 def refusal(head: str, text: str) -> dict[str, Any]:

@@ -15,7 +15,7 @@ from quoting import fix
 from quoting.events import Add, Amend, Cancel, Deal, Tick
 from quoting.months import Month
 from quoting.native import Refused
-from quoting.statement.sources import Sent, time_of
+from quoting.month_sources import Sent, time_of
 from quoting.values import milliseconds
 from quoting.watch.feeds import MOST_ITEMS, Feed, Item, Trouble
 

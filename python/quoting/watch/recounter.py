@@ -15,17 +15,16 @@ from dataclasses import dataclass
 from itertools import chain
 from typing import Any, BinaryIO, Iterator, Optional, Sequence, Union
 
-from quoting import both
+from quoting import recounted
 from quoting import calls as c
 from quoting.answers import line
+from quoting.cells import LOOKS
 from quoting.months import Month
-from quoting.statement.course import LOOKS
 
 MOST_MEMORY = 2 << 30  # bytes: a book keeps every event of its open quantum, and the machine has other work
 MOST_WALKED = 2_000_000  # events that may be gone through again, report by report, to name the first call
 CELL_CALLS = (c.Close, c.Charge, c.Withdraw)
 STANDING = [c.block(c.Report()), c.block(c.Outlook())]
-CELL_LOOKS = LOOKS[:-1]  # all cells, without the report after them
 
 
 @dataclass(frozen=True)
@@ -84,7 +83,7 @@ def changes_cells(block: bytes) -> bool:
 
 def asked(looks: bool) -> list[bytes]:
     """What is compared: report and outlook, and every cell where cells may have changed."""
-    return STANDING + CELL_LOOKS if looks else STANDING
+    return STANDING + LOOKS if looks else STANDING
 
 
 # ---------------------------------------------------------------- the meter's month
@@ -110,8 +109,8 @@ class Recounter:
     """The recount's book, and the calls since both readings last agreed."""
 
     def __init__(self) -> None:
-        self.programs = both.recount("programs")
-        self.book = both.recount("book").Book()
+        self.programs = recounted.recount("programs")
+        self.book = recounted.recount("book").Book()
         self.point = Point(0, self.copied(self.book), Month().words())
         self.since: list[Called] = []
         self.last = Called(b"", "", "")

@@ -15,13 +15,12 @@ from typing import Any, Iterator, Optional, Union
 from quoting import native
 from quoting.answers import Answer, line, quote_text
 from quoting.months import Month
-from quoting.statement.course import CELLS, call_text, report_of
-from quoting.statement.figures import roubles, thousands
-from quoting.statement.page import brief
-from quoting.statement.sources import Sent
+from quoting.cells import CELLS
+from quoting.formats import brief, call_text, counted, place_text, roubles, thousands
+from quoting.recounted import report_of
+from quoting.month_sources import Sent
 from quoting.values import clock
 from quoting.watch.recounter import STANDING, Agreed, Called, Check, Ended, Parted, changes_cells, shown_by
-from quoting.watch.sentences import counted_calls
 
 Pair = tuple[str, str, str]  # a figure's name, by the meter, by the recount
 
@@ -151,12 +150,12 @@ class Recounting:
             why = "it is in the source tree and not in an installed package"
             return {"kind": "absent", "head": "The recount is not here", "text": why}
         if self.kind == "stopped":
-            until = f"; both agreed on {counted_calls(self.agreed)}" if self.agreed_at else ""
+            until = f"; both agreed on {counted(self.agreed, 'call')}" if self.agreed_at else ""
             return {"kind": "absent", "head": "The recount has stopped", "text": f"{self.why}{until}"}
         if self.kind == "waiting":
-            return {"kind": "waiting", "head": "The recount is at work", "text": f"{counted_calls(self.sent)}, none compared so far"}
+            return {"kind": "waiting", "head": "The recount is at work", "text": f"{counted(self.sent, 'call')}, none compared so far"}
         which = "all " if self.agreed == self.sent else ""
-        text = f"on {which}{counted_calls(self.agreed)}, {ago(now - self.agreed_at)} ago"
+        text = f"on {which}{counted(self.agreed, 'call')}, {ago(now - self.agreed_at)} ago"
         return {"kind": "agree", "head": "Both readings agree", "text": text}
 
     def differs(self) -> Optional[dict[str, Any]]:
@@ -201,7 +200,7 @@ def compared(parted: Parted) -> Iterator[Pair]:
     found = [(word, str(getattr(ours, name)), str(getattr(theirs, name))) for name, word in others]
     found += parts_of("outlook", parted.ours[1], parted.theirs[1])
     for cell, *looks in zip(CELLS, parted.ours[len(STANDING) :], parted.theirs[len(STANDING) :]):
-        found += parts_of("day {}, expiry {}, quantum {}".format(*cell), looks[0], looks[1])
+        found += parts_of(place_text(cell), looks[0], looks[1])
     yield from (pair for pair in found if pair[1] != pair[2])
 
 
@@ -242,4 +241,4 @@ def parted_text(parted: Parted, agreed_at: float) -> str:
     if not agreed_at:
         return f"{which} They had not been compared before."
     when = time.strftime("%H:%M:%S", time.localtime(agreed_at))
-    return f"{which} They last agreed on {counted_calls(parted.agreed)}, at {when}."
+    return f"{which} They last agreed on {counted(parted.agreed, 'call')}, at {when}."

@@ -2,41 +2,41 @@
 
 What is had or left is rounded down, what is needed is rounded up, a latest time is rounded down, an end up.
 
->>> from quoting.rules import Row
+>>> from quoting.rows import Row
 >>> row = Row(1, 1, "8:45:00", 1000, 150, 3, "60%")
 >>> day = Times(36_000_000, known=True)
 >>> def said(now, state, need, by, lapses, limit, count, rest=False, lost=False, widest=12, going=None, times=day):
 ...     view = View(15, row, 8452, limit, widest, state, ())
 ...     outlook = Outlook(need, row.length - now, by, None, lapses, rest, lost, 0, 0)
 ...     report = MonthReport(True, now, 0, None, None, 0, count, (0,) * 6, 0)
-...     found = band(Moment(outlook, report, view, (state != "kept") if going is None else going, times))
+...     found = band(Moment(outlook, report, view, (state != State.KEPT) if going is None else going, times))
 ...     for line in found[:4]:
 ...         print(line)
 
 To be kept, with a lapse limit, in a lapse, in the last one, and without a limit:
 
->>> said(18_531_798, "kept", 6_650_202, 24_849_798, 2, 5, 3)
+>>> said(18_531_798, State.KEPT, 6_650_202, 24_849_798, 2, 5, 3)
 keep
 Keep 1:50:51 more
 from 16:54:09 at the latest
 A wait until then is one of the 2 lapses still allowed; after it no moment may be missed.
->>> said(18_531_798, "kept", 6_650_202, 24_849_798, 1, 5, 4)
+>>> said(18_531_798, State.KEPT, 6_650_202, 24_849_798, 1, 5, 4)
 keep
 Keep 1:50:51 more
 from 16:54:09 at the latest
 A wait until then is the last lapse allowed (5 of 5); after it no moment may be missed.
->>> said(18_531_798, "wide", 6_650_202, 24_849_798, 1, 5, 4)
+>>> said(18_531_798, State.WIDE, 6_650_202, 24_849_798, 1, 5, 4)
 keep
 Keep 1:50:51 more
 from 16:54:09 at the latest
 Waiting for it is no new lapse; from then on no moment may be missed.
->>> said(18_531_798, "wide", 6_650_202, 24_849_798, 0, 5, 5)
+>>> said(18_531_798, State.WIDE, 6_650_202, 24_849_798, 0, 5, 5)
 keep
 Keep 1:50:51 more
 from 16:54:09 at the latest
 Waiting for it is no new lapse; from then on no moment may be missed. The lapse that is going on is the last one allowed (5 of 5): \
 a quote that comes back must stay to 18:45:00.
->>> said(18_531_798, "kept", 6_650_202, 24_849_798, None, None, 3)
+>>> said(18_531_798, State.KEPT, 6_650_202, 24_849_798, None, None, 3)
 keep
 Keep 1:50:51 more
 from 16:54:09 at the latest
@@ -44,22 +44,22 @@ In pieces too, as long as it is 1:50:51 in all.
 
 May rest: without more, once, in the last lapse, at the end:
 
->>> said(25_789_234, "kept", 0, 31_500_000, None, None, 4, rest=True)
+>>> said(25_789_234, State.KEPT, 0, 31_500_000, None, None, 4, rest=True)
 rest
 You may rest
 Met even if nothing more is kept.
 <BLANKLINE>
->>> said(25_789_234, "kept", 0, 31_500_000, 1, 5, 4, rest=True)
+>>> said(25_789_234, State.KEPT, 0, 31_500_000, 1, 5, 4, rest=True)
 rest
 You may rest
 Met even if nothing more is kept.
 Once: resting is the last lapse allowed (5 of 5). A quote that comes back must stay to 18:45:00.
->>> said(25_789_234, "no-ask", 0, 31_500_000, 0, 5, 5, rest=True)
+>>> said(25_789_234, State.NO_ASK, 0, 31_500_000, 0, 5, 5, rest=True)
 rest
 You may rest
 Met even if nothing more is kept.
 The lapse that is going on is the last one allowed (5 of 5): a quote that comes back must stay to 18:45:00.
->>> said(31_500_000, "kept", 0, 31_500_000, 0, 5, 5, rest=True)
+>>> said(31_500_000, State.KEPT, 0, 31_500_000, 0, 5, 5, rest=True)
 rest
 You may rest
 Met even if nothing more is kept.
@@ -68,27 +68,27 @@ Its time is over: nothing is left to be kept.
 No lapse left, with enough kept and without; every moment needed; a quote that came back in this very millisecond, after the last lapse
 allowed, where the outlook would still have him rest at once; and one that went in it:
 
->>> said(26_500_500, "kept", 0, 26_500_500, 0, 5, 5)
+>>> said(26_500_500, State.KEPT, 0, 26_500_500, 0, 5, 5)
 hold
 Do not let go
 One more lapse loses it: keep on to 18:45:00.
 5 lapses of 5 allowed. The time kept is enough already.
->>> said(26_500_500, "kept", 1_800_001, 26_500_500, 0, 1, 1)
+>>> said(26_500_500, State.KEPT, 1_800_001, 26_500_500, 0, 1, 1)
 hold
 Do not let go
 One more lapse loses it: keep on to 18:45:00.
 1 lapse of 1 allowed. 0:30:01 still to be kept.
->>> said(12_600_000, "kept", 18_900_000, 12_600_000, 2, 5, 3)
+>>> said(12_600_000, State.KEPT, 18_900_000, 12_600_000, 2, 5, 3)
 hold
 Keep on to the end
 Nothing to spare: every moment to 18:45:00.
 <BLANKLINE>
->>> said(26_500_500, "kept", 0, 31_500_000, 0, 5, 5, rest=True, going=True)
+>>> said(26_500_500, State.KEPT, 0, 31_500_000, 0, 5, 5, rest=True, going=True)
 hold
 Do not let go
 One more lapse loses it: keep on to 18:45:00.
 5 lapses of 5 allowed. The time kept is enough already.
->>> said(0, "neither", 18_900_000, 0, 0, 0, 0, going=False)
+>>> said(0, State.NEITHER, 18_900_000, 0, 0, 0, 0, going=False)
 hold
 Do not let go
 One more lapse loses it: keep on to 18:45:00.
@@ -96,17 +96,17 @@ One more lapse loses it: keep on to 18:45:00.
 
 Lost, for each cause:
 
->>> said(24_080_000, "kept", 7_992_000, None, 2, 5, 3, lost=True)
+>>> said(24_080_000, State.KEPT, 7_992_000, None, 2, 5, 3, lost=True)
 lost
 Lost whatever comes
 2:13:12 still to be kept, only 2:03:40 left.
 It will be failed, weight 0.
->>> said(24_080_000, "kept", 0, None, -1, 5, 6, lost=True)
+>>> said(24_080_000, State.KEPT, 0, None, -1, 5, 6, lost=True)
 lost
 Lost whatever comes
 6 lapses, 5 allowed.
 It will be failed, weight 0.
->>> said(0, "neither", 18_900_000, None, 5, 5, 0, lost=True, widest=0)
+>>> said(0, State.NEITHER, 18_900_000, None, 5, 5, 0, lost=True, widest=0)
 lost
 Lost whatever comes
 Nothing can be kept: the spread limit is below 1.
@@ -114,12 +114,12 @@ It will be failed, weight 0.
 
 Where the start is not known, or is in UTC, the band says so:
 
->>> said(18_531_798, "kept", 6_650_202, 24_849_798, None, None, 3, times=Times())
+>>> said(18_531_798, State.KEPT, 6_650_202, 24_849_798, None, None, 3, times=Times())
 keep
 Keep 1:50:51 more
 from 6:54:09 at the latest
 In pieces too, as long as it is 1:50:51 in all. Times count from the quantum's start.
->>> said(26_500_500, "kept", 0, 26_500_500, 0, 5, 5, times=Times(36_000_000, " UTC", True))
+>>> said(26_500_500, State.KEPT, 0, 26_500_500, 0, 5, 5, times=Times(36_000_000, " UTC", True))
 hold
 Do not let go
 One more lapse loses it: keep on to 18:45:00 UTC.
@@ -130,8 +130,9 @@ from dataclasses import dataclass
 from typing import NamedTuple, Optional
 
 from quoting.answers import OVER, Cell, MonthReport, Outlook, verdict_text
-from quoting.statement.course import Place
-from quoting.statement.figures import thousands
+from quoting.cells import Place
+from quoting.formats import counted, place_text, thousands
+from quoting.states import State
 from quoting.values import HOUR, SECOND, clock, milliseconds
 from quoting.views import View
 
@@ -228,7 +229,7 @@ class Moment:
 
     @property
     def is_kept(self) -> bool:
-        return self.view.state == "kept"
+        return self.view.state == State.KEPT
 
     @property
     def in_lapse(self) -> bool:
@@ -263,14 +264,10 @@ def joined(m: Moment, *parts: str) -> str:
     return " ".join(filter(None, [*parts, "" if m.times.known else FROM_START]))
 
 
-def counted(count: int) -> str:
-    return f"{count} lapse" if count == 1 else f"{thousands(count)} lapses"
-
-
 def lost_by(m: Moment) -> str:
     o = m.outlook
     if o.lapses == OVER:
-        return f"{counted(m.report.lapses)}, {m.view.limit} allowed."
+        return f"{counted(m.report.lapses, 'lapse')}, {m.view.limit} allowed."
     if m.view.widest < 1:
         return "Nothing can be kept: the spread limit is below 1."
     return f"{due(o.need)} still to be kept, only {had(o.left)} left."
@@ -297,7 +294,7 @@ def keep_all(m: Moment) -> Band:
         sub = f"Nothing to spare: every moment to {m.end}."
         return Band("hold", "Keep on to the end", sub, joined(m, at_once))
     rest = f"{due(need)} still to be kept." if need else "The time kept is enough already."
-    why = joined(m, f"{counted(m.report.lapses)} of {m.view.limit} allowed.", rest, at_once)
+    why = joined(m, f"{counted(m.report.lapses, 'lapse')} of {m.view.limit} allowed.", rest, at_once)
     return Band("hold", "Do not let go", f"One more lapse loses it: keep on to {m.end}.", why)
 
 
@@ -377,17 +374,4 @@ def reading(calls: int) -> Band:
     >>> reading(10_169)
     Band(kind='reading', head='Reading the feed', sub='10,169 calls so far', why='No figure is shown before its end is reached.')
     """
-    return Band("reading", "Reading the feed", f"{counted_calls(calls)} so far", "No figure is shown before its end is reached.")
-
-
-def place_text(place: Place) -> str:
-    day, expiry, quantum = place
-    return f"day {day}, {series_text((expiry, quantum))}"
-
-
-def series_text(series: Place) -> str:
-    return f"expiry {series[0]}, quantum {series[1]}"
-
-
-def counted_calls(count: int) -> str:
-    return "1 call" if count == 1 else f"{thousands(count)} calls"
+    return Band("reading", "Reading the feed", f"{counted(calls, 'call')} so far", "No figure is shown before its end is reached.")

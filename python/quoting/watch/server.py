@@ -30,6 +30,7 @@ from quoting.watch.hosts import Access
 from quoting.watch.loop import Watch
 
 PAGE = Path(__file__).resolve().parent / "page"
+PALETTE = PAGE.parent.parent / "palette.css"  # which the statement has too
 FIRST = "index.html"  # the path /
 KINDS = {".html": "text/html", ".css": "text/css", ".js": "text/javascript"}
 POLICY = (
@@ -92,9 +93,9 @@ def headed(send: Send) -> Send:
     return with_headers
 
 
-def files_of(folder: Path, token: Optional[str]) -> dict[str, tuple[bytes, str]]:
+def files_of(token: Optional[str]) -> dict[str, tuple[bytes, str]]:
     """The page's files and their types by the paths of requests; where there is a token, their links to one another have it."""
-    found = {each.name: each.read_bytes() for each in sorted(folder.iterdir()) if each.suffix in KINDS}
+    found = {each.name: each.read_bytes() for each in (PALETTE, *sorted(PAGE.iterdir())) if each.suffix in KINDS}
     if token is not None:
         names = "|".join(map(re.escape, found))
         links = re.compile(rf'"(?:\./)?(?:{names})(?=")'.encode())
@@ -168,7 +169,7 @@ class Pages:
 
     def __init__(self, watch: Watch, access: Access) -> None:
         self.watch, self.access = watch, access
-        self.files = files_of(PAGE, access.token)  # read once: no request reaches the folder
+        self.files = files_of(access.token)  # read once: no request reaches the folder
 
     def app(self) -> ASGIApp:
         files = [Route(path, self.file, methods=["GET"]) for path in self.files]

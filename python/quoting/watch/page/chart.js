@@ -2,7 +2,7 @@
 
 import { $, drawn, named, put, say } from "./elements.js";
 
-export const KEYS = ["kept", "nobid", "noask", "neither", "crossed", "wide"];
+export const KEYS = ["kept", "no-bid", "no-ask", "neither", "crossed", "wide"];
 export const plot = { parts: null, texts: new Map(), widths: new Map() };
 
 export function startChart() {

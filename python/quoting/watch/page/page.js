@@ -11,7 +11,7 @@ Every figure is in an element of its own, found by document.querySelector('[data
   share, required, required-time, full, full-time                        the bar
   kept, left, lapses, spread, weight         the five figures, each with NAME-unit and NAME-below; kept and left with thousandths
   bid, ask                                   best quotes now, as the chart is labelled; empty where absent
-  account-KEY (kept nobid noask neither crossed wide), account-gone      where the time went
+  account-KEY (kept no-bid no-ask neither crossed wide), account-gone      where the time went
   ahead-0, ahead-1, ..                       what is ahead; ahead-N-word is its word
   orders-note, stretches-earlier, problems-note, ask-why
   answer, answer-0, answer-1, ..             the answer to an ask and its further lines; #answer has its kind as data-kind, n as data-n

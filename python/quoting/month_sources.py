@@ -17,7 +17,7 @@ from quoting.events import event_of, split
 from quoting.reading import Options, TextError
 from quoting.reports import Reports
 from quoting.reports import time_of as answer_time
-from quoting.rules import HEAD, Rule
+from quoting.rows import HEAD, Rule
 from quoting.scanning import Rejected, messages
 from quoting.selection import NOBODY, Choice, Owner, listed, owner_text
 

@@ -4,7 +4,9 @@ import importlib
 import sys
 from typing import Any
 
+from quoting.answers import Cell, MonthReport
 from quoting.native import ROOT, Missing
+from quoting.values import Tenths
 
 
 def recount(name: str) -> Any:
@@ -42,6 +44,20 @@ def answer_lines(data: bytes) -> list[str]:
     programs, book = recount("programs"), recount("book").Book()
     calls, _ = programs.read_calls(data)
     return [programs.answer_line(book.call(call)) for call in calls]
+
+
+def cell_of(line: str) -> Cell:
+    """The cell that a line of the recount's answers shows."""
+    w = line.split()
+    limit = None if w[10] == "none" else int(w[10])
+    return Cell(int(w[2]), int(w[4]), Tenths(w[6]), int(w[8]), limit, int(w[12]), int(w[14]), w[16] == "met", int(w[18]))
+
+
+def report_of(line: str) -> MonthReport:
+    """The report that a line shows."""
+    w = line.split()
+    bid, ask = (None if word == "absent" else int(word) for word in (w[8], w[10]))
+    return MonthReport(w[2] == "yes", int(w[4]), int(w[6]), bid, ask, int(w[12]), int(w[14]), tuple(map(int, w[16:22])), int(w[23]))
 
 
 def agreement(ours: list[str], theirs: list[str]) -> str:

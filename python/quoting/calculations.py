@@ -13,7 +13,7 @@ from typing import Iterable, Optional, Sequence
 
 from quoting import native, ranges
 from quoting.ranges import word
-from quoting.rules import Row
+from quoting.rows import Row
 from quoting.values import Share, Time, tenths, time_of
 
 

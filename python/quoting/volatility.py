@@ -5,7 +5,7 @@ from typing import Optional
 
 from quoting import drawing, native, reading, values
 from quoting.drawing import INK, PALE, Drawing
-from quoting.plain import sigma, volatile_day
+from quoting.calculations import sigma, volatile_day
 from quoting.reading import TextError
 
 WIDTH, HEIGHT = 920, 420
