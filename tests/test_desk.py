@@ -1,0 +1,282 @@
+"""`quoting desk`: the shipped month to the byte, random months against a plain reading, and faults of the files one by one."""
+
+import json
+import shutil
+import subprocess
+
+import pytest
+
+from quoting import calls as c
+from quoting.desk.desks import Desk
+from quoting.desk.faults import DeskError
+from quoting.desk.outputs import Manner, settle
+from quoting.desk.quanta import blocks_of
+from quoting.events import Add, Amend, Cancel, Deal, Tick, records
+from tests import command, desk_months, plain_desk
+from tests.paths import EXAMPLES, QUOTING
+
+pytestmark = pytest.mark.usefixtures("library")
+SHIPPED = EXAMPLES / "desk"
+
+
+@pytest.fixture
+def desk(tmp_path):
+    """A copy of the shipped desk, whose files a test may change."""
+    shutil.copytree(SHIPPED, tmp_path / "desk")
+    return tmp_path / "desk"
+
+
+def change(path, old, new, count=1):
+    text = path.read_text()
+    assert old in text, (path, old)
+    path.write_text(text.replace(old, new, count))
+
+
+# ---------------------------------------------------------------- the shipped month
+
+
+@pytest.fixture(scope="module")
+def settled(tmp_path_factory):
+    """The shipped month settled by the command, and what it said."""
+    out = tmp_path_factory.mktemp("desk") / "out"
+    done = subprocess.run([QUOTING, "desk", "settle", SHIPPED / "desk.toml", "-o", out], capture_output=True, text=True, timeout=120)
+    return out, done
+
+
+@pytest.mark.parametrize("name", ["cells.csv", "months.csv"])
+def test_the_shipped_month_gives_the_expected_tables(settled, name):
+    assert (settled[0] / name).read_bytes() == (SHIPPED / "expected" / name).read_bytes()
+
+
+def test_the_shipped_month_ends_with_its_reasons(settled):
+    said = settled[1].stderr
+    assert settled[1].returncode == 1 and "Traceback" not in said
+    found = {tuple(line.split()[1:3]) for line in said.splitlines()}
+    assert found == {
+        ("2026-11-04", "PM-12.26:"), ("2026-11-05", "PM-12.26:"), ("2026-11-06", "PM-12.26:"), ("2026-11-09", "PM-12.26:"),
+        ("2026-11-06", "GD-1.27,")}, said
+    assert said.count("refused 22") == 4 and "2026-11-06 GD-1.27, quantum 2: charges.csv has no line" in said and "1892948573920409228 is not known" in said
+    assert "the proved meter and the recount agree" in settled[1].stdout
+
+
+def test_the_lists_of_calls_have_the_month(settled):
+    done = command.run("calls", settled[0] / "gold.calls", "--lines")
+    assert done.status == 0 and done.printed.splitlines()[-1].endswith("failed 0 2 2 0 0 4 fee 11255633"), done
+
+
+def test_a_second_run_gives_the_same_files(settled, tmp_path):
+    command.run("desk", "settle", SHIPPED / "desk.toml", "-o", tmp_path / "again", "--no-recount")
+    for path in settled[0].glob("*.c*"):
+        assert (tmp_path / "again" / path.name).read_bytes() == path.read_bytes(), path.name
+
+
+def test_the_plain_reading_agrees_on_the_shipped_month():
+    cells, months = plain_desk.PlainDesk(SHIPPED / "desk.toml").settle()
+    assert cells == (SHIPPED / "expected" / "cells.csv").read_text() and months == (SHIPPED / "expected" / "months.csv").read_text()
+
+
+def test_nothing_missing_is_status_0(desk, tmp_path):
+    change(desk / "programme.toml", 'threshold = "1%"\n', "")
+    with open(desk / "charges.csv", "a") as file:
+        file.write("2026-11-06,GD-1.27,2,5,6\n")
+    log = desk / "logs" / "20261106-north.log"
+    lines = [line for line in log.read_bytes().splitlines(keepends=True) if b"37=1892948573920409228" not in line]
+    log.write_bytes(b"".join(lines))
+    done = command.run("desk", "settle", desk / "desk.toml", "-o", tmp_path / "out")
+    assert (done.status, done.complaint) == (0, ""), done
+
+
+# ---------------------------------------------------------------- random months
+
+
+@pytest.mark.parametrize("seed", range(3))
+def test_a_random_month_is_that_of_the_plain_reading(tmp_path, seed, note):
+    """Holidays, volatile days, a rolled contract, carried orders, several accounts, resends, fills."""
+    counts = desk_months.write(tmp_path / "desk", 100 + seed, 60)
+    made = settle(Desk.load(tmp_path / "desk" / "desk.toml"), Manner(recount=seed == 0))
+    plain = plain_desk.PlainDesk(tmp_path / "desk" / "desk.toml")
+    cells, months = plain.settle()
+    command.run("desk", "settle", tmp_path / "desk" / "desk.toml", "-o", tmp_path / "out", "--no-recount")
+    assert (tmp_path / "out" / "cells.csv").read_text() == cells and (tmp_path / "out" / "months.csv").read_text() == months
+    assert {(remark.date, remark.where.split(",")[0]) for remark in made.settlement.reasons} == plain.reasons
+    assert not made.differences and (seed or len(made.readings) == 3)
+    found = made.settlement.cells
+    seen = {"eased": sum(each.planned.is_eased for each in found), "holiday": sum(each.planned.table == "holiday" for each in found)}
+    seen |= {"carried": sum(each.carried for each in found), "met": sum(each.cell.met for each in found), "failed": sum(not each.cell.met for each in found)}
+    seen |= {"rolled": sum(each.planned.contract.symbol == "BR-2.27" and each.planned.contract.expiry == 1 for each in found), **counts}
+    assert all(seen[what] for what in ("eased", "holiday", "carried", "met", "failed", "rolled", *"05F4C38A", "resent")), seen
+    note(f"desk: {len(found)} cells of a random month as by the plain reading", seen)
+
+
+def test_records_become_the_blocks_of_their_events():
+    events = [Add(0, 1, "buy", -5, 500), Add(1, 2**32 - 1, "sell", 2**31 - 1, 1), Amend(2, 1, -(2**31), 7), Deal(3, 1, 2), Tick(4), Cancel(5, 1)]
+    assert blocks_of(records(events)) == b"".join(map(c.block, events)) and blocks_of(b"") == b""
+
+
+# ---------------------------------------------------------------- the plan
+
+
+def test_the_plan_has_the_calendar():
+    done = command.run("desk", "plan", SHIPPED / "desk.toml", "--json")
+    found = json.loads(done.printed)
+    assert done.status == 1 and done.complaint.count("refused 22") == 4 and len(found["quanta"]) == 42
+    first, eased = found["quanta"][0], [each for each in found["quanta"] if each["eased"] == "yes"]
+    assert (first["start"], first["end_utc"], first["sp"], first["sp_date"]) == ("2026-11-02T10:00:00+03:00", "2026-11-02T15:45:00Z", 39277, "2026-10-30")
+    assert (eased[0]["symbol"], eased[0]["since"], eased[0]["minimum"], eased[0]["a"], eased[0]["b"]) == ("GD-2.27", "2026-11-04", 125, 250, 18)
+    assert [each["table"] for each in found["quanta"] if each["date"] == "2026-11-04" and each["instrument"] == "platinum-mini"] == ["usual", "holiday", "usual"]
+    assert {"symbol": "GD-2.27", "date": "2026-11-03", "price": 37992, "sigma": 29105, "inside": False}.keys() == found["sigmas"][0].keys()
+
+
+def test_the_plan_as_csv_and_as_a_table():
+    csv = command.run("desk", "plan", SHIPPED / "desk.toml", "--csv").printed.splitlines()
+    table = command.run("desk", "plan", SHIPPED / "desk.toml").printed.splitlines()
+    assert csv[0].startswith("date,instrument,symbol,expiry,quantum,start,end,") and len(csv) == 43
+    assert "10:00-18:45  07:00-15:45  usual" in table[1] and len(table) == 44, table[1]
+
+
+def test_a_plan_needs_neither_logs_nor_charges(desk):
+    shutil.rmtree(desk / "logs")
+    (desk / "charges.csv").unlink()
+    assert len(Desk.load(desk / "desk.toml", with_logs=False).plan()) == 42
+
+
+# ---------------------------------------------------------------- faults
+
+PROGRAMME, PRICES, CHARGES, DESK = "programme.toml", "prices.csv", "charges.csv", "desk.toml"
+FAULTS = [  # the file that is changed, what is changed, the fault
+    (PROGRAMME, "threshold", "treshold", "[instruments.gold] treshold: unknown key, expected step, threshold, lapses, rows or holiday_rows"),
+    (PROGRAMME, 'step = "0.1"\n', "", "[instruments.gold] step: missing, and it is required"),
+    (PROGRAMME, 'step = "0.1"', 'step = "0"', "[instruments.gold] step: '0' is not above 0, expected a price step such as \"0.01\""),
+    (PROGRAMME, 'step = "0.1"', 'step = "tenth"', "[instruments.gold] step: 'tenth' is not a decimal, expected one such as \"0.01\""),
+    (PROGRAMME, '"2%"', '"2"', "[instruments.gold] threshold: '2' is not a percentage, expected one such as \"2%\""),
+    (PROGRAMME, "lapses = 2", "lapses = 1001", "[instruments.platinum-mini] lapses: 1001 does not fit, expected a whole number from 0 to 1,000"),
+    (PROGRAMME, 'b = "0.8"', 'b = "0.85"', "[instruments.gold.rows, entry 1] b: 0.85 is between two steps of 0.1"),
+    (PROGRAMME, 'a = "0.1%"', 'a = "0.1005%"', "[instruments.gold.rows, entry 1] a: 0.1005% is no whole number of hundred-thousandths"),
+    (PROGRAMME, "minimum = 500", "minimum = 0", "[instruments.gold.rows, entry 1] quantum 1: refused 2: a word of the row is outside its range (minimum is 0, expected 1 to 100,000)"),
+    (PROGRAMME, '"60%"', '"80%"', "[instruments.gold.rows, entry 1] quantum 1: refused 2: a word of the row is outside its range (share is 800, expected 1 to 799)"),
+    (PROGRAMME, '"60%"', "60", "[instruments.gold.rows, entry 1] share: 60 is not a percentage, expected one such as \"60%\""),
+    (PROGRAMME, "quanta = [1, 2]", "quanta = []", "[instruments.gold.rows, entry 1] quanta: [] does not fit, expected a list of at least 1"),
+    (PROGRAMME, "expiry = 2", "expiry = 3", "[instruments.gold.rows, entry 2] expiry: 3 does not fit, expected a whole number from 1 to 2"),
+    (PROGRAMME, "10:00-18:45", "09:59-18:45", "[quanta] 1: 09:59-18:45 overlaps quantum 0, 07:00-10:00"),
+    (PROGRAMME, "10:00-18:45", "18:45-10:00", "[quanta] 1: 18:45-10:00 ends before it starts, expected a start and a later end of the same day"),
+    (PROGRAMME, "10:00-18:45", "10-18", "[quanta] 1: '10-18' is not a start and an end, expected \"10:00-18:45\""),
+    (PROGRAMME, "2 = ", "3 = ", "[quanta] 3: unknown key, expected 0, 1 or 2"),
+    (PROGRAMME, "Europe/Moscow", "Europe/Moskva", "timezone: 'Europe/Moskva' is no time zone that this machine knows, expected an IANA name such as \"Europe/Moscow\""),
+    (PROGRAMME, "[quanta]", "[quanta", "line 4: Expected ']' at the end of a table declaration: this is no TOML"),
+    (DESK, "2026-11", "2026-13", "month: '2026-13' is not a month, expected one such as \"2026-11\""),
+    (DESK, "holidays = [4]", "holidays = [7]", "holidays: 7 is not one of the trading days"),
+    (DESK, "days = [2, 3", "days = [2, 2", "days: 2 is there twice"),
+    (DESK, "days = [2, 3", "days = [2, 31", "days: 31 does not fit, expected a whole number from 1 to 30"),
+    (DESK, "logs/*.log", "log/*.log", "logs: no file fits 'log/*.log'"),
+    (DESK, 'instrument = "gold"', 'instrument = "silver"', "[contract, entry 1] instrument: the programme has no 'silver', expected gold or platinum-mini"),
+    (DESK, "to = 4", "to = 5", "[contract, entry 2] gold, expiry 1, on day 5 belongs to entry 1 too: expected one contract"),
+    (DESK, 'symbol = "GD-2.27"', 'symbol = "GD-1.27"', "[contract, entry 4] GD-1.27, account A7, on day 5 belongs to entry 2 too: expected one contract"),
+    (DESK, "from = 5", "from = 5\nto = 3", "[contract, entry 2] to: 3 is before `from`, 5"),
+    (DESK, "from = 5", "since = 5", "[contract, entry 2] since: unknown key, expected instrument, expiry, symbol, from, to or accounts"),
+    (DESK, 'accounts = ["A7"]', "accounts = []", "[contract, entry 1] accounts: [] does not fit, expected a list of at least 1"),
+    (DESK, "prices.csv", "price.csv", None),
+    (PRICES, "4007.0", "4007.05", "line 2: 4007.05 is between two steps of 0.1"),
+    (PRICES, "4007.0", "4,007.0", "line 2: there are 4 fields, expected date,symbol,price"),
+    (PRICES, "4007.0", "4e3", "line 2: price: '4e3' is not a decimal"),
+    (PRICES, "2026-08-27", "2026-08-26", "line 3: GD-1.27 2026-08-26 is already in line 2"),
+    (PRICES, "2026-08-27", "27.08.2026", "line 3: date: '27.08.2026' is not a date, expected YYYY-MM-DD"),
+    (PRICES, "date,symbol,price", "day,symbol,price", "line 1: the columns are day,symbol,price, expected date,symbol,price"),
+    (CHARGES, ",1656935,", ",-1,", "line 2: active: -1 does not fit, it can be 0 to 100000000000"),
+    (CHARGES, "GD-1.27,1,1656935", "GD-1.27,3,1656935", "line 2: quantum: 3 does not fit, it can be 0 to 2"),
+    (CHARGES, "2026-11-02,GD-1.27,2,", "2026-11-02,GD-1.27,1,", "line 3: 2026-11-02 GD-1.27 1 is already in line 2"),
+]
+
+
+@pytest.mark.parametrize("file, old, new, fault", FAULTS, ids=[f"{at}-{each[0]}" for at, each in enumerate(FAULTS)])
+def test_a_fault_is_named_with_its_place(desk, tmp_path, file, old, new, fault):
+    change(desk / file, old, new)
+    done = command.run("desk", "settle", desk / "desk.toml", "-o", tmp_path / "out")
+    expected = f"quoting: {file}: {fault}" if fault else "quoting: price.csv: can't be read: No such file or directory"
+    assert expected in done.complaint.splitlines(), done.complaint
+    assert done.status == 1 and not (tmp_path / "out").exists() and "nothing was settled" in done.complaint
+
+
+@pytest.mark.parametrize("name", [DESK, PROGRAMME, PRICES, CHARGES])
+def test_a_file_that_is_not_there(desk, name):
+    (desk / name).unlink()
+    with pytest.raises(DeskError, match=f"{name}: can't be read: No such file or directory"):
+        Desk.load(desk / "desk.toml")
+
+
+@pytest.mark.parametrize("name", [DESK, PROGRAMME, PRICES, CHARGES])
+def test_a_file_that_is_no_text(desk, name):
+    (desk / name).write_bytes(b"\xff\xfe\xfa")
+    with pytest.raises(DeskError, match=rf"{name}: .*(UTF-8|no line end)"):
+        Desk.load(desk / "desk.toml")
+
+
+def test_a_file_of_prices_that_was_cut_short(desk):
+    (desk / "prices.csv").write_bytes((desk / "prices.csv").read_bytes()[:-3])
+    with pytest.raises(DeskError, match="prices.csv: line 258: .* has no line end"):
+        Desk.load(desk / "desk.toml")
+
+
+def test_a_symbol_without_an_earlier_price(desk):
+    lines = [line for line in (desk / "prices.csv").read_text().splitlines(keepends=True) if "GD-2.27" not in line or line > "2026-11-06"]
+    (desk / "prices.csv").write_text("".join(lines))
+    with pytest.raises(DeskError) as found:
+        Desk.load(desk / "desk.toml")
+    assert [fault.text for fault in found.value.faults] == [
+        "prices.csv: GD-2.27 has no price before 2026-11-05, expected a line with an earlier date",
+        "prices.csv: GD-2.27 has no price before 2026-11-06, expected a line with an earlier date"]
+
+
+def test_all_faults_are_named_at_once(desk):
+    change(desk / PROGRAMME, 'name = "Programme 1"\n', "")
+    change(desk / DESK, 'maker = "MAKER07"\n', "")
+    change(desk / PRICES, "4007.0", "x")
+    change(desk / CHARGES, ",1656935,", ",y,")
+    with pytest.raises(DeskError) as found:
+        Desk.load(desk / "desk.toml")
+    assert [fault.file for fault in found.value.faults] == [DESK, PROGRAMME, PRICES, CHARGES]
+
+
+def test_hours_at_which_the_clocks_change(desk):
+    """On 29 March 2026 02:00 is 03:00 in Berlin."""
+    change(desk / PROGRAMME, "Europe/Moscow", "Europe/Berlin")
+    change(desk / PROGRAMME, "07:00-10:00", "01:00-04:00")
+    text = (desk / DESK).read_text().replace("2026-11", "2026-03").replace("[2, 3, 4, 5, 6, 9]", "[2, 29]").replace("[4]", "[]")
+    (desk / DESK).write_text(text)
+    (desk / PRICES).write_text((desk / PRICES).read_text().replace("2026", "2025"))
+    with pytest.raises(DeskError, match=r"programme.toml: \[quanta\] 0: on 2026-03-29 the clocks of Europe/Berlin change at or within 01:00-04:00"):
+        Desk.load(desk / "desk.toml")
+
+
+# ---------------------------------------------------------------- what the logs may have
+
+
+def test_more_than_64_orders_are_refused_by_13(desk, tmp_path):
+    """66 orders rest in one symbol: the quantum has 64, and the others are named."""
+    log = desk / "logs" / "20261102-south.log"
+    line = next(each for each in log.read_bytes().splitlines(keepends=True) if b"150=0" in each and b"55=PM-12.26" in each)
+    body = line[line.index(b"8=FIX") :]
+    sep = b"\1" if b"\1" in body else b"|"
+    out = []
+    for at in range(66):
+        fields = dict(part.split(b"=", 1) for part in body.strip(b"\r\n").strip(sep).split(sep))
+        fields |= {b"11": b"Z%d" % at, b"37": b"55%04d" % at, b"17": b"Z%d" % at, b"60": b"20261102-07:30:00.000", b"44": b"1500.0"}
+        text = "".join(f"{tag.decode()}={value.decode()}\1" for tag, value in fields.items() if tag not in (b"8", b"9", b"10"))
+        out.append("07:30:00.000 < " + desk_months.framed(text).replace("\1", sep.decode()) + "\n")
+    with open(log, "a") as file:
+        file.write("".join(out))
+    done = command.run("desk", "settle", desk / "desk.toml", "-o", tmp_path / "out", "--no-recount")
+    assert done.status == 1 and "2026-11-02 PM-12.26, quantum 1: refused 13: 64 orders are live" in done.complaint, done.complaint
+
+
+def test_a_damaged_message_is_named(desk, tmp_path):
+    log = desk / "logs" / "20261103-north.log"
+    log.write_bytes(log.read_bytes().replace(b"10=092", b"10=093").replace(b"35=8", b"35=8", 1).replace(b"9=20", b"9=21", 1))
+    done = command.run("desk", "settle", desk / "desk.toml", "-o", tmp_path / "out", "--no-recount")
+    assert done.status == 1 and "logs/20261103-north.log: line" in done.complaint and "refused 20" in done.complaint, done.complaint
+
+
+def test_logs_without_reports_are_read_by_requests(desk, tmp_path):
+    for log in (desk / "logs").iterdir():
+        log.write_bytes(b"".join(line for line in log.read_bytes().splitlines(keepends=True) if b"35=8" not in line))
+    done = command.run("desk", "settle", desk / "desk.toml", "-o", tmp_path / "out", "--no-recount")
+    assert done.status == 1 and "the logs have no execution report of these symbols; the requests were read" in done.complaint
