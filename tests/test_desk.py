@@ -169,8 +169,8 @@ FAULTS = [  # the file that is changed, what is changed, the fault
     (DESK, "days = [2, 3", "days = [2, 31", "days: 31 does not fit, expected a whole number from 1 to 30"),
     (DESK, "logs/*.log", "log/*.log", "logs: no file fits 'log/*.log'"),
     (DESK, 'instrument = "gold"', 'instrument = "silver"', "[contract, entry 1] instrument: the programme has no 'silver', expected gold or platinum-mini"),
-    (DESK, "to = 4", "to = 5", "[contract, entry 2] gold, expiry 1, on day 5 belongs to entry 1 too: expected one contract"),
-    (DESK, 'symbol = "GD-2.27"', 'symbol = "GD-1.27"', "[contract, entry 4] GD-1.27, account A7, on day 5 belongs to entry 2 too: expected one contract"),
+    (DESK, "to = 4", "to = 5", "[contract, entry 2]: gold, expiry 1, on day 5 belongs to entry 1 too, expected one contract"),
+    (DESK, 'symbol = "GD-2.27"', 'symbol = "GD-1.27"', "[contract, entry 4]: GD-1.27, account A7, on day 5 belongs to entry 2 too, expected one contract"),
     (DESK, "from = 5", "from = 5\nto = 3", "[contract, entry 2] to: 3 is before `from`, 5"),
     (DESK, "from = 5", "since = 5", "[contract, entry 2] since: unknown key, expected instrument, expiry, symbol, from, to or accounts"),
     (DESK, 'accounts = ["A7"]', "accounts = []", "[contract, entry 1] accounts: [] does not fit, expected a list of at least 1"),
@@ -212,7 +212,7 @@ def test_a_file_that_is_no_text(desk, name):
 
 def test_a_file_of_prices_that_was_cut_short(desk):
     (desk / "prices.csv").write_bytes((desk / "prices.csv").read_bytes()[:-3])
-    with pytest.raises(DeskError, match="prices.csv: line 258: .* has no line end"):
+    with pytest.raises(DeskError, match="prices.csv: line 245: '2026-11-30,PM-12.26,1489' has no line end, so the file may be cut short here: end the line$"):
         Desk.load(desk / "desk.toml")
 
 

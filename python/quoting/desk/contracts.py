@@ -83,7 +83,7 @@ def both_of(one: Contract, other: Contract) -> Iterator[str]:
 def check(faults: Faults, file: str, contracts: dict[int, Contract], days: Sequence[int], programme: Programme) -> None:
     """Contracts that overlap, and symbols with two steps."""
     for at, what in overlaps(contracts, days):
-        faults.add(file, f"[{place(at)}]", f"{what} expected one contract")
+        faults.add(file, f"[{place(at)}]", f"{what}, expected one contract")
     steps: dict[str, str] = {}
     for at, each in contracts.items():
         first = steps.setdefault(each.symbol, each.instrument)

@@ -57,10 +57,19 @@ def symbol_of(word: str) -> str:
 # ---------------------------------------------------------------- lines
 
 
+def whole_text(data: bytes) -> str:
+    """A file's text. Its last line may be cut short where it has no line end, and a charge cut short is another charge."""
+    text = reading.decoded(data)
+    last = reading.split_lines(text)[-1]
+    if last.strip():
+        raise reading.failed(f"{values.brief(last)!r} has no line end, so the file may be cut short here: end the line", line=len(reading.split_lines(text)))
+    return text
+
+
 def rows_of(faults: Faults, file: str, data: bytes, columns: Sequence[str]) -> Iterator[tuple[int, dict[str, str]]]:
     """Each line after the first, which has the columns' names in any order, with its number."""
     try:
-        text = reading.whole_text(data, file=file)
+        text = whole_text(data)
     except TextError as error:
         faults.add(file, f"line {error.line}" if error.line else "", str(error))
         return
