@@ -55,6 +55,7 @@ library:  ## target/library: the library for C, with its header and what pkg-con
 	ln -sf libquoting.so.$(MAJOR) $(LIBRARY)/libquoting.so
 	cp include/quoting.h $(LIBRARY)/quoting.h
 	sed -e 's|@PREFIX@|$(PREFIX)|' -e 's|@VERSION@|$(VERSION)|' lib/quoting.pc.in > $(LIBRARY)/quoting.pc
+	{ echo "version $(VERSION)"; echo "commit $$(git describe --always --dirty --abbrev=40 --exclude '*')"; echo "kit $$(rt version)"; } > $(LIBRARY)/BUILT
 
 # Puts what `make library` has built where pkg-config finds it: make install PREFIX=/usr DESTDIR=/tmp/root
 install:  ## puts the library under PREFIX (/usr/local), below DESTDIR
@@ -73,7 +74,7 @@ dist: library  ## target/quoting-VERSION.tar.gz: the library for machines withou
 	rm -rf target/dist
 	$(MAKE) -s install DESTDIR=$(CURDIR)/target/dist PREFIX=/quoting-$(VERSION)
 	sed -e 's|@PREFIX@|$${pcfiledir}/../..|' -e 's|@VERSION@|$(VERSION)|' lib/quoting.pc.in > target/dist/quoting-$(VERSION)/lib/pkgconfig/quoting.pc
-	{ echo "version $(VERSION)"; echo "commit $$(git describe --always --dirty --abbrev=40 --exclude '*')"; echo "kit $$(rt version)"; } > target/dist/quoting-$(VERSION)/BUILT
+	cp $(LIBRARY)/BUILT target/dist/quoting-$(VERSION)/BUILT
 	cp docs/FORMATS.md CHANGELOG.md examples/client.c examples/month.c examples/pairs.cpp target/dist/quoting-$(VERSION)/
 	tar -C target/dist --sort=name --owner=0 --group=0 --numeric-owner -czf target/quoting-$(VERSION).tar.gz quoting-$(VERSION)
 

@@ -45,7 +45,7 @@ def text_time(ms, with_ms=True):
 
 
 def framed(body):
-    front = f"8=FIX.4.4\1" + f"9={len(body)}\1{body}"
+    front = f"8=FIX.4.4\1" f"9={len(body)}\1{body}"
     return f"{front}10={sum(front.encode()) % 256:03}\1"
 
 

@@ -49,6 +49,7 @@ class Desk:
     programme_file: str = ""
     price_file: str = ""
     charge_file: str = ""
+    agreement: str = ""  # the number of the maker's contract, for people
     inputs: list[Input] = field(repr=False, default_factory=list)
     _planned: list[Planned] = field(repr=False, compare=False, default_factory=list)
 
@@ -136,6 +137,7 @@ class Loader:
             return None
         given = Fields(self.faults, self.file, "", found)
         maker, month = given.take("maker", fields.text), given.take("month", month_of)
+        agreement = given.take("agreement", fields.text, is_required=False) or ""
         named = {key: given.take(key, fields.text) for key in ("programme", "prices", "charges")}
         patterns = given.take("logs", names_of)
         last = calendar.monthrange(*month)[1] if month else 31
@@ -156,7 +158,7 @@ class Loader:
             return None
         return Desk(
             self.path, maker, *month, made, days, holidays, own, prices, charges, logs, named["programme"] or "", named["prices"] or "",
-            named["charges"] or "", self.inputs)
+            named["charges"] or "", agreement, self.inputs)
 
     def check_holidays(self, given: Fields, days: list[int], holidays: list[int]) -> None:
         for day in holidays:

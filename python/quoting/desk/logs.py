@@ -1,6 +1,7 @@
 """The logs of a desk: read once, and cut into the quanta of the plan."""
 
 from dataclasses import dataclass
+from hashlib import sha256
 from pathlib import Path
 from typing import Callable, Iterator, Optional
 
@@ -9,8 +10,7 @@ from quoting.desk.desks import Desk
 from quoting.desk.plan import Planned
 from quoting.desk.quanta import Work
 from quoting.desk.settlement import Remark
-from quoting.exchange import LogReader, Timeline, Why, quantum_of
-from quoting.exchange import Reason
+from quoting.exchange import LogReader, Reason, Timeline, Why, quantum_of
 
 PIECE = 1 << 20  # bytes of a log that are read at once
 SKIPPED = (Why.FRAME, Why.FIELD, Why.STEP, Why.ORDER_TYPE, Why.EXEC_TYPE)
@@ -31,6 +31,7 @@ class LogsRead:
     duplicates: int
     rejects: int
     by: str
+    files: dict[str, tuple[int, str]]  # each log's size and SHA-256
 
 
 def accounts_of(contracts: list[Contract]) -> dict[str, Optional[set[str]]]:
@@ -47,13 +48,17 @@ def reader_of(desk: Desk) -> LogReader:
     return LogReader(steps, accounts_of(desk.contracts))
 
 
-def feed(reader: LogReader, path: Path, name: str, step: Progress) -> None:
-    """A whole log, piece by piece."""
+def feed(reader: LogReader, path: Path, name: str, step: Progress) -> tuple[int, str]:
+    """A whole log, piece by piece; its size and SHA-256."""
+    size, hashed = 0, sha256()
     with open(path, "rb") as file:
         while data := file.read(PIECE):
             reader.feed(name, data, False)
+            hashed.update(data)
+            size += len(data)
             step(len(data))
         reader.feed(name, b"", True)
+    return size, hashed.hexdigest()
 
 
 def timelines_for(reader: LogReader, contract: Contract) -> list[Timeline]:
@@ -70,11 +75,10 @@ def read(desk: Desk, step: Progress = ignore) -> LogsRead:
     """Reads all logs of a desk."""
     reader = reader_of(desk)
     names = {each.path: each.name for each in desk.inputs}
-    for path in desk.logs:
-        feed(reader, path, names[path], step)
+    files = {names[path]: feed(reader, path, names[path], step) for path in desk.logs}
     works = [work_of(desk, reader, each) for each in desk.plan()]
     counts = reader.counts
-    return LogsRead(works, list(remarks_of(reader)), counts.messages, counts.duplicates, counts.rejects + counts.cancel_rejects, reader.by)
+    return LogsRead(works, list(remarks_of(reader)), counts.messages, counts.duplicates, counts.rejects + counts.cancel_rejects, reader.by, files)
 
 
 # ---------------------------------------------------------------- what was wrong

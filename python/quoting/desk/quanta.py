@@ -20,6 +20,7 @@ try:
 except ImportError:
     numpy = None  # type: ignore[assignment]
 
+LAYOUT = struct.Struct("<IIIiI")  # a record: kind, t, id, price, volume
 DEAL = 5  # the kind of a deal's record
 # By a record's kind: the words of its block, as indexes of (block's kind, t, id, side, price, volume).
 USED = {1: (0, 1, 2, 3, 4, 5), 2: (0, 1, 2, 3, 4, 5), 3: (0, 1, 2, 4, 5), 4: (0, 1, 2), 5: (0, 1, 2, 5), 6: (0, 1)}
@@ -51,9 +52,20 @@ def blocks_of(records: bytes) -> bytes:
 
 def deals_of(records: bytes) -> tuple[int, int]:
     """How many of the records are deals, and the contracts dealt."""
-    layout = struct.Struct("<IIIiI")
-    volumes = [volume for kind, _, _, _, volume in layout.iter_unpack(records) if kind == DEAL]
+    if numpy is not None:
+        found = numpy.frombuffer(records, dtype="<u4").reshape(-1, SIZE // 4)
+        dealt = found[found[:, 0] == DEAL, 4]
+        return len(dealt), int(dealt.sum())
+    volumes = [volume for kind, _, _, _, volume in LAYOUT.iter_unpack(records) if kind == DEAL]
     return len(volumes), sum(volumes)
+
+
+def without_deals(records: bytes) -> bytes:
+    """The records that are no deals."""
+    if numpy is not None:
+        found = numpy.frombuffer(records, dtype="<u4").reshape(-1, SIZE // 4)
+        return bytes(found[found[:, 0] != DEAL].tobytes())
+    return b"".join(record for record in split(records) if record[0] != DEAL)
 
 
 @dataclass(frozen=True)

@@ -7,14 +7,14 @@ crates/requests/specs/DayOrder.antt).
 """
 
 from collections import Counter
-from dataclasses import dataclass, field
-from typing import Iterator, Optional, Sequence
+from dataclasses import dataclass, field, replace
+from typing import Iterator, Sequence
 
 from quoting.answers import WORDS, Cell, MonthReport, answer_of, line
-from quoting.cells import CELLS, SHOW_ALL
+from quoting.cells import CELLS, SHOW_ALL, Place
 from quoting.desk.desks import Desk
 from quoting.desk.plan import Planned
-from quoting.desk.quanta import Work, answers_of, deals_of
+from quoting.desk.quanta import Work, answers_of, deals_of, without_deals
 from quoting.events import SIZE
 from quoting.native import Refused
 
@@ -33,7 +33,7 @@ class Remark:
 
     @property
     def text(self) -> str:
-        about = ", ".join(part for part in (" ".join(filter(None, (self.date, self.where))),) if part)
+        about = " ".join(filter(None, (self.date, self.where)))
         return f"{about + ': ' if about else ''}{self.what}" + (f"; {self.effect}" if self.effect else "")
 
     @property
@@ -52,6 +52,7 @@ class Settled:
     fills: int
     dealt: int
     refused: int
+    is_decided: bool = False  # without the quantum's fills the verdict would be another
 
 
 @dataclass(frozen=True)
@@ -127,18 +128,29 @@ def month_of(instrument: str, works: list[Work]) -> InstrumentMonth:
     refusals = refused_in(words, works)
     cells: list[Settled] = []
     wrong: list[Remark] = []
+    unfilled = verdicts_unfilled(works)
     for place, work in enumerate(works):
         at = size + CELLS.index(work.cell)
         cell = answer_of(words[WORDS * at : WORDS * (at + 1)])
         found = refusals.get(place, [])
         wrong += remarks_of(work, found)
         if isinstance(cell, Cell):
-            cells.append(Settled(work.planned, cell, len(work.carried) // SIZE, len(work.events) // SIZE, *deals_of(work.events), len(found)))
+            counts = len(work.carried) // SIZE, len(work.events) // SIZE, *deals_of(work.events), len(found)
+            cells.append(Settled(work.planned, cell, *counts, unfilled.get(work.cell, cell.met) != cell.met))
         else:
             wrong.append(Remark("refused", str(work.planned.date), name_of(work.planned), str(cell), "the quantum has no cell"))
     report = answer_of(words[-WORDS:])
     assert isinstance(report, MonthReport)
     return InstrumentMonth(instrument, cells, report, works, wrong)
+
+
+def verdicts_unfilled(works: list[Work]) -> dict[Place, bool]:
+    """By cell: whether it would be met if nothing had been dealt in its quantum."""
+    bare = [replace(work, events=without_deals(work.events), places=()) for work in works]
+    size = sum(work.size for work in bare)
+    words = answers_of(b"".join([*(work.blocks for work in bare), *SHOW_ALL]), size + len(SHOW_ALL))
+    looks = {place: answer_of(words[WORDS * at : WORDS * (at + 1)]) for at, place in enumerate(CELLS, start=size)}
+    return {place: cell.met for place, cell in looks.items() if isinstance(cell, Cell)}
 
 
 def refused_in(words: Sequence[int], works: list[Work]) -> dict[int, list[tuple[int, int]]]:
@@ -187,11 +199,13 @@ def refused_days(plan: Sequence[Planned]) -> Iterator[Remark]:
 
 
 def unused_charges(desk: Desk, plan: Sequence[Planned]) -> Iterator[Remark]:
-    """Lines of charges of the month that belong to no quantum."""
+    """Lines of charges of the month that belong to no quantum, all in one note."""
     used = {(each.date, each.contract.symbol, each.quantum) for each in plan}
-    for key, line in desk.charges.items():
-        if key not in used and (line.date.year, line.date.month) == (desk.year, desk.month):
-            yield Remark("note", str(line.date), f"{line.symbol}, quantum {line.quantum}", f"{desk.charge_file}: line {line.line} belongs to no quantum", "not charged")
+    own = [each for key, each in desk.charges.items() if key not in used and (each.date.year, each.date.month) == (desk.year, desk.month)]
+    if own:
+        first = own[0]
+        what = f"{desk.charge_file}: line {first.line} belongs to no quantum" + (f", and {len(own) - 1:,} more like it" if len(own) > 1 else "")
+        yield Remark("note", str(first.date), f"{first.symbol}, quantum {first.quantum}", what, "not charged")
 
 
 def dated(remarks: Sequence[Remark]) -> list[Remark]:
