@@ -14,7 +14,7 @@ from pathlib import Path
 from typing import Sequence
 
 from quoting import output
-from quoting.desk import outputs, plan_lines
+from quoting.desk import index, outputs, plan_lines
 from quoting.desk.desks import Desk
 from quoting.desk.faults import DeskError
 from quoting.desk.outputs import Manner, Result
@@ -92,6 +92,7 @@ def read_by(made: Result) -> str:
 def settle(args: argparse.Namespace) -> int:
     made = outputs.settle(Desk.load(args.desk), Manner(args.recount))
     outputs.write(Path(args.output), outputs.tables_of(made))
+    outputs.write(Path(args.output), {"inputs.sha256": index.hashes(made).encode("utf-8", "surrogateescape"), "index.html": index.html(made).encode("utf-8", "backslashreplace")})
     complain_all([*made.reasons, *(f"note: {note}" for note in made.notes)])
     after = f"sum of the fees: {roubles(made.settlement.fee)}\n{read_by(made)}\n"
     output.table(None, ["instrument", "quanta", "met", "failed", "most failed", "fee"], fee_table(made), after)
