@@ -101,7 +101,7 @@ def squares(month: InstrumentMonth, days: Sequence[dt.date], series: Place) -> I
 def line_of(made: Result, month: InstrumentMonth, reading: Optional[SecondReading]) -> Line:
     desk = made.settlement.desk
     own = [each for each in desk.contracts if each.instrument == month.instrument]
-    used = sorted({(each.planned.contract.expiry, each.planned.quantum) for each in month.cells})
+    used: list[Place] = sorted({(each.planned.contract.expiry, each.planned.quantum) for each in month.cells})
     shares = sorted({int(each.cell.share) for each in month.cells})
     limit = desk.programme.instruments[month.instrument].lapses
     required = f"required {' or '.join(map(share_text, shares))}, " if shares else ""

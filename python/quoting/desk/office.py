@@ -2,7 +2,6 @@
 
 import datetime as dt
 import os
-from dataclasses import dataclass
 from hashlib import sha256
 from zoneinfo import ZoneInfo
 
@@ -10,24 +9,9 @@ from quoting import native
 from quoting.desk.desks import Desk
 from quoting.desk.logs import LogsRead
 from quoting.formats import counted
+from quoting.statement.page import InputFile, Office
 
 SIGNED = ("name", "position", "date", "signature")
-
-
-@dataclass(frozen=True)
-class InputFile:
-    name: str
-    size: int
-    sha256: str
-
-
-@dataclass(frozen=True)
-class Office:
-    """Facts as pairs of a name and a text, the input files, and the versions in one sentence."""
-
-    facts: list[tuple[str, str]]
-    files: list[InputFile]
-    versions: str
 
 
 def made_at(zone: str) -> str:

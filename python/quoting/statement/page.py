@@ -20,6 +20,22 @@ PALETTE = TEMPLATE.parent.parent / "palette.css"  # which the live page has too
 
 
 @dataclass(frozen=True)
+class InputFile:
+    name: str
+    size: int
+    sha256: str
+
+
+@dataclass(frozen=True)
+class Office:
+    """What an office signs beside the figures: facts as pairs of a name and a text, the input files, and the versions in one sentence."""
+
+    facts: list[tuple[str, str]]
+    files: list[InputFile]
+    versions: str
+
+
+@dataclass(frozen=True)
 class Statement:
     """A month with both readings; `faults` are sentences about figures that do not fit together, which should never happen."""
 
@@ -30,6 +46,7 @@ class Statement:
     course: Course
     fee: Fee
     quanta: list[Shown]
+    office: Optional[Office] = None
 
     @property
     def first_difference(self) -> Optional[tuple[int, str, str]]:
