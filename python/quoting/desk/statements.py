@@ -1,10 +1,12 @@
 """A statement for each instrument of a settled desk: the month's page (quoting.statement) with what an office signs."""
 
+from dataclasses import replace
 from typing import Iterator
 
 from quoting import recounted
 from quoting.calls import blocks
 from quoting.cells import CELLS, SHOW_ALL
+from quoting.desk.index import folded
 from quoting.desk.office import office_of
 from quoting.desk.outputs import Result
 from quoting.desk.quanta import Work
@@ -25,10 +27,10 @@ def sent_of(work: Work) -> Iterator[Sent]:
         yield Sent(block, work.place_of(at), start if at == 0 else None)
 
 
-def listed_of(made: Result, month: InstrumentMonth) -> Listed:
-    """The month's calls, and what was wrong on the way to them."""
+def listed_of(month: InstrumentMonth) -> Listed:
+    """The month's calls."""
     calls = [sent for work in month.works for sent in sent_of(work)]
-    return Listed(month.instrument, calls, [remark.text for remark in made.remarks_of(month)])
+    return Listed(month.instrument, calls)
 
 
 def reading_of(second: SecondReading) -> Reading:
@@ -41,11 +43,12 @@ def reading_of(second: SecondReading) -> Reading:
 
 
 def statement_of(made: Result, month: InstrumentMonth, second: SecondReading) -> Statement:
-    desk, listed = made.settlement.desk, listed_of(made, month)
+    desk, listed = made.settlement.desk, listed_of(month)
     meter, course = by_meter(listed)
     quanta = [figures.shown(course.quanta[place], cell) for place, cell in meter.cells.items() if place in course.quanta]
     title = f"{desk.maker}, {month.instrument}, {desk.date(1):%B %Y}"
-    office = office_of(desk, made.logs, month.instrument)
+    remarks = [remark.text for remark in folded(made.remarks_of(month))]
+    office = replace(office_of(desk, made.logs, month.instrument), remarks=remarks)
     return Statement(title, listed, meter, reading_of(second), course, Fee.of(meter.cells), quanta, office)
 
 
