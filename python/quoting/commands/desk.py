@@ -10,15 +10,21 @@ examples:
 """
 
 import argparse
+import os
+import sys
+from contextlib import contextmanager
 from pathlib import Path
-from typing import Sequence
+from typing import Any, Callable, Iterator, Sequence
 
-from quoting import output
-from quoting.desk import index, outputs, plan_lines
+from quoting import clusters, inputs, native, output
+from quoting.commands.settle import PATIENCE, seconds_of
+from quoting.desk import folders, many, outputs, plan_lines
 from quoting.desk.desks import Desk
 from quoting.desk.faults import DeskError
-from quoting.desk.outputs import Manner, Result
-from quoting.formats import roubles
+from quoting.desk.folders import Summary
+from quoting.desk.many import Task
+from quoting.desk.outputs import Manner, Watcher
+from quoting.formats import counted, roubles
 
 
 def add(parser: argparse.ArgumentParser) -> None:
@@ -41,17 +47,32 @@ def add_plan(parser: argparse.ArgumentParser) -> None:
 
 SETTLE = f"""Settles all instruments of a desk from its logs, prices and charges, and writes into OUT:
 
-  cells.csv    each quantum's cell
-  months.csv   each instrument's largest failure count and fee
-  NAME.calls   the list of calls of each instrument's month, for `quoting calls` and the recount
+  cells.csv       each quantum's cell
+  months.csv      each instrument's largest failure count and fee
+  NAME.calls      the list of calls of each instrument's month, for `quoting calls` and the recount
+  NAME.html       each instrument's statement
+  index.html      the client's page, with all instruments and the sum of their fees
+  inputs.sha256   the SHA-256 of each input file, as sha256sum checks it
 
-The recount reads the same calls, in processes of its own, where they are at most {outputs.SMALL:,}; --recount and --no-recount say otherwise."""
+The recount reads the same calls, in processes of its own, and statements are made, where a desk has at most {outputs.SMALL:,} calls. A statement
+compares both readings, so there is none without the recount.
+
+Several desks are settled into folders of OUT, named after their files (or the folders of desk.toml), and OUT/desks.csv has a line for each.
+After a break --resume settles those that are missing or whose files have changed. With --scheduler the desks go to a Dask cluster, whose workers
+see the same files."""
 
 
 def add_settle(parser: argparse.ArgumentParser) -> None:
-    parser.add_argument("desk", metavar="DESK.toml", help="the desk")
+    parser.add_argument("desks", metavar="DESK.toml", nargs="+", help="the desks")
     parser.add_argument("-o", "--output", metavar="OUT", required=True, help="the folder that the files are written into")
     parser.add_argument("--recount", action=argparse.BooleanOptionalAction, help="whether the recount reads the calls too")
+    parser.add_argument("--statements", action=argparse.BooleanOptionalAction, help="whether there is a statement for each instrument")
+    parser.add_argument("--pdf", action="store_true", help="print the pages as PDF too, by Chromium")
+    most = os.cpu_count() or 1
+    parser.add_argument("--processes", type=inputs.whole_in(1, 1_024), default=most, metavar="N", help=f"desks at a time ({most}, this machine's processors)")
+    parser.add_argument("--resume", action="store_true", help="leave desks as they are that an earlier run settled from the same files")
+    parser.add_argument("--scheduler", metavar="ADDRESS", help="the scheduler of a Dask cluster, as tcp://10.0.0.5:8786")
+    parser.add_argument("--patience", type=seconds_of, default=PATIENCE, metavar="SECONDS", help=f"how long the cluster may go without settling anything ({PATIENCE:g})")
 
 
 def complain_all(lines: Sequence[str]) -> None:
@@ -74,35 +95,122 @@ def plan(args: argparse.Namespace) -> int:
     return int(bool(reasons))
 
 
-def fee_table(made: Result) -> list[list[object]]:
-    rows: list[list[object]] = []
-    for month in made.settlement.months:
-        met = sum(each.cell.met for each in month.cells)
-        rows.append([month.instrument, len(month.cells), met, len(month.cells) - met, month.failed, f"{roubles(month.fee)}"])
-    return rows
-
-
-def read_by(made: Result) -> str:
-    """What is said of the second reading."""
-    if not made.readings:
-        return "the recount was not run: --recount runs it"
-    return "THE READINGS DIFFER" if made.differences else "the proved meter and the recount agree on every call, cell and fee"
+# ---------------------------------------------------------------- settle
 
 
 def settle(args: argparse.Namespace) -> int:
-    made = outputs.settle(Desk.load(args.desk), Manner(args.recount))
-    outputs.write(Path(args.output), outputs.tables_of(made))
-    outputs.write(Path(args.output), {"inputs.sha256": index.hashes(made).encode("utf-8", "surrogateescape"), "index.html": index.html(made).encode("utf-8", "backslashreplace")})
-    complain_all([*made.reasons, *(f"note: {note}" for note in made.notes)])
-    after = f"sum of the fees: {roubles(made.settlement.fee)}\n{read_by(made)}\n"
-    output.table(None, ["instrument", "quanta", "met", "failed", "most failed", "fee"], fee_table(made), after)
-    return int(bool(made.reasons))
+    manner, out = Manner(args.recount, args.statements, args.pdf), Path(args.output)
+    native.library()  # a missing library is said once
+    tasks = many.tasks(args.desks, out)
+    found = many.left_to_do(tasks, manner, args.resume)
+    todo = [task for at, task in enumerate(tasks) if found[at] is None]
+    with summaries(args, todo, manner) as made:
+        done = [summary if summary is not None else next(made) for summary in found.values()]
+    if len(tasks) > 1:
+        outputs.write(out, {"desks.csv": many.table(tasks, done).encode("utf-8", "surrogateescape")})
+    for summary in done:
+        complain_of(summary, len(tasks) > 1)
+    show(done)
+    return int(any(summary.status != "settled" for summary in done))
+
+
+@contextmanager
+def summaries(args: argparse.Namespace, todo: Sequence[Task], manner: Manner) -> Iterator[Iterator[Summary]]:
+    """The desks' summaries to come: of one desk in this process, of several in others."""
+    if args.scheduler is not None:
+        with clusters.cluster(args.scheduler, args.patience, output.complain) as cluster:
+            yield many.by_cluster(todo, manner, cluster)
+    elif len(todo) == 1:
+        with progress_of(todo[0].path) as watcher:
+            yield (folders.settle(task.path, task.out, manner, watcher) for task in todo)
+    else:
+        with counted_desks(len(todo)) as step:
+            yield stepped(many.by_processes(todo, manner, args.processes), step)
+
+
+def stepped(found: Iterator[Summary], step: Callable[[], None]) -> Iterator[Summary]:
+    for each in found:
+        step()
+        yield each
+
+
+def complain_of(summary: Summary, is_one_of_many: bool) -> None:
+    front = f"{summary.desk}: " if is_one_of_many else ""
+    complain_all([f"{front}{line}" for line in [*summary.faults, *summary.reasons, *(f"note: {note}" for note in summary.notes)]])
+    if summary.faults:
+        output.complain(f"{summary.desk}: {counted(len(summary.faults), 'fault')}, nothing was settled")
+
+
+def show(done: Sequence[Summary]) -> None:
+    """A table of all instruments, and the sum."""
+    several = len(done) > 1
+    rows: list[list[object]] = []
+    for each in done:
+        for instrument, quanta, met, failed, fee in each.months:
+            rows.append([*([each.maker] if several else []), instrument, quanta, met, quanta - met, failed, roubles(fee)])
+    heads = [*(["maker"] if several else []), "instrument", "quanta", "met", "failed", "most failed", "fee"]
+    said = "".join(f"{line}\n" for line in dict.fromkeys(each.second for each in done if each.second))
+    if rows:
+        output.table(None, heads, rows, f"sum of the fees: {roubles(sum(each.fee for each in done))}\n{said}")
+
+
+# ---------------------------------------------------------------- what is seen of it
+
+
+def bar_of(*columns: str) -> Any:
+    """A bar on a terminal, by rich where it is installed; else None."""
+    if sys.stderr is None or not sys.stderr.isatty():
+        return None
+    try:
+        from rich.console import Console
+        from rich.progress import BarColumn, Progress, TextColumn, TimeRemainingColumn
+    except ImportError:
+        return None
+    return Progress(TextColumn("{task.description}"), BarColumn(), *(TextColumn(each) for each in columns), TimeRemainingColumn(), console=Console(stderr=True))
+
+
+@contextmanager
+def progress_of(path: Path) -> Iterator[Watcher]:
+    """One desk: the bytes of its logs, then the instruments that the recount has read."""
+    bar = bar_of("{task.percentage:>3.0f}%")
+    if bar is None:
+        yield Watcher()
+        return
+    with bar:
+        logs = bar.add_task(f"{path}: logs", total=None)
+        second = bar.add_task("recount", total=None, visible=False)
+
+        def recounted(name: str) -> None:
+            bar.update(second, visible=True, advance=1, description=f"recount: {name}")
+
+        def read(size: int) -> None:
+            bar.advance(logs, size)
+
+        def begins(total: int) -> None:
+            bar.update(logs, total=total)
+
+        yield Watcher(begins, read, recounted)
+
+
+@contextmanager
+def counted_desks(total: int) -> Iterator[Callable[[], None]]:
+    bar = bar_of("{task.completed} of {task.total} desks")
+    if bar is None:
+        yield lambda: None
+        return
+    with bar:
+        task = bar.add_task("settled", total=total)
+
+        def step() -> None:
+            bar.advance(task, 1)
+
+        yield step
 
 
 def run(args: argparse.Namespace) -> int:
     try:
         return {"plan": plan, "settle": settle}[args.work](args)
-    except DeskError as error:
+    except DeskError as error:  # of a plan
         complain_all([fault.text for fault in error.faults])
-        output.complain(f"{args.desk}: {len(error.faults)} fault(s), nothing was settled")
+        output.complain(f"{args.desk}: {counted(len(error.faults), 'fault')}, no plan was made")
         return 1

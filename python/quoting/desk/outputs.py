@@ -58,14 +58,16 @@ class Result:
 
 @dataclass(frozen=True)
 class Watcher:
-    """Who is told of the progress: of the bytes read of the logs, and of each instrument that the recount has read."""
+    """Who is told of the progress: of the logs' size, of the bytes read of them, and of each instrument that the recount has read."""
 
+    begins: Callable[[int], None] = logs.ignore
     read: Callable[[int], None] = logs.ignore
     recounted: Callable[[str], None] = lambda name: None
 
 
 def settle(desk: Desk, manner: Manner = Manner(), watcher: Watcher = Watcher()) -> Result:
     """Reads the logs, settles, and has the recount read the same calls."""
+    watcher.begins(sum(path.stat().st_size for path in desk.logs))
     read = logs.read(desk, watcher.read)
     made = Result(settlement.settle(desk, read.works, read.remarks), read)
     if manner.recount or (manner.recount is None and made.size <= SMALL and second_reading.PROGRAM.exists()):
@@ -80,6 +82,10 @@ def tables_of(made: Result) -> dict[str, bytes]:
     months = made.settlement.months
     found = {f"{month.instrument}.calls": month.calls for month in months}
     return {**found, "cells.csv": tables.cells_csv(made.settlement.cells).encode(), "months.csv": tables.months_csv(months).encode()}
+
+
+def tables_of_names(made: Result) -> list[str]:
+    return [*(f"{month.instrument}.calls" for month in made.settlement.months), "cells.csv", "months.csv"]
 
 
 def write(folder: Path, files: dict[str, bytes]) -> None:
