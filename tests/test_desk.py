@@ -3,10 +3,12 @@
 import json
 import shutil
 import subprocess
+from hashlib import sha256
 
 import pytest
 
 from quoting import calls as c
+from quoting.desk import second_reading
 from quoting.desk.desks import Desk
 from quoting.desk.faults import DeskError
 from quoting.desk.outputs import Manner, settle
@@ -280,3 +282,133 @@ def test_logs_without_reports_are_read_by_requests(desk, tmp_path):
         log.write_bytes(b"".join(line for line in log.read_bytes().splitlines(keepends=True) if b"35=8" not in line))
     done = command.run("desk", "settle", desk / "desk.toml", "-o", tmp_path / "out", "--no-recount")
     assert done.status == 1 and "the logs have no execution report of these symbols; the requests were read" in done.complaint
+
+
+# ---------------------------------------------------------------- pages
+
+
+def test_the_client_page_has_what_an_office_signs(settled):
+    page = (settled[0] / "index.html").read_text()
+    assert "146,789 <small>roubles</small> 62 <small>kopecks</small>" in page and "Both readings agree" in page
+    for name in ("desk.toml", "prices.csv", "charges.csv", "programme.toml", "logs/20261102-north.log"):
+        assert f"{sha256((SHIPPED / name).read_bytes()).hexdigest()}  {name}\n" in (settled[0] / "inputs.sha256").read_text(), name
+        assert sha256((SHIPPED / name).read_bytes()).hexdigest() in page
+    for text in ("MAKER07", "1 to 30 November 2026, 6 trading days", "A7, C3", "For the client", "signature", "charges.csv has no line", "In 6 quanta the fills decided"):
+        assert text in page, text
+    assert 'href="gold.html"' in page and 'href="platinum-mini.html"' in page and page.count("refused 22") == 1
+
+
+def test_each_instrument_has_a_statement(settled):
+    page = (settled[0] / "gold.html").read_text()
+    assert "112,556 <small>roubles</small> 33 <small>kopecks</small>" in page and "Both readings agree" in page and "Signatures" in page
+    assert "10:00:00 to 18:45:00" in page and "2026-11-06 GD-1.27, quantum 2: charges.csv has no line; charged 0 and 0." in page
+    assert "PM-12.26" not in page
+
+
+def test_pages_are_the_same_but_for_the_date_made(tmp_path, monkeypatch):
+    for epoch, out in (("1800000000", "first"), ("1800000000", "second"), ("1800003600", "third")):
+        monkeypatch.setenv("SOURCE_DATE_EPOCH", epoch)
+        command.run("desk", "settle", SHIPPED / "desk.toml", "-o", tmp_path / out)
+    for name in ("index.html", "gold.html", "inputs.sha256"):
+        first, second, third = ((tmp_path / out / name).read_text().splitlines() for out in ("first", "second", "third"))
+        assert first == second
+        assert [line for line in first if line not in third] == [line for line in first if "15 January 2027" in line], name
+
+
+def test_names_in_the_files_do_not_break_the_pages(desk, tmp_path):
+    change(desk / DESK, "MAKER07", "<script>&'")
+    command.run("desk", "settle", desk / "desk.toml", "-o", tmp_path / "out")
+    for name in ("index.html", "gold.html"):
+        page = (tmp_path / "out" / name).read_text()
+        assert "<script>" not in page and "&lt;script&gt;&amp;&#39;" in page
+
+
+def test_differing_readings_settle_nothing(desk, tmp_path, monkeypatch):
+    """A recount that answers otherwise to one call."""
+    wrong = tmp_path / "main.py"
+    program = second_reading.PROGRAM
+    wrong.write_text(
+        "import subprocess, sys\n"
+        f"out = subprocess.run([sys.executable, {str(program)!r}, 'replay'], stdin=sys.stdin, capture_output=True, text=True).stdout\n"
+        "sys.stdout.write(out.replace('weight 20000', 'weight 19999', 1))\n")
+    monkeypatch.setattr(second_reading, "PROGRAM", wrong)
+    done = command.run("desk", "settle", desk / "desk.toml", "-o", tmp_path / "out")
+    assert done.status == 1 and "THE PROVED METER AND THE RECOUNT DIFFER first at the cell of day" in done.complaint and "THE READINGS DIFFER" in done.printed
+    for name in ("index.html", "gold.html"):
+        page = (tmp_path / "out" / name).read_text()
+        assert "settles nothing" in page and "not settled" in page and "Both readings agree" not in page, name
+
+
+def test_without_the_recount_there_is_no_statement(tmp_path):
+    done = command.run("desk", "settle", SHIPPED / "desk.toml", "-o", tmp_path / "out", "--no-recount")
+    assert "the recount was not run" in done.printed and not (tmp_path / "out" / "gold.html").exists()
+    assert "By the proved meter alone" in (tmp_path / "out" / "index.html").read_text()
+
+
+@pytest.mark.xdist_group("browser")
+def test_the_pages_are_printed(tmp_path):
+    command.run("desk", "settle", SHIPPED / "desk.toml", "-o", tmp_path / "out", "--no-recount", "--pdf")
+    printed = (tmp_path / "out" / "index.pdf").read_bytes()
+    assert printed.startswith(b"%PDF-") and printed.count(b"/Type /Page\n") == 4
+
+
+# ---------------------------------------------------------------- many desks
+
+
+def test_many_desks_are_settled_into_folders(tmp_path):
+    names = []
+    for seed in (1, 2):
+        desk_months.write(tmp_path / f"maker{seed}", seed, 8)
+        names.append(tmp_path / f"maker{seed}" / "desk.toml")
+    broken = tmp_path / "broken.toml"
+    broken.write_text("maker = 1\n")
+    done = command.run("desk", "settle", *names, broken, "-o", tmp_path / "out", "--no-recount")
+    alone = command.run("desk", "settle", names[1], "-o", tmp_path / "alone", "--no-recount")
+    assert done.status == 1 and alone.status == 1 and "broken.toml: maker: 1 is not a text" in done.complaint
+    assert (tmp_path / "out" / "maker2" / "cells.csv").read_bytes() == (tmp_path / "alone" / "cells.csv").read_bytes()
+    table = (tmp_path / "out" / "desks.csv").read_text().splitlines()
+    assert [line.split(",")[1] for line in table] == ["status", "reasons", "reasons", "faults"] and not (tmp_path / "out" / "broken").exists()
+    fee = sum(int(line.split(",")[2]) for line in (tmp_path / "alone" / "months.csv").read_text().splitlines()[1:])
+    assert table[2].split(",")[7] == str(fee)
+
+
+def test_a_second_run_goes_on_where_the_first_stopped(tmp_path):
+    names = []
+    for seed in (1, 2, 3):
+        desk_months.write(tmp_path / f"maker{seed}", seed, 5)
+        names.append(tmp_path / f"maker{seed}" / "desk.toml")
+    words = ["desk", "settle", *names, "-o", tmp_path / "out", "--no-recount"]
+    first = command.run(*words)
+    before = {path: path.stat().st_mtime_ns for path in (tmp_path / "out").rglob("*.*")}
+    (tmp_path / "out" / "maker1" / "cells.csv").unlink()  # lost on the way
+    change(tmp_path / "maker2" / "charges.csv", ",BR-1.27,1,", ",BR-1.27,1,1")  # changed since
+    second = command.run(*words, "--resume")
+    changed = {path.parent.name for path, time in before.items() if path.stat().st_mtime_ns != time}
+    assert changed == {"maker1", "maker2", "out"}
+    assert [line for line in first.complaint.splitlines() if "maker3" in line] == [line for line in second.complaint.splitlines() if "maker3" in line]
+    whole = command.run("desk", "settle", *names, "-o", tmp_path / "again", "--no-recount")
+    assert whole.printed == second.printed and (tmp_path / "again" / "desks.csv").read_bytes() == (tmp_path / "out" / "desks.csv").read_bytes()
+
+
+def test_two_desks_of_one_name_are_refused(tmp_path):
+    for name in ("a", "b"):
+        shutil.copytree(SHIPPED, tmp_path / name / "maker")
+    done = command.run("desk", "settle", tmp_path / "a" / "maker" / "desk.toml", tmp_path / "b" / "maker" / "desk.toml", "-o", tmp_path / "out")
+    assert done.status == 1 and "two desks would be settled into" in done.complaint and not (tmp_path / "out").exists()
+
+
+@pytest.mark.xdist_group("dask")
+def test_desks_on_a_cluster_give_the_same_tables(tmp_path):
+    import distributed
+
+    names = []
+    for seed in (1, 2):
+        desk_months.write(tmp_path / f"maker{seed}", seed, 5)
+        names.append(tmp_path / f"maker{seed}" / "desk.toml")
+    with distributed.LocalCluster(n_workers=1, threads_per_worker=1, processes=False, dashboard_address=None) as cluster:
+        words = ["--scheduler", cluster.scheduler_address]
+        command.run("desk", "settle", *names, "-o", tmp_path / "cluster", "--no-recount", *words)
+    command.run("desk", "settle", *names, "-o", tmp_path / "here", "--no-recount")
+    assert (tmp_path / "cluster" / "desks.csv").read_bytes() == (tmp_path / "here" / "desks.csv").read_bytes()
+    for name in ("cells.csv", "months.csv", "gold.calls"):
+        assert (tmp_path / "cluster" / "maker2" / name).read_bytes() == (tmp_path / "here" / "maker2" / name).read_bytes()

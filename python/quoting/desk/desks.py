@@ -7,10 +7,10 @@ import os
 import re
 from dataclasses import dataclass, field
 from pathlib import Path
-from typing import Any, Optional, Union
+from typing import TYPE_CHECKING, Any, Optional, Union
 
 from quoting import values
-from quoting.desk import contracts, fields, lists, programme
+from quoting.desk import contracts, fields, frames, lists, programme
 from quoting.desk.contracts import Contract
 from quoting.desk.faults import Faults
 from quoting.desk.fields import Fields
@@ -18,6 +18,9 @@ from quoting.desk.lists import Charges, Prices
 from quoting.desk.plan import Planned, Planner
 from quoting.desk.programme import Programme
 from quoting.month_words import PRICES
+
+if TYPE_CHECKING:
+    from quoting.desk.settlement import Settlement
 
 MONTH = re.compile(r"([0-9]{4})-(0[1-9]|1[0-2])")
 
@@ -76,6 +79,19 @@ class Desk:
     def plan(self) -> list[Planned]:
         """The month's quanta, sorted by date, instrument, expiry and quantum."""
         return list(self._planned)
+
+    def plan_frame(self) -> Any:
+        """The plan as a DataFrame, with the columns of `quoting desk plan --csv`."""
+        from quoting.desk import plan_lines
+
+        return frames.frame(plan_lines.COLUMNS, [list(plan_lines.fields_of(each).values()) for each in self.plan()])
+
+    def settle(self) -> "Settlement":
+        """Reads the logs and settles all instruments by the proved library."""
+        from quoting.desk import logs, settlement  # which need this class
+
+        read = logs.read(self)
+        return settlement.settle(self, read.works, read.remarks)
 
     @property
     def period(self) -> str:

@@ -8,10 +8,11 @@ crates/requests/specs/DayOrder.antt).
 
 from collections import Counter
 from dataclasses import dataclass, field, replace
-from typing import Iterator, Sequence
+from typing import Any, Iterator, Sequence
 
 from quoting.answers import WORDS, Cell, MonthReport, answer_of, line
 from quoting.cells import CELLS, SHOW_ALL, Place
+from quoting.desk import frames
 from quoting.desk.desks import Desk
 from quoting.desk.plan import Planned
 from quoting.desk.quanta import Work, answers_of, deals_of, without_deals
@@ -109,8 +110,19 @@ class Settlement:
         found = [cell for month in self.months for cell in month.cells]
         return sorted(found, key=lambda each: (each.planned.date, each.planned.contract.instrument, each.planned.contract.expiry, each.planned.quantum))
 
+    def cell_frame(self) -> Any:
+        """The cells as a DataFrame, with the columns of cells.csv."""
+        from quoting.desk import tables
+
+        return frames.frame(tables.CELL_COLUMNS, [tables.cell_fields(each) for each in self.cells])
+
+    def month_frame(self) -> Any:
+        """The instruments' months as a DataFrame, with the columns of months.csv."""
+        return frames.frame(["instrument", "failed", "fee"], [(month.instrument, month.failed, month.fee) for month in self.months])
+
     @property
     def reasons(self) -> list[Remark]:
+        """Why the status is 1."""
         return [remark for remark in self.remarks if remark.is_reason]
 
     @property
