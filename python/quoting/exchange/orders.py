@@ -4,6 +4,7 @@ An order is known by the ClOrdID and the OrderID that it has at present, in its 
 forgotten. Where two live orders have one ClOrdID, it names the one that got it last.
 """
 
+from array import array
 from typing import Callable, Iterable, Optional
 
 from quoting.exchange.fields import (
@@ -14,9 +15,9 @@ from quoting.exchange.reasons import Why
 BUY, SELL, AMENDED, REMOVED, DEALT = range(1, 6)  # the kinds of a record
 ABSENT = -1  # an id that a move does not have
 
-# Owner, ClOrdID, OrigClOrdID, OrderID, side, price, volume. Ids are numbers, each times the number of owners, and the owner added. The
+# What it is, owner, ClOrdID, OrigClOrdID, OrderID, side, price, volume. Ids are numbers, each times the number of owners, and the owner added. The
 # side of a removal or deal is 0 where the report itself says that the order never rests (59).
-Terms = tuple[int, int, int, int, int, int, int]
+Terms = tuple[int, int, int, int, int, int, int, int]
 
 
 class Orders:
@@ -28,37 +29,29 @@ class Orders:
         self.by_cl: dict[int, int] = {}
         self.by_oid: dict[int, int] = {}
         self.shadowed: dict[int, int] = {}  # by an order: the one that had its ClOrdID before, and may be live
-        self.cl: list[int] = []
-        self.oid: list[int] = []
-        self.left: list[int] = []
-        self.rests: list[bool] = []
-        self.side: list[int] = []
-        self.owner: list[int] = []
-        # what comes out, a list for each column: the move's place among the moves, kind, order, price, volume
-        self.places: list[int] = []
-        self.kinds: list[int] = []
-        self.orders: list[int] = []
-        self.prices: list[int] = []
-        self.volumes: list[int] = []
+        self.cl, self.oid, self.left, self.owner = array("q"), array("q"), array("q"), array("i")  # of each order
+        self.rests, self.side = array("b"), array("b")
+        # what comes out, a column each: the move's place among the moves, kind, order, price, volume
+        self.places, self.kinds, self.orders, self.prices, self.volumes = array("I"), array("B"), array("I"), array("i"), array("I")
         self.problems: list[tuple[int, Why]] = []
         self.strangers: list[int] = []  # the places of moves of orders that are not read
-        self.at = 0
+        self.at = -1  # the place of the move that is taken
 
-    def take(self, moves: Iterable[tuple[int, Terms]]) -> None:
-        """All moves, in order of time."""
+    def take(self, moves: Iterable[Terms]) -> None:
+        """The next moves, in order of time."""
         by_kind: dict[int, Callable[[Terms], None]] = {
             NEW: self.new, UNRESTED: self.unrested, AMEND: self.amend, RESTATE: self.restate, REMOVE: self.remove, DEAL: self.deal,
             ASK: self.ask, ASK_UNRESTED: self.ask_unrested, ASK_CANCEL: self.ask_cancel, ASK_REPLACE: self.ask_replace,
             ASK_REPLACE_UNRESTED: self.ask_replace_unrested,
         }
-        for at, (what, terms) in enumerate(moves):
-            self.at = at
-            by_kind[what](terms)
+        for terms in moves:
+            self.at += 1
+            by_kind[terms[0]](terms)
 
     # ------------------------------------------------------------ names
 
     def enter(self, terms: Terms, rests: bool) -> int:
-        owner, cl, _, oid, side, price, volume = terms
+        _, owner, cl, _, oid, side, price, volume = terms
         order = len(self.cl)
         self.cl.append(ABSENT)
         self.oid.append(ABSENT)
@@ -146,33 +139,33 @@ class Orders:
     # ------------------------------------------------------------ reports
 
     def new(self, terms: Terms) -> None:
-        if self.foreign and terms[0] in self.foreign:
+        if self.foreign and terms[1] in self.foreign:
             self.strangers.append(self.at)
-        elif terms[3] in self.by_oid:
+        elif terms[4] in self.by_oid:
             self.problem(Why.LIVE)
         else:
-            self.enter(terms, terms[6] > 0)
+            self.enter(terms, terms[7] > 0)
 
     def unrested(self, terms: Terms) -> None:
-        if terms[3] not in self.by_oid:
+        if terms[4] not in self.by_oid:
             self.enter(terms, False)
 
     def amend(self, terms: Terms) -> None:
         """Replaced: the order by 41, else by 37."""
-        owner, _, orig, oid, _, _, _ = terms
+        _, owner, _, orig, oid, _, _, _ = terms
         order = self.named_by_cl(owner, orig)
         self.change(order if order is not None else self.named_by_oid(owner, oid), terms)
 
     def restate(self, terms: Terms) -> None:
         """Restated: nobody asked, so 37 counts where it names an order."""
-        owner, _, orig, oid, _, _, _ = terms
+        _, owner, _, orig, oid, _, _, _ = terms
         order = self.named_by_oid(owner, oid)
         self.change(order if order is not None else self.named_by_cl(owner, orig), terms)
 
     def change(self, order: Optional[int], terms: Terms) -> None:
-        _, cl, _, oid, side, price, volume = terms
+        _, _, cl, _, oid, _, price, volume = terms
         if order is None:
-            self.unknown(terms[0])
+            self.unknown(terms[1])
         elif not volume:  # nothing is left, or what is left does not rest
             self.over(order)
         else:
@@ -192,7 +185,7 @@ class Orders:
 
     def remove(self, terms: Terms) -> None:
         """Cancelled, expired or done for the day: the order by 37 where both 37 and 41 name one, since 41 may be an old one."""
-        owner, _, orig, oid, is_resting, _, _ = terms
+        _, owner, _, orig, oid, is_resting, _, _ = terms
         order = self.named_by_oid(owner, oid)
         if order is None:
             order = self.named_by_cl(owner, orig)
@@ -202,7 +195,7 @@ class Orders:
             self.unknown(owner)
 
     def deal(self, terms: Terms) -> None:
-        owner, _, _, oid, is_resting, _, volume = terms
+        _, owner, _, _, oid, is_resting, _, volume = terms
         order = self.named_by_oid(owner, oid)
         if order is None:
             if is_resting:  # as in remove
@@ -219,22 +212,22 @@ class Orders:
     # ------------------------------------------------------------ requests
 
     def ask(self, terms: Terms) -> None:
-        if self.foreign and terms[0] in self.foreign:
+        if self.foreign and terms[1] in self.foreign:
             self.strangers.append(self.at)
-        elif terms[1] in self.by_cl:
+        elif terms[2] in self.by_cl:
             self.problem(Why.LIVE)
         else:
-            self.enter(terms, terms[6] > 0)
+            self.enter(terms, terms[7] > 0)
 
     def ask_unrested(self, terms: Terms) -> None:
-        if terms[1] not in self.by_cl:
+        if terms[2] not in self.by_cl:
             self.enter(terms, False)
 
     def asked(self, terms: Terms) -> Optional[int]:
         """The resting order that a cancel or replace refers to."""
-        order = self.named_by_cl(terms[0], terms[2])
+        order = self.named_by_cl(terms[1], terms[3])
         if order is None:
-            self.unknown(terms[0])
+            self.unknown(terms[1])
         elif not self.rests[order]:
             self.problem(Why.UNRESTED)
             return None
@@ -250,19 +243,19 @@ class Orders:
         order = self.asked(terms)
         if order is None:
             return None
-        named = self.by_cl.get(self.of_owner(terms[1], self.owner[order]), order)
-        if self.side[order] != terms[4] or named != order:
-            self.problem(Why.SIDE if self.side[order] != terms[4] else Why.LIVE)
+        named = self.by_cl.get(self.of_owner(terms[2], self.owner[order]), order)
+        if self.side[order] != terms[5] or named != order:
+            self.problem(Why.SIDE if self.side[order] != terms[5] else Why.LIVE)
             return None
         return order
 
     def ask_replace(self, terms: Terms) -> None:
         order = self.replaced(terms)
         if order is not None:
-            _, cl, orig, oid, side, price, volume = terms
+            what, _, cl, orig, oid, side, price, volume = terms
             owner = self.owner[order]
             self.over(order)
-            self.enter((owner, self.of_owner(cl, owner), orig, oid, side, price, volume), volume > 0)
+            self.enter((what, owner, self.of_owner(cl, owner), orig, oid, side, price, volume), volume > 0)
 
     def ask_replace_unrested(self, terms: Terms) -> None:
         order = self.replaced(terms)
