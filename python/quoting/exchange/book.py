@@ -24,10 +24,9 @@ class Counts:
     rejects: int = 0  # 150=8
     cancel_rejects: int = 0  # 35=9
     duplicates: int = 0  # reports whose ExecID was read before
-    reports: int = 0  # 35=8, of the symbols and accounts that are read
-    requests: int = 0  # D, F and G of these
+    reports: int = 0  # 35=8
+    requests: int = 0  # 35=D, F and G
     damaged: int = 0  # what starts like a message and is none
-    others: "Counter[tuple[str, str]]" = field(default_factory=Counter)  # reports and requests of other symbols and accounts
     types: "Counter[str]" = field(default_factory=Counter)  # messages of other types (35)
 
 
@@ -103,6 +102,7 @@ class Book:
         self.moves: list[Move] = []
         self.parts: list[Any] = []  # the moves that were read many at once, an array each
         self.reasons = Reasons()
+        self.others: Counter[tuple[str, str]] = Counter()  # messages of other symbols and accounts
 
 
 @dataclass

@@ -16,7 +16,7 @@ from quoting.exchange.columns import Steps, windows
 from quoting.exchange.fields import Move
 from quoting.exchange.keys import Names, first_of, keys_of, text_of_key
 from quoting.exchange.messages import found_at
-from quoting.exchange.orders import ABSENT, Orders, Terms
+from quoting.exchange.orders import ABSENT, AMENDED, DEALT, NOTHING, REMOVED, Orders, Terms
 from quoting.exchange.reasons import Reasons
 from quoting.exchange.rows import PIECE, SLACK, Scan, Table, is_available
 from quoting.exchange.timelines import CHANGE, Timeline
@@ -27,6 +27,7 @@ if TYPE_CHECKING:
 
 Array = Any
 REPORT, REJECT, D, F, G = b"8"[0], b"9"[0], b"D"[0], b"F"[0], b"G"[0]
+BAR = b"|"[0]
 UNKNOWN, OTHER = -2, -1  # an owner that was not met yet; one whose messages are not read
 MOVE = np.dtype([
     ("time", "<i8"), ("what", "u1"), ("owner", "<i4"), ("cl", "<u8", 3), ("orig", "<u8", 3), ("oid", "<u8", 3), ("execution", "<u8", 2),
@@ -45,10 +46,11 @@ def table_of(pairs: dict[bytes, int]) -> Array:
     return made
 
 
-NOTHING, SLOW = 254, 255
-WHATS = table_of({b"0": f.NEW, b"5": f.AMEND, b"D": f.RESTATE, b"4C3": f.REMOVE, b"F12": f.DEAL, b"8A6EI": NOTHING})
+NO_CHANGE, BY_SIDE = 254, 255
+WHATS = table_of({b"0": f.NEW, b"5": f.AMEND, b"D": f.RESTATE, b"4C3": f.REMOVE, b"F12": f.DEAL, b"8A6EI": NO_CHANGE})
 ASKS = table_of({b"D": f.ASK, b"F": f.ASK_CANCEL, b"G": f.ASK_REPLACE})
-UNRESTED = {f.ASK: f.ASK_UNRESTED, f.ASK_REPLACE: f.ASK_REPLACE_UNRESTED}
+KINDS = table_of({bytes([f.NEW, f.ASK, f.ASK_REPLACE]): BY_SIDE, bytes([f.AMEND, f.RESTATE]): AMENDED, bytes([f.DEAL]): DEALT,
+                  bytes([f.REMOVE, f.ASK_CANCEL, f.ASK_REPLACE_UNRESTED]): REMOVED})  # fmt: skip
 
 
 class Piece:
@@ -79,6 +81,7 @@ class Bulk:
     def __init__(self, reader: "LogReader") -> None:
         self.reader, self.scan, self.steps = reader, Scan(), Steps()
         self.symbols, self.accounts = Names(), Names()
+        self.has_bars = False  # | separated the fields of the last messages
         self.owners = np.zeros((0, 0), dtype=np.int64)  # by the numbers of symbol and account
 
     # ------------------------------------------------------------ bytes
@@ -98,9 +101,7 @@ class Bulk:
         reader = self.reader
         if b"\0" in data:
             return reader.take(data, is_final), False
-        text = data.replace(b"|", b"\x01") if b"8=FIX.4.4|" in data else data
-        buffer = np.frombuffer(text + bytes(SLACK), dtype=np.uint8)
-        rows, stop, is_full = self.scan.rows(buffer, 0, len(data))
+        buffer, rows, stop, is_full = self.scanned(data)
         piece = Piece(data, buffer, rows, reader.lines, reader.counts.messages + 1)
         broken = np.flatnonzero(rows[:, 2])
         found = [found_at(piece.window, at) for at in rows[broken, 0].tolist()]
@@ -111,10 +112,24 @@ class Bulk:
             reader.damaged(each.why if each is not None else "")
         self.messages(piece)
         reader.counts.messages += len(rows)
-        reader.lines.count(data[:stop])
+        reader.lines.line += int(np.searchsorted(piece.ends, stop))
+        reader.lines.is_after_cr = data[stop - 1 : stop] == b"\r" if stop else reader.lines.is_after_cr
         if is_final and not is_full:
             stop += reader.take(data[stop:], True)
         return stop, is_full
+
+    def scanned(self, data: bytes) -> tuple[Array, Array, int, bool]:
+        """The bytes as they are scanned, with byte 1 for | where that separates the fields; the rows; where the scan stopped; and whether
+        there is more to scan."""
+        for _ in range(2):
+            text = data.replace(b"|", b"\x01") if self.has_bars else data
+            buffer = np.frombuffer(text + bytes(SLACK), dtype=np.uint8)
+            rows, stop, is_full = self.scan.rows(buffer, 0, len(data))
+            broken = rows[rows[:, 2] != 0, 0].astype(np.int64)
+            if self.has_bars or not broken.size or not (buffer[broken + 9] == BAR).any():
+                break
+            self.has_bars = True
+        return buffer, rows, stop, is_full
 
     def one(self, piece: Piece, rows: Array) -> None:
         """Reads some messages one at a time."""
@@ -145,24 +160,35 @@ class Bulk:
             self.ours(piece, pick, is_request[pick])
 
     def ours(self, piece: Piece, pick: Array, is_request: Array) -> None:
-        """Reports and requests: whose they are, and those of the source that counts."""
+        """Reports, and requests where these count."""
+        reader = self.reader
+        asked = int(np.count_nonzero(is_request))
+        reader.counts.reports += pick.size - asked
+        reader.counts.requests += asked
+        if asked < pick.size and reader.takes_reports:
+            self.owned(piece, pick[~is_request], True)
+        if asked and reader.takes_requests:
+            self.owned(piece, pick[is_request], False)
+
+    def owned(self, piece: Piece, pick: Array, is_report: bool) -> None:
+        """The messages of one source: those of the symbols and accounts that are read."""
         reader, table = self.reader, Table(piece.buffer, piece.seen, piece.rows[pick])
         symbol, fine = table.names(55, self.symbols)
         account, also = table.names(1, self.accounts)
         fine &= also
-        owner = self.owner_of(symbol, account, fine)
-        is_report = fine & ~is_request & (owner >= 0)
-        is_asked = fine & is_request & (owner >= 0)
-        reader.counts.reports += int(np.count_nonzero(is_report))
-        reader.counts.requests += int(np.count_nonzero(is_asked))
-        if is_report.any() and reader.takes_reports():
-            self.reports(piece, table[is_report], pick[is_report], owner[is_report])
-        if is_asked.any() and reader.takes_requests():
-            self.requests(piece, table[is_asked], pick[is_asked], owner[is_asked])
+        owner = self.owner_of(symbol, account, fine, reader.reports if is_report else reader.requests)
+        is_read = fine & (owner >= 0)
         if not fine.all():
-            self.one(piece, pick[~fine])
+            self.again(piece, pick[~fine])
+        if not is_read.all():
+            table, pick, owner = table[is_read], pick[is_read], owner[is_read]
+        if pick.size and is_report:
+            reader.note_report()
+            self.reports(piece, table, pick, owner)
+        elif pick.size:
+            self.requests(piece, table, pick, owner)
 
-    def owner_of(self, symbol: Array, account: Array, fine: Array) -> Array:
+    def owner_of(self, symbol: Array, account: Array, fine: Array, book: Book) -> Array:
         """The numbers of the owners; messages of others are counted."""
         scope, shape = self.reader.scope, (len(self.symbols.names), len(self.accounts.names))
         if self.owners.shape != shape:
@@ -180,7 +206,7 @@ class Bulk:
             counts = np.bincount(codes)
             for code in np.flatnonzero(counts).tolist():
                 names = self.symbols.names[code // shape[1]], self.accounts.names[code % shape[1]]
-                self.reader.counts.others[f.text_of(names[0]), f.text_of(names[1])] += int(counts[code])
+                book.others[f.text_of(names[0]), f.text_of(names[1])] += int(counts[code])
         self.steps.learn([scope.step(name) for name, _ in scope.owners])
         return owner
 
@@ -190,15 +216,15 @@ class Bulk:
         kind, fine = table.byte(150)
         what = np.where(fine, WHATS[kind], 0)
         self.reader.counts.rejects += int(np.count_nonzero(kind == b"8"[0]))
-        keep = (what != 0) & (what != NOTHING)
+        keep = (what != 0) & (what != NO_CHANGE)
         if not keep.all():
-            self.refused(piece, pick[what == 0], is_report=True)
+            self.again(piece, pick[what == 0])
             table, pick, owner, what = table[keep], pick[keep], owner[keep], what[keep]
         if pick.size:
             self.moved(self.reader.reports, piece, table, pick, owner, what, self.report_terms)
 
-    def refused(self, piece: Piece, rows: Array, is_report: bool) -> None:
-        """Reads messages of ours again, one at a time; they are counted already."""
+    def again(self, piece: Piece, rows: Array) -> None:
+        """Reads messages one at a time that are counted already."""
         counts = self.reader.counts
         before = counts.reports, counts.requests, counts.rejects
         self.one(piece, rows)
@@ -215,7 +241,7 @@ class Bulk:
         moves["owner"], moves["seq"], moves["file"] = owner, piece.first + pick, len(self.reader.files) - 1
         moves["line"] = piece.lines(pick)
         if not good.all():
-            self.refused(piece, pick[~good], book is self.reader.reports)
+            self.again(piece, pick[~good])
             moves = moves[good]
         if moves.size:
             book.parts.append(moves)
@@ -297,19 +323,44 @@ class Bulk:
         return Settled(self.timelines(columns, orders), reasons, others)
 
     def timelines(self, columns: "Columns", orders: Orders) -> dict[tuple[str, str], Timeline]:
+        """The changes by owner: the order's owner, which a message need not say."""
         reader, scope = self.reader, self.reader.scope
-        place, order = np.frombuffer(orders.places, dtype=np.uint32), np.frombuffer(orders.orders, dtype=np.uint32)
-        changes = np.zeros(place.size, dtype=CHANGE)
-        changes["kind"], changes["order"] = np.frombuffer(orders.kinds, dtype=np.uint8), order + 1
-        changes["price"], changes["volume"] = np.frombuffer(orders.prices, dtype=np.int32), np.frombuffer(orders.volumes, dtype=np.uint32)
-        for name in ("time", "file", "line", "seq"):
-            changes[name] = columns.of(name)[place]
-        owner = np.frombuffer(orders.owner, dtype=np.int32)[order] if order.size else np.zeros(0, dtype=np.int32)
+        changes = changes_of(columns, orders)
+        owner = np.frombuffer(orders.owner, dtype=np.int32)[changes["order"] - 1] if changes.size else np.zeros(0, dtype=np.int32)
         made = {}
         for each in sorted(np.unique(owner).tolist(), key=scope.names):
             symbol, account = scope.names(each)
             made[symbol, account] = Timeline(symbol, account, changes[owner == each], reader.files)
         return made
+
+
+def changes_of(columns: "Columns", orders: Orders) -> Array:
+    """What the moves change, in order of time."""
+    size = columns.pick.size
+    order, replaced = np.frombuffer(orders.changed, dtype=np.int32), np.full(size, NOTHING, dtype=np.int32)
+    replaced[: len(orders.replaced)] = np.frombuffer(orders.replaced, dtype=np.int32)
+    place = np.flatnonzero(order != NOTHING)
+    what, side, volume = columns.what[place], columns.of("side")[place], columns.of("volume")[place]
+    price = columns.of("price")[place]
+    for at, left in orders.overfilled.items():
+        volume[np.searchsorted(place, at)] = left
+    kind = KINDS[what]
+    kind = np.where(kind == BY_SIDE, side, np.where((kind == AMENDED) & (volume == 0), REMOVED, kind))
+    is_over = kind == REMOVED
+    gone = np.flatnonzero(replaced != NOTHING)
+    if gone.size:  # a replaced order is removed before the new one comes
+        turn = np.argsort(np.concatenate([2 * gone, 2 * place + 1]), kind="stable")
+        place, order = np.concatenate([gone, place])[turn], np.concatenate([replaced[gone], order[place]])[turn]
+        is_over, kind = (np.concatenate([np.full(gone.size, value), each])[turn] for value, each in ((True, is_over), (REMOVED, kind)))
+        price, volume = (np.concatenate([np.zeros(gone.size, dtype=each.dtype), each])[turn] for each in (price, volume))
+    else:
+        order = order[place]
+    changes = np.zeros(place.size, dtype=CHANGE)
+    changes["kind"], changes["order"] = kind, order + 1
+    changes["price"], changes["volume"] = np.where(is_over, 0, price), np.where(is_over, 0, volume)
+    for name in ("time", "file", "line", "seq"):
+        changes[name] = columns.of(name)[place]
+    return changes
 
 
 class Columns:
@@ -372,7 +423,7 @@ class Columns:
 
     def slices(self, owners: int) -> Iterator[Iterator[Terms]]:
         """The terms of the moves, some at a time."""
-        columns = [self.what, self.of("owner"), *self.numbered(owners), self.of("side"), self.of("price"), self.of("volume")]
+        columns = [self.what, self.of("owner"), *self.numbered(owners), self.of("side"), self.of("volume")]
         for at in range(0, self.pick.size, SLICE):
             yield zip(*(column[at : at + SLICE].tolist() for column in columns))
 

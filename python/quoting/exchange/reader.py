@@ -9,7 +9,7 @@ from quoting.exchange import fields as f
 from quoting.exchange.book import Accounts, Book, Counts, Scope, Settled, Source, reason_of
 from quoting.exchange.fields import Move, Unreadable, Values
 from quoting.exchange.messages import Fields, Lines, messages
-from quoting.exchange.orders import ABSENT, Orders, Terms
+from quoting.exchange.orders import ABSENT, NOTHING, REMOVED, Orders, Terms, kind_of
 from quoting.exchange.reasons import Reason, Reasons, Why
 from quoting.exchange.timelines import CHANGE, Change, Timeline, numpy
 
@@ -115,8 +115,13 @@ class LogReader:
             self.counts.types[f.text_of(kind)] += 1
 
     def ours(self, kind: bytes, values: Values) -> None:
-        """A report or a request, if it is of a symbol and account that are read and of the source that counts."""
-        book = self.reports if kind == REPORT else self.requests
+        """A report or a request, if it is of the source that counts, and of a symbol and account that are read."""
+        is_report = kind == REPORT
+        self.counts.reports += is_report
+        self.counts.requests += not is_report
+        if not (self.takes_reports if is_report else self.takes_requests):
+            return
+        book = self.reports if is_report else self.requests
         try:
             symbol, account = values.name(55), values.name(1)
         except Unreadable as wrong:
@@ -124,27 +129,25 @@ class LogReader:
             return
         owner = self.scope.owner(symbol, account)
         if owner < 0:
-            self.counts.others[f.text_of(symbol), f.text_of(account)] += 1
-        elif self.is_counted(kind):
-            self.move(kind, book, values, owner)
+            book.others[f.text_of(symbol), f.text_of(account)] += 1
+            return
+        if is_report:
+            self.note_report()
+        self.move(kind, book, values, owner)
 
-    def is_counted(self, kind: bytes) -> bool:
-        """Whether this report or request of ours is of the source that counts."""
-        if kind == REPORT:
-            self.counts.reports += 1
-            return self.takes_reports()
-        self.counts.requests += 1
-        return self.takes_requests()
-
+    @property
     def takes_reports(self) -> bool:
-        """Whether reports count, of which there is one."""
-        if self.source != "requests" and not self.has_reports:
-            self.has_reports, self.requests = True, Book()
         return self.source != "requests"
 
+    @property
     def takes_requests(self) -> bool:
         """Whether requests count, as far as is known by now."""
         return self.source != "reports" and not self.has_reports
+
+    def note_report(self) -> None:
+        """There is a report of ours: from now on requests do not count, nor those before."""
+        if not self.has_reports:
+            self.has_reports, self.requests = True, Book()
 
     def move(self, kind: bytes, book: Book, values: Values, owner: int) -> None:
         symbol, account = self.scope.owners[owner]
@@ -252,7 +255,7 @@ class LogReader:
     @property
     def others(self) -> "Counter[tuple[str, str]]":
         """How many reports and requests there are of each other symbol and account."""
-        return self.counts.others + self.result().others
+        return self.book.others + self.result().others
 
     @property
     def timelines(self) -> dict[tuple[str, str], Timeline]:
@@ -313,18 +316,30 @@ def followed(scope: Scope, moves: list[Move]) -> Orders:
     def terms() -> Iterator[Terms]:
         for move in moves:
             cl, orig, oid = (number(text, move.owner) for text in (move.cl, move.orig, move.oid))
-            yield move.what, move.owner, cl, orig, oid, move.side, move.price, move.volume
+            yield move.what, move.owner, cl, orig, oid, move.side, move.volume
 
     orders.take(terms())
     return orders
 
 
+def changes_of(move: Move, order: int, replaced: int, left: Optional[int]) -> Iterator[Change]:
+    """What a move changes: the order that it replaces, and its own. `left` is what was left of an order that was dealt more than that."""
+    where = move.file, move.line, move.seq
+    if replaced != NOTHING:
+        yield Change(move.time, REMOVED, replaced + 1, 0, 0, *where)
+    if order != NOTHING:
+        kind = kind_of(move.what, move.side, move.volume)
+        price, volume = (0, 0) if kind == REMOVED else (move.price, move.volume if left is None else left)
+        yield Change(move.time, kind, order + 1, price, volume, *where)
+
+
 def timelines_of(reader: LogReader, moves: list[Move], orders: Orders) -> dict[tuple[str, str], Timeline]:
     """The changes by owner: the order's owner, which a message need not say."""
     changes: dict[int, list[Change]] = {}
-    for at, kind, order, price, volume in zip(orders.places, orders.kinds, orders.orders, orders.prices, orders.volumes):
-        move = moves[at]
-        changes.setdefault(orders.owner[order], []).append(Change(move.time, kind, order + 1, price, volume, move.file, move.line, move.seq))
+    replaced = [*orders.replaced, *[NOTHING] * (len(moves) - len(orders.replaced))]
+    for at, (move, order) in enumerate(zip(moves, orders.changed)):
+        for change in changes_of(move, order, replaced[at], orders.overfilled.get(at)):
+            changes.setdefault(orders.owner[change.order - 1], []).append(change)
     made = {}
     for owner in sorted(changes, key=reader.scope.names):
         symbol, account = reader.scope.names(owner)

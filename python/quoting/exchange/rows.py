@@ -20,7 +20,7 @@ Array = Any
 HEAD = 4
 WIDTH = HEAD + 2 * len(TAGS)
 SLACK = 128  # bytes after a piece, so that a window may reach past a value
-PIECE = 1 << 20  # bytes that are read at once
+PIECE = (1 << 20) + (1 << 17)  # bytes that are scanned at once: those of a file that are read, and what was left before them
 LEAST = 100  # bytes for which there is room for one row; a piece of shorter messages is read in several calls
 
 
