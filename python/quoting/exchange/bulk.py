@@ -14,7 +14,7 @@ from quoting.exchange import fields as f
 from quoting.exchange.book import Book, Settled, reason_of
 from quoting.exchange.columns import Steps, windows
 from quoting.exchange.fields import Move
-from quoting.exchange.keys import Names, first_of, keys_of, text_of_key
+from quoting.exchange.keys import WORDS, Names, first_of, keys_of, text_of_key
 from quoting.exchange.messages import found_at
 from quoting.exchange.orders import ABSENT, AMENDED, DEALT, NOTHING, REMOVED, Orders, Terms
 from quoting.exchange.reasons import Reasons
@@ -251,7 +251,7 @@ class Bulk:
         sets, is_new, is_deal = what <= f.RESTATE, what == f.NEW, what == f.DEAL
         oid, there, good = table.keys(37)
         execution, also, fine = table.keys(17, 2)
-        good &= there & also & fine & self.ids(moves, table, sets & (what != f.RESTATE), None)
+        good &= there & also & fine & table.is_short(37) & self.ids(moves, table, sets & (what != f.RESTATE), None)
         rests, never, fine = self.rests(table, sets)
         wants = sets & rests
         side, sided = self.side(table)
@@ -287,6 +287,7 @@ class Bulk:
         orig, also, fine = table.keys(41)
         moves["cl"], moves["orig"] = cl.T, orig.T
         good = good & fine & (there | ~needs_cl)
+        good &= table.is_short(11) & table.is_short(41)
         return good if needs_orig is None else good & (also | ~needs_orig)
 
     def rests(self, table: Table, sets: Array) -> tuple[Array, Array, Array]:
@@ -313,12 +314,12 @@ class Bulk:
         orders = Orders(max(len(reader.scope.owners), 1), reader.scope.fitting(), reader.scope.foreign())
         for terms in columns.slices(orders.owners):
             orders.take(terms)
-        reasons = Reasons()
+        reasons, long = Reasons(), long_texts(reader.book.moves) if orders.problems else {}
         for at, why in orders.problems:
             move = columns.row(at)
             place = reader.files[int(move["file"])], int(move["line"]), int(move["time"])
-            ids = tuple(text_of_key(move[name].tolist()) for name in ("cl", "orig", "oid"))
-            reasons.add(reason_of(why, reader.scope.names(int(move["owner"])), *place, ids, int(move["volume"])))
+            cl, orig, oid = (long.get(tuple(move[name].tolist())) or text_of_key(move[name].tolist()) for name in ("cl", "orig", "oid"))
+            reasons.add(reason_of(why, reader.scope.names(int(move["owner"])), *place, (cl, orig, oid), int(move["volume"])))
         others = Counter(reader.scope.names(int(columns.row(at)["owner"])) for at in orders.strangers)
         return Settled(self.timelines(columns, orders), reasons, others)
 
@@ -426,6 +427,13 @@ class Columns:
         columns = [self.what, self.of("owner"), *self.numbered(owners), self.of("side"), self.of("volume")]
         for at in range(0, self.pick.size, SLICE):
             yield zip(*(column[at : at + SLICE].tolist() for column in columns))
+
+
+def long_texts(moves: list[Move]) -> dict[tuple[int, ...], bytes]:
+    """The ids that do not fit into a key, by their keys. Such messages are read one at a time."""
+    texts = {text for move in moves for text in (move.cl, move.orig, move.oid) if len(text) > 8 * WORDS}
+    listed = sorted(texts)
+    return dict(zip(map(tuple, keys_of(listed).T.tolist()), listed)) if listed else {}
 
 
 def moves_of(moves: list[Move]) -> Array:

@@ -266,7 +266,11 @@ class LogReader:
     def reasons(self) -> list[Reason]:
         """What was refused, is unknown, or changes nothing though it should, equal faults folded."""
         numbers = {name: at for at, name in enumerate(self.files)}
-        return sorted([*self.shared, *self.book.reasons, *self.result().reasons], key=lambda reason: (numbers[reason.file], reason.line))
+
+        def turn(reason: Reason) -> tuple[Any, ...]:
+            return numbers[reason.file], reason.line, reason.why.name, reason.tag, reason.symbol, reason.account, reason.date
+
+        return sorted([*self.shared, *self.book.reasons, *self.result().reasons], key=turn)
 
     def result(self) -> "Settled":
         if self.settled is None:

@@ -14,7 +14,7 @@ from quoting.exchange import columns
 from quoting.exchange import fields as f
 from quoting.exchange.columns import Steps
 from quoting.exchange.fields import TAGS
-from quoting.exchange.keys import Names, keys
+from quoting.exchange.keys import WORDS, Names, keys
 
 Array = Any
 HEAD = 4
@@ -83,6 +83,10 @@ class Table:
         """The keys, whether the tag is there, and whether it is absent or can be taken."""
         begin, count, fine = self.span(tag)
         return keys(self.seen, begin, count, width), count > 0, fine
+
+    def is_short(self, tag: int) -> Array:
+        """Whether a value is kept whole as a key."""
+        return (self.rows[:, HEAD + 2 * TAGS.index(tag) + 1] & 0x7FFFFFFF) <= 8 * WORDS
 
     def names(self, tag: int, names: Names) -> tuple[Array, Array]:
         begin, count, fine = self.span(tag)
