@@ -54,7 +54,9 @@ class Scope:
         self.numbers: dict[tuple[bytes, bytes], int] = {}
 
     def step(self, symbol: bytes) -> Optional[Decimal]:
-        return self.steps.get(symbol, self.usual)
+        """The price step of a symbol, None where the symbol is not read. A message without a symbol may belong to the only one."""
+        found = self.steps.get(symbol, self.usual)
+        return next(iter(self.steps.values())) if found is None and not symbol and len(self.steps) == 1 else found
 
     def listed(self, symbol: bytes) -> Optional[frozenset[bytes]]:
         """The accounts that are read of a symbol, None for all."""
@@ -78,8 +80,12 @@ class Scope:
         return f.text_of(symbol), f.text_of(account)
 
     def foreign(self) -> frozenset[int]:
-        """The owners whose account is not said where some are listed: their messages count only where they name an order of these."""
-        return frozenset(n for n, (symbol, account) in enumerate(self.owners) if not account and self.listed(symbol) is not None)
+        """The owners whose symbol or account is not said where some are listed: their messages count only where they name an order of
+        these."""
+        return frozenset(
+            n for n, (symbol, account) in enumerate(self.owners)
+            if (not account and self.listed(symbol) is not None) or (not symbol and self.usual is None and symbol not in self.steps)
+        )  # fmt: skip
 
     def fitting(self) -> dict[int, list[int]]:
         """For each owner of whom symbol or account is not said, the others that it may be."""
