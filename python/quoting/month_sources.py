@@ -143,7 +143,7 @@ def text_list(name: str, text: str, options: Options, log_names: Sequence[str], 
     listed = reader.listed
     listed.left += choice.faults(logs)
     listed.reports = choice.unread(logs)
-    listed.skipped += [*choice.remarks(logs), f"{choice.plural(carried, 'order')} carried in, over all quanta"]
+    listed.skipped += [*choice.remarks(logs), *([f"{choice.plural(carried, 'order')} carried in, over all quanta"] if carried else [])]
     return reader.with_events(events)
 
 
@@ -154,7 +154,7 @@ def lines_for(logs: exchange.LogReader, span: Span) -> list[exchange.Timeline]:
         ValueError: There are several, and none is named.
     """
     found = [line for line in logs.timelines.values() if span.symbol in (None, line.symbol)]
-    found = [line for line in found if line.first_after(span.ends) > line.first_at(span.begins) or line.resting(line.first_at(span.begins))]
+    found = [line for line in found if line.first_after(span.ends) > line.first_at(span.begins) or line.carried(span.begins)]
     for what in ("symbol", "account"):
         counts = Counter({getattr(line, what) or "none": line.first_after(span.ends) - line.first_at(span.begins) for line in found})
         if len(counts) > 1:

@@ -331,7 +331,7 @@ class Bulk:
         made = {}
         for each in sorted(np.unique(owner).tolist(), key=scope.names):
             symbol, account = scope.names(each)
-            made[symbol, account] = Timeline(symbol, account, changes[owner == each], reader.files)
+            made[symbol, account] = Timeline(symbol, account, changes[owner == each], reader.files, reader.by == "reports")
         return made
 
 
@@ -411,16 +411,17 @@ class Columns:
             self.keep(np.argsort(self.time, kind="stable"))
 
     def numbered(self, owners: int) -> list[Array]:
-        """The ids as numbers by owner: ClOrdID, OrigClOrdID, OrderID."""
+        """The ids as numbers by owner: ClOrdID, OrigClOrdID, and OrderID, or the day of a request."""
         owner, size = self.of("owner").astype(np.int64), self.pick.size
         names = np.concatenate([self.of("cl").T, self.of("orig").T], axis=1)
         first = first_of(names)
         absent = names[0] == 0
         del names
+        made = [np.where(absent[part], ABSENT, first[part] * owners + owner) for part in (slice(size), slice(size, None))]
+        if size and self.what[0] >= f.ASK:
+            return [*made, self.time // f.DAY]
         oid = self.of("oid").T
-        by_oid, no_oid = first_of(oid), oid[0] == 0
-        made = [first[:size], first[size:], by_oid]
-        return [np.where(no, ABSENT, each * owners + owner) for each, no in zip(made, (absent[:size], absent[size:], no_oid))]
+        return [*made, np.where(oid[0] == 0, ABSENT, first_of(oid) * owners + owner)]
 
     def slices(self, owners: int) -> Iterator[Iterator[Terms]]:
         """The terms of the moves, some at a time."""

@@ -17,7 +17,8 @@ ABSENT = -1  # an id that a move does not have
 NOTHING = -1  # in place of an order: nothing changes
 
 # What it is, owner, ClOrdID, OrigClOrdID, OrderID, side, volume. Ids are numbers, each times the number of owners, and the owner added. The
-# side of a removal or deal is 0 where the report itself says that the order never rests (59).
+# side of a removal or deal is 0 where the report itself says that the order never rests (59). A request has its day in place of an OrderID:
+# requests do not show how the orders of a day ended, so none is known on the next.
 Terms = tuple[int, int, int, int, int, int, int]
 Read = Callable[[int, int, int, int, int, int], int]
 
@@ -219,51 +220,62 @@ class Orders:
     def ask(self, owner: int, cl: int, orig: int, oid: int, side: int, volume: int) -> int:
         if owner in self.foreign:
             return self.stranger()
+        return self.problem(Why.LIVE) if self.is_live(cl, oid) else self.asked_for(owner, cl, side, volume, oid)
+
+    def asked_for(self, owner: int, cl: int, side: int, volume: int, day: int) -> int:
+        """Enters an order of a day; another one of that id is of an earlier day, and over."""
         if cl in self.by_cl:
-            return self.problem(Why.LIVE)
-        return self.enter(owner, cl, ABSENT, side, volume, volume > 0)
+            self.end(self.by_cl[cl])
+        entered = self.enter(owner, cl, ABSENT, side, volume, volume > 0)
+        self.left[-1] = day
+        return entered
+
+    def is_live(self, cl: int, day: int) -> bool:
+        known = self.by_cl.get(cl)
+        return known is not None and self.left[known] == day
 
     def ask_unrested(self, owner: int, cl: int, orig: int, oid: int, side: int, volume: int) -> int:
-        if cl not in self.by_cl:
-            self.enter(owner, cl, ABSENT, side, volume, False)
+        if not self.is_live(cl, oid):
+            self.asked_for(owner, cl, side, 0, oid)
         return NOTHING
 
-    def asked(self, owner: int, orig: int) -> int:
-        """The resting order that a cancel or replace refers to."""
+    def asked(self, owner: int, orig: int, day: int) -> int:
+        """The resting order of that day that a cancel or replace refers to."""
         order = self.by_cl.get(orig)
         if order is None and self.fitting:
             order = self.elsewhere(owner, self.by_cl, orig)
-        if order is None:
+        if order is None or self.left[order] != day:
             return self.unknown(owner)
         return order if self.rests[order] else self.problem(Why.UNRESTED)
 
     def ask_cancel(self, owner: int, cl: int, orig: int, oid: int, side: int, volume: int) -> int:
-        order = self.asked(owner, orig)
+        order = self.asked(owner, orig, oid)
         if order != NOTHING:
             self.end(order)
         return order
 
-    def asked_to_replace(self, owner: int, cl: int, orig: int, side: int) -> int:
+    def asked_to_replace(self, owner: int, cl: int, orig: int, side: int, day: int) -> int:
         """The order that a replace refers to, unless the meter would refuse the replace."""
-        order = self.asked(owner, orig)
+        order = self.asked(owner, orig, day)
         if order == NOTHING:
             return NOTHING
         if self.side[order] != side:
             return self.problem(Why.SIDE)
-        if self.by_cl.get(self.of_owner(cl, order), order) != order:
+        own = self.of_owner(cl, order)
+        if self.is_live(own, day) and self.by_cl[own] != order:
             return self.problem(Why.LIVE)
         self.end(order)
         return order
 
     def ask_replace(self, owner: int, cl: int, orig: int, oid: int, side: int, volume: int) -> int:
-        order = self.asked_to_replace(owner, cl, orig, side)
+        order = self.asked_to_replace(owner, cl, orig, side, oid)
         if order == NOTHING:
             return NOTHING
         self.replaced.extend([NOTHING] * (len(self.changed) - len(self.replaced)) + [order])
-        return self.enter(self.owner[order], self.of_owner(cl, order), ABSENT, side, volume, volume > 0)
+        return self.asked_for(self.owner[order], self.of_owner(cl, order), side, volume, oid)
 
     def ask_replace_unrested(self, owner: int, cl: int, orig: int, oid: int, side: int, volume: int) -> int:
-        return self.asked_to_replace(owner, cl, orig, side)
+        return self.asked_to_replace(owner, cl, orig, side, oid)
 
 
 def kind_of(what: int, side: int, volume: int) -> int:

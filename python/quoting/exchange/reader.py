@@ -319,7 +319,8 @@ def followed(scope: Scope, moves: list[Move]) -> Orders:
 
     def terms() -> Iterator[Terms]:
         for move in moves:
-            cl, orig, oid = (number(text, move.owner) for text in (move.cl, move.orig, move.oid))
+            cl, orig = number(move.cl, move.owner), number(move.orig, move.owner)
+            oid = move.time // f.DAY if move.what >= f.ASK else number(move.oid, move.owner)
             yield move.what, move.owner, cl, orig, oid, move.side, move.volume
 
     orders.take(terms())
@@ -348,5 +349,5 @@ def timelines_of(reader: LogReader, moves: list[Move], orders: Orders) -> dict[t
     for owner in sorted(changes, key=reader.scope.names):
         symbol, account = reader.scope.names(owner)
         found: Any = changes[owner] if numpy is None else numpy.array(changes[owner], dtype=CHANGE)
-        made[symbol, account] = Timeline(symbol, account, found, reader.files)
+        made[symbol, account] = Timeline(symbol, account, found, reader.files, reader.by == "reports")
     return made
