@@ -33,6 +33,7 @@ CALLS: dict[str, list[Any]] = {
     "quoting_choose_row": [BYTES, SIZE, BYTES, SIZE, WORD, WORD, WORD, BYTES, SIZE],
     "quoting_fix": [BYTES, SIZE, BYTES, SIZE],
     "quoting_fix_write": [BYTES, SIZE, BYTES, SIZE, BYTES, SIZE],
+    "quoting_fix_scan": [BYTES, SIZE, BYTES, SIZE, BYTES, SIZE],
     "quoting_board": [BYTES, SIZE, WORD, WORD],
     "quoting_sigma": [BYTES, SIZE, BYTES, SIZE],
     "quoting_volatile": [BYTES, SIZE, WORD],
@@ -106,7 +107,13 @@ def typed(found: ctypes.CDLL) -> ctypes.CDLL:
 
 def has(name: str) -> bool:
     """Whether the library has that call."""
-    return hasattr(library(), name)
+    return hasattr(holder(name), name)
+
+
+def holder(name: str) -> ctypes.CDLL:
+    """The library that has a call. While the scan is not in it, QUOTING_SCAN names the one that has it."""
+    named = os.environ.get("QUOTING_SCAN") if name == "quoting_fix_scan" else None
+    return ctypes.CDLL(named) if named else library()
 
 
 @lru_cache(maxsize=None)
@@ -114,7 +121,7 @@ def function(name: str) -> Any:
     """A call of the library, with its types set."""
     if not has(name):
         raise Missing(f"the library ({version()}) has no {name}: run make library for a newer one")
-    found = getattr(ctypes.PyDLL(library()._name, handle=library()._handle) if name in KEEPS_LOCK else library(), name)
+    found = getattr(ctypes.PyDLL(library()._name, handle=library()._handle) if name in KEEPS_LOCK else holder(name), name)
     found.argtypes, found.restype = CALLS[name], ctypes.c_uint64
     return found
 

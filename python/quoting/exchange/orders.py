@@ -1,9 +1,10 @@
-"""Which order each move is about, and what it changes: the moves of all symbols and accounts, in order of time, one after the other.
+"""Which order each move is about, and whether it changes it: the moves of all symbols and accounts, in order of time, one by one.
 
 An order is known by the ClOrdID and the OrderID that it has at present, in its own symbol and account. Ids that it had before are
 forgotten. Where two live orders have one ClOrdID, it names the one that got it last.
 """
 
+from array import array
 from typing import Callable, Iterable, Optional
 
 from quoting.exchange.fields import (
@@ -13,52 +14,51 @@ from quoting.exchange.reasons import Why
 
 BUY, SELL, AMENDED, REMOVED, DEALT = range(1, 6)  # the kinds of a record
 ABSENT = -1  # an id that a move does not have
+NOTHING = -1  # in place of an order: nothing changes
 
-# Owner, ClOrdID, OrigClOrdID, OrderID, side, price, volume. Ids are numbers, each times the number of owners, and the owner added. The
-# side of a removal or deal is 0 where the report itself says that the order never rests (59).
+# What it is, owner, ClOrdID, OrigClOrdID, OrderID, side, volume. Ids are numbers, each times the number of owners, and the owner added. The
+# side of a removal or deal is 0 where the report itself says that the order never rests (59). A request has its day in place of an OrderID:
+# requests do not show how the orders of a day ended, so none is known on the next.
 Terms = tuple[int, int, int, int, int, int, int]
+Read = Callable[[int, int, int, int, int, int], int]
 
 
 class Orders:
     """The orders that are known. `fitting` has for an owner whose symbol or account is not said the owners that it may be; `foreign`
-    are the owners whose new orders are not read."""
+    are the owners whose new orders are not read.
+
+    For each move `changed` has the order that it enters, changes or removes, and `replaced` the one that a request replaces by it."""
 
     def __init__(self, owners: int, fitting: dict[int, list[int]], foreign: frozenset[int] = frozenset()) -> None:
         self.owners, self.fitting, self.foreign = owners, fitting, foreign
         self.by_cl: dict[int, int] = {}
         self.by_oid: dict[int, int] = {}
         self.shadowed: dict[int, int] = {}  # by an order: the one that had its ClOrdID before, and may be live
+        # of each order
         self.cl: list[int] = []
         self.oid: list[int] = []
         self.left: list[int] = []
-        self.rests: list[bool] = []
-        self.side: list[int] = []
-        self.owner: list[int] = []
-        # what comes out, a list for each column: the move's place among the moves, kind, order, price, volume
-        self.places: list[int] = []
-        self.kinds: list[int] = []
-        self.orders: list[int] = []
-        self.prices: list[int] = []
-        self.volumes: list[int] = []
+        self.owner, self.rests, self.side = array("i"), bytearray(), bytearray()
+        # what comes out
+        self.changed, self.replaced = array("i"), array("i")
         self.problems: list[tuple[int, Why]] = []
+        self.overfilled: dict[int, int] = {}  # by the place of a deal: what was left of the order
         self.strangers: list[int] = []  # the places of moves of orders that are not read
-        self.at = 0
 
-    def take(self, moves: Iterable[tuple[int, Terms]]) -> None:
-        """All moves, in order of time."""
-        by_kind: dict[int, Callable[[Terms], None]] = {
+    def take(self, moves: Iterable[Terms]) -> None:
+        """The next moves, in order of time."""
+        by_kind: dict[int, Read] = {
             NEW: self.new, UNRESTED: self.unrested, AMEND: self.amend, RESTATE: self.restate, REMOVE: self.remove, DEAL: self.deal,
             ASK: self.ask, ASK_UNRESTED: self.ask_unrested, ASK_CANCEL: self.ask_cancel, ASK_REPLACE: self.ask_replace,
             ASK_REPLACE_UNRESTED: self.ask_replace_unrested,
         }
-        for at, (what, terms) in enumerate(moves):
-            self.at = at
-            by_kind[what](terms)
+        append = self.changed.append
+        for what, owner, cl, orig, oid, side, volume in moves:
+            append(by_kind[what](owner, cl, orig, oid, side, volume))
 
     # ------------------------------------------------------------ names
 
-    def enter(self, terms: Terms, rests: bool) -> int:
-        owner, cl, _, oid, side, price, volume = terms
+    def enter(self, owner: int, cl: int, oid: int, side: int, volume: int, rests: bool) -> int:
         order = len(self.cl)
         self.cl.append(ABSENT)
         self.oid.append(ABSENT)
@@ -66,48 +66,52 @@ class Orders:
         self.rests.append(rests)
         self.side.append(side)
         self.owner.append(owner)
-        self.rename(order, cl, oid)
-        if rests:
-            self.put(side, order, price, volume)
-        return order
+        self.name_cl(order, cl)
+        self.name_oid(order, oid)
+        return order if rests else NOTHING
 
-    def rename(self, order: int, cl: int, oid: int) -> None:
-        """Gives an order its ids, of which the old ones are forgotten."""
-        if cl != self.cl[order]:
-            self.forget_cl(order)
-            if cl != ABSENT:
-                before = self.by_cl.get(cl)
-                if before is not None:
-                    self.shadowed[order] = before
-                self.by_cl[cl] = order
-            self.cl[order] = cl
-        if oid != self.oid[order]:
-            self.forget_oid(order)
+    def name_cl(self, order: int, cl: int) -> None:
+        """Gives an order its ClOrdID; the old one is forgotten."""
+        by_cl, old = self.by_cl, self.cl[order]
+        if cl == old:
+            return
+        if old != ABSENT:
+            self.forget_cl(order, old)
+        if cl in by_cl:
+            self.shadowed[order] = by_cl[cl]
+        by_cl[cl] = order
+        self.cl[order] = cl
+
+    def forget_cl(self, order: int, cl: int) -> None:
+        by_cl = self.by_cl
+        if by_cl.get(cl) != order:
+            return
+        del by_cl[cl]
+        if self.shadowed:
+            before = self.shadowed.pop(order, None)
+            while before is not None and self.cl[before] != cl:
+                before = self.shadowed.pop(before, None)
+            if before is not None:
+                by_cl[cl] = before
+
+    def name_oid(self, order: int, oid: int) -> None:
+        old = self.oid[order]
+        if oid != old:
+            self.forget_oid(order, old)
             if oid != ABSENT:
                 self.by_oid[oid] = order
             self.oid[order] = oid
 
-    def forget_cl(self, order: int) -> None:
-        cl = self.cl[order]
-        if cl != ABSENT and self.by_cl.get(cl) == order:
-            del self.by_cl[cl]
-            before = self.shadowed.pop(order, None) if self.shadowed else None
-            while before is not None and self.cl[before] != cl:
-                before = self.shadowed.pop(before, None)
-            if before is not None:
-                self.by_cl[cl] = before
-
-    def forget_oid(self, order: int) -> None:
-        oid = self.oid[order]
-        if oid != ABSENT and self.by_oid.get(oid) == order:
+    def forget_oid(self, order: int, oid: int) -> None:
+        if self.by_oid.get(oid) == order:
             del self.by_oid[oid]
 
     def end(self, order: int) -> None:
         """The order is over: its ids name nothing."""
-        self.forget_cl(order)
-        self.forget_oid(order)
-        self.cl[order] = self.oid[order] = ABSENT
-        self.left[order] = 0
+        cl, self.cl[order] = self.cl[order], ABSENT
+        self.forget_cl(order, cl)
+        self.forget_oid(order, self.oid[order])
+        self.oid[order] = ABSENT
 
     def elsewhere(self, owner: int, names: dict[int, int], id: int) -> Optional[int]:
         """The order of that id of one of the owners that the move may belong to, where there is just one."""
@@ -117,154 +121,167 @@ class Orders:
         found = [names[plain + each] for each in self.fitting[owner] if plain + each in names]
         return found[0] if len(found) == 1 else None
 
-    def named_by_oid(self, owner: int, oid: int) -> Optional[int]:
-        found = self.by_oid.get(oid)
-        return found if found is not None or not self.fitting else self.elsewhere(owner, self.by_oid, oid)
+    def of_owner(self, id: int, order: int) -> int:
+        """The id in the owner of the order, which the message need not say."""
+        return id if not self.fitting or id == ABSENT else id // self.owners * self.owners + self.owner[order]
 
-    def named_by_cl(self, owner: int, cl: int) -> Optional[int]:
-        found = self.by_cl.get(cl)
-        return found if found is not None or not self.fitting else self.elsewhere(owner, self.by_cl, cl)
+    def named(self, owner: int, first: dict[int, int], id: int, second: dict[int, int], other: int) -> Optional[int]:
+        """The order that has the one id, else the one that has the other."""
+        found = first.get(id)
+        if found is None and self.fitting:
+            found = self.elsewhere(owner, first, id)
+        if found is None:
+            found = second.get(other)
+        if found is None and self.fitting:
+            found = self.elsewhere(owner, second, other)
+        return found
 
-    # ------------------------------------------------------------ what comes out
+    # ------------------------------------------------------------ what is reported
 
-    def put(self, kind: int, order: int, price: int, volume: int) -> None:
-        self.places.append(self.at)
-        self.kinds.append(kind)
-        self.orders.append(order)
-        self.prices.append(price)
-        self.volumes.append(volume)
+    def problem(self, why: Why) -> int:
+        self.problems.append((len(self.changed), why))
+        return NOTHING
 
-    def problem(self, why: Why) -> None:
-        self.problems.append((self.at, why))
+    def unknown(self, owner: int) -> int:
+        return self.stranger() if owner in self.foreign else self.problem(Why.UNKNOWN)
 
-    def unknown(self, owner: int) -> None:
-        if owner in self.foreign:
-            self.strangers.append(self.at)
-        else:
-            self.problem(Why.UNKNOWN)
+    def stranger(self) -> int:
+        self.strangers.append(len(self.changed))
+        return NOTHING
 
     # ------------------------------------------------------------ reports
 
-    def new(self, terms: Terms) -> None:
-        if self.foreign and terms[0] in self.foreign:
-            self.strangers.append(self.at)
-        elif terms[3] in self.by_oid:
-            self.problem(Why.LIVE)
-        else:
-            self.enter(terms, terms[6] > 0)
+    def new(self, owner: int, cl: int, orig: int, oid: int, side: int, volume: int) -> int:
+        if owner in self.foreign:
+            return self.stranger()
+        if oid in self.by_oid:
+            return self.problem(Why.LIVE)
+        return self.enter(owner, cl, oid, side, volume, volume > 0)
 
-    def unrested(self, terms: Terms) -> None:
-        if terms[3] not in self.by_oid:
-            self.enter(terms, False)
+    def unrested(self, owner: int, cl: int, orig: int, oid: int, side: int, volume: int) -> int:
+        if oid not in self.by_oid:
+            self.enter(owner, cl, oid, side, volume, False)
+        return NOTHING
 
-    def amend(self, terms: Terms) -> None:
+    def amend(self, owner: int, cl: int, orig: int, oid: int, side: int, volume: int) -> int:
         """Replaced: the order by 41, else by 37."""
-        owner, _, orig, oid, _, _, _ = terms
-        order = self.named_by_cl(owner, orig)
-        self.change(order if order is not None else self.named_by_oid(owner, oid), terms)
+        order = self.by_cl.get(orig)
+        if order is None:
+            order = self.named(owner, self.by_cl, orig, self.by_oid, oid)
+        return self.unknown(owner) if order is None else self.change(order, cl, oid, volume)
 
-    def restate(self, terms: Terms) -> None:
+    def restate(self, owner: int, cl: int, orig: int, oid: int, side: int, volume: int) -> int:
         """Restated: nobody asked, so 37 counts where it names an order."""
-        owner, _, orig, oid, _, _, _ = terms
-        order = self.named_by_oid(owner, oid)
-        self.change(order if order is not None else self.named_by_cl(owner, orig), terms)
-
-    def change(self, order: Optional[int], terms: Terms) -> None:
-        _, cl, _, oid, side, price, volume = terms
+        order = self.named(owner, self.by_oid, oid, self.by_cl, orig)
         if order is None:
-            self.unknown(terms[0])
-        elif not volume:  # nothing is left, or what is left does not rest
-            self.over(order)
-        else:
-            owner = self.owner[order]
-            self.rename(order, self.of_owner(cl, owner) if cl != ABSENT else self.cl[order], self.of_owner(oid, owner))
-            if self.rests[order]:
-                self.left[order] = volume
-                self.put(AMENDED, order, price, volume)
+            return self.unknown(owner)
+        return self.change(order, cl if cl != ABSENT else self.cl[order], oid, volume)
 
-    def of_owner(self, id: int, owner: int) -> int:
-        return id if not self.fitting or id == ABSENT else id // self.owners * self.owners + owner
+    def change(self, order: int, cl: int, oid: int, volume: int) -> int:
+        """New terms and ids of an order. Without a volume nothing is left, or what is left does not rest."""
+        if not volume:
+            self.end(order)
+            return order if self.rests[order] else NOTHING
+        if self.fitting:
+            cl, oid = self.of_owner(cl, order), self.of_owner(oid, order)
+        self.name_cl(order, cl)
+        if oid != self.oid[order]:
+            self.name_oid(order, oid)
+        self.left[order] = volume
+        return order if self.rests[order] else NOTHING
 
-    def over(self, order: int) -> None:
-        if self.rests[order]:
-            self.put(REMOVED, order, 0, 0)
-        self.end(order)
-
-    def remove(self, terms: Terms) -> None:
+    def remove(self, owner: int, cl: int, orig: int, oid: int, side: int, volume: int) -> int:
         """Cancelled, expired or done for the day: the order by 37 where both 37 and 41 name one, since 41 may be an old one."""
-        owner, _, orig, oid, is_resting, _, _ = terms
-        order = self.named_by_oid(owner, oid)
-        if order is None:
-            order = self.named_by_cl(owner, orig)
-        if order is not None:
-            self.over(order)
-        elif is_resting:  # an IOC or FOK order need not be seen as new, since it never rests
-            self.unknown(owner)
+        order = self.named(owner, self.by_oid, oid, self.by_cl, orig)
+        if order is None:  # an IOC or FOK order need not be seen as new, since it never rests
+            return self.unknown(owner) if side else NOTHING
+        self.end(order)
+        return order if self.rests[order] else NOTHING
 
-    def deal(self, terms: Terms) -> None:
-        owner, _, _, oid, is_resting, _, volume = terms
-        order = self.named_by_oid(owner, oid)
+    def deal(self, owner: int, cl: int, orig: int, oid: int, side: int, volume: int) -> int:
+        order = self.by_oid.get(oid)
+        if order is None and self.fitting:
+            order = self.elsewhere(owner, self.by_oid, oid)
         if order is None:
-            if is_resting:  # as in remove
-                self.unknown(owner)
-        elif self.rests[order]:
-            left = self.left[order]
-            if volume > left:
-                self.problem(Why.OVERFILL)
-            self.put(DEALT, order, 0, min(volume, left))
-            self.left[order] = left - volume
-            if volume >= left:
-                self.end(order)
+            return self.unknown(owner) if side else NOTHING  # as in remove
+        if not self.rests[order]:
+            return NOTHING
+        left = self.left[order]
+        if volume > left:
+            self.overfilled[len(self.changed)] = left
+            self.problem(Why.OVERFILL)
+        self.left[order] = left - volume
+        if volume >= left:
+            self.end(order)
+        return order
 
     # ------------------------------------------------------------ requests
 
-    def ask(self, terms: Terms) -> None:
-        if self.foreign and terms[0] in self.foreign:
-            self.strangers.append(self.at)
-        elif terms[1] in self.by_cl:
-            self.problem(Why.LIVE)
-        else:
-            self.enter(terms, terms[6] > 0)
+    def ask(self, owner: int, cl: int, orig: int, oid: int, side: int, volume: int) -> int:
+        if owner in self.foreign:
+            return self.stranger()
+        return self.problem(Why.LIVE) if self.is_live(cl, oid) else self.asked_for(owner, cl, side, volume, oid)
 
-    def ask_unrested(self, terms: Terms) -> None:
-        if terms[1] not in self.by_cl:
-            self.enter(terms, False)
+    def asked_for(self, owner: int, cl: int, side: int, volume: int, day: int) -> int:
+        """Enters an order of a day; another one of that id is of an earlier day, and over."""
+        if cl in self.by_cl:
+            self.end(self.by_cl[cl])
+        entered = self.enter(owner, cl, ABSENT, side, volume, volume > 0)
+        self.left[-1] = day
+        return entered
 
-    def asked(self, terms: Terms) -> Optional[int]:
-        """The resting order that a cancel or replace refers to."""
-        order = self.named_by_cl(terms[0], terms[2])
-        if order is None:
-            self.unknown(terms[0])
-        elif not self.rests[order]:
-            self.problem(Why.UNRESTED)
-            return None
+    def is_live(self, cl: int, day: int) -> bool:
+        known = self.by_cl.get(cl)
+        return known is not None and self.left[known] == day
+
+    def ask_unrested(self, owner: int, cl: int, orig: int, oid: int, side: int, volume: int) -> int:
+        if not self.is_live(cl, oid):
+            self.asked_for(owner, cl, side, 0, oid)
+        return NOTHING
+
+    def asked(self, owner: int, orig: int, day: int) -> int:
+        """The resting order of that day that a cancel or replace refers to."""
+        order = self.by_cl.get(orig)
+        if order is None and self.fitting:
+            order = self.elsewhere(owner, self.by_cl, orig)
+        if order is None or self.left[order] != day:
+            return self.unknown(owner)
+        return order if self.rests[order] else self.problem(Why.UNRESTED)
+
+    def ask_cancel(self, owner: int, cl: int, orig: int, oid: int, side: int, volume: int) -> int:
+        order = self.asked(owner, orig, oid)
+        if order != NOTHING:
+            self.end(order)
         return order
 
-    def ask_cancel(self, terms: Terms) -> None:
-        order = self.asked(terms)
-        if order is not None:
-            self.over(order)
-
-    def replaced(self, terms: Terms) -> Optional[int]:
+    def asked_to_replace(self, owner: int, cl: int, orig: int, side: int, day: int) -> int:
         """The order that a replace refers to, unless the meter would refuse the replace."""
-        order = self.asked(terms)
-        if order is None:
-            return None
-        named = self.by_cl.get(self.of_owner(terms[1], self.owner[order]), order)
-        if self.side[order] != terms[4] or named != order:
-            self.problem(Why.SIDE if self.side[order] != terms[4] else Why.LIVE)
-            return None
+        order = self.asked(owner, orig, day)
+        if order == NOTHING:
+            return NOTHING
+        if self.side[order] != side:
+            return self.problem(Why.SIDE)
+        own = self.of_owner(cl, order)
+        if self.is_live(own, day) and self.by_cl[own] != order:
+            return self.problem(Why.LIVE)
+        self.end(order)
         return order
 
-    def ask_replace(self, terms: Terms) -> None:
-        order = self.replaced(terms)
-        if order is not None:
-            _, cl, orig, oid, side, price, volume = terms
-            owner = self.owner[order]
-            self.over(order)
-            self.enter((owner, self.of_owner(cl, owner), orig, oid, side, price, volume), volume > 0)
+    def ask_replace(self, owner: int, cl: int, orig: int, oid: int, side: int, volume: int) -> int:
+        order = self.asked_to_replace(owner, cl, orig, side, oid)
+        if order == NOTHING:
+            return NOTHING
+        self.replaced.extend([NOTHING] * (len(self.changed) - len(self.replaced)) + [order])
+        return self.asked_for(self.owner[order], self.of_owner(cl, order), side, volume, oid)
 
-    def ask_replace_unrested(self, terms: Terms) -> None:
-        order = self.replaced(terms)
-        if order is not None:
-            self.over(order)
+    def ask_replace_unrested(self, owner: int, cl: int, orig: int, oid: int, side: int, volume: int) -> int:
+        return self.asked_to_replace(owner, cl, orig, side, oid)
+
+
+def kind_of(what: int, side: int, volume: int) -> int:
+    """The kind of the change that a move makes; a removal where it takes the order from the book."""
+    if what in (NEW, ASK, ASK_REPLACE):
+        return side
+    if what in (AMEND, RESTATE):
+        return AMENDED if volume else REMOVED
+    return DEALT if what == DEAL else REMOVED

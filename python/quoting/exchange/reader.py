@@ -1,133 +1,59 @@
 """FIX logs as timelines: a reader that is fed the bytes of the logs, one file after the other, in pieces of any size."""
 
 from collections import Counter
-from dataclasses import dataclass, field
-from decimal import Decimal, InvalidOperation
+from decimal import Decimal
 from pathlib import Path
-from typing import Any, Collection, Iterable, Literal, Mapping, Optional, Union
+from typing import Any, Iterable, Iterator, Literal, Mapping, Optional, Union
 
 from quoting.exchange import fields as f
+from quoting.exchange.book import Accounts, Book, Counts, Scope, Settled, Source, reason_of
 from quoting.exchange.fields import Move, Unreadable, Values
 from quoting.exchange.messages import Fields, Lines, messages
-from quoting.exchange.orders import ABSENT, Orders
+from quoting.exchange.orders import ABSENT, NOTHING, REMOVED, Orders, Terms, kind_of
 from quoting.exchange.reasons import Reason, Reasons, Why
 from quoting.exchange.timelines import CHANGE, Change, Timeline, numpy
 
-Source = Literal["reports", "requests", "auto"]
-Accounts = Union[None, Collection[str], Mapping[str, Optional[Collection[str]]]]
+if numpy is not None:
+    from quoting.exchange.bulk import Bulk, is_bulk_available
+else:
+
+    def is_bulk_available() -> bool:
+        return False
+
+
 SOURCES = ("reports", "requests", "auto")
 PIECE = 1 << 20  # bytes of a file that are read at once
 REPORT, REJECT, REQUESTS = b"8", b"9", (b"D", b"F", b"G")
-
-
-@dataclass
-class Counts:
-    """How many messages of which kind were met."""
-
-    messages: int = 0
-    moves: int = 0  # reports or requests of ours that may change an order
-    fills: int = 0
-    rejects: int = 0  # 150=8
-    cancel_rejects: int = 0  # 35=9
-    duplicates: int = 0  # reports whose ExecID was read before
-    unread_reports: int = 0  # reports in a log that is read by requests
-    unread_requests: int = 0  # requests in a log that is read by reports
-    damaged: int = 0  # what starts like a message and is none
-    others: "Counter[tuple[str, str]]" = field(default_factory=Counter)  # reports and requests of other symbols and accounts
-    types: "Counter[str]" = field(default_factory=Counter)  # messages of other types (35)
-
-
-def step_of(step: Union[Decimal, str]) -> Decimal:
-    try:
-        found = Decimal(step)
-    except InvalidOperation:
-        raise ValueError(f"{step!r} is not a price step") from None
-    if not found.is_finite() or found <= 0:
-        raise ValueError(f"{step!r} is not a price step: a decimal above 0")
-    return found
-
-
-class Scope:
-    """Which symbols and accounts are read, by which steps. `usual` is the step of symbols that are not listed; None: they are not read."""
-
-    def __init__(self, steps: Mapping[str, Union[Decimal, str]], accounts: Accounts, usual: Union[None, Decimal, str]) -> None:
-        self.steps = {bytes_of(name): step_of(step) for name, step in steps.items()}
-        self.usual = None if usual is None else step_of(usual)
-        by_symbol = isinstance(accounts, Mapping)
-        self.everywhere = None if accounts is None or by_symbol else frozenset(map(bytes_of, accounts))
-        listed = accounts if isinstance(accounts, Mapping) else {}
-        self.accounts = {bytes_of(name): None if given is None else frozenset(map(bytes_of, given)) for name, given in listed.items()}
-        self.owners: list[tuple[bytes, bytes]] = []
-        self.numbers: dict[tuple[bytes, bytes], int] = {}
-
-    def step(self, symbol: bytes) -> Optional[Decimal]:
-        return self.steps.get(symbol, self.usual)
-
-    def listed(self, symbol: bytes) -> Optional[frozenset[bytes]]:
-        """The accounts that are read of a symbol, None for all."""
-        return self.accounts.get(symbol, self.everywhere)
-
-    def owner(self, symbol: bytes, account: bytes) -> int:
-        """The owner's number, -1 where its messages are not read. A message without an account may belong to one that is listed."""
-        known = self.numbers.get((symbol, account))
-        if known is not None:
-            return known
-        listed = self.listed(symbol)
-        is_read = self.step(symbol) is not None and (listed is None or not account or account in listed)
-        if not is_read:
-            return -1
-        self.numbers[symbol, account] = len(self.owners)
-        self.owners.append((symbol, account))
-        return len(self.owners) - 1
-
-    def foreign(self) -> frozenset[int]:
-        """The owners whose account is not said where some are listed: their messages count only where they name an order of these."""
-        return frozenset(n for n, (symbol, account) in enumerate(self.owners) if not account and self.listed(symbol) is not None)
-
-    def fitting(self) -> dict[int, list[int]]:
-        """For each owner of whom symbol or account is not said, the others that it may be."""
-        found = {}
-        for n, (symbol, account) in enumerate(self.owners):
-            if not symbol or not account:
-                fits = [m for m, other in enumerate(self.owners) if m != n and symbol in (b"", other[0]) and account in (b"", other[1])]
-                found.update({n: fits} if fits else {})
-        return found
-
-
-def bytes_of(name: str) -> bytes:
-    return name.encode("utf-8", "surrogateescape")
-
-
-class Book:
-    """The moves of one source (reports or requests), with what was refused on the way."""
-
-    def __init__(self) -> None:
-        self.moves: list[Move] = []
-        self.parts: list[Any] = []  # the moves that were read many at once, an array each
-        self.reasons = Reasons()
-        self.fills = self.rejects = 0
 
 
 class LogReader:
     """Reads the symbols of `steps`, each with its price step; of `accounts` (for all symbols, or by symbol) those that are listed.
 
     `source` says what counts: the exchange's reports (35=8), the requests (D, F, G), or reports where the logs have any of these symbols
-    and accounts ("auto"). With `usual` the symbols that are not in `steps` are read too, by that step.
+    and accounts ("auto"). With `usual` the symbols that are not in `steps` are read too, by that step. Many messages are read at once
+    where numpy and the library's scan are there; with `is_fast=False` one at a time, as otherwise, which gives the same.
     """
 
     def __init__(
-        self, steps: Mapping[str, Union[Decimal, str]], accounts: Accounts = None, source: Source = "auto", usual: Union[None, Decimal, str] = None,
+        self,
+        steps: Mapping[str, Union[Decimal, str]],
+        accounts: Accounts = None,
+        source: Source = "auto",
+        usual: Union[None, Decimal, str] = None,
+        is_fast: Optional[bool] = None,
     ) -> None:
         if source not in SOURCES:
             raise ValueError(f"source: {source!r} is none of {', '.join(SOURCES)}")
         self.scope, self.source = Scope(steps, accounts, usual), source
         self.files: list[str] = []
         self.rest, self.lines = b"", Lines()
+        self.line = self.seq = 0  # of the message that is read
         self.reports, self.requests, self.shared = Book(), Book(), Reasons()
         self.counts = Counts()
         self.has_reports = False
         self.settled: Optional[Settled] = None
         self.is_open = False
+        self.bulk = Bulk(self) if is_bulk_available() and is_fast is not False else None
 
     # ------------------------------------------------------------ bytes
 
@@ -143,7 +69,9 @@ class LogReader:
             self.files.append(name)
             self.rest, self.lines = b"", Lines()
         self.is_open, self.settled = not is_final, None
-        self.take(self.rest + data, is_final)
+        whole = self.rest + data if self.rest else data
+        read = self.take(whole, is_final) if self.bulk is None else self.bulk.take(whole, is_final)
+        self.rest = whole[read:]
 
     def read(self, paths: Iterable[Union[str, Path]]) -> None:
         """Whole files, in this order."""
@@ -155,23 +83,24 @@ class LogReader:
                     if not data:
                         break
 
-    def take(self, data: bytes, is_final: bool) -> None:
-        """The messages of these bytes; what they do not complete is kept."""
+    def take(self, data: bytes, is_final: bool) -> int:
+        """The messages of these bytes, one at a time. Returns how many of the bytes were read; the rest is not complete yet."""
         counted = 0
         for found in messages(data, is_final):
             self.lines.count(data[counted : found.at])
-            counted = found.at
+            counted, self.line = found.at, self.lines.line
             if found.fields or found.why:
                 self.counts.messages += 1
+                self.seq = self.counts.messages
             if found.why:
                 self.damaged(found.why)
             elif found.fields:
                 self.message(found.fields)
-        self.rest = data[counted:]
+        return counted
 
     def damaged(self, why: str) -> None:
         self.counts.damaged += 1
-        self.shared.add(Reason(Why.FRAME, why, self.files[-1], self.lines.line))
+        self.shared.add(Reason(Why.FRAME, why, self.files[-1], self.line))
 
     # ------------------------------------------------------------ one message
 
@@ -186,8 +115,13 @@ class LogReader:
             self.counts.types[f.text_of(kind)] += 1
 
     def ours(self, kind: bytes, values: Values) -> None:
-        """A report or a request, if it is of a symbol and account that are read and of the source that counts."""
-        book = self.reports if kind == REPORT else self.requests
+        """A report or a request, if it is of the source that counts, and of a symbol and account that are read."""
+        is_report = kind == REPORT
+        self.counts.reports += is_report
+        self.counts.requests += not is_report
+        if not (self.takes_reports if is_report else self.takes_requests):
+            return
+        book = self.reports if is_report else self.requests
         try:
             symbol, account = values.name(55), values.name(1)
         except Unreadable as wrong:
@@ -195,25 +129,25 @@ class LogReader:
             return
         owner = self.scope.owner(symbol, account)
         if owner < 0:
-            self.counts.others[f.text_of(symbol), f.text_of(account)] += 1
-        elif self.is_counted(kind):
-            self.move(kind, book, values, owner)
+            book.others[f.text_of(symbol), f.text_of(account)] += 1
+            return
+        if is_report:
+            self.note_report()
+        self.move(kind, book, values, owner)
 
-    def is_counted(self, kind: bytes) -> bool:
-        """Whether this report or request of ours is of the source that counts."""
-        if kind == REPORT:
-            if self.source == "requests":
-                self.counts.unread_reports += 1
-                return False
-            if not self.has_reports:
-                self.has_reports = True
-                self.counts.unread_requests += len(self.requests.moves)
-                self.requests = Book()
-            return True
-        if self.source == "reports" or self.has_reports:
-            self.counts.unread_requests += 1
-            return False
-        return True
+    @property
+    def takes_reports(self) -> bool:
+        return self.source != "requests"
+
+    @property
+    def takes_requests(self) -> bool:
+        """Whether requests count, as far as is known by now."""
+        return self.source != "reports" and not self.has_reports
+
+    def note_report(self) -> None:
+        """There is a report of ours: from now on requests do not count, nor those before."""
+        if not self.has_reports:
+            self.has_reports, self.requests = True, Book()
 
     def move(self, kind: bytes, book: Book, values: Values, owner: int) -> None:
         symbol, account = self.scope.owners[owner]
@@ -229,13 +163,13 @@ class LogReader:
     def refuse(self, book: Book, wrong: Unreadable, values: Values, symbol: bytes, account: bytes) -> None:
         time = f.time_of(values.found.get(60, b""))
         date = "" if time is None else f.date_text(time)
-        place = self.files[-1], self.lines.line
+        place = self.files[-1], self.line
         book.reasons.add(Reason(wrong.why, wrong.sentence, *place, wrong.tag, f.text_of(wrong.value), f.text_of(symbol), f.text_of(account), date))
 
     def made(self, values: Values, what: int, owner: int, **given: Any) -> Move:
         ids = {"cl": values.maybe(11) or b"", "orig": values.maybe(41) or b"", "oid": b"", "execution": b""}
         terms = {"side": 0, "price": 0, "volume": 0}
-        where = {"file": len(self.files) - 1, "line": self.lines.line, "seq": self.counts.messages}
+        where = {"file": len(self.files) - 1, "line": self.line, "seq": self.seq}
         return Move(time=values.time(), what=what, owner=owner, **{**ids, **terms, **given, **where})
 
     # ------------------------------------------------------------ reports
@@ -244,7 +178,7 @@ class LogReader:
         """What a report does; None where it changes nothing."""
         execution = values.one(150)
         if execution in f.CHANGING_NOTHING:
-            self.reports.rejects += execution == b"8"
+            self.counts.rejects += execution == b"8"
             return None
         if execution in f.CORRECTIONS:
             sentence = f"150={f.text_of(execution)}: a trade was corrected or cancelled afterwards, which changes nothing here"
@@ -315,6 +249,15 @@ class LogReader:
         return "reports" if self.has_reports or self.source == "reports" else "requests"
 
     @property
+    def book(self) -> Book:
+        return self.reports if self.by == "reports" else self.requests
+
+    @property
+    def others(self) -> "Counter[tuple[str, str]]":
+        """How many reports and requests there are of each other symbol and account."""
+        return self.book.others + self.result().others
+
+    @property
     def timelines(self) -> dict[tuple[str, str], Timeline]:
         """The changes of each symbol and account that has any."""
         return self.result().timelines
@@ -322,39 +265,33 @@ class LogReader:
     @property
     def reasons(self) -> list[Reason]:
         """What was refused, is unknown, or changes nothing though it should, equal faults folded."""
-        book = self.reports if self.by == "reports" else self.requests
-        return [*self.shared, *book.reasons, *self.result().reasons]
+        numbers = {name: at for at, name in enumerate(self.files)}
+
+        def turn(reason: Reason) -> tuple[Any, ...]:
+            return numbers[reason.file], reason.line, reason.why.name, reason.tag, reason.symbol, reason.account, reason.date
+
+        return sorted([*self.shared, *self.book.reasons, *self.result().reasons], key=turn)
 
     def result(self) -> "Settled":
         if self.settled is None:
-            self.settled = settle(self)
+            self.settled = settle(self) if self.bulk is None else self.bulk.settle()
         return self.settled
-
-
-@dataclass
-class Settled:
-    """What came out of all moves."""
-
-    timelines: dict[tuple[str, str], Timeline]
-    reasons: Reasons
 
 
 def settle(reader: LogReader) -> Settled:
     """Puts the moves in order of time, follows the orders, and sorts the changes by owner."""
-    book = reader.reports if reader.by == "reports" else reader.requests
+    book = reader.book
     moves = fresh(reader, book.moves)
     moves.sort(key=lambda move: (move.time, move.seq))
     orders = followed(reader.scope, moves)
     reader.counts.moves = len(moves)
     reader.counts.fills = sum(move.what == f.DEAL for move in moves)
-    reader.counts.rejects = book.rejects
     reasons = Reasons()
     for at, why in orders.problems:
-        reasons.add(problem_of(reader, moves[at], why))
-    for at in orders.strangers:
-        symbol, account = reader.scope.owners[moves[at].owner]
-        reader.counts.others[f.text_of(symbol), f.text_of(account)] += 1
-    return Settled(timelines_of(reader, moves, orders), reasons)
+        move = moves[at]
+        reasons.add(reason_of(why, reader.scope.names(move.owner), reader.files[move.file], move.line, move.time, (move.cl, move.orig, move.oid), move.volume))
+    others = Counter(reader.scope.names(moves[at].owner) for at in orders.strangers)
+    return Settled(timelines_of(reader, moves, orders), reasons, others)
 
 
 def fresh(reader: LogReader, moves: list[Move]) -> list[Move]:
@@ -380,40 +317,37 @@ def followed(scope: Scope, moves: list[Move]) -> Orders:
     def number(text: bytes, owner: int) -> int:
         return ids.setdefault(text, len(ids)) * count + owner if text else ABSENT
 
-    orders.take(
-        (
-            move.what,
-            (move.owner, number(move.cl, move.owner), number(move.orig, move.owner), number(move.oid, move.owner), move.side, move.price, move.volume),
-        )
-        for move in moves
-    )
+    def terms() -> Iterator[Terms]:
+        for move in moves:
+            cl, orig = number(move.cl, move.owner), number(move.orig, move.owner)
+            oid = move.time // f.DAY if move.what >= f.ASK else number(move.oid, move.owner)
+            yield move.what, move.owner, cl, orig, oid, move.side, move.volume
+
+    orders.take(terms())
     return orders
 
 
-def problem_of(reader: LogReader, move: Move, why: Why) -> Reason:
-    """The reason that a move could not be applied."""
-    tag, value = (41, move.orig) if move.orig and not move.oid else (37, move.oid) if move.oid else (11, move.cl)
-    name = f.text_of(value)
-    sentences = {
-        Why.UNKNOWN: f"the order {tag}={name} is not known, and the message changes nothing",
-        Why.LIVE: f"the new order {tag}={name} is live already, and the message changes nothing",
-        Why.OVERFILL: f"{move.volume:,} were dealt of the order {tag}={name}, which is more than is left of it",
-        Why.SIDE: f"the order {tag}={name} is of the other side, and the replace changes nothing",
-        Why.UNRESTED: f"the order {tag}={name} never rested, and the message changes nothing",
-    }
-    symbol, account = map(f.text_of, reader.scope.owners[move.owner])
-    return Reason(why, sentences[why], reader.files[move.file], move.line, tag, name, symbol, account, f.date_text(move.time))
+def changes_of(move: Move, order: int, replaced: int, left: Optional[int]) -> Iterator[Change]:
+    """What a move changes: the order that it replaces, and its own. `left` is what was left of an order that was dealt more than that."""
+    where = move.file, move.line, move.seq
+    if replaced != NOTHING:
+        yield Change(move.time, REMOVED, replaced + 1, 0, 0, *where)
+    if order != NOTHING:
+        kind = kind_of(move.what, move.side, move.volume)
+        price, volume = (0, 0) if kind == REMOVED else (move.price, move.volume if left is None else left)
+        yield Change(move.time, kind, order + 1, price, volume, *where)
 
 
 def timelines_of(reader: LogReader, moves: list[Move], orders: Orders) -> dict[tuple[str, str], Timeline]:
     """The changes by owner: the order's owner, which a message need not say."""
     changes: dict[int, list[Change]] = {}
-    for at, kind, order, price, volume in zip(orders.places, orders.kinds, orders.orders, orders.prices, orders.volumes):
-        move = moves[at]
-        changes.setdefault(orders.owner[order], []).append(Change(move.time, kind, order + 1, price, volume, move.file, move.line, move.seq))
+    replaced = [*orders.replaced, *[NOTHING] * (len(moves) - len(orders.replaced))]
+    for at, (move, order) in enumerate(zip(moves, orders.changed)):
+        for change in changes_of(move, order, replaced[at], orders.overfilled.get(at)):
+            changes.setdefault(orders.owner[change.order - 1], []).append(change)
     made = {}
-    for owner in sorted(changes):
-        symbol, account = map(f.text_of, reader.scope.owners[owner])
+    for owner in sorted(changes, key=reader.scope.names):
+        symbol, account = reader.scope.names(owner)
         found: Any = changes[owner] if numpy is None else numpy.array(changes[owner], dtype=CHANGE)
-        made[symbol, account] = Timeline(symbol, account, found, reader.files)
+        made[symbol, account] = Timeline(symbol, account, found, reader.files, reader.by == "reports")
     return made

@@ -41,10 +41,11 @@ class Resting(NamedTuple):
 
 
 class Timeline:
-    """The changes of a symbol and account. `changes` is a numpy array of CHANGE, or a list of Change where numpy is absent."""
+    """The changes of a symbol and account. `changes` is a numpy array of CHANGE, or a list of Change where numpy is absent. Requests
+    do not show how orders ended, so a quantum starts without orders where they are read: `is_carried` is then False."""
 
-    def __init__(self, symbol: str, account: str, changes: Any, files: Sequence[str]) -> None:
-        self.symbol, self.account, self.changes, self.files = symbol, account, changes, files
+    def __init__(self, symbol: str, account: str, changes: Any, files: Sequence[str], is_carried: bool = True) -> None:
+        self.symbol, self.account, self.changes, self.files, self.is_carried = symbol, account, changes, files, is_carried
         self.times: Sequence[int] = [change.time for change in changes] if numpy is None else changes["time"]
         self.known: list[tuple[int, dict[int, Resting]]] = [(0, {})]  # what rests before the change of a place, for some places
 
@@ -81,6 +82,11 @@ class Timeline:
             apply(orders, change)
         self.known.insert(which + 1, (place, orders))
         return orders
+
+
+    def carried(self, time: int) -> dict[int, Resting]:
+        """What rests when a quantum starts then."""
+        return self.resting(self.first_at(time)) if self.is_carried else {}
 
 
 def apply(orders: dict[int, Resting], change: Change) -> None:
@@ -141,7 +147,7 @@ def quantum_of(timelines: Iterable[Timeline], start: int, end: int) -> Quantum:
     lines = list(timelines)
     carried: list[tuple[int, Resting, Sequence[str]]] = []
     for line in lines:
-        carried += [(order, rests, line.files) for order, rests in line.resting(line.first_at(start)).items()]
+        carried += [(order, rests, line.files) for order, rests in line.carried(start).items()]
     carried.sort(key=lambda each: each[0])
     adds = [LAYOUT.pack(each.side, 0, order, each.price, each.volume) for order, each, _ in carried]
     places = [(files[each.file], each.line) for _, each, files in carried]
