@@ -29,12 +29,23 @@ threshold = "0.9%"
 lapses = 3
 rows = [ { expiry = 1, quanta = [0, 1, 2], minimum = 100, a = "0.155%", b = "0", share = "72.5%" } ]
 holiday_rows = [ { expiry = 1, quanta = [1], minimum = 150, a = "0.31%", b = "0", share = "70%" } ]
+
+[instruments.usd]
+step = "0.5"
+rows = [ { expiry = 1, quanta = [1, 2], minimum = 100, share = "50%" } ]
+board = ["40%", "45%"]
+
+[instruments.usd.strikes]
+CALL = { a = "7.5", b = "0.5" }
+PUT = { a = "10", b = "0.5" }
 """
-STEPS = {"BR": Decimal("0.01"), "GD": Decimal("0.1"), "MM": Decimal("10")}
-LEVELS = {"BR": 8450, "GD": 39500, "MM": 12500}  # in steps
+STEPS = {"BR": Decimal("0.01"), "GD": Decimal("0.1"), "MM": Decimal("10"), "US": Decimal("0.5")}
+LEVELS = {"BR": 8450, "GD": 39500, "MM": 12500, "US": 2000}  # in steps
+STRIKES = {"US-C": "CALL", "US-P": "PUT"}
 CONTRACTS = [  # instrument, expiry, symbol, from, to, accounts
     ("brent", 1, "BR-1.27", 0, 3, ["A7"]), ("brent", 1, "BR-2.27", 3, 99, ["A7"]), ("brent", 2, "BR-2.27", 0, 3, ["A7"]), ("brent", 2, "BR-3.27", 3, 99, ["A7"]),
     ("gold", 1, "GD-12.26", 0, 99, ["A7", "C3"]), ("gold", 2, "GD-3.27", 0, 99, None), ("mini", 1, "MM-12.26", 0, 99, ["C3"]),
+    ("usd", 1, "US-C", 0, 99, ["A7"]), ("usd", 1, "US-P", 1, 99, ["A7"]),
 ]
 OWNERS = [(symbol, account) for symbol in sorted({each[2] for each in CONTRACTS}) for account in ("A7", "B2", "C3")]
 
@@ -150,7 +161,7 @@ class Maker:
 def prices(rng, folder, days):
     """Settlement prices from 60 days before the month on; gold is calm first, and disturbed inside the month."""
     lines = ["date,symbol,price"]
-    for symbol in sorted({each[2] for each in CONTRACTS}):
+    for symbol in sorted({each[2] for each in CONTRACTS} - set(STRIKES)):
         level, short = LEVELS[symbol[:2]], symbol == "MM-12.26"
         first = days[0] - timedelta(days=25 if short else 60)
         for at in range(100):
@@ -161,6 +172,15 @@ def prices(rng, folder, days):
             level += rng.randrange(-level // 25, level // 25) if wild else rng.randrange(-level // 400, level // 400 + 1)
             lines.append(f"{day},{symbol},{level * STEPS[symbol[:2]]}")
     (folder / "prices.csv").write_text("\n".join([lines[0], *rng.sample(lines[1:], len(lines) - 1)]) + "\n")
+
+
+def strikes(rng, folder, days):
+    """Two lines of each strike before the month, and one on some of its days."""
+    lines = ["date,symbol,difference,days"]
+    for symbol in STRIKES:
+        for at, day in enumerate([days[0] - timedelta(days=9), days[0] - timedelta(days=2), *days[1:4]]):
+            lines.append(f"{day},{symbol},{rng.choice((-1, 1)) * rng.choice((0, 1, 2, 6)) * STEPS['US']},{30 - at}")
+    (folder / "strikes.csv").write_text("\n".join([lines[0], *rng.sample(lines[1:], len(lines) - 1)]) + "\n")
 
 
 def charges(rng, folder, days, left_out):
@@ -174,13 +194,14 @@ def charges(rng, folder, days, left_out):
 
 
 def desk_toml(days, holidays):
-    out = ['maker = "M"', 'month = "2026-11"', 'programme = "programme.toml"', 'prices = "prices.csv"', 'charges = "charges.csv"', 'logs = ["logs/*.log"]']
+    out = ['maker = "M"', 'month = "2026-11"', 'programme = "programme.toml"', 'prices = "prices.csv"', 'charges = "charges.csv"', 'logs = ["logs/*.log"]', 'strikes = "strikes.csv"']
     out += [f"days = {[day.day for day in days]}", f"holidays = {[day.day for day in holidays]}"]
     for instrument, expiry, symbol, first, last, accounts in CONTRACTS:
         out += ["[[contract]]", f'instrument = "{instrument}"', f"expiry = {expiry}", f'symbol = "{symbol}"']
         out += [f"from = {days[first].day}"] if first else []
         out += [f"to = {days[last].day - 1}"] if last < len(days) else []
         out += [f"accounts = {accounts}".replace("'", '"')] if accounts else []
+        out += [f'strike = "{STRIKES[symbol]}"'] if symbol in STRIKES else []
     return "\n".join(out) + "\n"
 
 
@@ -205,5 +226,6 @@ def write(folder, seed, events):
     (folder / "programme.toml").write_text(PROGRAMME)
     (folder / "desk.toml").write_text(desk_toml(days, [days[2]]))
     prices(rng, folder, days)
+    strikes(rng, folder, days)
     charges(rng, folder, days, {(days[1], "GD-12.26", 2)})
     return exchange.counts

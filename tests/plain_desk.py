@@ -8,7 +8,7 @@ from decimal import Decimal
 from pathlib import Path
 from zoneinfo import ZoneInfo
 
-from recount import volatile
+from recount import strikes, volatile
 from recount.book import BUY, NO_LIMIT, SELL, Add, Amend, Book, Cancel, Close, Deal, Look, Open, Report, choose
 
 CELLS = "date,instrument,symbol,expiry,quantum,table,eased,sp,kept,length,share,lapses,limit,verdict,weight,active,passive"
@@ -111,6 +111,8 @@ class PlainDesk:
         self.logs = Logs(names)
         self.zone = ZoneInfo(self.programme["timezone"])
         self.year, self.month = map(int, self.desk["month"].split("-"))
+        self.differences = sorted(rows_of(self.folder / self.desk["strikes"]), key=lambda row: row["date"]) if "strikes" in self.desk else []
+        self.strike_cells = {}
         self.reasons = set()  # (date, symbol)
         self.cache = {}
 
@@ -130,7 +132,7 @@ class PlainDesk:
         for row in instrument.get(key, []):
             for quantum in row["quanta"]:
                 start, end = self.hours(date(self.year, self.month, 2), quantum)
-                a, b, p = Decimal(row["a"][:-1]) * 1000, Decimal(row["b"]) / step, Decimal(row["share"][:-1]) * 10
+                a, b, p = Decimal(row.get("a", "0%")[:-1]) * 1000, Decimal(row.get("b", "0")) / step, Decimal(row["share"][:-1]) * 10
                 words += [row["expiry"], quantum, end - start, row["minimum"], int(a), int(b), int(p)]
         return words
 
@@ -146,9 +148,10 @@ class PlainDesk:
         for day in self.days():
             for contract in self.desk["contract"]:
                 if contract.get("from", 1) <= day <= contract.get("to", 31):
-                    book = books.setdefault(contract["instrument"], Book())
+                    name = contract["instrument"] + (f".{contract['strike']}" if "strike" in contract else "")
+                    book = books.setdefault(name, Book())
                     cells += self.settle_day(date(self.year, self.month, day), contract, book)
-        cells.sort(key=lambda row: (row[0], row[1], row[3], row[4]))
+        cells.sort(key=lambda row: (row[0], row[1], row[3], row[4], row[2]))
         lines = [CELLS, *(",".join(map(str, row)) for row in cells)]
         months = ["instrument,failed,fee"]
         for name in sorted(books):
@@ -167,7 +170,29 @@ class PlainDesk:
                 continue
             table = "holiday" if choose([], holiday, is_holiday, expiry, quantum) else "usual"
             words, eased = self.eased(words, prices, instrument, day, symbol)
-            yield self.settle_quantum(day, contract, book, quantum, table, words, eased, prices[-1], instrument.get("lapses", NO_LIMIT), step)
+            spread = self.strike(day, contract, instrument, step) if "strike" in contract else prices[-1]
+            row = self.settle_quantum(day, contract, book, quantum, table, words, eased, spread, instrument.get("lapses", NO_LIMIT), step)
+            if "strike" in contract:
+                self.strike_cells.setdefault((str(day), contract["instrument"], expiry, quantum), {})[contract["strike"]] = (row[8], row[9])
+            yield row
+
+    def strike(self, day, contract, instrument, step):
+        """The strike's numbers, by the latest line before the day."""
+        rule = instrument["strikes"][contract["strike"]]
+        last = [row for row in self.differences if row["symbol"] == contract["symbol"] and row["date"] < str(day)][-1]
+        return strikes.Strike(int(Decimal(rule["a"]) * 10), abs(int(Decimal(last["difference"]) / step)), int(last["days"]), int(Decimal(rule["b"]) / step))
+
+    def boards(self):
+        """boards.csv, after the cells are settled."""
+        lines = ["date,instrument,expiry,quantum,strikes,verdict"]
+        for key in sorted(self.strike_cells):
+            found, instrument = self.strike_cells[key], self.programme["instruments"][key[1]]
+            if set(found) == set(instrument["strikes"]):
+                first, second = (int(share[:-1]) for share in instrument["board"])
+                lines.append(",".join(map(str, [*key, len(found), strikes.board(first, second, list(found.values()))])))
+            else:
+                self.reasons.add((key[0], key[1]))
+        return "".join(line + "\n" for line in lines)
 
     def eased(self, words, prices, instrument, day, symbol):
         if "threshold" not in instrument:
@@ -195,7 +220,7 @@ class PlainDesk:
             assert type(answer).__name__ == "Accepted", (day, contract, quantum, call, answer)
         cell = book.call(Look(day.day, contract["expiry"], quantum))
         return [
-            day, contract["instrument"], contract["symbol"], contract["expiry"], quantum, table, eased, sp, cell.kept, cell.length, cell.share, cell.lapses,
+            day, contract["instrument"], contract["symbol"], contract["expiry"], quantum, table, eased, sp if isinstance(sp, int) else "", cell.kept, cell.length, cell.share, cell.lapses,
             "" if limit == NO_LIMIT else limit, "met" if cell.met else "failed", cell.weight, active, passive]
 
 

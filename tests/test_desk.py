@@ -98,14 +98,18 @@ def test_a_random_month_is_that_of_the_plain_reading(tmp_path, seed, note):
     made = settle(Desk.load(tmp_path / "desk" / "desk.toml"), Manner(recount=seed == 0))
     plain = plain_desk.PlainDesk(tmp_path / "desk" / "desk.toml")
     cells, months = plain.settle()
+    boards = plain.boards()
     command.run("desk", "settle", tmp_path / "desk" / "desk.toml", "-o", tmp_path / "out", "--no-recount")
     assert (tmp_path / "out" / "cells.csv").read_text() == cells and (tmp_path / "out" / "months.csv").read_text() == months
     assert {(remark.date, remark.where.split(",")[0]) for remark in made.settlement.reasons} == plain.reasons
-    assert not made.differences and (seed or len(made.readings) == 3)
+    assert not made.differences and (seed or len(made.readings) == 5)
     found = made.settlement.cells
     seen = {"eased": sum(each.planned.is_eased for each in found), "holiday": sum(each.planned.table == "holiday" for each in found)}
     seen |= {"carried": sum(each.carried for each in found), "met": sum(each.cell.met for each in found), "failed": sum(not each.cell.met for each in found)}
     seen |= {"rolled": sum(each.planned.contract.symbol == "BR-2.27" and each.planned.contract.expiry == 1 for each in found), **counts}
+    verdicts = [board.is_met for board in made.settlement.boards]
+    seen |= {"boards met": sum(verdicts), "boards failed": len(verdicts) - sum(verdicts)}
+    assert (tmp_path / "out" / "boards.csv").read_text() == boards and len(verdicts) == 10
     assert all(seen[what] for what in ("eased", "holiday", "carried", "met", "failed", "rolled", *"05F4C38A", "resent")), seen
     note(f"desk: {len(found)} cells of a random month as by the plain reading", seen)
 
@@ -146,7 +150,7 @@ def test_a_plan_needs_neither_logs_nor_charges(desk):
 
 PROGRAMME, PRICES, CHARGES, DESK = "programme.toml", "prices.csv", "charges.csv", "desk.toml"
 FAULTS = [  # the file that is changed, what is changed, the fault
-    (PROGRAMME, "threshold", "treshold", "[instruments.gold] treshold: unknown key, expected step, threshold, lapses, rows or holiday_rows"),
+    (PROGRAMME, "threshold", "treshold", "[instruments.gold] treshold: unknown key, expected step, threshold, lapses, rows, holiday_rows, strikes or board"),
     (PROGRAMME, 'step = "0.1"\n', "", "[instruments.gold] step: missing, and it is required"),
     (PROGRAMME, 'step = "0.1"', 'step = "0"', "[instruments.gold] step: '0' is not above 0, expected a price step such as \"0.01\""),
     (PROGRAMME, 'step = "0.1"', 'step = "tenth"', "[instruments.gold] step: 'tenth' is not a decimal, expected one such as \"0.01\""),
@@ -174,8 +178,9 @@ FAULTS = [  # the file that is changed, what is changed, the fault
     (DESK, "to = 4", "to = 5", "[contract, entry 2]: gold, expiry 1, on day 5 belongs to entry 1 too, expected one contract"),
     (DESK, 'symbol = "GD-2.27"', 'symbol = "GD-1.27"', "[contract, entry 4]: GD-1.27, account A7, on day 5 belongs to entry 2 too, expected one contract"),
     (DESK, "from = 5", "from = 5\nto = 3", "[contract, entry 2] to: 3 is before `from`, 5"),
-    (DESK, "from = 5", "since = 5", "[contract, entry 2] since: unknown key, expected instrument, expiry, symbol, from, to or accounts"),
+    (DESK, "from = 5", "since = 5", "[contract, entry 2] since: unknown key, expected instrument, expiry, symbol, from, to, accounts or strike"),
     (DESK, 'accounts = ["A7"]', "accounts = []", "[contract, entry 1] accounts: [] does not fit, expected a list of at least 1"),
+    (DESK, "to = 4", 'strike = "C"\nto = 4', "[contract, entry 1] strike: gold has no strike 'C', expected none"),
     (DESK, "prices.csv", "price.csv", None),
     (PRICES, "4007.0", "4007.05", "line 2: 4007.05 is between two steps of 0.1"),
     (PRICES, "4007.0", "4,007.0", "line 2: there are 4 fields, expected date,symbol,price"),

@@ -20,6 +20,12 @@ class Contract:
     first: int
     last: int
     accounts: Optional[tuple[str, ...]] = None
+    strike: str = ""  # of an option
+
+    @property
+    def month(self) -> str:
+        """The name of the month that its cells are in: the instrument's, of an option the strike's."""
+        return f"{self.instrument}.{self.strike}" if self.strike else self.instrument
 
     def applies(self, day: int) -> bool:
         return self.first <= day <= self.last
@@ -37,7 +43,10 @@ def read_contract(given: Fields, programme: Optional[Programme], last: int) -> O
     first = given.take("from", day, is_required=False)
     to = given.take("to", day, is_required=False)
     accounts = given.take("accounts", fields.list_of(fields.text, least=1), is_required=False)
+    strike = given.take("strike", fields.text, is_required=False)
     given.finish()
+    if programme is not None and instrument in programme.instruments:
+        check_strike(given, instrument, strike, list(programme.instruments[instrument].strikes))
     if programme is not None and instrument is not None and instrument not in programme.instruments:
         given.add("instrument", f"the programme has no {instrument!r}, expected {fields.listed(list(programme.instruments))}")
     if first is not None and to is not None and first > to:
@@ -45,7 +54,15 @@ def read_contract(given: Fields, programme: Optional[Programme], last: int) -> O
     if len(given.faults.found) > before:
         return None
     assert instrument is not None and expiry is not None and symbol is not None
-    return Contract(instrument, expiry, symbol, first or 1, to or last, tuple(accounts) if accounts else None)
+    return Contract(instrument, expiry, symbol, first or 1, to or last, tuple(accounts) if accounts else None, strike or "")
+
+
+def check_strike(given: Fields, instrument: str, strike: Optional[str], known: list[str]) -> None:
+    """A contract of an option names one of its strikes, and no other contract does."""
+    if strike is None and known:
+        given.add("strike", f"missing, expected one of {instrument}'s strikes: {fields.listed(known)}")
+    if strike is not None and strike not in known:
+        given.add("strike", f"{instrument} has no strike {strike!r}, expected {fields.listed(known)}")
 
 
 def read_all(faults: Faults, file: str, tables: Sequence[dict[str, Any]], programme: Optional[Programme], last: int) -> dict[int, Contract]:
@@ -73,8 +90,8 @@ def overlaps(contracts: dict[int, Contract], days: Sequence[int]) -> Iterator[tu
 
 def both_of(one: Contract, other: Contract) -> Iterator[str]:
     """What two contracts of one day have in common and may not."""
-    if (one.instrument, one.expiry) == (other.instrument, other.expiry):
-        yield f"{one.instrument}, expiry {one.expiry},"
+    if (one.month, one.expiry) == (other.month, other.expiry):
+        yield f"{one.month}, expiry {one.expiry},"
     if one.symbol == other.symbol and one.shares_account(other):
         accounts = sorted(set(one.accounts or ()) & set(other.accounts or ()))
         yield f"{one.symbol}, {'account ' + accounts[0] if accounts else 'every account'},"

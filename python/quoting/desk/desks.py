@@ -14,9 +14,9 @@ from quoting.desk import contracts, fields, frames, lists, programme
 from quoting.desk.contracts import Contract
 from quoting.desk.faults import Faults
 from quoting.desk.fields import Fields
-from quoting.desk.lists import Charges, Prices
+from quoting.desk.lists import Charges, Prices, StrikeLine
 from quoting.desk.plan import Planned, Planner
-from quoting.desk.programme import Programme
+from quoting.desk.programme import Instrument, Programme
 from quoting.month_words import PRICES
 
 if TYPE_CHECKING:
@@ -53,6 +53,8 @@ class Desk:
     price_file: str = ""
     charge_file: str = ""
     agreement: str = ""  # the number of the maker's contract, for people
+    strike_file: str = ""
+    strike_lines: dict[str, list[StrikeLine]] = field(default_factory=dict)
     inputs: list[Input] = field(repr=False, default_factory=list)
     _planned: list[Planned] = field(repr=False, compare=False, default_factory=list)
 
@@ -75,6 +77,14 @@ class Desk:
     def charges_of(self, planned: Planned) -> Optional[Charges]:
         """The charges of a quantum; None where the file has no line for it."""
         return self.charges.get((planned.date, planned.contract.symbol, planned.quantum))
+
+    def instrument_of(self, month: str) -> Instrument:
+        """The instrument that a month is of; several strikes' months are of one option."""
+        name = next(each.instrument for each in self.contracts if each.month == month)
+        return self.programme.instruments[name]
+
+    def has_boards(self) -> bool:
+        return any(each.strike and self.programme.instruments[each.instrument].board for each in self.contracts)
 
     def plan(self) -> list[Planned]:
         """The month's quanta, sorted by date, instrument, expiry and quantum."""
@@ -155,6 +165,7 @@ class Loader:
         maker, month = given.take("maker", fields.text), given.take("month", month_of)
         agreement = given.take("agreement", fields.text, is_required=False) or ""
         named = {key: given.take(key, fields.text) for key in ("programme", "prices", "charges")}
+        named["strikes"] = given.take("strikes", fields.text, is_required=False)
         patterns = given.take("logs", names_of)
         last = calendar.monthrange(*month)[1] if month else 31
         day_list = fields.list_of(fields.whole(1, last))
@@ -167,14 +178,15 @@ class Loader:
         if made is not None:
             contracts.check(self.faults, self.file, by_place, days, made)
         own = list(by_place.values())
-        prices = self.prices(named["prices"], own, made)
+        prices = self.prices(named["prices"], [each for each in own if not each.strike], made)
+        strikes = self.strikes(given, named["strikes"], [each for each in own if each.strike], made)
         charges = self.charges(named["charges"])
         logs = self.logs(given, patterns or [])
         if maker is None or month is None or made is None or self.faults.found:
             return None
         return Desk(
             self.path, maker, *month, made, days, holidays, own, prices, charges, logs, named["programme"] or "", named["prices"] or "",
-            named["charges"] or "", agreement, self.inputs)
+            named["charges"] or "", agreement, named["strikes"] or "", strikes, self.inputs)
 
     def check_holidays(self, given: Fields, days: list[int], holidays: list[int]) -> None:
         for day in holidays:
@@ -195,6 +207,15 @@ class Loader:
             return {}
         steps = {each.symbol: made.instruments[each.instrument].step for each in own}
         return lists.in_steps(self.faults, name, found, lambda symbol, price: settlement(price, steps[symbol]), set(steps))
+
+    def strikes(self, given: Fields, name: Optional[str], own: list[Contract], made: Optional[Programme]) -> dict[str, list[StrikeLine]]:
+        if own and name is None:
+            given.add("strikes", "missing, and contracts with a strike need it")
+        data = None if name is None else self.bytes_of(name)
+        if data is None or name is None or made is None:
+            return {}
+        steps = {each.symbol: made.instruments[each.instrument].step for each in own}
+        return lists.read_strikes(self.faults, name, data, lambda symbol, price: values.steps(price, steps[symbol]), set(steps))
 
     def charges(self, name: Optional[str]) -> dict[tuple[dt.date, str, int], Charges]:
         if name is None or not (self.with_logs or (self.path.parent / name).exists()):

@@ -8,6 +8,7 @@ from typing import Any, Iterator, Optional, Sequence
 
 from quoting import native
 from quoting.cells import ALLOWED, CAP, SERIES, Place
+from quoting.desk.boards import Board
 from quoting.desk.office import SIGNED, date_text, office_of
 from quoting.desk.outputs import Result
 from quoting.desk.second_reading import SecondReading
@@ -100,10 +101,10 @@ def squares(month: InstrumentMonth, days: Sequence[dt.date], series: Place) -> I
 
 def line_of(made: Result, month: InstrumentMonth, reading: Optional[SecondReading]) -> Line:
     desk = made.settlement.desk
-    own = [each for each in desk.contracts if each.instrument == month.instrument]
+    own = [each for each in desk.contracts if each.month == month.instrument]
     used: list[Place] = sorted({(each.planned.contract.expiry, each.planned.quantum) for each in month.cells})
     shares = sorted({int(each.cell.share) for each in month.cells})
-    limit = desk.programme.instruments[month.instrument].lapses
+    limit = desk.instrument_of(month.instrument).lapses
     required = f"required {' or '.join(map(share_text, shares))}, " if shares else ""
     days = [desk.date(day) for day in desk.days]
     calendar = [(series, list(squares(month, days, series))) for series in used]
@@ -136,6 +137,17 @@ def kinds_text(remarks: Sequence[Remark]) -> str:
     return ", ".join(f"{sum(each.kind == kind for each in remarks)} {kind}" for kind in kinds)
 
 
+# ---------------------------------------------------------------- boards
+
+
+def below(made: Result, board: Board) -> str:
+    """The strikes of a board that lack the share of each."""
+    shares = made.settlement.desk.programme.instruments[board.instrument].board
+    assert shares is not None
+    lacking = [each for each in board.cells if 100 * each.cell.kept < shares[0] * each.cell.length]
+    return ", ".join(f"{each.planned.contract.strike} {part_text(each.cell.kept, each.cell.length)}" for each in lacking)
+
+
 # ---------------------------------------------------------------- the page
 
 
@@ -164,8 +176,8 @@ def html(made: Result, statements: Sequence[str] = ()) -> str:
     title = f"{desk.maker}: {desk.date(1):%B %Y}"
     remarks = folded(settled.remarks)
     text: str = template(TEMPLATE).render(
-        title=title, desk=desk, lines=lines, office=office, facts=office.facts, files=office.files[:MOST_FILES], more_files=len(office.files) - MOST_FILES,
-        fee=settled.fee, remarks=remarks[:MOST_REMARKS], count=len(remarks), kinds=kinds_text(remarks), differences=made.differences, allowed=ALLOWED,
+        title=title, made=made, desk=desk, lines=lines, office=office, facts=office.facts, files=office.files[:MOST_FILES], more_files=len(office.files) - MOST_FILES,
+        boards=settled.boards, failed_boards=[each for each in settled.boards if not each.is_met], below=below, fee=settled.fee, remarks=remarks[:MOST_REMARKS], count=len(remarks), kinds=kinds_text(remarks), differences=made.differences, allowed=ALLOWED,
         cap=CAP, has_cap=any(line.month.fee == CAP for line in lines), was_recounted=bool(made.readings), read=made.logs, signed=SIGNED,
         statements=set(statements), palette=PALETTE.read_text(encoding="utf-8"), version=native.version(), date_text=date_text,
         foot=plain_css(f"{title}, {money(settled.fee)} roubles"))

@@ -12,8 +12,10 @@ from quoting.desk.fields import DECIMAL
 from quoting.month_words import MOST_CHARGE
 from quoting.reading import TextError
 
+MOST_DIFFERENCE = 100_000  # of a strike, in price steps (W4)
 DATE = re.compile(r"[0-9]{4}-[0-9]{2}-[0-9]{2}")
 PRICE_COLUMNS = ("date", "symbol", "price")
+STRIKE_COLUMNS = ("date", "symbol", "difference", "days")
 CHARGE_COLUMNS = ("date", "symbol", "quantum", "active", "passive")
 
 
@@ -36,6 +38,16 @@ class Charges:
     quantum: int
     active: int
     passive: int
+    line: int
+
+
+@dataclass(frozen=True)
+class StrikeLine:
+    """The difference of premiums of a strike's symbol in price steps, the days to its expiry, and their line."""
+
+    date: date
+    difference: int
+    days: int
     line: int
 
 
@@ -99,6 +111,23 @@ def read_prices(faults: Faults, file: str, data: bytes) -> list[Price]:
             made = Price(day_of(row["date"]), symbol_of(row["symbol"]), price_of(row["price"]), at)
             take(found, (made.symbol, made.date), made)
     return [found[key] for key in sorted(found)]
+
+
+def read_strikes(faults: Faults, file: str, data: bytes, steps_of: Callable[[str, str], int], symbols: set[str]) -> dict[str, list[StrikeLine]]:
+    """The lines of each of these symbols, oldest first; the difference is written as a price."""
+    found: dict[tuple[str, date], StrikeLine] = {}
+    for at, row in rows_of(faults, file, data, STRIKE_COLUMNS):
+        with faults.caught(file, f"line {at}"):
+            day, symbol, difference = day_of(row["date"]), symbol_of(row["symbol"]), price_of(row["difference"])
+            steps = abs(steps_of(symbol, difference)) if symbol in symbols else 0
+            if steps > MOST_DIFFERENCE:
+                raise ValueError(f"difference: {difference} is {steps:,} steps, expected at most {MOST_DIFFERENCE:,}")
+            take(found, (symbol, day), StrikeLine(day, steps, whole(row["days"], 365, "days"), at))
+    lines: dict[str, list[StrikeLine]] = {symbol: [] for symbol in symbols}
+    for (symbol, _), line in sorted(found.items(), key=lambda each: each[0]):
+        if symbol in lines:
+            lines[symbol].append(line)
+    return lines
 
 
 def price_of(word: str) -> str:

@@ -42,7 +42,7 @@ def holiday_text(desk: Desk) -> str:
 
 def accounts_text(desk: Desk, instrument: str = "") -> str:
     """The accounts whose orders count, of all contracts or of one instrument's."""
-    own = [each for each in desk.contracts if instrument in ("", each.instrument)]
+    own = [each for each in desk.contracts if instrument in ("", each.month)]
     named = sorted({account for each in own for account in each.accounts or ()})
     everything = [each.symbol for each in own if each.accounts is None]
     more = f"every account of {', '.join(dict.fromkeys(everything))}" if everything else ""

@@ -6,7 +6,7 @@ from pathlib import Path
 from typing import Callable, Optional
 
 from quoting import output
-from quoting.desk import logs, second_reading, settlement, tables
+from quoting.desk import boards, logs, second_reading, settlement, tables
 from quoting.desk.desks import Desk
 from quoting.desk.logs import LogsRead
 from quoting.desk.second_reading import SecondReading
@@ -52,7 +52,7 @@ class Result:
 
     def remarks_of(self, month: InstrumentMonth) -> list[Remark]:
         """The remarks that name a symbol of an instrument."""
-        symbols = {each.symbol for each in self.settlement.desk.contracts if each.instrument == month.instrument}
+        symbols = {each.symbol for each in self.settlement.desk.contracts if each.month == month.instrument}
         return [remark for remark in self.settlement.remarks if remark.where.split(",")[0] in symbols]
 
 
@@ -81,11 +81,14 @@ def tables_of(made: Result) -> dict[str, bytes]:
     """The tables and the lists of calls by their files' names."""
     months = made.settlement.months
     found = {f"{month.instrument}.calls": month.calls for month in months}
+    if made.settlement.desk.has_boards():
+        found["boards.csv"] = boards.csv_text(made.settlement.boards).encode()
     return {**found, "cells.csv": tables.cells_csv(made.settlement.cells).encode(), "months.csv": tables.months_csv(months).encode()}
 
 
 def tables_of_names(made: Result) -> list[str]:
-    return [*(f"{month.instrument}.calls" for month in made.settlement.months), "cells.csv", "months.csv"]
+    more = ["boards.csv"] if made.settlement.desk.has_boards() else []
+    return [*(f"{month.instrument}.calls" for month in made.settlement.months), "cells.csv", "months.csv", *more]
 
 
 def write(folder: Path, files: dict[str, bytes]) -> None:

@@ -8,9 +8,10 @@ import datetime as dt
 from bisect import bisect_left
 from dataclasses import dataclass
 from datetime import datetime, timedelta, timezone
-from typing import TYPE_CHECKING, Iterator, Optional
+from typing import TYPE_CHECKING, Iterator, Optional, Union
 from zoneinfo import ZoneInfo
 
+from quoting.calls import Strike
 from quoting.desk.contracts import Contract
 from quoting.desk.faults import Faults
 from quoting.desk.programme import Hours, Instrument
@@ -57,10 +58,18 @@ class Planned:
     table: str
     chosen: Row
     row: Row
-    sp: int
+    sp: Optional[int]  # None of a strike
     sp_date: dt.date
     lapses: Optional[int]
     volatility: Optional[Volatility]
+    strike: Optional[Strike] = None
+
+    @property
+    def spread(self) -> Union[int, Strike]:
+        """What the open goes by: SP, or a strike's numbers (W4)."""
+        found = self.sp if self.strike is None else self.strike
+        assert found is not None
+        return found
 
     @property
     def is_eased(self) -> bool:
@@ -165,15 +174,18 @@ class Planner:
 
     def quanta(self) -> Iterator[Planned]:
         for day in self.desk.days:
-            ordered = sorted((each for each in self.desk.contracts if each.applies(day)), key=lambda each: (each.instrument, each.expiry))
+            ordered = sorted((each for each in self.desk.contracts if each.applies(day)), key=lambda each: (each.instrument, each.expiry, each.symbol))
             for contract in ordered:
                 yield from self.quanta_of(self.desk.date(day), contract)
 
     def quanta_of(self, day: dt.date, contract: Contract) -> Iterator[Planned]:
         """The quanta of a contract's day for which a row is chosen."""
         instrument = self.desk.programme.instruments[contract.instrument]
-        symbol = self.symbols[contract.instrument, contract.symbol]
         rows = {quantum: chosen_row(instrument, day.day in self.desk.holidays, contract.expiry, quantum) for quantum in sorted(self.desk.programme.quanta)}
+        if contract.strike:
+            yield from self.strike_quanta(day, contract, instrument, rows)
+            return
+        symbol = self.symbols[contract.instrument, contract.symbol]
         count = symbol.before(day)
         if not count and any(rows.values()):
             self.faults.add(self.desk.price_file, "", f"{contract.symbol} has no price before {day}, expected a line with an earlier date")
@@ -188,6 +200,22 @@ class Planner:
                 yield Planned(
                     day, contract, quantum, start, end, found[0], found[1], row, symbol.prices[count - 1], symbol.dates[count - 1],
                     instrument.lapses, volatility)
+
+    def strike_quanta(self, day: dt.date, contract: Contract, instrument: Instrument, rows: dict[int, Optional[tuple[str, Row]]]) -> Iterator[Planned]:
+        """The quanta of a strike's day, by the latest line of its symbol before the day."""
+        before = [line for line in self.desk.strike_lines.get(contract.symbol, []) if line.date < day]
+        if not before and any(rows.values()):
+            self.faults.add(self.desk.strike_file, "", f"{contract.symbol} has no line before {day}, expected one with an earlier date")
+            return
+        rule = instrument.strikes[contract.strike]
+        for quantum, found in rows.items():
+            if found is None:
+                continue
+            with self.faults.caught(self.desk.programme_file, f"[quanta] {quantum}"):
+                start, end = moments(day, self.desk.programme.quanta[quantum], self.zone)
+                last = before[-1]
+                strike = Strike(rule.a, last.difference, last.days, rule.b)
+                yield Planned(day, contract, quantum, start, end, *found, found[1], None, last.date, instrument.lapses, None, strike)
 
     def eased(self, row: Row, symbol: Symbol, count: int, volatility: Optional[Volatility]) -> Row:
         """The row as W12 leaves it; a row whose prices are refused stays as it is."""

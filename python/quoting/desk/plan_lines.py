@@ -68,13 +68,15 @@ def table_rows(plan: Sequence[Planned]) -> list[list[object]]:
         local, utc = (f"{start:%H:%M}-{end:%H:%M}" for start, end in ((each.start, each.end), (each.start.astimezone(timezone.utc), each.end.astimezone(timezone.utc))))
         rows.append([
             each.date, each.contract.instrument, each.contract.symbol, each.contract.expiry, each.quantum, local, utc, each.table, each.row.minimum,
-            each.row.a, each.row.b, share_text(each.row.words[6]), why(each), each.sp, each.sp_date, each.lapses])
+            each.row.a, each.row.b, share_text(each.row.words[6]), why(each), each.sp if each.strike is None else "strike", each.sp_date, each.lapses])
     return rows
 
 
 def why(each: Planned) -> str:
     """Whether the row is eased, and by what."""
     volatile = each.volatility
+    if each.strike is not None:
+        return f"strike: a {each.strike.a / 10:g}, difference {each.strike.difference}, {each.strike.days} days, b {each.strike.b}"
     if volatile is None:
         return "no threshold"
     last = "no sigma" if volatile.sigma is None else f"sigma {volatile.sigma}"

@@ -3,11 +3,12 @@
 import re
 from dataclasses import dataclass, field
 from decimal import Decimal
-from typing import Any, Optional
+from typing import Any, Optional, Union
 from zoneinfo import ZoneInfo
 
 from quoting import calls as c
 from quoting import values
+from quoting.boards import MOST_STRIKES
 from quoting.desk import fields
 from quoting.desk.faults import Faults
 from quoting.desk.fields import Fields
@@ -40,8 +41,17 @@ class Hours:
 
 
 @dataclass(frozen=True)
+class StrikeRule:
+    """A strike's a in tenths, and its b in price steps (W4)."""
+
+    a: int
+    b: int
+
+
+@dataclass(frozen=True)
 class Instrument:
-    """An instrument of the programme; both tables have one row for each quantum of an entry."""
+    """An instrument of the programme; both tables have one row for each quantum of an entry. An option has strikes, each with a month of
+    its own, and may have a board: the share in percent of each strike, and that of all together."""
 
     name: str
     step: Decimal
@@ -49,6 +59,8 @@ class Instrument:
     lapses: Optional[int] = None
     usual: list[Row] = field(default_factory=list)
     holiday: list[Row] = field(default_factory=list)
+    strikes: dict[str, StrikeRule] = field(default_factory=dict)
+    board: Optional[tuple[int, int]] = None
 
 
 @dataclass(frozen=True)
@@ -122,9 +134,9 @@ def step_of(value: Any) -> Decimal:
     return found
 
 
-def refusal_of(row: Row) -> Optional[Refused]:
-    """The library's refusal of a row, by a fresh month."""
-    answer = Month().block(c.block(c.Open(row.words, 1, 0)))
+def refusal_of(row: Row, spread: Union[int, c.Strike] = 0) -> Optional[Refused]:
+    """The library's refusal of a row, or of a strike, by a fresh month."""
+    answer = Month().block(c.block(c.Open(row.words, 1, spread)))
     return answer if isinstance(answer, Refused) else None
 
 
@@ -135,14 +147,14 @@ def row_fault(row: Row, refused: Refused) -> str:
     return f"{refused}" + (f" ({'; '.join(wrong)})" if wrong else "")
 
 
-def read_entry(entry: Fields, step: Optional[Decimal], quanta: dict[int, Hours]) -> list[Row]:
-    """The rows of one entry: one for each of its quanta."""
+def read_entry(entry: Fields, step: Optional[Decimal], quanta: dict[int, Hours], has_strikes: bool) -> list[Row]:
+    """The rows of one entry: one for each of its quanta. An option's a and b are its strikes', and the row's are 0."""
     before = len(entry.faults.found)
     expiry = entry.take("expiry", fields.whole(1, 2))
     chosen = entry.take("quanta", fields.list_of(fields.whole(0, 2), least=1))
     minimum = entry.take("minimum", fields.whole(0, 2**32 - 1))
-    a = entry.take("a", fields.percent(1_000, "hundred-thousandths"))
-    b = entry.take("b", lambda value: steps(step, value) if step else 0)
+    a = 0 if has_strikes else entry.take("a", fields.percent(1_000, "hundred-thousandths"))
+    b = 0 if has_strikes else entry.take("b", lambda value: steps(step, value) if step else 0)
     due = entry.take("share", share)
     entry.finish()
     if len(entry.faults.found) > before:
@@ -162,11 +174,59 @@ def read_entry(entry: Fields, step: Optional[Decimal], quanta: dict[int, Hours])
     return made
 
 
-def read_rows(given: Fields, key: str, step: Optional[Decimal], quanta: dict[int, Hours], is_required: bool) -> list[Row]:
+def read_rows(given: Fields, key: str, step: Optional[Decimal], quanta: dict[int, Hours], is_required: bool, has_strikes: bool) -> list[Row]:
     made: list[Row] = []
     for at, table in enumerate(given.tables(key, is_required), start=1):
-        made += read_entry(Fields(given.faults, given.file, f"{given.name}.{key}, entry {at}", table), step, quanta)
+        made += read_entry(Fields(given.faults, given.file, f"{given.name}.{key}, entry {at}", table), step, quanta, has_strikes)
     return made
+
+
+# ---------------------------------------------------------------- strikes
+
+
+def tenths_of(value: Any) -> int:
+    """A strike's a in tenths.
+
+    >>> tenths_of("7.5")
+    75
+    """
+    found = fields.decimal(value) * 10
+    if found != found.to_integral_value() or found < 0:
+        raise ValueError(f'{fields.shown(value)} is not in tenths, expected one such as "7.5"')
+    return int(found)
+
+
+def percent_of(value: Any) -> int:
+    """A share of a board, in whole percent."""
+    found = fields.percent(1, "percent")(value)
+    if not 1 <= found <= 100:
+        raise ValueError(f"{value} does not fit, expected 1% to 100%")
+    return found
+
+
+def two_shares(value: Any) -> tuple[int, int]:
+    if not isinstance(value, list) or len(value) != 2:
+        raise ValueError(f'{fields.shown(value)} does not fit, expected two shares such as ["55%", "60%"]')
+    return percent_of(value[0]), percent_of(value[1])
+
+
+def read_strikes(given: Fields, step: Optional[Decimal]) -> dict[str, StrikeRule]:
+    """The strikes by their names, each checked by the library."""
+    found: dict[str, StrikeRule] = {}
+    for name, table in (given.take("strikes", fields.table_of, is_required=False) or {}).items():
+        if not isinstance(table, dict) or not is_file_name(name):
+            given.add(f"strikes.{name}", 'expected a name of letters, digits, spaces, "-", "_", "." and "+", and a table such as { a = "7.5", b = "0.5" }')
+            continue
+        own, before = Fields(given.faults, given.file, f"{given.name}.strikes.{name}", table), len(given.faults.found)
+        a, b = own.take("a", tenths_of), own.take("b", lambda value: steps(step, value) if step else 0)
+        own.finish()
+        if len(given.faults.found) == before and a is not None and b is not None:
+            with given.faults.caught(given.file, f"[{own.name}]"):
+                refused = refusal_of(Row(1, 1, 1_000, 1, 0, 0, Tenths(600)), c.Strike(a, 0, 0, b))
+                if refused is not None:
+                    raise ValueError(f"{refused}: a is {a} tenths, expected at most 200; b is {b:,} steps, expected at most 1,000,000")
+                found[name] = StrikeRule(a, b)
+    return found
 
 
 # ---------------------------------------------------------------- the whole
@@ -189,10 +249,17 @@ def read_instrument(given: Fields, quanta: dict[int, Hours]) -> Optional[Instrum
     step = given.take("step", step_of)
     limit = given.take("threshold", threshold, is_required=False)
     lapses = given.take("lapses", lapse_limit, is_required=False)
-    usual = read_rows(given, "rows", step, quanta, is_required=True)
-    holiday = read_rows(given, "holiday_rows", step, quanta, is_required=False)
+    has_strikes = "strikes" in given.table
+    usual = read_rows(given, "rows", step, quanta, True, has_strikes)
+    holiday = read_rows(given, "holiday_rows", step, quanta, False, has_strikes)
+    strikes = read_strikes(given, step)
+    board = given.take("board", two_shares, is_required=False)
     given.finish()
-    return None if step is None else Instrument(name, step, limit, lapses, usual, holiday)
+    if has_strikes and limit is not None:
+        given.add("threshold", "an instrument with strikes has no settlement price, so its days are never volatile: expected none")
+    if board is not None and not 1 <= len(strikes) <= MOST_STRIKES:
+        given.add("board", f"there are {len(strikes)} strikes, expected 1 to {MOST_STRIKES}")
+    return None if step is None else Instrument(name, step, limit, lapses, usual, holiday, strikes, board)
 
 
 def read_quanta(given: Fields) -> dict[int, Hours]:

@@ -86,7 +86,7 @@ class Work:
     @property
     def opened(self) -> c.Open:
         planned = self.planned
-        return c.Open(planned.row.words, planned.date.day, planned.sp, c.NO_LIMIT if planned.lapses is None else planned.lapses)
+        return c.Open(planned.row.words, planned.date.day, planned.spread, c.NO_LIMIT if planned.lapses is None else planned.lapses)
 
     @property
     def closed(self) -> c.Close:

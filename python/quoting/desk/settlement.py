@@ -12,7 +12,7 @@ from typing import Any, Iterator, Sequence
 
 from quoting.answers import WORDS, Cell, MonthReport, answer_of, line
 from quoting.cells import CELLS, SHOW_ALL, Place
-from quoting.desk import frames
+from quoting.desk import boards, frames
 from quoting.desk.desks import Desk
 from quoting.desk.plan import Planned
 from quoting.desk.quanta import Work, answers_of, deals_of, without_deals
@@ -58,7 +58,7 @@ class Settled:
 
 @dataclass(frozen=True)
 class InstrumentMonth:
-    """An instrument's month: its cells in the order of cells.csv, the proved month's report, and its list of calls."""
+    """An instrument's month, of an option one strike's (`INSTRUMENT.STRIKE`): its cells in the order of cells.csv, the proved month's report, and its list of calls."""
 
     instrument: str
     cells: list[Settled]
@@ -103,12 +103,13 @@ class Settlement:
     desk: Desk
     months: list[InstrumentMonth]
     remarks: list[Remark]
+    boards: list["boards.Board"] = field(default_factory=list)
 
     @property
     def cells(self) -> list[Settled]:
         """All cells, sorted by date, instrument, expiry and quantum."""
         found = [cell for month in self.months for cell in month.cells]
-        return sorted(found, key=lambda each: (each.planned.date, each.planned.contract.instrument, each.planned.contract.expiry, each.planned.quantum))
+        return sorted(found, key=lambda each: (each.planned.date, each.planned.contract.instrument, each.planned.contract.expiry, each.planned.quantum, each.planned.contract.symbol))
 
     def cell_frame(self) -> Any:
         """The cells as a DataFrame, with the columns of cells.csv."""
@@ -231,10 +232,11 @@ def dated(remarks: Sequence[Remark]) -> list[Remark]:
 def settle(desk: Desk, works: Sequence[Work], found: Sequence[Remark] = ()) -> Settlement:
     """Settles all instruments; `found` are the remarks of the logs."""
     plan = desk.plan()
-    by_instrument: dict[str, list[Work]] = {name: [] for name in sorted({each.instrument for each in desk.contracts})}
+    by_instrument: dict[str, list[Work]] = {name: [] for name in sorted({each.month for each in desk.contracts})}
     for work in works:
-        by_instrument[work.planned.contract.instrument].append(work)
+        by_instrument[work.planned.contract.month].append(work)
     months = [month_of(name, own) for name, own in by_instrument.items()]
     refused = [remark for month in months for remark in month.refused]
-    remarks = [*missing_charges(desk, plan), *refused_days(plan), *found, *refused, *unused_charges(desk, plan)]
-    return Settlement(desk, months, dated(remarks))
+    judged, unjudged = boards.judged(desk, months)
+    remarks = [*missing_charges(desk, plan), *refused_days(plan), *found, *refused, *unjudged, *unused_charges(desk, plan)]
+    return Settlement(desk, months, dated(remarks), judged)

@@ -18,7 +18,7 @@ def cell_fields(each: Settled) -> tuple[object, ...]:
     contract, limit = planned.contract, "" if cell.limit is None else cell.limit
     return (
         planned.date, contract.instrument, contract.symbol, contract.expiry, planned.quantum, planned.table, "yes" if planned.is_eased else "no",
-        planned.sp, cell.kept, cell.length, int(cell.share), cell.lapses, limit, verdict_text(cell.met), cell.weight, cell.active, cell.passive)
+        "" if planned.sp is None else planned.sp, cell.kept, cell.length, int(cell.share), cell.lapses, limit, verdict_text(cell.met), cell.weight, cell.active, cell.passive)
 
 
 def csv_text(columns: Sequence[str], rows: Sequence[Sequence[object]]) -> str:
