@@ -109,7 +109,7 @@ def test_a_random_month_is_that_of_the_plain_reading(tmp_path, seed, note):
     seen |= {"rolled": sum(each.planned.contract.symbol == "BR-2.27" and each.planned.contract.expiry == 1 for each in found), **counts}
     verdicts = [board.is_met for board in made.settlement.boards]
     seen |= {"boards met": sum(verdicts), "boards failed": len(verdicts) - sum(verdicts)}
-    assert (tmp_path / "out" / "boards.csv").read_text() == boards and len(verdicts) == 10
+    assert (tmp_path / "out" / "boards.csv").read_text() == boards and len(verdicts) == 10 and len(set(verdicts)) == 2
     assert all(seen[what] for what in ("eased", "holiday", "carried", "met", "failed", "rolled", *"05F4C38A", "resent")), seen
     note(f"desk: {len(found)} cells of a random month as by the plain reading", seen)
 
