@@ -8,14 +8,15 @@ from hashlib import sha256
 import pytest
 
 from quoting import calls as c
-from quoting.desk import second_reading
+from quoting import reading
+from quoting.desk import fields, programme, second_reading
 from quoting.desk.desks import Desk
-from quoting.desk.faults import DeskError
+from quoting.desk.faults import DeskError, Faults
 from quoting.desk.outputs import Manner, settle
 from quoting.desk.quanta import blocks_of
 from quoting.events import Add, Amend, Cancel, Deal, Tick, records
 from tests import command, desk_months, plain_desk
-from tests.paths import EXAMPLES, QUOTING
+from tests.paths import EXAMPLES, PROGRAMMES, QUOTING
 
 pytestmark = pytest.mark.usefixtures("library")
 SHIPPED = EXAMPLES / "desk"
@@ -417,3 +418,26 @@ def test_desks_on_a_cluster_give_the_same_tables(tmp_path):
     assert (tmp_path / "cluster" / "desks.csv").read_bytes() == (tmp_path / "here" / "desks.csv").read_bytes()
     for name in ("cells.csv", "months.csv", "gold.calls"):
         assert (tmp_path / "cluster" / "maker2" / name).read_bytes() == (tmp_path / "here" / "maker2" / name).read_bytes()
+
+
+# ---------------------------------------------------------------- the shipped programmes
+
+
+@pytest.mark.parametrize("path", sorted(PROGRAMMES.glob("*.toml")), ids=lambda path: path.stem)
+def test_a_shipped_programme_has_the_rows_of_its_table(path, note):
+    """The same rows as the table of the source document (.rows), in its order."""
+    faults = Faults()
+    made = programme.read(faults, path.name, fields.read_toml(faults, path.name, path.read_bytes()))
+    faults.raise_any()
+    found = {}
+    for instrument in made.instruments.values():
+        for row in [*instrument.usual, *instrument.holiday]:
+            for strike in instrument.strikes or [""]:
+                found.setdefault(f"{instrument.name}-{strike}" if strike else instrument.name, []).append(row.words)
+    listed = {}
+    for line in path.with_suffix(".rows").read_text().splitlines():
+        if line and not line.startswith("#"):
+            name, *words = line.split()
+            listed.setdefault(name, []).append(reading.row_words(words))
+    assert {name: sorted(rows) for name, rows in found.items()} == {name: sorted(rows) for name, rows in listed.items()}
+    note(f"desk: {sum(map(len, found.values()))} rows of {path.name} are those of its table")

@@ -172,6 +172,8 @@ class Loader:
         days, holidays = given.take("days", day_list, is_required=False), given.take("holidays", day_list, is_required=False) or []
         days = sorted(days) if days is not None else weekdays(*month) if month else []
         made = self.programme(named["programme"])
+        if given.table.get("contract") == []:
+            given.add("contract", "is empty, expected at least one contract")
         by_place = contracts.read_all(self.faults, self.file, given.tables("contract"), made, last)
         given.finish()
         self.check_holidays(given, days, holidays)

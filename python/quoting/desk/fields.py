@@ -128,10 +128,7 @@ class Fields:
 
     def tables(self, key: str, is_required: bool = True) -> list[dict[str, Any]]:
         """A list of tables; empty where it is absent, or at fault."""
-        found = self.take(key, tables_of, is_required)
-        if found == [] and is_required:
-            self.add(key, "is empty, expected at least one")
-        return found or []
+        return self.take(key, tables_of, is_required) or []
 
     def finish(self) -> None:
         """Names the keys that were not asked for."""

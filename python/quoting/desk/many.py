@@ -5,6 +5,7 @@ from collections import Counter
 from concurrent.futures import ProcessPoolExecutor
 from concurrent.futures.process import BrokenProcessPool
 from dataclasses import dataclass
+from multiprocessing import get_context
 from pathlib import Path
 from typing import Iterator, Optional, Sequence
 
@@ -62,7 +63,7 @@ def ended(name: str, killed: clusters.Killed) -> Summary:
 
 def by_processes(todo: Sequence[Task], manner: Manner, at_once: int) -> Iterator[Summary]:
     """The summaries in the order of the desks."""
-    with ProcessPoolExecutor(at_once) as pool:
+    with ProcessPoolExecutor(at_once, mp_context=get_context("spawn")) as pool:  # a fork would copy the bar's thread half
         given = [pool.submit(settle_one, str(task.path), str(task.out), manner) for task in todo]
         for task, future in zip(todo, given):
             try:

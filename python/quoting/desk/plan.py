@@ -214,7 +214,7 @@ class Planner:
             with self.faults.caught(self.desk.programme_file, f"[quanta] {quantum}"):
                 start, end = moments(day, self.desk.programme.quanta[quantum], self.zone)
                 last = before[-1]
-                strike = Strike(rule.a, last.difference, last.days, rule.b)
+                strike = rule.of(contract.expiry, last.difference, last.days)
                 yield Planned(day, contract, quantum, start, end, *found, found[1], None, last.date, instrument.lapses, None, strike)
 
     def eased(self, row: Row, symbol: Symbol, count: int, volatility: Optional[Volatility]) -> Row:

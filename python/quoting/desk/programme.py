@@ -3,7 +3,7 @@
 import re
 from dataclasses import dataclass, field
 from decimal import Decimal
-from typing import Any, Optional, Union
+from typing import Any, Callable, Optional, Union
 from zoneinfo import ZoneInfo
 
 from quoting import calls as c
@@ -42,10 +42,14 @@ class Hours:
 
 @dataclass(frozen=True)
 class StrikeRule:
-    """A strike's a in tenths, and its b in price steps (W4)."""
+    """A strike's a in tenths, and its b in price steps (W4), for expiry 1 and for expiry 2."""
 
-    a: int
-    b: int
+    a: tuple[int, int]
+    b: tuple[int, int]
+
+    def of(self, expiry: int, difference: int, days: int) -> c.Strike:
+        """What an open takes in place of SP."""
+        return c.Strike(self.a[expiry - 1], difference, days, self.b[expiry - 1])
 
 
 @dataclass(frozen=True)
@@ -196,6 +200,23 @@ def tenths_of(value: Any) -> int:
     return int(found)
 
 
+def by_expiry(reader: Callable[[Any], int]) -> Callable[[Any], tuple[int, int]]:
+    """One value for both expiries, or a list of two.
+
+    >>> by_expiry(tenths_of)(["11.5", "7.5"]), by_expiry(tenths_of)("3")
+    ((115, 75), (30, 30))
+    """
+
+    def read(value: Any) -> tuple[int, int]:
+        if not isinstance(value, list):
+            return reader(value), reader(value)
+        if len(value) != 2:
+            raise ValueError(f"{fields.shown(value)} does not fit, expected one value, or two for the two expiries")
+        return reader(value[0]), reader(value[1])
+
+    return read
+
+
 def percent_of(value: Any) -> int:
     """A share of a board, in whole percent."""
     found = fields.percent(1, "percent")(value)
@@ -210,6 +231,16 @@ def two_shares(value: Any) -> tuple[int, int]:
     return percent_of(value[0]), percent_of(value[1])
 
 
+def checked(rule: StrikeRule) -> StrikeRule:
+    """A rule that a fresh month takes, for both expiries."""
+    for expiry in (1, 2):
+        strike = rule.of(expiry, 0, 0)
+        refused = refusal_of(Row(expiry, 1, 1_000, 1, 0, 0, Tenths(600)), strike)
+        if refused is not None:
+            raise ValueError(f"{refused}: a is {strike.a:,} tenths, expected at most 200; b is {strike.b:,} steps, expected at most 1,000,000")
+    return rule
+
+
 def read_strikes(given: Fields, step: Optional[Decimal]) -> dict[str, StrikeRule]:
     """The strikes by their names, each checked by the library."""
     found: dict[str, StrikeRule] = {}
@@ -218,14 +249,11 @@ def read_strikes(given: Fields, step: Optional[Decimal]) -> dict[str, StrikeRule
             given.add(f"strikes.{name}", 'expected a name of letters, digits, spaces, "-", "_", "." and "+", and a table such as { a = "7.5", b = "0.5" }')
             continue
         own, before = Fields(given.faults, given.file, f"{given.name}.strikes.{name}", table), len(given.faults.found)
-        a, b = own.take("a", tenths_of), own.take("b", lambda value: steps(step, value) if step else 0)
+        a, b = own.take("a", by_expiry(tenths_of)), own.take("b", by_expiry(lambda value: steps(step, value) if step else 0))
         own.finish()
         if len(given.faults.found) == before and a is not None and b is not None:
             with given.faults.caught(given.file, f"[{own.name}]"):
-                refused = refusal_of(Row(1, 1, 1_000, 1, 0, 0, Tenths(600)), c.Strike(a, 0, 0, b))
-                if refused is not None:
-                    raise ValueError(f"{refused}: a is {a} tenths, expected at most 200; b is {b:,} steps, expected at most 1,000,000")
-                found[name] = StrikeRule(a, b)
+                found[name] = checked(StrikeRule(a, b))
     return found
 
 
@@ -255,6 +283,8 @@ def read_instrument(given: Fields, quanta: dict[int, Hours]) -> Optional[Instrum
     strikes = read_strikes(given, step)
     board = given.take("board", two_shares, is_required=False)
     given.finish()
+    if given.table.get("rows") == [] and not given.table.get("holiday_rows"):
+        given.add("rows", "is empty, expected at least one row here or in holiday_rows")
     if has_strikes and limit is not None:
         given.add("threshold", "an instrument with strikes has no settlement price, so its days are never volatile: expected none")
     if board is not None and not 1 <= len(strikes) <= MOST_STRIKES:
