@@ -239,6 +239,9 @@ class Bulk:
         moves = np.zeros(pick.size, dtype=MOVE)
         moves["time"], good = table.times()
         good &= terms(moves, table, owner, what)
+        nameless = self.reader.scope.nameless()
+        if nameless:
+            good &= ~(np.isin(owner, nameless) & np.isin(what, (f.NEW, f.ASK)))
         moves["owner"], moves["seq"], moves["file"] = owner, piece.first + pick, len(self.reader.files) - 1
         moves["line"] = piece.lines(pick)
         if not good.all():

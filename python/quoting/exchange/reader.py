@@ -199,6 +199,7 @@ class LogReader:
 
     def new(self, values: Values, owner: int, ids: dict[str, bytes]) -> Move:
         values.one(11)
+        self.need_symbol(values, owner)
         if not self.rests(self.reports, values, owner):
             return self.made(values, f.UNRESTED, owner, **ids)
         side, volume, price = values.side(), values.volume(151), self.price(values, owner)
@@ -213,6 +214,11 @@ class LogReader:
             return self.made(values, what, owner, **ids)
         volume, price = values.volume(151), self.price(values, owner)
         return self.made(values, what, owner, price=price, volume=volume, **ids)
+
+    def need_symbol(self, values: Values, owner: int) -> None:
+        """A new order must say its symbol; other messages have that of the order that they name."""
+        if self.scope.is_nameless(owner):
+            values.one(55)
 
     def rests(self, book: Book, values: Values, owner: int) -> bool:
         wrong = values.unread_type()
@@ -235,6 +241,8 @@ class LogReader:
             return self.made(values, f.ASK_CANCEL, owner)
         if kind == b"G":
             values.one(41)
+        else:
+            self.need_symbol(values, owner)
         rests, side = self.rests(self.requests, values, owner), values.side()
         if not rests:
             return self.made(values, f.ASK_UNRESTED if kind == b"D" else f.ASK_REPLACE_UNRESTED, owner, side=side)
