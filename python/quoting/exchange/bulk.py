@@ -6,6 +6,7 @@ of which every value is as it should be.
 """
 
 from collections import Counter
+from decimal import Decimal
 from typing import TYPE_CHECKING, Any, Iterator
 
 import numpy as np
@@ -207,7 +208,7 @@ class Bulk:
             for code in np.flatnonzero(counts).tolist():
                 names = self.symbols.names[code // shape[1]], self.accounts.names[code % shape[1]]
                 book.others[f.text_of(names[0]), f.text_of(names[1])] += int(counts[code])
-        self.steps.learn([scope.step(name) for name, _ in scope.owners])
+        self.steps.learn([scope.step(name) or Decimal(1) for name, _ in scope.owners])
         return owner
 
     # ------------------------------------------------------------ reports and requests
@@ -238,6 +239,9 @@ class Bulk:
         moves = np.zeros(pick.size, dtype=MOVE)
         moves["time"], good = table.times()
         good &= terms(moves, table, owner, what)
+        nameless = self.reader.scope.nameless()
+        if nameless:
+            good &= ~(np.isin(owner, nameless) & np.isin(what, (f.NEW, f.ASK)))
         moves["owner"], moves["seq"], moves["file"] = owner, piece.first + pick, len(self.reader.files) - 1
         moves["line"] = piece.lines(pick)
         if not good.all():

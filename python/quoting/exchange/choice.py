@@ -6,7 +6,7 @@ from dataclasses import dataclass, field
 from decimal import Decimal
 from typing import Iterator, Optional, Sequence
 
-from quoting import inputs, reading, values
+from quoting import reading, values
 from quoting.exchange.book import Source
 from quoting.exchange.reader import SOURCES, LogReader
 from quoting.exchange.timelines import Timeline
