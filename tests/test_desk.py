@@ -1,20 +1,25 @@
 """`quoting desk`: the shipped month to the byte, random months against a plain reading, and faults of the files one by one."""
 
 import json
+import random
 import shutil
 import subprocess
+import sys
+from collections import Counter
 from hashlib import sha256
+from types import SimpleNamespace
 
 import pytest
 
 from quoting import calls as c
 from quoting import reading
-from quoting.desk import fields, programme, second_reading
+from quoting.desk import fields, programme, quanta, second_reading
 from quoting.desk.desks import Desk
 from quoting.desk.faults import DeskError, Faults
 from quoting.desk.outputs import Manner, settle
-from quoting.desk.quanta import blocks_of
+from quoting.desk.quanta import blocks_of, deals_of, without_deals
 from quoting.events import Add, Amend, Cancel, Deal, Tick, records
+from quoting.native import Missing
 from tests import command, desk_months, plain_desk
 from tests.paths import EXAMPLES, PROGRAMMES, QUOTING
 
@@ -441,3 +446,60 @@ def test_a_shipped_programme_has_the_rows_of_its_table(path, note):
             listed.setdefault(name, []).append(reading.row_words(words))
     assert {name: sorted(rows) for name, rows in found.items()} == {name: sorted(rows) for name, rows in listed.items()}
     note(f"desk: {sum(map(len, found.values()))} rows of {path.name} are those of its table")
+
+
+# ---------------------------------------------------------------- damaged files, and Python
+
+
+@pytest.mark.parametrize("name", [DESK, PROGRAMME, PRICES, CHARGES])
+def test_a_damaged_file_is_never_a_crash(desk, name, seed, note):
+    """Bytes changed, lines dropped, doubled and swapped at random: the desk is read, or its faults are named."""
+    rng, whole, kinds = random.Random(f"{seed} {name}"), (desk / name).read_bytes(), Counter()
+    for _ in range(150):
+        lines = whole.splitlines(keepends=True)
+        at, other = rng.randrange(len(lines)), rng.randrange(len(lines))
+        what = rng.choice(("drop", "double", "swap", "byte", "word"))
+        if what == "drop":
+            del lines[at]
+        elif what == "double":
+            lines.insert(other, lines[at])
+        elif what == "swap":
+            lines[at], lines[other] = lines[other], lines[at]
+        elif what == "byte":
+            line = bytearray(lines[at])
+            line[rng.randrange(len(line))] = rng.choice(b"\0\xff\"'[]{}=,-0 9%#\n")
+            lines[at] = bytes(line)
+        else:
+            words = lines[at].split(b" ")
+            words[rng.randrange(len(words))] = rng.choice((b"-1", b'"x"', b"[]", b"{}", b"1e9", b"true", b"1979-05-27", b"nan", b'""'))
+            lines[at] = b" ".join(words)
+        (desk / name).write_bytes(b"".join(lines))
+        try:
+            Desk.load(desk / "desk.toml")
+            kinds["read"] += 1
+        except DeskError as error:
+            kinds["faults"] += 1
+            assert all(fault.file and fault.what for fault in error.faults)
+    assert kinds["faults"] > 20, kinds
+    note(f"desk: 150 damaged copies of {name}", kinds)
+
+
+def test_without_numpy_the_records_are_the_same(monkeypatch):
+    events = [Add(0, 1, "buy", -5, 500), Add(1, 2, "sell", 7, 300), Amend(2, 1, -6, 7), Deal(3, 1, 2), Deal(4, 2, 300), Tick(5), Cancel(6, 1)]
+    data = records(events)
+    with_numpy = blocks_of(data), deals_of(data), without_deals(data)
+    monkeypatch.setattr(quanta, "numpy", None)
+    assert with_numpy == (blocks_of(data), deals_of(data), without_deals(data)) and with_numpy[1] == (2, 302)
+
+
+def test_tables_as_data_frames(monkeypatch):
+    """Where pandas is there; a stand-in shows what it is given."""
+    made = Desk.load(SHIPPED / "desk.toml").settle()
+    monkeypatch.setitem(sys.modules, "pandas", SimpleNamespace(DataFrame=lambda rows, columns: (rows, columns)))
+    rows, columns = made.cell_frame()
+    assert len(rows) == 42 and columns[-2:] == ["active", "passive"] and rows[0][8] == 8314860
+    assert made.month_frame()[0] == [["gold", 4, 11255633], ["platinum-mini", 5, 3423329]]
+    assert len(made.desk.plan_frame()[0]) == 42
+    monkeypatch.setitem(sys.modules, "pandas", None)
+    with pytest.raises(Missing, match="a DataFrame needs pandas"):
+        made.cell_frame()
