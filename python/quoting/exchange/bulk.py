@@ -16,7 +16,7 @@ from quoting.exchange.book import Book, Settled, reason_of
 from quoting.exchange.columns import Steps, windows
 from quoting.exchange.fields import Move
 from quoting.exchange.keys import WORDS, Names, first_of, keys_of, text_of_key
-from quoting.exchange.messages import found_at
+from quoting.exchange.messages import FIXT, found_at
 from quoting.exchange.orders import ABSENT, AMENDED, DEALT, NOTHING, REMOVED, Orders, Terms
 from quoting.exchange.reasons import Reasons
 from quoting.exchange.rows import PIECE, SLACK, Scan, Table, is_available
@@ -100,7 +100,7 @@ class Bulk:
     def piece(self, data: bytes, is_final: bool) -> tuple[int, bool]:
         """Reads the messages of one call; how many bytes they are, and whether there is more to read in these."""
         reader = self.reader
-        if b"\0" in data:
+        if b"\0" in data or FIXT in data:
             return reader.take(data, is_final), False
         buffer, rows, stop, is_full = self.scanned(data)
         piece = Piece(data, buffer, rows, reader.lines, reader.counts.messages + 1)
