@@ -16,7 +16,7 @@ from quoting.exchange.book import Book, Settled, reason_of
 from quoting.exchange.columns import Steps, windows
 from quoting.exchange.fields import Move
 from quoting.exchange.keys import WORDS, Names, first_of, keys_of, text_of_key
-from quoting.exchange.messages import FIXT, found_at
+from quoting.exchange.messages import found_at
 from quoting.exchange.orders import ABSENT, AMENDED, DEALT, NOTHING, REMOVED, Orders, Terms
 from quoting.exchange.reasons import Reasons
 from quoting.exchange.rows import PIECE, SLACK, Scan, Table, is_available
@@ -28,7 +28,7 @@ if TYPE_CHECKING:
 
 Array = Any
 REPORT, REJECT, D, F, G = b"8"[0], b"9"[0], b"D"[0], b"F"[0], b"G"[0]
-BAR = b"|"[0]
+BAR, NEWER = b"|"[0], b"FIXT."
 UNKNOWN, OTHER = -2, -1  # an owner that was not met yet; one whose messages are not read
 MOVE = np.dtype([
     ("time", "<i8"), ("what", "u1"), ("owner", "<i4"), ("cl", "<u8", 3), ("orig", "<u8", 3), ("oid", "<u8", 3), ("execution", "<u8", 2),
@@ -82,6 +82,7 @@ class Bulk:
     def __init__(self, reader: "LogReader") -> None:
         self.reader, self.scan, self.steps = reader, Scan(), Steps()
         self.symbols, self.accounts = Names(), Names()
+        self.buffer = np.zeros(PIECE + SLACK, dtype=np.uint8)
         self.has_bars = False  # | separated the fields of the last messages
         self.owners = np.zeros((0, 0), dtype=np.int64)  # by the numbers of symbol and account
 
@@ -100,7 +101,7 @@ class Bulk:
     def piece(self, data: bytes, is_final: bool) -> tuple[int, bool]:
         """Reads the messages of one call; how many bytes they are, and whether there is more to read in these."""
         reader = self.reader
-        if b"\0" in data or FIXT in data:
+        if b"\0" in data or NEWER in data:
             return reader.take(data, is_final), False
         buffer, rows, stop, is_full = self.scanned(data)
         piece = Piece(data, buffer, rows, reader.lines, reader.counts.messages + 1)
@@ -124,7 +125,9 @@ class Bulk:
         there is more to scan."""
         for _ in range(2):
             text = data.replace(b"|", b"\x01") if self.has_bars else data
-            buffer = np.frombuffer(text + bytes(SLACK), dtype=np.uint8)
+            buffer = self.buffer[: len(data) + SLACK]
+            buffer[: len(data)] = np.frombuffer(text, dtype=np.uint8)
+            buffer[len(data) :] = 0
             rows, stop, is_full = self.scan.rows(buffer, 0, len(data))
             broken = rows[rows[:, 2] != 0, 0].astype(np.int64)
             if self.has_bars or not broken.size or not (buffer[broken + 9] == BAR).any():
