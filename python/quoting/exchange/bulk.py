@@ -384,6 +384,10 @@ class Columns:
     def whole(self, name: str) -> Array:
         return np.concatenate([part[name] for part in self.parts])
 
+    def words(self, name: str, width: int = WORDS) -> list[Array]:
+        """The words of a column of keys, an array each."""
+        return [np.concatenate([part[name][:, word] for part in self.parts])[self.pick] for word in range(width)]
+
     def of(self, name: str) -> Array:
         """A column of the moves that count."""
         return self.whole(name)[self.pick]
@@ -402,11 +406,10 @@ class Columns:
 
     def drop_repeated(self) -> int:
         """Drops reports whose ExecID was read before of the same owner; how many."""
-        execution = self.of("execution").T
-        if not execution.size or not execution[0].any():
+        execution = self.words("execution", 2)
+        if not execution[0].any():
             return 0
-        found = np.concatenate([execution, self.of("owner").astype(np.uint64)[None, :]])
-        is_first = first_of(found) == np.arange(found.shape[1])
+        is_first = first_of([*execution, self.of("owner").astype(np.uint64)]) == np.arange(self.pick.size)
         repeated = int(np.count_nonzero(~is_first))
         if repeated:
             self.keep(is_first)
@@ -420,14 +423,13 @@ class Columns:
     def numbered(self, owners: int) -> list[Array]:
         """The ids as numbers by owner: ClOrdID, OrigClOrdID, and OrderID, or the day of a request."""
         owner, size = self.of("owner").astype(np.int64), self.pick.size
-        names = np.concatenate([self.of("cl").T, self.of("orig").T], axis=1)
-        first = first_of(names)
-        absent = names[0] == 0
+        names = [np.concatenate(pair) for pair in zip(self.words("cl"), self.words("orig"))]
+        first, absent = first_of(names), names[0] == 0
         del names
         made = [np.where(absent[part], ABSENT, first[part] * owners + owner) for part in (slice(size), slice(size, None))]
         if size and self.what[0] >= f.ASK:
             return [*made, self.time // f.DAY]
-        oid = self.of("oid").T
+        oid = self.words("oid")
         return [*made, np.where(oid[0] == 0, ABSENT, first_of(oid) * owners + owner)]
 
     def slices(self, owners: int) -> Iterator[Iterator[Terms]]:

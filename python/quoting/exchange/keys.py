@@ -54,7 +54,7 @@ def hashes(found: Array) -> Array:
 
 
 def first_of(found: Array) -> Array:
-    """For each key (a column of words) the place where it occurs first."""
+    """For each key, whose words are in some arrays, the place where it occurs first."""
     used = [part for part in found if part.any()] or [found[0]]
     hashed = hashes(used)
     order = np.argsort(hashed, kind="stable")
@@ -73,7 +73,7 @@ def first_of(found: Array) -> Array:
 
 def slow_first_of(found: Array) -> Array:
     places: dict[tuple[int, ...], int] = {}
-    return np.array([places.setdefault(key, at) for at, key in enumerate(zip(*found.tolist()))], dtype=np.int64)
+    return np.array([places.setdefault(key, at) for at, key in enumerate(zip(*(part.tolist() for part in found)))], dtype=np.int64)
 
 
 class Names:
