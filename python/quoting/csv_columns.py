@@ -110,7 +110,7 @@ class Cells:
         need(kind >= 0)
         is_add, has_price, has_volume = kind == 0, (kind == 0) | (kind == 3), (kind != 4) & (kind != 6)
         side = self.word("side", {**SIDES, b"": 0})
-        need((side > 0) == is_add)
+        need((side >= 0) & ((side > 0) == is_add))
         made = np.zeros(kind.size, dtype=dtype())
         made["kind"] = np.where(is_add, side, kind)
         t, id, volume = self.times(options), self.numbers("id", kind != 6, Decimal(1)), self.numbers("volume", has_volume, Decimal(1))

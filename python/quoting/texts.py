@@ -199,7 +199,7 @@ class CsvReader:
         if cells[0] == "row":
             self.head.take_row(cells[1:])
         elif cells[0] == "sp":
-            self.head.take_sp(cells[1:])
+            self.head.take_sp([cell.replace(",", ".") if self.options.decimal == "," else cell for cell in cells[1:]])
         else:
             self.names = self.header(cells)
         return b""

@@ -169,8 +169,9 @@ class LogReader:
 
     def made(self, values: Values, what: int, owner: int, **given: Any) -> Move:
         ids: dict[str, Any] = {"cl": values.maybe(11) or b"", "orig": values.maybe(41) or b"", "oid": b"", "execution": b""}
-        where: dict[str, Any] = {"file": len(self.files) - 1, "line": self.line, "seq": self.seq}
-        return Move(time=values.time(), what=what, owner=owner, **{**ids, "side": 0, "price": 0, "volume": 0, **given, **where})
+        where = {"file": len(self.files) - 1, "line": self.line, "seq": self.seq}
+        whole: dict[str, Any] = {**ids, "side": 0, "price": 0, "volume": 0, **given, **where}
+        return Move(time=values.time(), what=what, owner=owner, **whole)
 
     # ------------------------------------------------------------ reports
 
