@@ -91,6 +91,37 @@ enum quoting_refusal {
     QUOTING_ABOVE_SIXTY = 26
 };
 
+/* The kinds of a month's calls: the first word of a block (docs/FORMATS.md). OPEN_STRIKE is an open with a strike's four numbers in place of SP. */
+enum quoting_call {
+    QUOTING_CALL_OPEN = 1,
+    QUOTING_CALL_ADD = 2,
+    QUOTING_CALL_AMEND = 3,
+    QUOTING_CALL_CANCEL = 4,
+    QUOTING_CALL_DEAL = 5,
+    QUOTING_CALL_TICK = 6,
+    QUOTING_CALL_CLOSE = 7,
+    QUOTING_CALL_DROP = 8,
+    QUOTING_CALL_CHARGE = 9,
+    QUOTING_CALL_WITHDRAW = 10,
+    QUOTING_CALL_LOOK = 11,
+    QUOTING_CALL_REPORT = 12,
+    QUOTING_CALL_OPEN_STRIKE = 13,
+    QUOTING_CALL_ASK = 14,
+    QUOTING_CALL_COMMIT = 15,
+    QUOTING_CALL_MESSAGE = 16,
+    QUOTING_CALL_OUTLOOK = 17
+};
+
+/* The states of a quantum's orders: CROSSED where D is below 1, WIDE where it is above the spread limit. */
+enum quoting_state {
+    QUOTING_STATE_KEPT = 0,
+    QUOTING_STATE_NO_BID = 1,
+    QUOTING_STATE_NO_ASK = 2,
+    QUOTING_STATE_NEITHER = 3,
+    QUOTING_STATE_CROSSED = 4,
+    QUOTING_STATE_WIDE = 5
+};
+
 /* The kinds of an answer to a month's call: its word 0. */
 enum quoting_answer {
     QUOTING_ANSWER_ACCEPTED = 0,

@@ -34,7 +34,7 @@ SERIES = [(expiry, quantum) for expiry in (1, 2) for quantum in (0, 1, 2)]
 ROW = "1 1 8:45:00 1000 150 3 60%"
 H, MIN, S = 3_600_000, 60_000, 1_000
 CAME = 1_000_000.0
-ALTERING = (8, 9, 10)  # drop, charge, withdraw
+ALTERING = (c.Kind.DROP, c.Kind.CHARGE, c.Kind.WITHDRAW)
 START = "20261115-10:00:00.000"
 
 
@@ -65,7 +65,7 @@ def meter_of(text, day_start=0, start=None, step=None):
     """A meter that has taken the calls of a text; `start` is each open's."""
     meter = Meter("Brent", day_start, step)
     for line, block in enumerate(c.blocks(calls_text.to_bytes(text))[0], start=1):
-        meter.take(Sent(block, f"line {line}", start if block[0] in (1, 13) else None), CAME)
+        meter.take(Sent(block, f"line {line}", start if block[0] in c.OPENS else None), CAME)
     return meter
 
 
@@ -466,7 +466,7 @@ def test_lists(note):
     for blocks in lists:
         pair, often = Pair(), max(1, len(blocks) // 12)
         for at, block in enumerate(blocks):
-            if block[0] in ALTERING:  # what was made of the month before is old behind the call
+            if block[0] in ALTERING:  # what was made of the month before is old after the call
                 pair.compare_month(frames.month(pair.meter))
             pair.take(block)
             if at % often == 0 or at == len(blocks) - 1 or block[0] in ALTERING:

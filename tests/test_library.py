@@ -610,9 +610,9 @@ def test_header_alone(tmp_path, compiler, language, standard):
 
 def test_header_numbers():
     assert f'#define QUOTING_VERSION "{VERSION}"' in HEADER, "VERSION and the header differ"
-    for name, last in (("refusal", 27), ("answer", 6)):
+    for name, first, last in (("refusal", 0, 26), ("call", 1, 17), ("state", 0, 5), ("answer", 0, 5)):
         [enum] = re.findall(rf"^enum quoting_{name} {{(.*?)}}", HEADER, re.M | re.S)
-        assert re.findall(r" = (\d+)", enum) == [str(n) for n in range(last)], f"the numbers of enum quoting_{name}"
+        assert re.findall(r" = (\d+)", enum) == [str(n) for n in range(first, last + 1)], f"the numbers of enum quoting_{name}"
     for name, number in (("MONTH_WORDS", MONTH_WORDS), ("HINT_BYTES", HINT_BYTES), ("ANSWER_WORDS", ANSWER_WORDS)):
         assert f"#define QUOTING_{name} {number}\n" in HEADER, name
 
