@@ -138,7 +138,7 @@ def test_bad_lines(tmp_path):
     assert [at for at, item in enumerate(found, start=1) if isinstance(item, Sent)] == [1, 6, 15], found
     said = {item.place: item.text for item in found if isinstance(item, Trouble)}
     assert said["line 2"].startswith("'tock' is not known; a line begins with one of open, strike"), said
-    assert said["line 3"] == "this is no text (not UTF-8)"
+    assert said["line 3"] == "this is not a text: it is not UTF-8"
     assert said["line 4"] == "add takes t id side price volume, got 4 words: '1 2 buy 3'"
     assert said["line 5"] == said["line 7"] == "these words are not one call"
     options = Options(start=36_000_000, step=reading.Decimal("0.01"))

@@ -180,7 +180,7 @@ def test_other_bands():
     assert found["state"] == {"key": "unknown", "word": "not known", "since": "last kept"}, found["state"]
     assert found["feed"] == {"kind": "broken", "text": "Feed silent for 0:01:37, 4 calls read"}
     assert found["alert"]["head"] == "Feed silent for 0:01:37."
-    assert frames.day(meter, 5 * H, frames.Status("broken"), None)[0]["now_text"] == "last 14:00:00"
+    assert frames.day(meter, 5 * H, frames.Status("broken"), None)[0]["nowText"] == "last 14:00:00"
     closed = frames.Status("broken", CAME, why="standard input has closed")
     assert frames.sections(meter, 5 * H, closed)["feed"]["text"] == "Feed broken off: standard input has closed, 4 calls read"
     assert band(meter_of(opened() + QUOTES.format(t="0") + "tick 6:00:00", 10 * H), 6 * H, "broken")[3] == (
@@ -615,13 +615,13 @@ def test_ask_texts():
     assert meter_of(text).ask("5:00:01", "1", "8446", "1000", 0)["head"] == "Would keep"
     time_due = "h:mm:ss, or milliseconds from the quantum's start"
     for given, due in (
-        (("9:00:00", "1", "8446", "1000"), f"at: 9:00:00 is before the quantum's start, 10:00:00; expected is {time_due}."),
-        (("noon", "1", "8446", "1000"), f"at: 'noon' is not a number; expected is {time_due}."),
-        (("15:00", "1", "8446", "1000"), f"at: '15:00' is not a time h:mm:ss; expected is {time_due}."),
-        (("15:00:01", "", "8446", "1000"), "order: nothing is given; expected is the id of a live order."),
-        (("15:00:01", "1", "84.46", "1000"), "price: '84.46' is not a number; expected is a price."),
-        (("15:00:01", "1", "84,46", "1000"), "price: '84,46' is not a number; expected is a price."),
-        (("15:00:01", "1", "8446", "5e3"), "contracts: '5e3' is not a number; expected is a whole number of contracts."),
+        (("9:00:00", "1", "8446", "1000"), f"at: 9:00:00 is before the quantum's start, 10:00:00; expected {time_due}."),
+        (("noon", "1", "8446", "1000"), f"at: 'noon' is not a number; expected {time_due}."),
+        (("15:00", "1", "8446", "1000"), f"at: '15:00' is not a time h:mm:ss; expected {time_due}."),
+        (("15:00:01", "", "8446", "1000"), "order: nothing is given; expected the id of a live order."),
+        (("15:00:01", "1", "84.46", "1000"), "price: '84.46' is not a number; expected a price."),
+        (("15:00:01", "1", "84,46", "1000"), "price: '84,46' is not a number; expected a price."),
+        (("15:00:01", "1", "8446", "5e3"), "contracts: '5e3' is not a number; expected a whole number of contracts."),
     ):
         assert known.ask(*given, 0) == {"kind": "refused", "head": "Not understood", "lines": [due]}, (given, known.ask(*given, 0))
     steps = meter_of(text, start=START, step=Decimal("0.01"))

@@ -219,7 +219,7 @@ def test_a_damaged_word_is_refused_by_its_number(make: Callable[[], Month], note
             try:
                 found = Month.from_words(with_word(month, at, value))
             except ValueError as error:
-                assert re.match(r"these are no month's words: word [0-9]+, ", str(error)), error
+                assert re.match(r"these are not a month's words: word [0-9]+, ", str(error)), error
                 refused += 1
             else:
                 assert at in cells | COUNTS or (given[month_words.OPEN] and at in FREE), (at, value)
@@ -265,7 +265,7 @@ def test_the_message_names_the_word_and_what_it_is(at: int, value: int, said: st
     due = f"word {at}, {said}" if said else "word 272, an order's id, is 2, which another order has"
     if at == 611:  # its charge begins a word earlier
         due = due.replace("611", "610")
-    with pytest.raises(ValueError, match=re.escape(f"these are no month's words: {due}")):
+    with pytest.raises(ValueError, match=re.escape(f"these are not a month's words: {due}")):
         Month.from_words(with_word(quoted(), at, value))
 
 
@@ -296,5 +296,5 @@ def test_damaged_words_that_the_library_refuses_are_said_to_be_damaged(monkeypat
 
     monkeypatch.setattr(native, "call", refuse)
     for call in (month.report, month.view, month.glance, lambda: month.call(Add(0, 1, "buy", 1, 1))):
-        with pytest.raises(ValueError, match="^the words of this month are damaged: they are no month's$"):
+        with pytest.raises(ValueError, match="^the words of this month are damaged: they are not a month's$"):
             call()

@@ -257,7 +257,7 @@ def test_a_byte_0_in_a_text_is_named_with_its_line(name: str) -> None:
     words, text = LISTS[name]
     lines = text.splitlines(keepends=True)
     lines[-1] = lines[-1].replace("\n", "\0\n")
-    assert f"standard input: line {len(lines)}: a byte 0 is here: no text has one" in refused(*words, given="".join(lines))
+    assert f"standard input: line {len(lines)}: this line has a byte 0, and no text has one" in refused(*words, given="".join(lines))
 
 
 def test_bytes_are_still_bytes() -> None:
@@ -276,7 +276,7 @@ def test_bytes_are_still_bytes() -> None:
 ])
 def test_a_number_out_of_range_is_refused_with_the_range(words: list[str]) -> None:
     said = refused(*words, status=2)
-    assert re.search(r"error: argument .*: ('.*' is not a number|.* does not fit, it can be \d+ to \d+)\n$", said), said
+    assert re.search(r"error: argument .*: ('.*' is not a number|.* is out of range, it can be \d+ to \d+)\n$", said), said
     assert len(said) < 2_000
 
 

@@ -62,7 +62,7 @@ class Opening:
 
 
 def wrong(at: int, what: str) -> NoReturn:
-    raise ValueError(f"these are no month's words: word {at}, {what}")
+    raise ValueError(f"these are not a month's words: word {at}, {what}")
 
 
 def within(w: tuple[int, ...], at: int, span: Span, name: str) -> int:

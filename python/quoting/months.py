@@ -37,7 +37,7 @@ from quoting.views import MOST_WORDS as VIEW_WORDS
 from quoting.views import View, view_of
 
 HINT_BYTES = 2_048
-NO_CALL = 3  # the library's refusal of bytes that are not one block, and, at place 1, of words that are no month's
+NO_CALL = 3  # the library's refusal of bytes that are not one block, and, at place 1, of words that are not a month's
 STATE_WORD = 15  # of a view
 REPORT_BLOCK = c.block(c.Report())
 
@@ -64,7 +64,7 @@ def fresh_words() -> bytes:
 def raise_for(refused: Refused) -> NoReturn:
     """Raises a refusal of the call itself, which is no answer of the month."""
     if refused.number == NO_CALL and refused.place == 1:
-        raise ValueError("the words of this month are damaged: they are no month's")
+        raise ValueError("the words of this month are damaged: they are not a month's")
     if refused.number == NO_CALL:
         raise ValueError("these bytes are not one call")
     raise refused
@@ -152,7 +152,7 @@ class Month:
         >>> damaged[4 * 2460] = 1
         >>> Month.from_words(damaged)
         Traceback (most recent call last):
-        ValueError: these are no month's words: word 2454, whether the cell is filled, is 0, but others of its words are not 0
+        ValueError: these are not a month's words: word 2454, whether the cell is filled, is 0, but others of its words are not 0
         """
         given = month_words.read(words)
         due = cls._reopened(month_words.opening(given))
@@ -175,7 +175,7 @@ class Month:
             for order in opening.orders:
                 month.add(0, order.id, order.side, order.price, order.volume)
         except Refused as refused:
-            raise ValueError(f"these are no month's words: the quantum is {refused}") from None
+            raise ValueError(f"these are not a month's words: the quantum is {refused}") from None
         return month._words
 
     @classmethod

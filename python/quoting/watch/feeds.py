@@ -338,7 +338,7 @@ class ListLines:
                 return
             block = one_call(words, self.options)
         except UnicodeDecodeError:
-            yield Trouble(f"line {number}", "this is no text (not UTF-8)")
+            yield Trouble(f"line {number}", "this is not a text: it is not UTF-8")
         except (TextError, ValueError) as error:
             yield Trouble(f"line {number}", str(error))
         else:

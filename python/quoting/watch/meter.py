@@ -273,14 +273,14 @@ def field(name: str, text: str, read: Callable[[str], int]) -> int:
 
     >>> field("order", " ", int)
     Traceback (most recent call last):
-    ValueError: order: nothing is given; expected is the id of a live order
+    ValueError: order: nothing is given; expected the id of a live order
     """
     try:
         if not text.strip():
             raise ValueError("nothing is given")
         return read(plain(text))
     except ValueError as error:
-        raise ValueError(f"{name}: {error}; expected is {EXPECTED[name]}") from None
+        raise ValueError(f"{name}: {error}; expected {EXPECTED[name]}") from None
 
 
 def wall_text(moment: float, now: float) -> str:
