@@ -13,7 +13,6 @@ from typing import Optional, Sequence
 
 from quoting import calls as c
 from quoting import fix, inputs, logs, reading, texts, values
-from quoting.events import event_of, split
 from quoting.reading import Options, TextError
 from quoting.reports import Reports
 from quoting.reports import time_of as answer_time
@@ -276,15 +275,14 @@ def charge_of(header: list[str], cells: list[str]) -> tuple[tuple[int, ...], Cha
 
 def session_calls(path: Path, day: int, charged: Charged, options: Options) -> list[Sent]:
     """A session as an open, its events and a close."""
-    source = inputs.session_of(str(path), path.read_bytes(), options)
-    if len(source.data) < HEAD.size:
-        raise reading.failed(f"a session has at least {HEAD.size} bytes, and this one {len(source.data)}", str(path))
-    rule = Rule.of_bytes(source.data[: HEAD.size])
+    head, events = inputs.events_of(str(path), path.read_bytes(), options)
+    if len(head) < HEAD.size:
+        raise reading.failed(f"a session has at least {HEAD.size} bytes, and this one {len(head)}", str(path))
+    rule = Rule.of_bytes(head)
     made = [Sent(c.block(c.Open(rule.row.words, day, rule.sp, charged.lapses)), str(path))]
-    for at, record in enumerate(split(source.data[HEAD.size :]), start=1):
-        event = event_of(record)
+    for at, event in enumerate(events, start=1):
         if event is None:
-            raise reading.failed(f"record {at} is not a record", str(path))
+            raise reading.failed(f"record {at} is not an event", str(path))
         made.append(Sent(c.block(event), f"{path}: record {at}"))
     return [*made, Sent(c.block(c.Close(charged.active, charged.passive)), f"{path}: close")]
 
