@@ -2,11 +2,12 @@ r"""Two readings of one quantum beside each other: where they differ, and what r
 
 A reading is a session, which the meter reads, or a list of kept stretches, such as an exchange's own figures.
 
+>>> from quoting.events import Add, records
 >>> mine = Reading.of_session("day.session", EXAMPLE.head + records([Add(0, 1, "buy", 99, 500), Add(0, 2, "sell", 101, 500), Cancel(6000, 1)]))
 >>> theirs = Reading.of_list("theirs.csv", "start,end\n0:00:00,0:00:07.500\n", mine.length)
 >>> found = Comparison(mine, theirs)
 >>> found.differences, found.state_then
-([Difference(start=6000, end=7500, is_first=False)], 'no-bid')
+([Difference(start=6000, end=7500, is_first=False)], <State.NO_BID: 1>)
 """
 
 import csv
@@ -16,17 +17,18 @@ from io import StringIO
 from typing import Optional
 
 from quoting import reading
-from quoting.accounts import Stretch, account
-from quoting.events import Add, Cancel, Event, Tick, event_of, records, split
+from quoting.accounts import account
+from quoting.events import SIDES, Cancel, Event, Side, Tick, event_of, split
 from quoting.months import Month
-from quoting.rules import HEAD, Row, Rule
+from quoting.rows import HEAD, Row, Rule
 from quoting.sessions import session
+from quoting.states import State, Stretch
 from quoting.values import milliseconds
 from quoting.views import LiveOrder, View
 
 HEADER = ["start", "end"]
 EXAMPLE = Rule(Row(1, 1, 10_000, 500, 100, 1, "60%"), sp=2000)
-SIDES = {"no-bid": ("buy",), "no-ask": ("sell",)}  # the side that a state is about; the others are about both
+MISSING: dict[State, Side] = {State.NO_BID: "buy", State.NO_ASK: "sell"}  # the side that a state is about; the others are about both
 
 Span = tuple[int, int]  # from a start to an end, in milliseconds
 
@@ -156,26 +158,27 @@ class Comparison:
         return [] if self.metered is None or self.metered.data is None else account(self.metered.data[: HEAD.size], self.metered.data[HEAD.size :]).stretches
 
     @property
-    def state_then(self) -> Optional[str]:
+    def state_then(self) -> Optional[State]:
         """The session's state where the readings first differ."""
         if not self.differences:
             return None
         time = self.differences[0].start
-        return next((each.state for each in self.stretches if each.offset <= time < each.offset + each.length), None)
+        return next((each.state for each in self.stretches if each.offset <= time < each.end), None)
 
     @cached_property
     def resting(self) -> list[Resting]:
         """The orders of the side that the state is about, the best first, where the readings first differ."""
         if not self.differences or self.metered is None or self.metered.data is None:
             return []
-        return resting_at(self.metered.data, self.differences[0].start, SIDES.get(self.state_then or "", ("buy", "sell")))
+        one = None if self.state_then is None else MISSING.get(self.state_then)
+        return resting_at(self.metered.data, self.differences[0].start, [one] if one else list(SIDES))
 
 
 def covers(spans: list[Span], time: int) -> bool:
     return any(start <= time < end for start, end in spans)
 
 
-def resting_at(data: bytes, time: int, sides: tuple[str, ...]) -> list[Resting]:
+def resting_at(data: bytes, time: int, sides: list[Side]) -> list[Resting]:
     """The live orders of these sides after all events up to a time, by the meter's own view."""
     rule, month, last = Rule.of_bytes(data[: HEAD.size]), Month(), {}
     month.open(rule.row, 1, rule.sp)

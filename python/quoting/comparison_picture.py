@@ -3,21 +3,21 @@
 from typing import Iterator, Optional, Sequence
 from xml.sax.saxutils import escape
 
-from quoting.accounts import Stretch
 from quoting.comparison import Comparison, Reading, Resting
 from quoting.drawing import number, short
 from quoting.events import Amend
 from quoting.picture import Quote, played
+from quoting.states import State
 from quoting.values import HOUR, MINUTE, clock, milliseconds, part_text, share_text
 
 WIDTH, LEFT, WIDE = 900, 20, 860
 PLOT_TOP, PLOT_BOTTOM = 84, 208
 STRIP_TOPS, STRIP_HEIGHT = (250, 318), 32
 ZOOM_LEFT, ZOOM_WIDE, ZOOM_TOPS, ZOOM_HEIGHT = 470, 410, (396, 432), 30
-WORDS = {"kept": "kept", "no-bid": "no bid", "no-ask": "no ask", "neither": "neither quote", "crossed": "crossed", "wide": "too wide"}
+KEPT, LOST = "kept", "lost"  # fills, beside those of the other states
 
-STYLE = """svg { --paper: #ffffff; --ink: #1a1c1e; --soft: #545c62; --line: #c4cacf; --bid: #1f5fa8; --ask: #b23a20; --kept: #009e73; --good: #00614a; --bad: #b3001b; --noask: #d55e00; --neither: #6b7278; --wide: #e69f00; --crossed: #cc79a7 }
-@media (prefers-color-scheme: dark) { svg { --paper: #14171a; --ink: #eceff1; --soft: #a9b3bb; --line: #414a52; --bid: #7db7f0; --ask: #f2916f; --kept: #2bb58c; --good: #2bb58c; --bad: #ff8a8a; --noask: #f07f35; --neither: #9aa3aa; --wide: #f0b429; --crossed: #dd94bd } }
+STYLE = """svg { --paper: #ffffff; --ink: #1a1c1e; --soft: #545c62; --line: #c4cacf; --bid: #1f5fa8; --ask: #b23a20; --kept: #009e73; --good: #00614a; --bad: #b3001b; --no-ask: #d55e00; --neither: #6b7278; --wide: #e69f00; --crossed: #aa3377 }
+@media (prefers-color-scheme: dark) { svg { --paper: #14171a; --ink: #eceff1; --soft: #a9b3bb; --line: #414a52; --bid: #7db7f0; --ask: #f2916f; --kept: #2bb58c; --good: #2bb58c; --bad: #ff8a8a; --no-ask: #f07f35; --neither: #9aa3aa; --wide: #f0b429; --crossed: #dd7db3 } }
 text { font: 14px Helvetica, Arial, "Liberation Sans", sans-serif; fill: var(--ink) } .soft { fill: var(--soft) } .b { font-weight: bold } .title { font-size: 21px; font-weight: bold } .name { font-size: 16px; font-weight: bold }
 .good, .bad { font-size: 21px; font-weight: bold } .good { fill: var(--good) } .bad { fill: var(--bad) } .tbid { fill: var(--bid); font-weight: bold } .task { fill: var(--ask); font-weight: bold }
 .bid, .ask { fill: none; stroke-width: 2 } .bid { stroke: var(--bid) } .ask { stroke: var(--ask) } .frame { fill: none; stroke: var(--soft) } .tick { stroke: var(--soft) } .rule { stroke: var(--line) }
@@ -26,7 +26,7 @@ text { font: 14px Helvetica, Arial, "Liberation Sans", sans-serif; fill: var(--i
 
 PATTERNS = """<defs>
 <pattern id="p-no-bid" width="7" height="7" patternUnits="userSpaceOnUse"><rect width="7" height="7" fill="#56b4e9"/><path d="M0 0 7 7M-1 6 1 8M6 -1 8 1" stroke="#000" stroke-opacity=".6" stroke-width="1.2"/></pattern>
-<pattern id="p-no-ask" width="7" height="7" patternUnits="userSpaceOnUse"><rect width="7" height="7" fill="var(--noask)"/><path d="M0 7 7 0M-1 1 1 -1M6 8 8 6" stroke="#000" stroke-opacity=".6" stroke-width="1.2"/></pattern>
+<pattern id="p-no-ask" width="7" height="7" patternUnits="userSpaceOnUse"><rect width="7" height="7" fill="var(--no-ask)"/><path d="M0 7 7 0M-1 1 1 -1M6 8 8 6" stroke="#000" stroke-opacity=".6" stroke-width="1.2"/></pattern>
 <pattern id="p-neither" width="6" height="6" patternUnits="userSpaceOnUse"><rect width="6" height="6" fill="var(--paper)"/><circle cx="3" cy="3" r="1.5" fill="var(--neither)"/></pattern>
 <pattern id="p-wide" width="6" height="6" patternUnits="userSpaceOnUse"><rect width="6" height="6" fill="var(--wide)"/><path d="M0 1.5h6" stroke="#000" stroke-opacity=".6" stroke-width="1.2"/></pattern>
 <pattern id="p-crossed" width="6" height="6" patternUnits="userSpaceOnUse"><rect width="6" height="6" fill="var(--crossed)"/><path d="M1.5 0v6" stroke="#000" stroke-opacity=".6" stroke-width="1.2"/></pattern>
@@ -34,6 +34,7 @@ PATTERNS = """<defs>
 </defs>"""
 
 Span = tuple[int, int]
+Part = tuple[int, int, str]  # start, end and fill: a state's word, or LOST
 
 
 def text(x: float, y: float, words: str, kind: str = "", anchor: str = "start") -> str:
@@ -42,6 +43,10 @@ def text(x: float, y: float, words: str, kind: str = "", anchor: str = "start") 
 
 def ring(x: float, y: float, words: str) -> str:
     return f'<circle cx="{number(x)}" cy="{number(y)}" r="10.5" class="ring"/>' + text(x, y + 5, words, "in", "middle")
+
+
+def fill_of(name: str) -> str:
+    return "var(--kept)" if name == KEPT else f"url(#p-{name})"
 
 
 class TwoReadings:
@@ -61,34 +66,36 @@ class TwoReadings:
 
     # ------------------------------------------------------------ strips
 
-    def states(self, reading: Reading) -> Iterator[Stretch]:
+    def parts(self, reading: Reading) -> Iterator[Part]:
         """The stretches of a reading: of a session its account's, of a list kept and lost ones."""
         if reading is self.of.metered:
-            yield from self.of.stretches
+            yield from ((each.offset, each.end, each.state.word) for each in self.of.stretches)
             return
         last = 0
         for start, end in [*reading.kept, (self.length, self.length)]:
             if last < start:
                 yield from self.lost(last, start)
             if start < end:
-                yield Stretch(start, end - start, "kept")
+                yield start, end, KEPT
             last = end
 
-    def lost(self, start: int, end: int) -> Iterator[Stretch]:
+    def lost(self, start: int, end: int) -> Iterator[Part]:
         """Where a list has nothing kept, the session's states are drawn, as far as it does not keep it either."""
-        for each in self.of.stretches or [Stretch(start, end - start, "lost")]:
-            low, high = max(start, each.offset), min(end, each.offset + each.length)
+        if not self.of.stretches:
+            yield start, end, LOST
+        for each in self.of.stretches:
+            low, high = max(start, each.offset), min(end, each.end)
             if low < high:
-                yield Stretch(low, high - low, "lost" if each.state == "kept" else each.state)
+                yield low, high, LOST if each.state == State.KEPT else each.state.word
 
     def strip(self, reading: Reading, top: int, height: int, window: Optional[Span] = None) -> str:
         low, high = window or (0, self.length)
         left, wide = (ZOOM_LEFT, ZOOM_WIDE) if window else (LEFT, WIDE)
         drawn = []
-        for each in self.states(reading):
-            start, end = max(low, each.offset), min(high, each.offset + each.length)
+        for first, last, name in self.parts(reading):
+            start, end = max(low, first), min(high, last)
             if start < end:
-                fill = "var(--kept)" if each.state == "kept" else f"url(#p-{each.state})"
+                fill = fill_of(name)
                 x, width = left + wide * (start - low) / (high - low), wide * (end - start) / (high - low)
                 drawn.append(f'<rect x="{number(x)}" y="{top}" width="{number(width)}" height="{height}" fill="{fill}"/>')
         return "".join(drawn) + f'<rect x="{left}" y="{top}" width="{wide}" height="{height}" class="frame"/>'
@@ -157,7 +164,8 @@ class TwoReadings:
         for reading, top in zip((self.of.first, self.of.second), ZOOM_TOPS):
             drawn += self.strip(reading, top, ZOOM_HEIGHT, window)
             kept = (reading is self.of.first) == first.is_first
-            words = "kept" if kept else WORDS.get(self.of.state_then or "", "not kept") if reading is self.of.metered else "not kept"
+            state = self.of.state_then if reading is self.of.metered else None
+            words = KEPT if kept else "not kept" if state is None else state.label
             drawn += text((low + high) / 2, top + 20, words, "on" if kept else "b halo", "middle")
         drawn += f'<path d="M{number(low)} 392V468M{number(high)} 392V468" class="mark"/>'
         return drawn + text(low, 484, self.time(first.start), "b", "middle") + text(high, 484, self.time(first.end), "b", "middle")
@@ -174,12 +182,11 @@ class TwoReadings:
         return drawn + text(50, 478, f"for {clock(first.end - first.start).removesuffix('.000')}; {len(self.of.differences)} stretch{'es' * (len(self.of.differences) != 1)} in all.")
 
     def legend(self) -> str:
-        used = [state for state in WORDS if any(each.state == state for each in self.of.stretches)] or ["kept"]
+        used = sorted({each.state for each in self.of.stretches}) or [State.KEPT]
         drawn, x = "", LEFT
         for state in used:
-            fill = "var(--kept)" if state == "kept" else f"url(#p-{state})"
-            drawn += f'<rect x="{x}" y="496" width="24" height="14" fill="{fill}" stroke="var(--soft)"/>' + text(x + 31, 508, WORDS[state])
-            x += 60 + 8 * len(WORDS[state])
+            drawn += f'<rect x="{x}" y="496" width="24" height="14" fill="{fill_of(state.word)}" stroke="var(--soft)"/>' + text(x + 31, 508, state.label)
+            x += 60 + 8 * len(state.label)
         return drawn
 
     def hours(self) -> str:

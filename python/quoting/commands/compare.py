@@ -18,11 +18,11 @@ from typing import Any, Optional
 
 from quoting import inputs, output, reading, values
 from quoting.comparison import Comparison, Difference, Reading, Resting, is_list
-from quoting.comparison_picture import WORDS, two_readings
+from quoting.comparison_picture import two_readings
 from quoting.events import Add, Amend
 from quoting.native import Refused
 
-COLUMNS = 72  # signs of a strip in the terminal
+COLUMNS = 72  # characters of a strip in the terminal
 MOST_SHOWN = 10  # differences and orders that are listed
 
 
@@ -118,7 +118,7 @@ def text_of(comparison: Comparison, start: int) -> str:
     if len(found) > MOST_SHOWN:
         lines.append(f"  and {len(found) - MOST_SHOWN:,} more")
     if comparison.state_then is not None:
-        lines.append(f"At {shown(found[0].start, start)} the meter's state is: {WORDS[comparison.state_then]}. Orders of that side then:")
+        lines.append(f"At {shown(found[0].start, start)} the meter's state is: {comparison.state_then.label}. Orders of that side then:")
         lines += [resting_line(each, start) for each in comparison.resting[:MOST_SHOWN]] or ["  none"]
     return "\n".join(lines) + "\n"
 
@@ -128,7 +128,7 @@ def json_of(comparison: Comparison) -> dict[str, Any]:
         "readings": [{"name": each.name, "kept": each.total, "stretches": each.kept} for each in (comparison.first, comparison.second)],
         "length": comparison.first.length,
         "differences": [{"start": each.start, "end": each.end, "kept_by": 1 if each.is_first else 2} for each in comparison.differences],
-        "state": comparison.state_then,
+        "state": None if comparison.state_then is None else comparison.state_then.word,
         "resting": [{"id": each.order.id, "side": each.order.side, "price": each.order.price, "volume": each.order.volume,
                      "changed": values.milliseconds(each.last.t)} for each in comparison.resting],
     }
