@@ -160,7 +160,7 @@ class Browser:
         self.driver.execute_cdp_cmd("Emulation.setEmulatedMedia", {"features": features})
 
     def shoot(self, name, widths=(1280, 390), themes=("light", "dark")):
-        """Pictures to be looked at; nothing may stand out to the right, nor may a cell's text be cut."""
+        """Pictures to be looked at; nothing may stick out to the right, nor may a cell's text be cut."""
         SHOTS.mkdir(parents=True, exist_ok=True)
         for width in widths:
             self.size(width)

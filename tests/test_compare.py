@@ -59,7 +59,7 @@ def test_with_the_line_put_right_it_reads_what_the_meter_reads() -> None:
 
 
 def test_both_agree_on_every_prefix_until_it_shows() -> None:
-    """Cut behind each event, the rest of the day without any: up to 16:41:10 every cut gives the same stretches."""
+    """Cut after each event, the rest of the day without any: up to 16:41:10 every cut gives the same stretches."""
     lines, cuts = lines_of_session(), 0
     events = [at for at, line in enumerate(lines) if line.split("#")[0].split() and not line.startswith(("row", "sp"))]
     for at in events:

@@ -397,7 +397,7 @@ def ends_met(before, now, *ways):
 
 
 def try_promise(before, now, found, outlook):
-    """Does what the band says from the next millisecond on, since the present one goes as the orders stand; which band it was."""
+    """Does what the band says from the next millisecond on, since the present one goes as the orders are; which band it was."""
     length, then = before.quoting.row.length, now + 1
     is_kept = accounts.state(before.quoting.row, before.quoting.sp, before.quoting.live) == 0
     if found["kind"] == "lost":
@@ -448,7 +448,7 @@ def test_promises(note):
 
 
 def moments(rng, quoting):
-    """Some times to look at: the last event's, just behind it, anywhere, the end, and past it."""
+    """Some times to look at: the last event's, just after it, anywhere, the end, and past it."""
     if quoting is None:
         return [0]
     last, length = max([0, *(event.t for event in quoting.events)]), quoting.row.length

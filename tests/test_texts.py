@@ -91,7 +91,7 @@ def test_message_texts():
         assert calls.to_text(written) == f"message {start} frame {body}\n", line
     size = len(start) + len(data)
     assert written[:12] == packed(16, len(start), len(data)) and len(written) == 12 + size + -size % 4
-    # Each other sign, no bytes at all, and words of the text itself as bytes.
+    # Each other character, no bytes at all, and words of the text itself as bytes.
     for data, shown in [
         (b"", "-"), (b"-", r"\x2d"), (b"--", "--"), (b"frame", r"\x66rame"), (b"\x01\x01", "||"), (b"\\x41", r"\\x41"),
         (b"a|b\\c#d e\0\x7f\xff~", r"a\|b\\c\x23d\x20e\x00\x7f\xff~"),

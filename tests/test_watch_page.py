@@ -225,7 +225,7 @@ def test_fed(page):
         text = OPEN + QUOTES
         served.send(text)
         page.until("the quote is there", lambda seen: seen["stateKey"] == "kept")
-        seen = page.until("time goes on behind the last event", lambda seen: reading.time(seen["account-gone"]) > 1_200)
+        seen = page.until("time goes on after the last event", lambda seen: reading.time(seen["account-gone"]) > 1_200)
         assert hold(seen, blocks_of(text)) > 1_200
         served.send("tik 0:00:02\n")
         seen = page.until("the broken line is shown", lambda seen: seen["problems"])
@@ -309,7 +309,7 @@ def test_broken(page):
 # An edit of the recount, the last call that is sent, the call that is named, what differs. No answer shows the first, nothing but an answer
 # the second.
 EDITS = [
-    # locked quotes are kept: they differ once time has gone by at them, behind an agreement on what was before
+    # locked quotes are kept: they differ once time has gone by at them, after an agreement on what was before
     ("return gap >= 1 and narrow", "return gap >= 0 and narrow", "tick 4:30:00", "amend 2:12:00 1 8449 1000", "≠ kept"),
     # another event at the same time is refused for its time, and not since its order is not there
     ("if event.t < quoting.time:", "if event.t <= quoting.time and quoting.events:", "cancel 0:55:00 9", "cancel 0:55:00 9", "≠ answer"),

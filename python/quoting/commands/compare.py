@@ -69,7 +69,7 @@ def metered(source: inputs.Source) -> Reading:
 
 
 def strip(kept: list[tuple[int, int]], length: int) -> str:
-    """A sign for each part of the time: all of it kept, some, or none."""
+    """A character for each part of the time: all of it kept, some, or none."""
     shares = [0.0] * COLUMNS
     part = length / COLUMNS
     for start, end in kept:
@@ -79,11 +79,11 @@ def strip(kept: list[tuple[int, int]], length: int) -> str:
 
 
 def marks(comparison: Comparison) -> str:
-    part, signs = comparison.first.length / COLUMNS, [" "] * COLUMNS
+    part, marks = comparison.first.length / COLUMNS, [" "] * COLUMNS
     for each in comparison.differences:
         for column in range(int(each.start / part), min(COLUMNS, int((each.end - 1) / part) + 1)):
-            signs[column] = "^"
-    return "".join(signs).rstrip()
+            marks[column] = "^"
+    return "".join(marks).rstrip()
 
 
 def resting_line(resting: Resting, start: int) -> str:
