@@ -161,7 +161,7 @@ def test_the_words_of_every_month_are_taken(note: Note) -> None:
         w = month_words.read(month.words())
         assert Month.from_words(month.words()) == month
         count += 1
-        orders = [w[first + month_words.NUMBER] for first in month_words.SIDES.values()]
+        orders = [w[first + month_words.NUMBER] for first in month_words.SIDE_STARTS.values()]
         is_open = bool(w[month_words.OPEN])
         met["open"] += is_open
         met["strike"] += w[month_words.SPREAD]
@@ -199,7 +199,7 @@ COUNTS = {month_words.ACCEPTED, month_words.ACCEPTED + 1}
 # the spread limit goes by, as far as nothing else follows from them.
 FREE = {
     month_words.PLACE, month_words.LIMIT, month_words.TIME, month_words.KEPT, month_words.LAPSES, month_words.LAST,
-    *(first + at for first in month_words.SIDES.values() for at in range(month_words.KEYS, month_words.NUMBER)),
+    *(first + at for first in month_words.SIDE_STARTS.values() for at in range(month_words.KEYS, month_words.NUMBER)),
     month_words.ROW + 4, month_words.ROW + 5, *range(month_words.SPREAD + 1, month_words.CELLS),
 }
 

@@ -29,6 +29,7 @@ from quoting import calls as c
 from quoting import month_words, native, ranges
 from quoting.answers import WORDS, Answer, Asked, Cell, MonthReport, Outlook, answer_of, quote
 from quoting.events import Add, Amend, Cancel, Deal, Side, Tick
+from quoting.formats import counted
 from quoting.native import Refused
 from quoting.rows import Row
 from quoting.states import State
@@ -129,7 +130,7 @@ class Month:
         w = month_words.read(self.words())
         closed = sum(w[month_words.CELLS :: month_words.CELL_WORDS])
         day, expiry = w[month_words.PLACE] // 6 + 1, w[month_words.PLACE] // 3 % 2 + 1
-        orders = sum(w[first + month_words.NUMBER] for first in month_words.SIDES.values())
+        orders = sum(w[first + month_words.NUMBER] for first in month_words.SIDE_STARTS.values())
         opened = f"day {day} expiry {expiry} quantum {w[month_words.PLACE] % 3} open at {clock(w[month_words.TIME])} with {counted(orders, 'order')}"
         accepted = c.long(*w[month_words.ACCEPTED : month_words.ACCEPTED + 2])
         shown = f"{counted(accepted, 'call')} accepted, {counted(closed, 'quantum', 'quanta')} closed, {opened if w[month_words.OPEN] else 'none open'}"
@@ -326,11 +327,6 @@ def view_words(words: Any, view: Any) -> int:
         return native.call("quoting_month_view", words, month_words.COUNT, view, VIEW_WORDS)
     except Refused as refused:
         raise_for(refused)
-
-
-def counted(number: int, one: str, more: str = "") -> str:
-    """A number with its noun: 1 call, 2 calls."""
-    return f"{number} {one if number == 1 else more or one + 's'}"
 
 
 def answers_to(blocks: Iterable[bytes]) -> Iterator[Answer]:
