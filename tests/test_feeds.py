@@ -16,11 +16,13 @@ from quoting import fix, inputs, month_sources, reading
 from quoting.events import Tick
 from quoting.reading import PLAIN, Options, TextError
 from quoting.month_sources import Sent
+from quoting.watch import spans
 from quoting.watch import feeds, messages
 from quoting.watch.clocks import FeedClock, WallClock
 from quoting.watch.feeds import CallsFeed, Changed, Trouble
 from quoting.watch.messages import MessagesFeed
 from quoting.watch.playing import Playing
+from tests import placed_messages
 from tests import command
 from tests.paths import EXAMPLES, PROGRAMMES, ROOT
 
@@ -138,7 +140,7 @@ def test_bad_lines(tmp_path):
     assert [at for at, item in enumerate(found, start=1) if isinstance(item, Sent)] == [1, 6, 15], found
     said = {item.place: item.text for item in found if isinstance(item, Trouble)}
     assert said["line 2"].startswith("'tock' is not known; a line begins with one of open, strike"), said
-    assert said["line 3"] == "this is no text (not UTF-8)"
+    assert said["line 3"] == "this is not a text: it is not UTF-8"
     assert said["line 4"] == "add takes t id side price volume, got 4 words: '1 2 buy 3'"
     assert said["line 5"] == said["line 7"] == "these words are not one call"
     options = Options(start=36_000_000, step=reading.Decimal("0.01"))
@@ -148,7 +150,7 @@ def test_bad_lines(tmp_path):
 
 
 def test_starts(tmp_path):
-    """`start` gives the open behind it its start; one that no open follows is said, and the call is taken all the same."""
+    """`start` gives the open after it its start; one that no open follows is reported, and the call is taken all the same."""
     at = "20261102-10:00:00.000"
     text = f"start {at} BR\n# x\n{OPEN}\nstart {at}\nreport\nstart\nstart {at}\nstart 20261102-11:00:00.000\n{OPEN}\n{OPEN}\nstart {at} B\n"
     found = drained(Steps(tmp_path, data=text.encode()).feed(False))
@@ -177,7 +179,7 @@ def test_long_lines(tmp_path):
 
 
 def test_blocks(tmp_path):
-    """Whole blocks as they come; where no call stands nothing more is read."""
+    """Whole blocks as they come; where there is no call nothing more is read."""
     rng = random.Random(2)
     calls = [c.Open([1, 1, 10_000, 500, 100, 1, 600], 1, 2000), c.Open([1], 1, c.Strike(1, 2, 3, 4)), c.Withdraw(1, 1, 1), Tick(5)]
     calls += [c.Report()]
@@ -203,7 +205,7 @@ def test_blocks(tmp_path):
     feed = stopped.feed()
     drained(feed)
     append(stopped.path, c.block(c.Report()))
-    assert not drained(feed), "read on behind what is no call"
+    assert not drained(feed), "read on after what is not a call"
     for short in (b"\x06", c.pack([6]), c.pack([1, 7, 1])):
         feed = Steps(tmp_path, "short", written + short).feed(False)
         assert shown(drained(feed))[-1] == ("", f"stopped at word {word}: {feeds.NO_CALL}") and feed.ended == "end", short
@@ -223,7 +225,7 @@ def test_items_per_read(tmp_path):
 
 
 def test_bounded_read(tmp_path):
-    """A read that finds nothing to give ends after some pieces, and says that more stands there."""
+    """A read that finds nothing to give ends after some pieces, and says that there is more."""
     log = log_of(*(message(id, "10:00:01.000") for id in range(5_000)))
     for feed in (Steps(tmp_path, data=b"# a comment\n" * 50_000).feed(), Month(tmp_path, quantum("10:00:00.000"), log, follow=False).feed):
         reads, before = 0, 0
@@ -546,7 +548,7 @@ def test_months():
     """A finished month gives exactly the statement's calls."""
     for name in ("brent", "gold-mini"):
         calls, log = programme(name)
-        due = month_sources.from_list(calls, PLAIN, [log])
+        due = placed_messages.from_list(calls, PLAIN, [log])
         feed = MessagesFeed(log, calls, PLAIN, None, FeedClock(), False)
         found = drained(feed)
         assert sent_of(found) == due.calls and feed.ended == "end" and feed.skipped == 0, name
@@ -559,7 +561,7 @@ def test_growing_months(tmp_path):
     rng = random.Random(3)
     for name in ("brent", "gold-mini"):
         calls, log = programme(name)
-        due = month_sources.from_list(calls, PLAIN, [log]).calls
+        due = placed_messages.from_list(calls, PLAIN, [log]).calls
         month = Month(tmp_path, Path(calls).read_text())
         data, place, found = Path(log).read_bytes(), 0, []
         while place < len(data):
@@ -591,7 +593,7 @@ def test_any_months(tmp_path):
         sent = [message(id, time, rng.choice("AB")) for id, time in enumerate(times)]
         log = b"".join(each.replace(b"\x01", rng.choice([b"|", b"\x01"])) + rng.choice([b"\n", b"\r\n", b" "]) for each in sent)
         month = Month(tmp_path, calls, log + b"8=FIX.4.4|35=0|10=000|\n", follow=False)
-        due = month_sources.from_list(str(month.list), PLAIN, [str(month.log)])
+        due = placed_messages.from_list(str(month.list), PLAIN, [str(month.log)])
         found, in_no_quantum = drained(month.feed), len(due.left) - 1
         assert sent_of(found) == due.calls and due.left[-1].endswith("refused 20: 9, the length, does not follow 8"), due.left[-1]
         assert month.feed.skipped == in_no_quantum and month.feed.ended == "end"
@@ -613,14 +615,14 @@ def test_times():
         text = f"{day}-{rng.randrange(26):02}:{rng.randrange(62):02}:{rng.randrange(62):02}.{rng.randrange(1000):03}"
         text = text[: rng.choice([21, 21, 21, 17])] + rng.choice(["", "", "", "0", "\xb2"])
         data = f"35=D\x0160={text}\x0160=20261102-10:00:00.000\x01".encode("latin-1")
-        assert messages.time_of(data) == month_sources.time_of(data), data
+        assert messages.time_of(data) == spans.time_of(data), data
         read += messages.time_of(data) is not None
     assert 100 < read < 400, read
     assert messages.time_of(b"\x0135=D\x01") is None
 
 
 def test_time(tmp_path):
-    """An open comes when its start is seen, the call behind its messages when its end is past; no damaged message moves the time."""
+    """An open comes when its start is seen, the call after its messages when its end is past; no damaged message moves the time."""
     month = Month(tmp_path, quantum("10:00:00.000", "A") + quantum("10:00:20.000", "A", 2) + "report\n")
     assert month.read() == []
     assert month.more(message(1, "10:00:00.000")) == ["line 2", "log: line 1"]
@@ -668,13 +670,13 @@ def test_clock(tmp_path):
 
 
 def test_listed_later(tmp_path):
-    """An open that is written behind its messages gets them; the command's start stands for an open without one."""
+    """An open that is written after its messages gets them; an open without a start has the command's."""
     month = Month(tmp_path, "", log_of(message(1, "10:00:01.000"), message(2, "10:00:30.000"), message(3, None)))
     assert month.read() == [in_none(1)]
     assert month.feed.skipped == 3
     assert month.listed("report\n" + quantum("10:00:00.000").rsplit("\n", 2)[0]) == ["line 1"], "the last line has no end so far"
     assert month.listed("\n") == ["line 3", "log: line 1"] and month.feed.skipped == 2
-    assert month.more(message(4, "10:00:09.000")) == ["log: line 4"], "it stays open while nothing is listed behind it"
+    assert month.more(message(4, "10:00:09.000")) == ["log: line 4"], "it stays open while nothing is listed after it"
     assert month.listed("close 1 2\n") == ["line 4"]
     assert month.feed.count == month.list.stat().st_size + month.log.stat().st_size
     month = Month(tmp_path, f"{OPEN}\nclose 1 2\n", start="20261102-10:00:00.000")
@@ -850,13 +852,13 @@ def test_playing_clock(tmp_path):
     playing = Playing(Steps(tmp_path, data=f"{OPEN}\ndrop\n".encode()).feed(), 10, moments)
     playing.read()
     moments.time += 1
-    assert shown(playing.read()) == ["line 2"] and playing.ended is None and playing.now(None, 7, 0) == 7, "time goes on behind a drop"
+    assert shown(playing.read()) == ["line 2"] and playing.ended is None and playing.now(None, 7, 0) == 7, "time goes on after a drop"
 
 
 def test_played_months():
     """A month with messages comes whole and in order, each message at its time; the same at any steps."""
     calls, log = programme("brent")
-    due = [sent.place for sent in month_sources.from_list(calls, PLAIN, [log]).calls]
+    due = [sent.place for sent in placed_messages.from_list(calls, PLAIN, [log]).calls]
     for step in (0.25, 3.0):
         found, _ = played(MessagesFeed(log, calls, PLAIN, None, FeedClock(), False), 3_600, step)
         assert [place for _, items in found for place in items if isinstance(place, str)] == due, step
