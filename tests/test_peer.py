@@ -171,6 +171,9 @@ def truth_of(line: str, start: int) -> Add | Amend | Cancel | Deal:
 def test_quickfix_exchange(seed: int) -> None:
     """QuickFIX's acceptor answers as an exchange does; from its own log of both directions comes the K of what it did."""
     orders = morning(random.Random(seed), 120)
+    for order in orders:
+        if 44 in order.numbers:  # so that bids are below asks
+            order.numbers[44] = (8_400 if order.numbers[54] == BUY else 8_460) + order.numbers[44] % 50
     lines = peer("exchange", [order_line(order, True) for order in orders])
     log = b"\n".join(b"10:00:00 " + bytes.fromhex(line[5:]) for line in lines if line.startswith("wire "))
     start = milliseconds(START.decode())
