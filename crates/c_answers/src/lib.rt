@@ -1,15 +1,23 @@
 // What a call for C answers: one number, and the words or bytes that it puts at the front of a lent buffer.
 ghost use mathlib.Core.Path.{_≡_};
 ghost use mathlib.Core.List.{_++_};
-ghost use Prim.Native.Nat.{_≤_};
+ghost use Prim.Native.Nat.{_+_, _≤_};
 ghost use lib.ListN.{length, take, drop};
-ghost use Rattle.rules.specs.Answers.{accepted};
+ghost use Rattle.rules.specs.Answers.{numberOf, accepted};
 ghost use Rattle.c_answers.specs.Answers.{refusedNumber, Fills};
+use rules::Refusal;
 
 pub fn refused(n: u32) -> u64
     ensures { λ r. ⌜ r ≡ refusedNumber n ⌝ }
 {
     4294967296 * (n as u64)
+}
+
+// A refusal and its place.
+pub fn refused_at(refusal: Refusal, place: u32) -> u64
+    ensures { λ r. ⌜ r ≡ refusedNumber (numberOf refusal) + place ⌝ }
+{
+    refused(rules::number(refusal)) + (place as u64)
 }
 
 // Puts words at the front of a buffer that has room for them.
