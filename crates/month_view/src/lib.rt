@@ -8,7 +8,6 @@ ghost use lib.ListN.{length, getD};
 ghost use Rattle.rules.specs.declared.Row.{Row};
 ghost use Rattle.rules.specs.declared.SpreadRule.{SpreadRule};
 ghost use Rattle.rules.specs.declared.Event.{Event};
-ghost use Rattle.rules.specs.Records.{addKind};
 ghost use Rattle.rules.specs.Bounds.{EventBounds};
 ghost use Rattle.order_table.specs.Internal.{blankOrder};
 ghost use Rattle.quantum.specs.Represents.{quantumOf};
@@ -32,16 +31,6 @@ pub enum Viewed {
 
 // ---- the orders
 
-// 1 for a buy, 2 for a sell.
-fn side_word(side: Side) -> u32
-    ensures { λ r. ⌜ r ≡ addKind side ⌝ }
-{
-    match side {
-        Side::Buy => 1,
-        Side::Sell => 2,
-    }
-}
-
 fn put_order(order: Order, into: &mut [u32])
     requires { ⌜ length (now into) ≡ 4 ⌝ }
     ensures { λ _. ⌜ now (into .exit) ≡ orderWords order ⌝ }
@@ -51,7 +40,7 @@ fn put_order(order: Order, into: &mut [u32])
     let volume = order.volume;
     let four = [
         order.id,
-        side_word(side),
+        words::from_side(side),
         words::from_steps(price),
         volume.0,
     ];
