@@ -20,18 +20,6 @@ pub fn refused_at(refusal: Refusal, place: u32) -> u64
     refused(rules::number(refusal)) + (place as u64)
 }
 
-// Puts words at the front of a buffer that has room for them.
-fn put_words(words: &[u32], buffer: &mut [u32])
-    requires { ⌜ length (now words) ≤ length (now buffer) ⌝ }
-    ensures { λ _. ⌜ now (buffer .exit) ≡ now (words .entry) ++ drop (length (now (words .entry))) (now (buffer .entry)) ⌝ }
-{
-    let mut i = 0;
-    while i < words.len() {
-        buffer[i] = words[i];
-        i += 1;
-    }
-}
-
 // Puts the first n bytes at the front of a text that has room for them.
 fn put_bytes(bytes: &[u8], n: usize, text: &mut [u8])
     requires { ⌜ (n ≤ length (now bytes)) × (n ≤ length (now text)) ⌝ }
@@ -51,7 +39,7 @@ pub fn fill_words(words: &[u32], buffer: &mut [u32]) -> u64
     if buffer.len() < n {
         return refused(16);
     }
-    put_words(words, buffer);
+    lent::copy(words, &mut buffer[..n]);
     n as u64
 }
 
