@@ -60,7 +60,15 @@ fn fill_order(
     ensures { λ r. ⌜ Fills (accepted (kind ∷ id ∷ orig ∷ addKind side ∷ volume .0 ∷ unsignedOf (price .0) ∷ timeWords time)) (now (buffer .entry)) (now (buffer .exit)) r ⌝ }
 {
     let number = words::from_steps(price);
-    let words = message(kind, id, orig, words::from_side(side), volume.0, number, time);
+    let words = message(
+        kind,
+        id,
+        orig,
+        words::from_side(side),
+        volume.0,
+        number,
+        time,
+    );
     c_answers::fill_words(&words, buffer)
 }
 
