@@ -19,7 +19,8 @@ use Rattle.rules.specs.Records.{signedOf, wordBytes}
 use Rattle.rules.specs.Calls.{Call, Open, Send, Message, Ask, Commit, Close, Charge, Withdraw, Look}
 use Rattle.words.specs.Bytes.{bytesOf}
 use Rattle.words.proofs.Back.{bytes-append}
-use Rattle.call_blocks.specs.Kinds.{word, addDue, due, dueAt, blockSize, rowAt, openingAt, strikeOpeningAt, wideAt, amendmentAt, startAt, messageAt, sideOf, callBy, callOf}
+use Rattle.call_blocks.specs.Kinds.{word, addDue, due, dueAt, blockSize, rowAt, openingAt, strikeOpeningAt, wideAt, amendmentAt, startAt, messageAt, callBy, callOf}
+use Rattle.words.specs.Sides.{sideBy}
 use Rattle.call_blocks.specs.Reading.{callsOf, wordsRead}
 use Rattle.call_blocks.specs.Pieces.{telling, isTold}
 use Rattle.call_blocks.proofs.Sizes.{other-telling}
@@ -267,7 +268,7 @@ module _ (ws more : List ℕ) (kind : ℕ) (d : due kind ws ≤ length ws) (some
       let c = h 3 (omega arith) in
       let p = h 4 (omega arith) in
       let v = h 5 (omega arith) in
-      λ j. Send (Add (millis (a j)) (b j) (sideOf (c j)) (steps (signedOf (p j))) (contracts (v j))))
+      λ j. Send (Add (millis (a j)) (b j) (sideBy (c j)) (steps (signedOf (p j))) (contracts (v j))))
       (if-same (eqb kind 3)
       (λ e. ap (λ (a : Amendment). Send (Amend (a .t) (a .id) (a .price) (a .volume))) (amendment-stays 5 (has 3 e) 1 (omega arith)))
       (if-same (eqb kind 4)

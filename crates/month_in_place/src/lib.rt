@@ -21,6 +21,11 @@ ghost use Rattle.month.specs.Words.{HoldsMonth};
 ghost use Rattle.quantum_in_place.specs.Events.{HoldsQuantum, SaysEvent};
 ghost use Rattle.month_in_place.specs.Entry.{mayBeMonth};
 ghost use Rattle.month_in_place.specs.Events.{ChangesMonth, ShowsMonth};
+use month::CELLS_AT;
+use month::MONTH_WORDS;
+use month::QUANTUM_AT;
+use quantum::NOTES_AT;
+use quantum::TABLE_AT;
 use record::Fields;
 use rules::Amendment;
 use rules::Asked;
@@ -74,7 +79,7 @@ pub fn send(words: &mut [u32], hints: &mut [u8], f: Fields) -> u32
     if words[0] == 0 {
         return 7;
     }
-    let n = quantum_in_place::step(&mut words[6..604], hints, f);
+    let n = quantum_in_place::step(&mut words[QUANTUM_AT..CELLS_AT], hints, f);
     if 0 < n {
         return n;
     }
@@ -108,7 +113,7 @@ pub fn look(words: &[u32], day: u32, expiry: u32, quantum: u32) -> Looked
     if !ranges::cell(day, expiry, quantum) {
         return Looked::Refused(Refusal::ArgumentOutOfRange);
     }
-    let cell = cell_named(&words[604..2464], day, expiry, quantum);
+    let cell = cell_named(&words[CELLS_AT..MONTH_WORDS], day, expiry, quantum);
     if verdict::is_filled(cell) {
         return Looked::Found(verdict::view(cell));
     }
@@ -136,8 +141,8 @@ fn preview(words: &[u32], a: Amendment, count: u64) -> Preview
     requires { ⌜ HoldsQuantum (now words) × (length (now words) ≡ 598) ⌝ }
     ensures { λ r. ⌜ ((q : Quantum) → Sized q → now (words .entry) ≡ quantumWords q → Previewed q a count r) ⌝ }
 {
-    let bid = order_table::best(&words[10..522], Side::Buy);
-    let ask = order_table::best(&words[10..522], Side::Sell);
+    let bid = order_table::best(&words[TABLE_AT..NOTES_AT], Side::Buy);
+    let ask = order_table::best(&words[TABLE_AT..NOTES_AT], Side::Sell);
     Preview {
         bid,
         ask,
@@ -159,7 +164,7 @@ pub fn ask(words: &[u32], hints: &mut [u8], a: Amendment) -> Asked
     }
     let count = lent::wide(words[4], words[5]);
     let mut copy = [0u32; 598];
-    lent::copy(&words[6..604], &mut copy);
+    lent::copy(&words[QUANTUM_AT..CELLS_AT], &mut copy);
     let n = quantum_in_place::amend(&mut copy, hints, amend_fields(a));
     if 0 < n {
         return Asked::Refused(rules::refusal_of(n));

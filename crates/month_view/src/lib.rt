@@ -8,7 +8,6 @@ ghost use lib.ListN.{length, getD};
 ghost use Rattle.rules.specs.declared.Row.{Row};
 ghost use Rattle.rules.specs.declared.SpreadRule.{SpreadRule};
 ghost use Rattle.rules.specs.declared.Event.{Event};
-ghost use Rattle.rules.specs.Records.{addKind};
 ghost use Rattle.rules.specs.Bounds.{EventBounds};
 ghost use Rattle.order_table.specs.Internal.{blankOrder};
 ghost use Rattle.quantum.specs.Represents.{quantumOf};
@@ -18,6 +17,13 @@ ghost use Rattle.quantum_in_place.specs.Events.{HoldsQuantum};
 ghost use Rattle.month_in_place.specs.Entry.{mayBeMonth};
 ghost use Rattle.month_view.specs.Views.{orderWords, ordersWords, quotingWords, Shown, Views};
 ghost use Rattle.month_view.specs.Internal.{headFrom, Placed, Listed};
+use month::CELLS_AT;
+use month::MONTH_WORDS;
+use month::QUANTUM_AT;
+use quantum::NOTES_AT;
+use quantum::OPENING_AT;
+use quantum::QUANTUM_WORDS;
+use quantum::TABLE_AT;
 use rules::Order;
 use rules::Side;
 
@@ -32,16 +38,6 @@ pub enum Viewed {
 
 // ---- the orders
 
-// 1 for a buy, 2 for a sell.
-fn side_word(side: Side) -> u32
-    ensures { λ r. ⌜ r ≡ addKind side ⌝ }
-{
-    match side {
-        Side::Buy => 1,
-        Side::Sell => 2,
-    }
-}
-
 fn put_order(order: Order, into: &mut [u32])
     requires { ⌜ length (now into) ≡ 4 ⌝ }
     ensures { λ _. ⌜ now (into .exit) ≡ orderWords order ⌝ }
@@ -51,7 +47,7 @@ fn put_order(order: Order, into: &mut [u32])
     let volume = order.volume;
     let four = [
         order.id,
-        side_word(side),
+        words::from_side(side),
         words::from_steps(price),
         volume.0,
     ];
@@ -104,7 +100,7 @@ fn put_head(day: u32, allowed: u32, state: u32, count: u32, quantum: &[u32], int
     let first = [day];
     let last = [allowed, quantum[2], state, count];
     lent::copy(&first, &mut into[0..1]);
-    lent::copy(&quantum[586..598], &mut into[1..13]);
+    lent::copy(&quantum[OPENING_AT..QUANTUM_WORDS], &mut into[1..13]);
     lent::copy(&last, &mut into[13..17]);
 }
 
@@ -113,17 +109,17 @@ fn show(day: u32, allowed: u32, quantum: &[u32], buffer: &mut [u32]) -> Viewed
     requires { ⌜ HoldsQuantum (now quantum) × (length (now quantum) ≡ 598) ⌝ }
     ensures { λ r. ⌜ ((row : Row) (spread : SpreadRule) (events : List Event) → EventBounds row events → now (quantum .entry) ≡ quantumWords (quantumOf row spread events) → Shown (quotingWords day allowed row spread events) (now (buffer .entry)) (now (buffer .exit)) r) ⌝ }
 {
-    let count = order_table::count(&quantum[10..522]);
+    let count = order_table::count(&quantum[TABLE_AT..NOTES_AT]);
     let live = count as usize;
     let size = 17 + 4 * live;
     if buffer.len() < size {
         return Viewed::BufferShort;
     }
-    let state = order_table::state(&quantum[10..522], quantum[2]);
+    let state = order_table::state(&quantum[TABLE_AT..NOTES_AT], quantum[2]);
     put_head(day, allowed, state, count, quantum, &mut buffer[0..17]);
     put_orders(
-        &quantum[10..522],
-        &quantum[522..522 + live],
+        &quantum[TABLE_AT..NOTES_AT],
+        &quantum[NOTES_AT..NOTES_AT + live],
         &mut buffer[17..size],
     );
     Viewed::Written(size)
@@ -134,7 +130,7 @@ pub fn view(words: &[u32], buffer: &mut [u32]) -> Viewed
     requires { ⌜ (2464 ≤ length (now words) → mayBeMonth (now words) ≡ true → HoldsMonth (now words)) ⌝ }
     ensures { λ r. ⌜ Views (now (words .entry)) (now (buffer .entry)) (now (buffer .exit)) r ⌝ }
 {
-    if words.len() < 2464 {
+    if words.len() < MONTH_WORDS {
         return Viewed::WordsShort;
     }
     if !month_in_place::may_be_month(words) {
@@ -143,5 +139,10 @@ pub fn view(words: &[u32], buffer: &mut [u32]) -> Viewed
     if words[0] == 0 {
         return Viewed::Written(0);
     }
-    show(words[1] / 6 + 1, words[3], &words[6..604], buffer)
+    show(
+        words[1] / 6 + 1,
+        words[3],
+        &words[QUANTUM_AT..CELLS_AT],
+        buffer,
+    )
 }

@@ -21,7 +21,8 @@ use Rattle.words.specs.Bytes.{wordsIn}
 use Rattle.words.proofs.Bytes.{words-length}
 use Rattle.record.specs.declared.Fields.{Fields}
 use Rattle.record.specs.Fields.{fieldsFor}
-use Rattle.call_blocks.specs.Kinds.{word, due, dueAt, addDue, stepsAt, sideOf, blockSize, callBy, callOf}
+use Rattle.call_blocks.specs.Kinds.{word, due, dueAt, addDue, stepsAt, blockSize, callBy, callOf}
+use Rattle.words.specs.Sides.{sideBy}
 use Rattle.answer_words.specs.Words.{answerWords}
 use Rattle.month.specs.Words.{wordsAfter}
 use Rattle.quantum_in_place.specs.Events.{SaysEvent}
@@ -121,13 +122,13 @@ side-due : (side : ℕ) → (eqb side 1 || eqb side 2) ≡ true → addDue side 
 unfolding addDue
 side-due side h = ap (λ (b : Bool). if b then 6 else 0) h
 
-side-kind : (side : ℕ) → (eqb side 1 || eqb side 2) ≡ true → side ≡ addKind (sideOf side)
+side-kind : (side : ℕ) → (eqb side 1 || eqb side 2) ≡ true → side ≡ addKind (sideBy side)
 side-kind side h = go (eqb side 1) refl
   where
-    by : (n : ℕ) → n ≡ addKind (sideOf n) → side ≡ n → side ≡ addKind (sideOf side)
-    by n k e = e ∙ k ∙ ap (λ (x : ℕ). addKind (sideOf x)) (sym e)
+    by : (n : ℕ) → n ≡ addKind (sideBy n) → side ≡ n → side ≡ addKind (sideBy side)
+    by n k e = e ∙ k ∙ ap (λ (x : ℕ). addKind (sideBy x)) (sym e)
 
-    go : (b : Bool) → eqb side 1 ≡ b → side ≡ addKind (sideOf side)
+    go : (b : Bool) → eqb side 1 ≡ b → side ≡ addKind (sideBy side)
     go true e = by 1 refl (eqb-true side 1 e)
     go false e = by 2 refl (eqb-true side 2 (ap (λ (b : Bool). b || eqb side 2) (sym e) ∙ h))
 
@@ -136,7 +137,7 @@ pub add-said : (ws : List ℕ) (side t id volume : ℕ) (price : Steps) → side
 add-said ws side t id volume price s a b c d h =
     record {
       due = ap addDue (sym s) ∙ side-due side h;
-      fields = λ i. record { kind = (side-kind side h ∙ ap (λ (x : ℕ). addKind (sideOf x)) s) i; t = millis (a i); id = b i; price = c i; volume = contracts (d i) };
+      fields = λ i. record { kind = (side-kind side h ∙ ap (λ (x : ℕ). addKind (sideBy x)) s) i; t = millis (a i); id = b i; price = c i; volume = contracts (d i) };
     }
 
 -- ---- what becomes of it

@@ -14,7 +14,8 @@ use Rattle.rules.specs.Book.{after, answerOf}
 use Rattle.record.specs.declared.Fields.{Fields}
 use Rattle.record.specs.Fields.{fieldsFor}
 use Rattle.words.specs.Bytes.{wordsIn}
-use Rattle.call_blocks.specs.Kinds.{word, addDue, stepsAt, sideOf, callOf}
+use Rattle.call_blocks.specs.Kinds.{word, addDue, stepsAt, callOf}
+use Rattle.words.specs.Sides.{sideBy}
 use Rattle.answer_words.specs.Words.{answerWords}
 use Rattle.month.specs.Words.{wordsAfter}
 use Rattle.month_words.specs.Calling.{isCall, notes}
@@ -22,7 +23,7 @@ use Rattle.month_words.specs.Calling.{isCall, notes}
 -- ---- the event of a block of kind 2 to 6
 
 abbrev pub addIn : List ℕ → Event
-addIn ws = Add (millis (word ws 1)) (word ws 2) (sideOf (word ws 3)) (stepsAt ws 4) (contracts (word ws 5))
+addIn ws = Add (millis (word ws 1)) (word ws 2) (sideBy (word ws 3)) (stepsAt ws 4) (contracts (word ws 5))
 
 abbrev pub amendIn : List ℕ → Event
 amendIn ws = Amend (millis (word ws 1)) (word ws 2) (stepsAt ws 3) (contracts (word ws 4))

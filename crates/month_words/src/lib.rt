@@ -28,6 +28,7 @@ ghost use Rattle.month_words.specs.Internal.{amendIn, cancelIn, dealIn, 
 use call_blocks::Decoded;
 use call_step::Outcome;
 use call_step::Shown;
+use month::MONTH_WORDS;
 use month::Month;
 use record::Fields;
 use rules::Amendment;
@@ -37,9 +38,7 @@ use rules::Looked;
 use rules::Millis;
 use rules::Steps;
 
-// How many words a month has, how many bytes its hints, and how many words an answer.
-pub const MONTH: usize = 2464;
-
+// How many bytes the hints have, and how many words an answer.
 pub const HINTS: usize = 2048;
 
 pub const ANSWER: usize = 20;
@@ -59,7 +58,7 @@ pub enum Called {
 pub fn fresh(words: &mut [u32]) -> bool
     ensures { λ r. ⌜ (r ≡ leb 2464 (length (now (words .entry)))) × (now (words .exit) ≡ (if r then monthWords (monthOf (after paper [])) ++ drop 2464 (now (words .entry)) else now (words .entry))) ⌝ }
 {
-    if words.len() < MONTH {
+    if words.len() < MONTH_WORDS {
         return false;
     }
     let month = Month::fresh();
@@ -296,7 +295,7 @@ pub fn call(words: &mut [u32], hints: &mut [u8], bytes: &[u8], answer: &mut [u32
     requires { ⌜ (2464 ≤ length (now words) → mayBeMonth (now words) ≡ true → HoldsMonth (now words)) ⌝ }
     ensures { λ r. ⌜ Calling (now (words .entry)) (now (hints .entry)) (now (answer .entry)) (now (bytes .entry)) (now (words .exit)) (now (hints .exit)) (now (answer .exit)) r ⌝ }
 {
-    if words.len() < MONTH {
+    if words.len() < MONTH_WORDS {
         return Called::WordsShort;
     }
     if !month_in_place::may_be_month(words) {

@@ -10,6 +10,9 @@ ghost use Rattle.rules.specs.declared.Event.{Event};
 ghost use Rattle.rules.specs.declared.Event.the-variants.{Tick};
 ghost use Rattle.record.specs.Fields.{fieldsFor};
 ghost use Rattle.quantum_in_place.specs.Events.{HoldsFront, HoldsQuantum, SaysEvent, StepsFront, StepsWords};
+use quantum::NOTES_AT;
+use quantum::OPENING_AT;
+use quantum::TABLE_AT;
 use record::Fields;
 use rules::Millis;
 
@@ -21,7 +24,7 @@ fn step_front(words: &mut [u32], hints: &mut [u8], f: Fields) -> u32
 {
     let duty = clock::duty_in(&words[0..3]);
     let clock = clock::clock_in(&words[3..8]);
-    let stepped = events::step_fields(duty, clock, &mut words[10..522], hints, f);
+    let stepped = events::step_fields(duty, clock, &mut words[TABLE_AT..NOTES_AT], hints, f);
     let after = stepped.clock;
     let refusal = stepped.refusal;
     clock::put_clock(after, &mut words[3..8]);
@@ -53,7 +56,7 @@ pub fn amend(words: &mut [u32], hints: &mut [u8], f: Fields) -> u32
     requires { ⌜ HoldsQuantum (now words) × (length (now words) ≡ 598) × (length (now hints) ≡ 2048) × SaysEvent f × (f .kind ≡ 3) ⌝ }
     ensures { λ r. ⌜ ((e : Event) → f ≡ fieldsFor e → StepsWords (now (words .entry)) e (now (words .exit)) r) × (0 < r → now (hints .exit) ≡ now (hints .entry)) ⌝ }
 {
-    step_front(&mut words[0..522], hints, f)
+    step_front(&mut words[0..NOTES_AT], hints, f)
 }
 
 // Any event, on all 598 words: the notes follow one that is taken.
@@ -61,13 +64,13 @@ fn step_noted(words: &mut [u32], hints: &mut [u8], f: Fields) -> u32
     requires { ⌜ HoldsQuantum (now words) × (length (now words) ≡ 598) × (length (now hints) ≡ 2048) × SaysEvent f ⌝ }
     ensures { λ r. ⌜ ((e : Event) → f ≡ fieldsFor e → StepsWords (now (words .entry)) e (now (words .exit)) r) × (0 < r → now (hints .exit) ≡ now (hints .entry)) ⌝ }
 {
-    let had = order_table::count(&words[10..522]);
-    let refusal = step_front(&mut words[0..522], hints, f);
+    let had = order_table::count(&words[TABLE_AT..NOTES_AT]);
+    let refusal = step_front(&mut words[0..NOTES_AT], hints, f);
     if 0 < refusal {
         return refusal;
     }
-    let has = order_table::count(&words[10..522]);
-    order_arrivals::note(&mut words[522..586], had, has, f.id);
+    let has = order_table::count(&words[TABLE_AT..NOTES_AT]);
+    order_arrivals::note(&mut words[NOTES_AT..OPENING_AT], had, has, f.id);
     0
 }
 
