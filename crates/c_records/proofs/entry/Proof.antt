@@ -1,82 +1,60 @@
+-- The four tests in their order.
+use mathlib.Core.Path.{sym, _∙_}
+use lib.Dec.{leb}
+use lib.ListN.{length}
+use borrow.Author.Tests.{lt-leb, le-leb, not-true, not-false}
 use borrow.Author.Needs.{needs}
+use Rattle.month_in_place.specs.Entry.{mayBeMonth}
+use Rattle.c_records.proofs.Records.{words-short, foreign, hints-short, answer-short, all-there}
 use Rattle.c_records.proofs.entry.Statement.{statement}
 use Rattle.c_records.proofs.entry.Tie as tie
-use Rattle.c_records.proofs.entry.Reads as reads
-use Rattle.c_records.proofs.entry.Lts as lts
-use Rattle.c_answers.proofs.refused.Reads as refused-reads
-use Rattle.month_in_place.proofs.may_be_month.Reads as may-be-month-reads
 
--- src/lib.rt:18:16
-refused-requires : tie.Need-refused-requires
-refused-requires c κs = search needs
-
--- src/lib.rt:18:16
-add-result : tie.Need-add-result
-add-result c = search needs
-
--- src/lib.rt:18:9
 returns : tie.Need-returns
-returns c = ?
+returns c =
+    let a = c .before .before .before .before .before .args in
+    words-short (leb 2464 (length (a .words .now))) (mayBeMonth (a .words .now)) (leb 2048 (length (a .hints .now))) (leb 20 (length (a .answer .now))) (c .refused .result)
+    (lt-leb _ _ (c .before .if1 .taken)) (c .refused .ensures)
 
--- src/lib.rt:20:9
-may-be-month-requires : tie.Need-may-be-month-requires
-may-be-month-requires c κs = search needs
-
--- src/lib.rt:21:16
-refused-requires-2 : tie.Need-refused-requires-2
-refused-requires-2 c κs = search needs
-
--- src/lib.rt:21:16
-add-result-2 : tie.Need-add-result-2
-add-result-2 c = search needs
-
--- src/lib.rt:21:9
 returns-2 : tie.Need-returns-2
-returns-2 c = ?
+returns-2 c =
+    let a = c .before .before .before .before .before .before .before .args in
+    foreign (leb 2464 (length (a .words .now))) (mayBeMonth (a .words .now)) (leb 2048 (length (a .hints .now))) (leb 20 (length (a .answer .now))) (c .refused2 .result)
+    (le-leb _ _ (c .before .before .before .if1 .left)) (sym (c .before .before .may-be-month .ensures .0) ∙ not-true _ (c .before .if2 .taken)) (c .refused2 .ensures)
 
--- src/lib.rt:24:16
-refused-requires-3 : tie.Need-refused-requires-3
-refused-requires-3 c κs = search needs
-
--- src/lib.rt:24:16
-add-result-3 : tie.Need-add-result-3
-add-result-3 c = search needs
-
--- src/lib.rt:24:9
 returns-3 : tie.Need-returns-3
-returns-3 c = ?
+returns-3 c =
+    let a = c .before .before .before .before .before .before .before .before .args in
+    hints-short (leb 2464 (length (a .words .now))) (mayBeMonth (a .words .now)) (leb 2048 (length (a .hints .now))) (leb 20 (length (a .answer .now))) (c .refused3 .result)
+    (le-leb _ _ (c .before .before .before .before .if1 .left)) (sym (c .before .before .before .may-be-month .ensures .0) ∙ not-false _ (c .before .before .if2 .left)) (lt-leb _ _ (c .before .if3 .taken)) (c .refused3 .ensures)
 
--- src/lib.rt:27:16
-refused-requires-4 : tie.Need-refused-requires-4
-refused-requires-4 c κs = search needs
-
--- src/lib.rt:27:16
-add-result-4 : tie.Need-add-result-4
-add-result-4 c = search needs
-
--- src/lib.rt:27:9
 returns-4 : tie.Need-returns-4
-returns-4 c = ?
+returns-4 c =
+    let a = c .before .before .before .before .before .before .before .before .before .args in
+    answer-short (leb 2464 (length (a .words .now))) (mayBeMonth (a .words .now)) (leb 2048 (length (a .hints .now))) (leb 20 (length (a .answer .now))) (c .refused4 .result)
+    (le-leb _ _ (c .before .before .before .before .before .if1 .left)) (sym (c .before .before .before .before .may-be-month .ensures .0) ∙ not-false _ (c .before .before .before .if2 .left)) (le-leb _ _ (c .before .before .if3 .left)) (lt-leb _ _ (c .before .if4 .taken))
+    (c .refused4 .ensures)
 
--- src/lib.rt:14:1
 returns-5 : tie.Need-returns-5
-returns-5 c = ?
+returns-5 c =
+    let a = c .before .before .before .before .before .before .before .before .args in
+    all-there (leb 2464 (length (a .words .now))) (mayBeMonth (a .words .now)) (leb 2048 (length (a .hints .now))) (leb 20 (length (a .answer .now)))
+    (le-leb _ _ (c .before .before .before .before .if1 .left)) (sym (c .before .before .before .may-be-month .ensures .0) ∙ not-false _ (c .before .before .if2 .left)) (le-leb _ _ (c .before .if3 .left)) (le-leb _ _ (c .if4 .left))
 
 pub entry-spec : {M : Type 1} → statement M
 entry-spec =
     tie.close
     (tie.spec
-    refused-requires
-    add-result
+    (λ c κs. search needs)
+    (λ c. search needs)
     returns
-    may-be-month-requires
-    refused-requires-2
-    add-result-2
+    (λ c κs. search needs)
+    (λ c κs. search needs)
+    (λ c. search needs)
     returns-2
-    refused-requires-3
-    add-result-3
+    (λ c κs. search needs)
+    (λ c. search needs)
     returns-3
-    refused-requires-4
-    add-result-4
+    (λ c κs. search needs)
+    (λ c. search needs)
     returns-4
     returns-5)

@@ -1,98 +1,60 @@
+-- The buffers are tested, the records are sent, and the answer is written.
+use native.Mathlib.Omega.{arith}
+use mathlib.Core.Path.{refl}
+use lib.Seq.{length-take-le}
+use Rattle.c_records.proofs.Records.{entered, records-refused, records-taken}
 use borrow.Author.Needs.{needs}
 use Rattle.c_records.proofs.quoting_month_records.Statement.{statement}
 use Rattle.c_records.proofs.quoting_month_records.Tie as tie
-use Rattle.c_records.proofs.quoting_month_records.Reads as reads
-use Rattle.c_records.proofs.quoting_month_records.Lts as lts
-use Rattle.c_records.proofs.entry.Reads as entry-reads
-use Rattle.c_records.proofs.put_answer.Reads as put-answer-reads
-use Rattle.records_in_place.proofs.send.Reads as send-reads
 
--- src/lib.rt:56:9
-entry-requires : tie.Need-entry-requires
-entry-requires c κs = search needs
-
--- src/lib.rt:58:9
-same-length : tie.Need-same-length
-same-length c = search needs
-
--- src/lib.rt:58:9
-same-length-2 : tie.Need-same-length-2
-same-length-2 c = search needs
-
--- src/lib.rt:58:9
-same-length-3 : tie.Need-same-length-3
-same-length-3 c = search needs
-
--- src/lib.rt:58:9
 returns : tie.Need-returns
-returns c = ?
+returns c =
+    let a = c .before .before .before .before .before .before .before .before .before .args in
+    records-refused (a .words .now) (a .hints .now) (a .answer .now) (a .records .now) (c .before .entry .result) (c .before .entry .ensures) (c .if1 .taken)
 
--- src/lib.rt:60:47
-sub-send : tie.Need-sub-send
-sub-send c = search needs
-
--- src/lib.rt:60:47
-part-send-start : tie.Need-part-send-start
-part-send-start c = search needs
-
--- src/lib.rt:60:47
 part-send-end : tie.Need-part-send-end
-part-send-end c = ?
+part-send-end c =
+    let a = c .before .before .before .before .before .before .before .before .before .before .args in
+    entered (a .words .now) (a .hints .now) (a .answer .now) (c .before .before .entry .result) (c .before .before .entry .ensures) (c .before .if1 .left) .hints-fit
 
--- src/lib.rt:60:9
 send-requires : tie.Need-send-requires
-send-requires c κs = ?
+send-requires c κs =
+    let s = c .before .before .before .before .before .before .before .before .before .before .before in
+    let e = entered (s .args .words .now) (s .args .hints .now) (s .args .answer .now) (c .before .before .before .entry .result) (c .before .before .before .entry .ensures) (c .before .before .if1 .left) in
+    (s .pre (e .words-fit) (e .month), e .words-fit, length-take-le 2048 (s .args .hints .now) (e .hints-fit))
 
--- src/lib.rt:61:31
-sub-put-answer : tie.Need-sub-put-answer
-sub-put-answer c = search needs
-
--- src/lib.rt:61:31
-part-put-answer-start : tie.Need-part-put-answer-start
-part-put-answer-start c = search needs
-
--- src/lib.rt:61:31
 part-put-answer-end : tie.Need-part-put-answer-end
-part-put-answer-end c = ?
+part-put-answer-end c =
+    let a = c .before .before .before .before .before .before .before .before .before .before .before .before .before .before .before .before .args in
+    entered (a .words .now) (a .hints .now) (a .answer .now) (c .before .before .before .before .before .before .before .before .entry .result) (c .before .before .before .before .before .before .before .before .entry .ensures) (c .before .before .before .before .before .before .before .if1 .left) .answer-fits
 
--- src/lib.rt:61:5
-put-answer-requires : tie.Need-put-answer-requires
-put-answer-requires c κs = search needs
-
--- src/lib.rt:46:1
-same-length-4 : tie.Need-same-length-4
-same-length-4 c = search needs
-
--- src/lib.rt:46:1
-same-length-5 : tie.Need-same-length-5
-same-length-5 c = search needs
-
--- src/lib.rt:46:1
-same-length-6 : tie.Need-same-length-6
-same-length-6 c = search needs
-
--- src/lib.rt:46:1
 returns-2 : tie.Need-returns-2
-returns-2 c = ?
+returns-2 c =
+    let a = c .before .before .before .before .before .before .before .before .before .before .before .before .before .before .before .before .before .before .before .before .args in
+    let n = c .before .before .before .before .before .before .before .before .before .before .before .before .entry in
+    let x = c .before .before .before .before .before .before .before .before .send in
+    let k = c .before .before .put-answer in
+    records-taken (a .words .now) (a .hints .now) (a .answer .now) (a .records .now) (x .last .0) (x .last .1 .0) (k .last .1 .0) (n .result) (x .result) (n .ensures) (c .before .before .before .before .before .before .before .before .before .before .before .if1 .left)
+    (x .ensures .0) (x .ensures .1) (search needs) (x .ensures .2) (k .ensures)
 
 pub quoting-month-records-spec : {M : Type 1} → statement M
 quoting-month-records-spec =
     tie.close
     (tie.spec
-    entry-requires
-    same-length
-    same-length-2
-    same-length-3
+    (λ c κs. search needs)
+    (λ c. search needs)
+    (λ c. search needs)
+    (λ c. search needs)
     returns
-    sub-send
-    part-send-start
+    (λ c. search needs)
+    (λ c. search needs)
     part-send-end
     send-requires
-    sub-put-answer
-    part-put-answer-start
+    (λ c. search needs)
+    (λ c. search needs)
     part-put-answer-end
-    put-answer-requires
-    same-length-4
-    same-length-5
-    same-length-6
+    (λ c κs. search needs)
+    (λ c. search needs)
+    (λ c. search needs)
+    (λ c. search needs)
     returns-2)
