@@ -17,7 +17,7 @@ use Rattle.rules.specs.Records.{unsignedOf, unusedZero}
 use Rattle.record.specs.declared.Fields.{Fields}
 use Rattle.record.specs.Fields.{fieldsFor, goodFields, eventBy, readFields, numbers}
 use Rattle.record.proofs.Reading.{good-tick, says, says-not, only-fifteen, tick-by, fields-say}
-use Rattle.quantum_in_place.specs.Events.{SaysEvent, StepsFront, StepsWords, StepsFrontRead, StepsRead}
+use Rattle.quantum_in_place.specs.Events.{StepsFront, StepsWords, StepsFrontRead, StepsRead}
 use Rattle.quantum_in_place.proofs.Whole.{number-is, refused-words}
 
 -- ---- the id that good fields have is their event's
@@ -70,14 +70,6 @@ said-id f e = go (goodFields f) refl
     go true g h = let same : eventBy f ≡ e = cc in ap (λ (x : Event). fieldsFor x .id) (sym same) ∙ id-by f g
     go false g h = let z : _≡_ {A = ℕ} 0 1 = cc in absurd (omega arith)
 
--- fields of kind 3 are an amendment's, whatever they are
-pub says-amend : (f : Fields) → f .kind ≡ 3 → SaysEvent f
-says-amend f k =
-    record {
-      event = Amend (f .t) (f .id) (f .price) (f .volume);
-      is = λ i. record { kind = k i; t = f .t; id = f .id; price = f .price; volume = f .volume };
-    }
-
 -- ---- an event by its fields, and back
 
 module _ (ws ws′ : List ℕ) (f : Fields) (n : ℕ) where
@@ -92,9 +84,6 @@ module _ (ws ws′ : List ℕ) (f : Fields) (n : ℕ) where
 
   pub steps-read : (e : Event) → readFields f ≡ accepted e → StepsWords ws e ws′ n → StepsRead ws (readFields f) ws′ n
   steps-read e h s = subst (λ (o : Outcome Event). StepsRead ws o ws′ n) (sym h) s
-
-  pub amend-read : (y : SaysEvent f) → StepsWords ws (y .event) ws′ n → StepsRead ws (readFields f) ws′ n
-  amend-read y s = steps-read (y .event) (said-is (y .event) (y .is)) s
 
   pub tick-read : f .kind ≡ 6 → goodFields f ≡ true → StepsWords ws (Tick (f .t)) ws′ n → StepsRead ws (readFields f) ws′ n
   tick-read k g s = steps-read (Tick (f .t)) (sym (says f g (tick-by f k))) s

@@ -1,6 +1,6 @@
--- By the kind: a tick, an amendment, or other fields.
+-- By the kind: a tick, or other fields.
 use mathlib.Core.Path.{refl, sym, _∙_}
-use Rattle.quantum_in_place.proofs.AnyFields.{says-amend, amend-read, tick-read, none-read}
+use Rattle.quantum_in_place.proofs.AnyFields.{tick-read, none-read}
 use borrow.Author.Needs.{needs}
 use Rattle.quantum_in_place.proofs.step.Statement.{statement}
 use Rattle.quantum_in_place.proofs.step.Tie as tie
@@ -18,18 +18,6 @@ returns-2 c =
     let s = c .before .before .before .before .before .before in
     (none-read (s .args .words .now) (s .args .f) (sym (c .before .is-good .ensures) ∙ c .if2 .left), λ refused. refl)
 
-amend-requires : tie.Need-amend-requires
-amend-requires c κs =
-    let s = c .before .before .before .before .before .before .before in
-    (s .pre .0, s .pre .1, s .pre .2, says-amend (s .args .f) (c .before .before .if3 .taken), c .before .before .if3 .taken)
-
-returns-3 : tie.Need-returns-3
-returns-3 c =
-    let s = c .before .before .before .before .before .before .before .before .before .before .before .before in
-    let x = c .before .before .before .before .amend in
-    let y = says-amend (s .args .f) (c .before .before .before .before .before .before .before .if3 .taken) in
-    (amend-read (s .args .words .now) (x .last .0) (s .args .f) (x .result) y (x .ensures .0 (y .event) (y .is)), x .ensures .1)
-
 pub step-spec : {M : Type 1} → statement M
 step-spec =
     tie.close
@@ -39,10 +27,6 @@ step-spec =
     (λ c. search needs)
     returns
     returns-2
-    amend-requires
-    (λ c. search needs)
-    (λ c. search needs)
-    returns-3
     (λ c κs. search needs)
     (λ c. search needs)
     (λ c. search needs)
