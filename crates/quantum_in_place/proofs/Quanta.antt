@@ -13,11 +13,11 @@ use Rattle.rules.specs.Causes.{eventRefusal}
 use Rattle.rules.specs.Bounds.{EventBounds}
 use Rattle.clock.specs.declared.Duty.{Duty}
 use Rattle.clock.specs.declared.Clock.{Clock}
-use Rattle.events.specs.declared.Stepped.{Stepped}
+use Rattle.events.specs.declared.ClockAfter.{ClockAfter}
 use Rattle.quantum.specs.declared.Quantum.{Quantum}
 use Rattle.clock.specs.Clocks.{dutyOf}
 use Rattle.quantum.specs.Represents.{quantumOf}
-use Rattle.events.specs.Represents.{tableAfter, taken, ReachedParts, Represents, Stepping, SteppingRead}
+use Rattle.events.specs.Represents.{tableAfter, taken, ReachedParts, Represents, EventStepped, FieldsStepped}
 use Rattle.clock.specs.Words.{dutyWords, clockWords}
 use Rattle.quantum.proofs.Answers.{represents-all}
 use Rattle.quantum_in_place.specs.Events.{frontWords, HoldsFront, StepsFront, StepsFrontRead}
@@ -90,7 +90,7 @@ module _ (ws : List ℕ) (duty : Duty) (clock : Clock) (size : length ws ≡ 522
       ∙ ap (λ (l : List ℕ). dutyWords (q .duty) ++ (clock′ ++ (0 ∷ 0 ∷ (table ++ l)))) none
       ∙ ap (λ (l : List ℕ). dutyWords (q .duty) ++ (clock′ ++ (0 ∷ 0 ∷ l))) (append-nil table)
 
-  module _ (e : Event) (table clock′ : List ℕ) (r : Stepped) (stepped : Stepping duty clock e (take 512 (drop 10 ws)) table r) (put : clock′ ≡ clockWords (r .clock)) where
+  module _ (e : Event) (table clock′ : List ℕ) (r : ClockAfter) (stepped : EventStepped duty clock e (take 512 (drop 10 ws)) table r) (put : clock′ ≡ clockWords (r .clock)) where
     after-is : (row : Row) (sp : SpreadRule) (es : List Event) → EventBounds row es → ws ≡ frontWords (quantumOf row sp es)
         → clocked (tabled ws table) clock′ ≡ frontWords (quantumOf row sp (taken (eventRefusal row es e) es e))
     unfolding quantumOf
@@ -109,7 +109,7 @@ module _ (ws : List ℕ) (duty : Duty) (clock : Clock) (size : length ws ≡ 522
         }
 
   -- fields that say no event leave the words
-  stays : (table clock′ : List ℕ) (r : Stepped) (k : ℕ) → HoldsFront ws → (r .clock ≡ clock) × (r .refusal ≡ k) × (table ≡ take 512 (drop 10 ws)) → clock′ ≡ clockWords (r .clock)
+  stays : (table clock′ : List ℕ) (r : ClockAfter) (k : ℕ) → HoldsFront ws → (r .clock ≡ clock) × (r .refusal ≡ k) × (table ≡ take 512 (drop 10 ws)) → clock′ ≡ clockWords (r .clock)
       → (r .refusal ≡ k) × (clocked (tabled ws table) clock′ ≡ ws)
   stays table clock′ r k h s put =
       let q = h .quantum in
@@ -117,7 +117,7 @@ module _ (ws : List ℕ) (duty : Duty) (clock : Clock) (size : length ws ≡ 522
       let held : table ≡ q .table = s .2 ∙ table-part ws q (h .is) size in
       (s .1, laid table clock′ q (h .is) ∙ (λ i. dutyWords (q .duty) ++ (same i ++ (0 ∷ 0 ∷ held i))) ∙ sym (h .is))
 
-  pub front-read : (o : Outcome Event) (table clock′ : List ℕ) (r : Stepped) → HoldsFront ws → SteppingRead duty clock o (take 512 (drop 10 ws)) table r → clock′ ≡ clockWords (r .clock)
+  pub front-read : (o : Outcome Event) (table clock′ : List ℕ) (r : ClockAfter) → HoldsFront ws → FieldsStepped duty clock o (take 512 (drop 10 ws)) table r → clock′ ≡ clockWords (r .clock)
       → StepsFrontRead ws o (clocked (tabled ws table) clock′) (r .refusal)
   front-read (accepted e) table clock′ r h s put = steps-front e table clock′ r s put
   front-read (refused k) table clock′ r h s put = stays table clock′ r k h s put
