@@ -57,7 +57,7 @@ pub fn may_be_month(words: &[u32]) -> bool
 // ---- the calls
 
 // One more accepted call, in the count's two words.
-fn count_on(words: &mut [u32])
+pub fn count_on(words: &mut [u32])
     requires { ⌜ length (now words) ≡ 2 ⌝ }
     ensures { λ _. ⌜ now (words .exit) ≡ low (following (getD (now (words .entry)) 0 0 + 4294967296 * getD (now (words .entry)) 1 0)) ∷ high (following (getD (now (words .entry)) 0 0 + 4294967296 * getD (now (words .entry)) 1 0)) ∷ [] ⌝ }
 {
