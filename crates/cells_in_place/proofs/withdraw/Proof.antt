@@ -17,7 +17,6 @@ use Rattle.cells_in_place.proofs.withdraw.Tie as tie
 good : (k : tie.Else1) → let a = k .before .before .before .args in goodCell (a .day) (a .expiry) (a .quantum) ≡ true
 good k = sym (k .before .cell .ensures) ∙ not-false _ (k .if1 .left)
 
-
 returns : tie.Need-returns
 returns c =
     let a = c .before .before .before .before .args in
