@@ -158,7 +158,10 @@ fn refuses_add(words: &[u32], t: Millis, orig: u32, order: Order) -> u32
     let volume = order.volume;
     let id = order.id;
     first_of(
-        number_where(both(differ(id, orig), has_order(words, id)), Refusal::IdLive),
+        number_where(
+            both(differ(id, orig), has_order(words, id)),
+            Refusal::IdLive,
+        ),
         number_where(
             fails(in_range(price, volume)),
             Refusal::PriceOrVolumeOutOfRange,
@@ -217,13 +220,7 @@ fn cancel_order(words: &mut [u32], hints: &mut [u8], when: Elapsed, id: u32, ori
 }
 
 // The cancel and the add of a G, both or neither: what refuses the add is known before the cancel is made.
-fn both_or_neither(
-    words: &mut [u32],
-    hints: &mut [u8],
-    t: Millis,
-    orig: u32,
-    order: Order,
-) -> u32
+fn both_or_neither(words: &mut [u32], hints: &mut [u8], t: Millis, orig: u32, order: Order) -> u32
     requires { ⌜ HoldsMonth (now words) × (2464 ≤ length (now words)) × (length (now hints) ≡ 2048) ⌝ }
     ensures { λ r. ⌜ BothOrNeither (now (words .entry)) t orig order (now (words .exit)) r × (0 < r → now (hints .exit) ≡ now (hints .entry)) ⌝ }
 {
@@ -246,13 +243,7 @@ fn both_or_neither(
 }
 
 // G: that cancel and an add. Its side is that of the order that 41 names, where there is one.
-fn replace_order(
-    words: &mut [u32],
-    hints: &mut [u8],
-    when: Elapsed,
-    orig: u32,
-    order: Order,
-) -> u32
+fn replace_order(words: &mut [u32], hints: &mut [u8], when: Elapsed, orig: u32, order: Order) -> u32
     requires { ⌜ HoldsMonth (now words) × (2464 ≤ length (now words)) × (length (now hints) ≡ 2048) ⌝ }
     ensures { λ r. ⌜ MessageChanges (now (words .entry)) (replacedAt order orig) (shownElapsed when) (now (words .exit)) r × (0 < r → now (hints .exit) ≡ now (hints .entry)) ⌝ }
 {
