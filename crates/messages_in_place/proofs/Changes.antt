@@ -4,12 +4,12 @@ use native.Mathlib.Omega.{arith}
 use mathlib.Core.Path.{_≡_, refl, sym, ap, _∙_}
 use mathlib.Core.Bool.{true, false}
 use mathlib.Core.List.{List, [], _∷_, _++_}
-use lib.ListN.{length, getD, take, drop, length-append, length-drop}
+use lib.ListN.{length, getD, take, drop, length-append}
 use lib.Seq.{take-at, drop-at}
 use Rattle.rules.specs.declared.Event.{Event}
 use Rattle.rules.specs.Terms.{paper}
-use Rattle.rules.specs.Answers.{outcomeBy, done}
-use Rattle.rules.specs.Calls.{Call, Send, Book, Running, Quoting, isOpen}
+use Rattle.rules.specs.Answers.{done}
+use Rattle.rules.specs.Calls.{Call, Send, Book, Running, isOpen}
 use Rattle.rules.specs.Causes.{eventRefusal, refusalOf, causes, sendCauses, firstNumber}
 use Rattle.rules.specs.Changes.{changed, noted}
 use Rattle.rules.specs.Book.{answerOf, step, after}
@@ -26,7 +26,7 @@ use Rattle.month.proofs.Calls.{send-refusal}
 use Rattle.month.proofs.Words.{month-fits, month-length, quantum-in}
 use Rattle.month_in_place.specs.Events.{ChangesMonth}
 use Rattle.month_in_place.proofs.Months.{whole, flag-is, flag-on, flag-off}
-use Rattle.messages_in_place.specs.Internal.{OfEvents, Refuses, RefusesThen}
+use Rattle.messages_in_place.specs.Internal.{Refuses, RefusesThen}
 
 -- ---- refused: the words stay
 

@@ -14,7 +14,6 @@ use Rattle.rules.specs.declared.Order.{Order}
 use Rattle.rules.specs.declared.Steps.{Steps}
 use Rattle.rules.specs.declared.Contracts.{Contracts}
 use Rattle.rules.specs.declared.Event.{Event}
-use Rattle.rules.specs.declared.Event.the-variants.{Cancel}
 use Rattle.rules.specs.Terms.{paper}
 use Rattle.rules.specs.Answers.{Outcome, accepted, refused, outcomeBy, done}
 use Rattle.rules.specs.Dates.{Moment, before, at, late}
@@ -25,7 +24,6 @@ use Rattle.rules.specs.Quotes.{same}
 use Rattle.rules.specs.Calls.{Call, Send, Message, Book, isOpen}
 use Rattle.rules.specs.Causes.{otherSideIn, refusalOf}
 use Rattle.rules.specs.Book.{answerOf, step, after}
-use Rattle.rules.proofs.Answers.{accepted-by}
 use Rattle.rules.proofs.Bounds.{bounds, after-snoc}
 use Rattle.rules.proofs.MessageCalls.{unread, wrong-side, none-open, early, past, one-step, one-answer, first-refused, second-refusal, both-step}
 use Rattle.fix_dates.specs.declared.Elapsed.{Elapsed}
@@ -35,11 +33,11 @@ use Rattle.fix_events.specs.Internal.{atTime}
 use Rattle.fix_events.proofs.Messages.{side-is}
 use Rattle.quantum.specs.Words.{quantumWords}
 use Rattle.month.specs.Represents.{monthOf}
-use Rattle.month.specs.Words.{monthWords, wordsAfter, HoldsMonth}
+use Rattle.month.specs.Words.{monthWords, wordsAfter}
 use Rattle.month.proofs.Fields.{in-book}
 use Rattle.month.proofs.Words.{month-fits, quantum-in}
 use Rattle.month_in_place.specs.Events.{ChangesMonth}
-use Rattle.messages_in_place.specs.Internal.{firstOf, noneOpenOr, OfEvents, Refuses, RefusesThen, addOf, replacedAt, MessageChanges, BothOrNeither}
+use Rattle.messages_in_place.specs.Internal.{firstOf, noneOpenOr, OfEvents, Refuses, RefusesThen, replacedAt, MessageChanges, BothOrNeither}
 use Rattle.messages_in_place.proofs.Changes.{stays, changes-as, both-refused, number-is, open-book, closed-book, refuses-is, refuses-then, between-is, behind-is, passed-first, passed-second, second-is}
 
 -- ---- a message that is read, or not

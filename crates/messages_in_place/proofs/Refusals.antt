@@ -6,7 +6,7 @@ use mathlib.Core.List.{List, [], _∷_, _++_}
 use mathlib.Core.Bool.{Bool, true, false, false≢true, not, _&&_, _||_}
 use lib.Dec.{eqb, ltb, leb}
 use lib.ListN.{length, getD, take, drop}
-use borrow.Author.Tests.{le-ltb, lt-leb, eqb-true, eqb-false, eq-eqb, ne-eqb}
+use borrow.Author.Tests.{le-ltb, lt-leb, eqb-true, eqb-false}
 use Rattle.lists.specs.Lists.{if_then_else_, filter, any}
 use Rattle.lists.proofs.Members.{length-filter}
 use Rattle.rules.specs.declared.Millis.{Millis}
@@ -17,12 +17,12 @@ use Rattle.rules.specs.declared.Event.{Event}
 use Rattle.rules.specs.declared.Event.the-variants.{Cancel}
 use Rattle.rules.specs.declared.Amendment.{Amendment}
 use Rattle.rules.specs.Units.{goodPrice, goodVolume}
-use Rattle.rules.specs.Orders.{hasId, isLive, live, apply, timeOf, present}
+use Rattle.rules.specs.Orders.{hasId, isLive, live, apply, present}
 use Rattle.rules.specs.Calls.{amendOf}
 use Rattle.rules.specs.Causes.{cause, firstNumber, eventCauses, eventRefusal}
 use Rattle.rules.specs.Bounds.{EventBounds}
 use Rattle.rules.proofs.Orders.{live-snoc, present-snoc}
-use Rattle.rules.proofs.Refusals.{skip, clear, event-passes}
+use Rattle.rules.proofs.Refusals.{skip, event-passes}
 use Rattle.order_table.specs.Table.{tableOf}
 use Rattle.clock.specs.Clocks.{dutyOf, clockOf}
 use Rattle.quantum.specs.Represents.{quantumOf}

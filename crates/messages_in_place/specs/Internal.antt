@@ -12,11 +12,11 @@ use Rattle.rules.specs.declared.Refusal.{Refusal}
 use Rattle.rules.specs.declared.Row.{Row}
 use Rattle.rules.specs.declared.SpreadRule.{SpreadRule}
 use Rattle.rules.specs.declared.Event.{Event}
-use Rattle.rules.specs.declared.Event.the-variants.{Add, Cancel}
+use Rattle.rules.specs.declared.Event.the-variants.{Add}
 use Rattle.rules.specs.Terms.{paper}
 use Rattle.rules.specs.Answers.{Outcome, accepted, numberOf}
 use Rattle.rules.specs.Dates.{Moment, at}
-use Rattle.rules.specs.Messages.{Message, newOrder, cancelOrder, replaceOrder}
+use Rattle.rules.specs.Messages.{Message, newOrder, replaceOrder}
 use Rattle.rules.specs.MessageCalls.{messageIn}
 use Rattle.rules.specs.Calls as B
 use Rattle.rules.specs.Orders.{present}

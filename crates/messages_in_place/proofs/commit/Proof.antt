@@ -1,6 +1,5 @@
 -- With none open 7; the amendment where the ticket is the present one; else its own refusal, or 19.
 use native.Mathlib.Omega.{arith}
-use Prim.Native.Nat.{ℕ}
 use mathlib.Core.Path.{refl, sym, ap, _∙_, subst}
 use lib.ListN.{drop, length-drop}
 use lib.Seq.{length-take-le}

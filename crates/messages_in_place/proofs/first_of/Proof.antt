@@ -1,6 +1,5 @@
 -- By the first.
 use Rattle.messages_in_place.proofs.Refusals.{first-some, first-none}
-use borrow.Author.Needs.{needs}
 use Rattle.messages_in_place.proofs.first_of.Statement.{statement}
 use Rattle.messages_in_place.proofs.first_of.Tie as tie
 

@@ -1,15 +1,8 @@
 -- One event at a time that is one; else the time's refusal.
-use mathlib.Core.Path.{_≡_, refl, sym, ap, _∙_}
-use mathlib.Core.List.{List, [], _∷_}
-use lib.ListN.{take}
+use mathlib.Core.Path.{refl, sym, ap}
+use mathlib.Core.List.{[], _∷_}
 use Rattle.rules.specs.declared.Event.{Event}
-use Rattle.rules.specs.declared.Order.{Order}
-use Prim.Native.Nat.{ℕ}
-use mathlib.Core.Bool.{false}
 use Rattle.rules.specs.Terms.{paper}
-use Rattle.rules.specs.Dates.{Moment}
-use Rattle.rules.specs.Calls.{Call}
-use Rattle.rules.specs.Causes.{otherSideIn}
 use Rattle.rules.specs.Book.{after}
 use Rattle.fix_dates.specs.Answers.{shownElapsed}
 use Rattle.fix_events.proofs.Messages.{new-right}
