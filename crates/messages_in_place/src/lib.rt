@@ -170,6 +170,17 @@ fn refuses_add(words: &[u32], t: Millis, orig: u32, order: Order) -> u32
 
 // ---- the three messages
 
+fn order_of(id: u32, side: Side, volume: Contracts, price: Steps) -> Order
+    ensures { λ r. ⌜ r ≡ record { id = id; side = side; price = price; volume = volume } ⌝ }
+{
+    Order {
+        id,
+        side,
+        price,
+        volume,
+    }
+}
+
 // An order as an add.
 fn add_of(t: Millis, order: Order) -> Event
     ensures { λ r. ⌜ r ≡ addOf t order ⌝ }
@@ -274,12 +285,7 @@ pub fn message(words: &mut [u32], hints: &mut [u8], start: &[u8], message: &[u8]
             words,
             hints,
             after(start, time),
-            Order {
-                id,
-                side,
-                price,
-                volume,
-            },
+            order_of(id, side, volume, price),
         ),
         MessageRead::Cancel { id, orig, time } => {
             cancel_order(words, hints, after(start, time), id, orig)
@@ -296,12 +302,7 @@ pub fn message(words: &mut [u32], hints: &mut [u8], start: &[u8], message: &[u8]
             hints,
             after(start, time),
             orig,
-            Order {
-                id,
-                side,
-                price,
-                volume,
-            },
+            order_of(id, side, volume, price),
         ),
         MessageRead::FrameWrong => rules::number(Refusal::FrameWrong),
         MessageRead::FieldWrong => rules::number(Refusal::FieldWrong),
