@@ -8,7 +8,7 @@ ghost use Rattle.rules.specs.Answers.{shownRow};
 ghost use Rattle.rules.specs.Causes.{readRow};
 ghost use Rattle.rules.specs.Choosing.{rowWords, isFor, firstRow, chosenRow};
 ghost use Rattle.row.specs.Starts.{startIn, chosenStart};
-ghost use Rattle.row.specs.Internal.{Found};
+ghost use Rattle.row.specs.Internal.{FirstRowAt};
 use numbers::both;
 use ranges::at_most;
 use ranges::between;
@@ -88,7 +88,7 @@ fn is_for(table: &[u32], k: usize, expiry: u32, quantum: u32) -> bool
 
 // The first full row with that expiry and quantum, counted from 0; the number of full rows where there is none.
 fn find(table: &[u32], expiry: u32, quantum: u32) -> usize
-    ensures { λ r. ⌜ Found expiry quantum (now (table .entry)) r ⌝ }
+    ensures { λ r. ⌜ FirstRowAt expiry quantum (now (table .entry)) r ⌝ }
 {
     let n = table.len() / 7;
     let mut k = 0;
