@@ -23,7 +23,11 @@ ghost use Rattle.messages_in_place.specs.Internal.{firstOf, numberWhere,
 use fix_dates::Elapsed;
 use fix_dates::after;
 use fix_reader::MessageRead;
+use month::CELLS_AT;
+use month::QUANTUM_AT;
 use numbers::both;
+use quantum::NOTES_AT;
+use quantum::TABLE_AT;
 use rules::Amendment;
 use rules::Contracts;
 use rules::Event;
@@ -98,7 +102,7 @@ fn has_order(words: &[u32], id: u32) -> bool
     requires { ⌜ HoldsQuantum (now words) × (length (now words) ≡ 598) ⌝ }
     ensures { λ r. ⌜ OfEvents (now (words .entry)) (λ row events. r ≡ isLive id (live events)) ⌝ }
 {
-    order_table::has(&words[10..522], id)
+    order_table::has(&words[TABLE_AT..NOTES_AT], id)
 }
 
 // Whether a live order of the other side has the id.
@@ -106,7 +110,7 @@ fn other_side(words: &[u32], side: Side, id: u32) -> bool
     requires { ⌜ HoldsQuantum (now words) × (length (now words) ≡ 598) ⌝ }
     ensures { λ r. ⌜ OfEvents (now (words .entry)) (λ row events. r ≡ any (λ (o : Order). hasId id o && not (same side (o .side))) (live events)) ⌝ }
 {
-    order_table::on_other_side(&words[10..522], side, id)
+    order_table::on_other_side(&words[TABLE_AT..NOTES_AT], side, id)
 }
 
 // The time's cause, 8 or 9, or 0.
@@ -237,9 +241,12 @@ fn both_or_neither(words: &mut [u32], hints: &mut [u8], t: Millis, orig: u32, or
     if words[0] == 0 {
         return rules::number(Refusal::NoQuantumOpen);
     }
-    let second = refuses_add(&words[6..604], t, orig, order);
+    let second = refuses_add(&words[QUANTUM_AT..CELLS_AT], t, orig, order);
     if 0 < second {
-        return first_of(refuses_cancel(&words[6..604], t, orig), second);
+        return first_of(
+            refuses_cancel(&words[QUANTUM_AT..CELLS_AT], t, orig),
+            second,
+        );
     }
     let first = month_in_place::send(
         words,
@@ -258,7 +265,7 @@ fn replace_order(words: &mut [u32], hints: &mut [u8], when: Elapsed, orig: u32, 
     ensures { λ r. ⌜ MessageChanges (now (words .entry)) (replacedAt order orig) (shownElapsed when) (now (words .exit)) r × (0 < r → now (hints .exit) ≡ now (hints .entry)) ⌝ }
 {
     let side = order.side;
-    if other_side(&words[6..604], side, orig) {
+    if other_side(&words[QUANTUM_AT..CELLS_AT], side, orig) {
         return rules::number(Refusal::FieldWrong);
     }
     match when {
@@ -340,7 +347,7 @@ pub fn commit(words: &mut [u32], hints: &mut [u8], a: Amendment, ticket: Ticket)
         return month_in_place::send(words, hints, record::event_fields(amend_of(a)));
     }
     first_of(
-        refuses_amendment(&words[6..604], a),
+        refuses_amendment(&words[QUANTUM_AT..CELLS_AT], a),
         rules::number(Refusal::WrongTicket),
     )
 }

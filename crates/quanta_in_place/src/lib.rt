@@ -16,7 +16,13 @@ ghost use Rattle.quantum.specs.Words.{quantumWords};
 ghost use Rattle.month.specs.Words.{HoldsMonth};
 ghost use Rattle.month_in_place.specs.Events.{ChangesMonth, ShowsMonth};
 ghost use Rattle.quanta_in_place.specs.Internal.{restarted};
+use month::CELLS_AT;
+use month::MONTH_WORDS;
+use month::QUANTUM_AT;
 use numbers::both;
+use quantum::NOTES_AT;
+use quantum::QUANTUM_WORDS;
+use quantum::TABLE_AT;
 use rules::Cell;
 use rules::Contracts;
 use rules::Kopecks;
@@ -58,8 +64,8 @@ fn put_opened(words: &mut [u32], row: Row, spread: SpreadRule)
     lent::copy(&three, &mut words[0..3]);
     clock::put_clock(clock, &mut words[3..8]);
     lent::copy(&zeros, &mut words[8..10]);
-    clear(&mut words[10..522]);
-    lent::copy(&notes, &mut words[522..598]);
+    clear(&mut words[TABLE_AT..NOTES_AT]);
+    lent::copy(&notes, &mut words[NOTES_AT..QUANTUM_WORDS]);
 }
 
 // One accepted call more, and a quantum that has just opened: its words, and in front of the count whether it is open, its cell's place, p
@@ -79,7 +85,7 @@ fn restart(
     let four = [running, place, share, allowed];
     lent::copy(&four, &mut words[0..4]);
     month_in_place::count_on(&mut words[4..6]);
-    put_opened(&mut words[6..604], row, spread);
+    put_opened(&mut words[QUANTUM_AT..CELLS_AT], row, spread);
 }
 
 // One accepted call more, and no quantum is open: zeros, and the idle quantum (quantum/specs/Represents) in its place.
@@ -140,7 +146,7 @@ pub fn close(words: &mut [u32], active: Kopecks, passive: Kopecks) -> u32
         passive,
     };
     let place = numbers::length(words[1]);
-    cells_in_place::put(&mut words[604..2464], place, cell);
+    cells_in_place::put(&mut words[CELLS_AT..MONTH_WORDS], place, cell);
     forget(words);
     0
 }
@@ -155,7 +161,7 @@ fn open_row(words: &mut [u32], row: Row, day: u32, opening: Opening) -> u32
         return rules::number(Refusal::ArgumentOutOfRange);
     }
     let place = cells::place_of(day, row.expiry, row.quantum);
-    let cell = cells_in_place::at(&words[604..2464], place);
+    let cell = cells_in_place::at(&words[CELLS_AT..MONTH_WORDS], place);
     if cell.filled {
         return rules::number(Refusal::CellFilled);
     }
@@ -205,7 +211,14 @@ pub fn charge(
     requires { ⌜ HoldsMonth (now words) × (2464 ≤ length (now words)) ⌝ }
     ensures { λ r. ⌜ ChangesMonth (now (words .entry)) (B.Charge day expiry quantum active passive) (now (words .exit)) r ⌝ }
 {
-    let n = cells_in_place::charge(&mut words[604..2464], day, expiry, quantum, active, passive);
+    let n = cells_in_place::charge(
+        &mut words[CELLS_AT..MONTH_WORDS],
+        day,
+        expiry,
+        quantum,
+        active,
+        passive,
+    );
     if 0 < n {
         return n;
     }
@@ -218,7 +231,7 @@ pub fn withdraw(words: &mut [u32], day: u32, expiry: u32, quantum: u32) -> u32
     requires { ⌜ HoldsMonth (now words) × (2464 ≤ length (now words)) ⌝ }
     ensures { λ r. ⌜ ChangesMonth (now (words .entry)) (B.Withdraw day expiry quantum) (now (words .exit)) r ⌝ }
 {
-    let n = cells_in_place::withdraw(&mut words[604..2464], day, expiry, quantum);
+    let n = cells_in_place::withdraw(&mut words[CELLS_AT..MONTH_WORDS], day, expiry, quantum);
     if 0 < n {
         return n;
     }
@@ -236,7 +249,7 @@ pub fn outlook(words: &[u32]) -> OutlookAnswer
     if words[0] == 0 {
         return OutlookAnswer::Refused(Refusal::NoQuantumOpen);
     }
-    let quantum = &words[6..604];
+    let quantum = &words[QUANTUM_AT..CELLS_AT];
     let duty = clock::duty_in(&quantum[0..3]);
     let clock = clock::clock_in(&quantum[3..8]);
     OutlookAnswer::Shown(outlook::of(duty, clock, words[2], words[3]))
@@ -248,15 +261,15 @@ pub fn report(words: &[u32]) -> Report
     requires { ⌜ HoldsMonth (now words) × (2464 ≤ length (now words)) ⌝ }
     ensures { λ r. ⌜ ShowsMonth (now (words .entry)) B.Report (shownReport r) ⌝ }
 {
-    let quantum = &words[6..604];
+    let quantum = &words[QUANTUM_AT..CELLS_AT];
     let clock = clock::clock_in(&quantum[3..8]);
     let time = clock.time;
     let kept = clock.kept;
-    let orders = order_table::count(&quantum[10..522]);
-    let bid = order_table::best(&quantum[10..522], Side::Buy);
-    let ask = order_table::best(&quantum[10..522], Side::Sell);
-    let failures = cells_in_place::failures(&words[604..2464]);
-    let fee = cells_in_place::fee(&words[604..2464], failures);
+    let orders = order_table::count(&quantum[TABLE_AT..NOTES_AT]);
+    let bid = order_table::best(&quantum[TABLE_AT..NOTES_AT], Side::Buy);
+    let ask = order_table::best(&quantum[TABLE_AT..NOTES_AT], Side::Sell);
+    let failures = cells_in_place::failures(&words[CELLS_AT..MONTH_WORDS]);
+    let fee = cells_in_place::fee(&words[CELLS_AT..MONTH_WORDS], failures);
     let running = lent::is_set(words[0]);
     Report {
         running,

@@ -1,3 +1,5 @@
+use month::CELLS_AT;
+use month::QUANTUM_AT;
 // Event records, one after the other, on the words of a month, in place: the same as that many event calls, up to the first one that is
 // refused.
 //
@@ -98,7 +100,7 @@ pub fn send(words: &mut [u32], hints: &mut [u8], records: &[u8]) -> Taken
     if words[0] == 0 {
         return idle(records);
     }
-    let taken = run(&mut words[6..604], hints, records);
+    let taken = run(&mut words[QUANTUM_AT..CELLS_AT], hints, records);
     let more = taken.count;
     count_on(&mut words[4..6], more);
     taken
