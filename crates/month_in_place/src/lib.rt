@@ -57,7 +57,7 @@ pub fn may_be_month(words: &[u32]) -> bool
 // ---- the calls
 
 // One more accepted call, in the count's two words.
-fn count_on(words: &mut [u32])
+pub fn count_on(words: &mut [u32])
     requires { ⌜ length (now words) ≡ 2 ⌝ }
     ensures { λ _. ⌜ now (words .exit) ≡ low (following (getD (now (words .entry)) 0 0 + 4294967296 * getD (now (words .entry)) 1 0)) ∷ high (following (getD (now (words .entry)) 0 0 + 4294967296 * getD (now (words .entry)) 1 0)) ∷ [] ⌝ }
 {
@@ -82,20 +82,12 @@ pub fn send(words: &mut [u32], hints: &mut [u8], f: Fields) -> u32
     0
 }
 
-// Where the words of a named cell start, among those of the cells.
-fn cell_start(day: u32, expiry: u32, quantum: u32) -> usize
-    requires { ⌜ goodCell day expiry quantum ≡ true ⌝ }
-    ensures { λ r. ⌜ r ≡ 10 * placeOf day expiry quantum ⌝ }
-{
-    10 * (((day - 1) * 6 + ((expiry - 1) * 3 + quantum)) as usize)
-}
-
 // The named cell, from the words of the cells.
 fn cell_named(words: &[u32], day: u32, expiry: u32, quantum: u32) -> Cell
     requires { ⌜ (length (now words) ≡ 1860) × (goodCell day expiry quantum ≡ true) ⌝ }
     ensures { λ r. ⌜ ((cells : List Cell) → now (words .entry) ≡ cellsWords cells → r ≡ cellAt cells (placeOf day expiry quantum)) ⌝ }
 {
-    let from = cell_start(day, expiry, quantum);
+    let from = 10 * cells::place_of(day, expiry, quantum);
     let to = from + 10;
     lent::cell_in(&words[from..to])
 }
