@@ -55,7 +55,7 @@ pub fn opened(row: Row, spread: SpreadRule) -> [u32; 76]
     notes
 }
 
-// 1 + the place of an id that is there. Behind the ids stands 0, so one that is not 0 is looked for in whole groups of eight.
+// 1 + the place of an id that is there. The words after the ids are 0, so an id that is not 0 is looked for in whole groups of eight.
 fn place_in(ids: &[u32], count: u32, id: u32) -> u32
     requires { ⌜ (length (now ids) ≡ 64) × (count ≤ 64) × ((j : ℕ) → count ≤ j → getD (now ids) j 0 ≡ 0) ⌝ }
     ensures { λ r. ⌜ r ≡ seenFrom 1 id (take count (now (ids .entry))) ⌝ }
@@ -95,7 +95,7 @@ fn close_up(ids: &mut [u32], place: u32, last: usize)
     ids[last] = 0;
 }
 
-// The id goes; those behind it move up, in whole groups of eight.
+// The id goes; those after it move up, in whole groups of eight.
 fn remove(ids: &mut [u32], count: u32, id: u32)
     requires { ⌜ (length (now ids) ≡ 64) × (count ≤ 64) × (1 ≤ seenFrom 1 id (take count (now ids))) × (seenFrom 1 id (take count (now ids)) ≤ count) × ((j : ℕ) → count ≤ j → getD (now ids) j 0 ≡ 0) ⌝ }
     ensures { λ _. ⌜ now (ids .exit) ≡ shifted (now (ids .entry)) (seenFrom 1 id (take count (now (ids .entry))) - 1) (count - 1) ⌝ }
