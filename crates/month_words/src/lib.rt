@@ -29,7 +29,6 @@ ghost use Rattle.month_in_place.specs.Events.{ChangesMonth};
 ghost use Rattle.month_words.specs.Calling.{isCall, Calling, Performs};
 ghost use Rattle.month_words.specs.Internal.{amendIn, cancelIn, dealIn, tickIn, SaysAdd, SaysBlock, ChangesShown, ShowsWords, LeavesLent, isShown};
 use call_blocks::Decoded;
-use month::Month;
 use record::Fields;
 use rules::Amendment;
 use rules::Asked;
@@ -66,8 +65,7 @@ pub fn fresh(words: &mut [u32]) -> bool
     if words.len() < MONTH {
         return false;
     }
-    let month = Month::fresh();
-    month.to_words(words);
+    quanta_in_place::fresh(&mut words[0..2464]);
     true
 }
 
