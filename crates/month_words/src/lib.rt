@@ -30,7 +30,6 @@ ghost use Rattle.month_words.specs.Calling.{isCall, Calling, Performs};
 ghost use Rattle.month_words.specs.Internal.{amendIn, cancelIn, dealIn, tickIn, SaysAdd, SaysBlock, ChangesShown, ShowsWords, LeavesLent, isShown};
 use call_blocks::Decoded;
 use month::MONTH_WORDS;
-use month::Month;
 use record::Fields;
 use rules::Amendment;
 use rules::Asked;
@@ -65,8 +64,7 @@ pub fn fresh(words: &mut [u32]) -> bool
     if words.len() < MONTH_WORDS {
         return false;
     }
-    let month = Month::fresh();
-    month.to_words(words);
+    quanta_in_place::fresh(&mut words[0..MONTH_WORDS]);
     true
 }
 
