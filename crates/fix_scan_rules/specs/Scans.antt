@@ -1,5 +1,5 @@
 -- The rows of a log.
-use Prim.Native.Nat.{ℕ, zero, suc, _+_, _*_}
+use Prim.Native.Nat.{ℕ, zero, suc, _+_, _-_, _*_}
 use mathlib.Core.Bool.{Bool, true, false, _&&_}
 use mathlib.Core.List.{List, [], _∷_, _++_}
 use mathlib.Core.Option.{Option, none, some}
@@ -23,8 +23,8 @@ abbrev pub head : List ℕ
 head = ascii "8=FIX.4.4" ++ (1 ∷ ascii "9=")
 
 abbrev pub sizeBy : ℕ → Option ℕ → Option ℕ
-sizeBy behind none = none
-sizeBy behind (some n) = if leb n 65535 then some (behind + n + 7) else none
+sizeBy before none = none
+sizeBy before (some n) = if leb n 65535 then some (before + n + 7) else none
 
 abbrev pub sizeWith : List ℕ → List ℕ → Option ℕ
 sizeWith bytes nine =
@@ -56,7 +56,7 @@ unfoldable pub turnOf : List ℕ → ℕ → List ℕ → Turn
 turnOf tags at bytes = turnWith tags at bytes (sizeIn bytes)
 
 -- ---- all of them
--- the rows, one behind the other, and the first byte that was not read
+-- the rows, one after the other, and the first byte that was not read
 pub record Scan : Type 0 where
   pub rows : List (List ℕ)
   pub stop : ℕ
@@ -67,26 +67,29 @@ stopped at = record { rows = []; stop = at }
 abbrev pub before : List ℕ → Scan → Scan
 before r s = record { rows = r ∷ s .rows; stop = s .stop }
 
+-- 8=FIX.
 abbrev pub begins : List ℕ → Bool
-begins bytes = sameBytes (take 5 bytes) (ascii "8=FIX")
+begins bytes = sameBytes (take 6 bytes) (ascii "8=FIX.")
 
--- behind a turn it goes on so far on, or not at all
+-- after a row the scan goes on so far on; where the message is cut off it stops
 abbrev pub turned : ℕ → Turn → (ℕ → Scan) → Scan
 turned at cut go = stopped at
 turned at (row r n) go = before r (go n)
 
--- From a place on: below 26 bytes nothing is looked at; a place where 8=FIX does not begin is passed over; where it begins a row is found,
--- as long as there is room, or the scan stops. The first number bounds the steps: one more than the bytes is enough.
+-- where a message begins: a row, if there is room for one
+abbrev pub found : ℕ → ℕ → Turn → (ℕ → ℕ → Scan) → Scan
+found zero at t go = stopped at
+found (suc room) at t go = turned at t (go room)
+
+-- From a place on, the first number being how many bytes to skip. Below 26 bytes nothing is looked at; a place where 8=FIX. does not begin
+-- is skipped; where it begins a row is found, if there is room, or the scan stops.
 unfoldable pub scanFrom : ℕ → ℕ → List ℕ → ℕ → List ℕ → Scan
-scanFrom zero room tags at bytes = stopped at
-scanFrom (suc k) zero tags at bytes =
-    if ltb (length bytes) 26 then stopped at
-    else if begins bytes then stopped at
-    else scanFrom k zero tags (suc at) (drop 1 bytes)
-scanFrom (suc k) (suc room) tags at bytes =
-    if ltb (length bytes) 26 then stopped at
-    else if begins bytes then turned at (turnOf tags at bytes) (λ n. scanFrom k room tags (at + n) (drop n bytes))
-    else scanFrom k (suc room) tags (suc at) (drop 1 bytes)
+scanFrom skip room tags at [] = stopped at
+scanFrom (suc skip) room tags at (b ∷ bs) = scanFrom skip room tags (suc at) bs
+scanFrom zero room tags at (b ∷ bs) =
+    if ltb (length (b ∷ bs)) 26 then stopped at
+    else if begins (b ∷ bs) then found room at (turnOf tags at (b ∷ bs)) (λ left n. scanFrom (n - 1) left tags (suc at) bs)
+    else scanFrom zero room tags (suc at) bs
 
 unfoldable pub scanned : ℕ → List ℕ → List ℕ → Scan
-scanned room tags bytes = scanFrom (suc (length bytes)) room tags 0 bytes
+scanned room tags bytes = scanFrom 0 room tags 0 bytes

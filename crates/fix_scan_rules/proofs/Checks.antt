@@ -8,7 +8,7 @@ use Rattle.rules.specs.Digits.{allDigits, numberFrom, inDigits, decimalBy, deci
 use Rattle.rules.specs.Fields.{fieldBytes, fieldsBytes, pieces, splitField, goodTag, fieldOf, fieldsIn, fieldsOf, sameBytes}
 use Rattle.rules.specs.Frame.{endingOf}
 use Rattle.fix_scan_rules.specs.AnyFrame.{anyFramed, anyBodyIn}
-use Rattle.fix_scan_rules.specs.Rows.{spanIn, spansIn, rowIn}
+use Rattle.fix_scan_rules.specs.Rows.{beginIn, sizeOfIn, spansIn, rowIn}
 use Rattle.fix_scan_rules.specs.Scans.{Scan, digitsFront, sizeIn, turnOf, scanFrom, scanned}
 
 abbrev then : List ℕ → List ℕ → List ℕ
@@ -31,5 +31,5 @@ pub the-log :
           ∷ [];
       stop = 65;
     }
-unfolding scanned scanFrom turnOf sizeIn digitsFront rowIn spansIn spanIn anyFramed anyBodyIn endingOf fieldsOf fieldsIn fieldOf goodTag splitField pieces fieldsBytes fieldBytes sameBytes decimalOf decimalBy inDigits numberFrom allDigits sum any
+unfolding scanned scanFrom turnOf sizeIn digitsFront rowIn spansIn beginIn sizeOfIn anyFramed anyBodyIn endingOf fieldsOf fieldsIn fieldOf goodTag splitField pieces fieldsBytes fieldBytes sameBytes decimalOf decimalBy inDigits numberFrom allDigits sum any
 the-log = refl

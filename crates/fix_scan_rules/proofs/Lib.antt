@@ -1,0 +1,2 @@
+-- Laws of the scan: a log worked out, and what the definitions say place by place.
+pub mod Checks
