@@ -14,7 +14,7 @@ use lib.Seq.{length-take-le, take-at, drop-at, drop-drop}
 use Rattle.fix_scan_rules.specs.Scans.{Turn, row, cut, turnOf, Scan, stopped, begins, scanFrom, scanned}
 use Rattle.fix_scan_rules.specs.Scans as S
 use Rattle.fix_scan_rules.proofs.Scanning.{scan-short, scan-full, scan-cut, scan-row}
-use Rattle.fix_scan.specs.RowsDone.{widthOf, joined, Room, RowsDone}
+use Rattle.fix_scan.specs.RowsDone.{widthOf, joined, Room, RowsAre, RowsDone}
 use Rattle.fix_scan.specs.Internal.{NextStart, TurnDone, made, left}
 use Rattle.fix_scan.proofs.Starting.{next-scan}
 
@@ -34,6 +34,7 @@ snoc-length rs r = length-append rs (r ∷ []) ∙ omega arith
 pub record Going (b tags before words : List ℕ) (at used : ℕ) : Type 0 where
   pub made-rows : List (List ℕ)
   pub place : at ≤ length b
+  pub behind-rows : length made-rows ≤ at
   pub begin : at + 26 ≤ length b → begins (drop at b) ≡ true
   pub used-is : used ≡ 2 + length made-rows * widthOf tags
   pub fits : used ≤ length before
@@ -50,6 +51,7 @@ module _ (b tags before : List ℕ) (front : 2 ≤ length before) where
       record {
         made-rows = [];
         place = N .inside;
+        behind-rows = omega arith;
         begin = N .found;
         used-is = omega arith;
         fits = front;
@@ -79,10 +81,9 @@ module _ (b tags before : List ℕ) (front : 2 ≤ length before) where
         → RowsDone b tags before words used at
     finish h =
         record {
-          rows = λ room R.
-              G .words-are ∙ ap (λ (rs : List (List ℕ)). take 2 before ++ (joined rs ++ drop used before)) (sym (ap (λ (s : Scan). s .rows) (all room R)));
-          count = λ room R. G .used-is ∙ ap (λ (rs : List (List ℕ)). 2 + length rs * widthOf tags) (sym (ap (λ (s : Scan). s .rows) (all room R)));
-          stop = λ room R. sym (ap (λ (s : Scan). s .stop) (all room R));
+          place = G .place;
+          are = λ room R. subst (λ (s : Scan). RowsAre tags s before words used at) (sym (all room R))
+              (record { rows = G .words-are; count = G .used-is ∙ omega (arith, G .wide); wide = G .wide; fits = G .fits; stop = refl; few = G .behind-rows });
         }
       where
         all : (room : ℕ) → Room (widthOf tags) (length before) room → scanned room tags b ≡ record { rows = G .made-rows; stop = at }
@@ -136,6 +137,7 @@ module _ (b tags before : List ℕ) (front : 2 ≤ length before) where
           record {
             made-rows = G .made-rows ++ (r ∷ []);
             place = N .inside;
+            behind-rows = omega (arith, G .behind-rows, N .first, snoc-length (G .made-rows) r);
             begin = N .found;
             used-is = omega (arith, G .used-is, ap (λ (k : ℕ). k * widthOf tags) (snoc-length (G .made-rows) r), suc-mul (length (G .made-rows)) (widthOf tags));
             fits = room-left;

@@ -29,8 +29,16 @@ pub record Room (width n room : ℕ) : Type 0 where
   pub fits : 2 + room * width ≤ n
   pub last : n < 2 + room * width + width
 
--- after two words the rows, then what was there
+-- after two words the rows of a scan, then what was there; every row is as wide, and lies before the stop
+pub record RowsAre (tags : List ℕ) (s : Scan) (words behind : List ℕ) (used at : ℕ) : Type 0 where
+  pub rows : behind ≡ take 2 words ++ (joined (s .rows) ++ drop used words)
+  pub count : used ≡ 2 + length (joined (s .rows))
+  pub wide : length (joined (s .rows)) ≡ length (s .rows) * widthOf tags
+  pub fits : used ≤ length words
+  pub stop : at ≡ s .stop
+  pub few : length (s .rows) ≤ at
+
+-- the rows of the bytes, as many as there is room for
 pub record RowsDone (b tags words behind : List ℕ) (used at : ℕ) : Type 0 where
-  pub rows : (room : ℕ) → Room (widthOf tags) (length words) room → behind ≡ take 2 words ++ (joined (scanned room tags b .rows) ++ drop used words)
-  pub count : (room : ℕ) → Room (widthOf tags) (length words) room → used ≡ 2 + length (scanned room tags b .rows) * widthOf tags
-  pub stop : (room : ℕ) → Room (widthOf tags) (length words) room → at ≡ scanned room tags b .stop
+  pub place : at ≤ length b
+  pub are : (room : ℕ) → Room (widthOf tags) (length words) room → RowsAre tags (scanned room tags b) words behind used at
