@@ -1,11 +1,12 @@
 -- Chunks make no difference: the rows of some bytes and others behind them are those of the first bytes up to where their scan stops, then
 -- those from there on. The scan looks at no byte behind the message that it decides on.
 use Prim.Native.Nat.{ℕ, zero, suc, _+_, _-_, _*_, _≤_, _<_}
+use native.Mathlib.Nat.{add-zero}
 use native.Mathlib.Numerals.{add-one}
 use native.Mathlib.Omega.{arith}
 use mathlib.Core.Path.{_≡_, refl, sym, ap, subst, _∙_}
 use mathlib.Core.Bool.{Bool, true, false, _&&_}
-use mathlib.Core.List.{List, [], _∷_, _++_, append-assoc}
+use mathlib.Core.List.{List, [], _∷_, _++_, map, append-assoc}
 use mathlib.Core.Option.{Option, none, some}
 use borrow.Author.Tests.{lt-ltb, le-ltb, ltb-true, ltb-false, leb-true}
 use lib.Dec.{eqb, leb, ltb}
@@ -199,11 +200,7 @@ module _ (tags m : List ℕ) where
   by-length (suc k) room at l h = one-place room at l (λ room n o g. by-length k room (at + n) (drop n l) (omega (arith, length-drop n l)))
 
 -- ---- the theorem
--- a row at a place further on
-abbrev pub movedRow : ℕ → List ℕ → List ℕ
-movedRow k [] = []
-movedRow k (x ∷ r) = (k + x) ∷ r
-
+-- with places from the front of all bytes
 pub chunks : (room : ℕ) (tags a b : List ℕ)
     → scanned room tags (a ++ b)
     ≡ onward (scanned room tags a)
@@ -213,3 +210,71 @@ chunks room tags a b =
     by-length tags b (suc (length a)) room 0 a (omega arith) .same
     ∙ (let s = scanFrom 0 room tags 0 a in
     ap (λ (k : ℕ). onward s (scanFrom 0 (room - length (s .rows)) tags (s .stop) (drop k a ++ b))) (let p : s .stop - 0 ≡ s .stop = omega arith in p))
+
+-- ---- the same with the places of the second scan moved
+abbrev pub movedRow : ℕ → List ℕ → List ℕ
+movedRow k [] = []
+movedRow k (x ∷ r) = (k + x) ∷ r
+
+abbrev pub movedBy : ℕ → Scan → Scan
+movedBy k s = record { rows = map (movedRow k) (s .rows); stop = k + s .stop }
+
+abbrev movedTurn : ℕ → Turn → Turn
+movedTurn k cut = cut
+movedTurn k (row r n) = row (movedRow k r) n
+
+turn-moved : (k : ℕ) (tags : List ℕ) (at : ℕ) (l : List ℕ) → turnOf tags (k + at) l ≡ movedTurn k (turnOf tags at l)
+unfolding turnOf
+turn-moved k tags at l = by (sizeIn l)
+  where
+    rowed : (n : ℕ) (o : Option (List ℕ)) → turnBy tags (k + at) n o ≡ movedTurn k (turnBy tags at n o)
+    rowed n none = refl
+    rowed n (some r) = refl
+
+    whole : (n : ℕ) (t : Bool) → (if t then cut else turnBy tags (k + at) n (rowIn tags (take n l))) ≡ movedTurn k (if t then cut else turnBy tags at n (rowIn tags (take n l)))
+    whole n true = refl
+    whole n false = rowed n (rowIn tags (take n l))
+
+    by : (o : Option ℕ) → turnWith tags (k + at) l o ≡ movedTurn k (turnWith tags at l o)
+    by none = refl
+    by (some n) = whole n (ltb (length l) n)
+
+found-moved : (k room at : ℕ) (t : Turn) (go go′ : ℕ → ℕ → Scan) → ((left n : ℕ) → go′ left n ≡ movedBy k (go left n))
+    → S.found room (k + at) (movedTurn k t) go′ ≡ movedBy k (S.found room at t go)
+found-moved k zero at t go go′ h = refl
+found-moved k (suc room) at cut go go′ h = refl
+found-moved k (suc room) at (row r n) go go′ h = ap (S.before (movedRow k r)) (h room n)
+
+pub scan-moved : (k skip room : ℕ) (tags : List ℕ) (at : ℕ) (l : List ℕ) → scanFrom skip room tags (k + at) l ≡ movedBy k (scanFrom skip room tags at l)
+unfolding scanFrom
+scan-moved k skip room tags at [] = refl
+scan-moved k (suc skip) room tags at (b ∷ l) =
+    ap (λ (x : ℕ). scanFrom skip room tags x l) (let p : suc (k + at) ≡ k + suc at = omega arith in p) ∙ scan-moved k skip room tags (suc at) l
+scan-moved k zero room tags at (b ∷ l) =
+    by (ltb (length (b ∷ l)) 26) (begins (b ∷ l))
+    (λ skip left. ap (λ (x : ℕ). scanFrom skip left tags x l) (let p : suc (k + at) ≡ k + suc at = omega arith in p) ∙ scan-moved k skip left tags (suc at) l)
+  where
+    by : (s t : Bool) → ((skip left : ℕ) → scanFrom skip left tags (suc (k + at)) l ≡ movedBy k (scanFrom skip left tags (suc at) l))
+        → (if s then stopped (k + at) else if t then S.found room (k + at) (turnOf tags (k + at) (b ∷ l)) (λ left n. scanFrom (n - 1) left tags (suc (k + at)) l) else scanFrom zero room tags (suc (k + at)) l)
+        ≡ movedBy k (if s then stopped at else if t then S.found room at (turnOf tags at (b ∷ l)) (λ left n. scanFrom (n - 1) left tags (suc at) l) else scanFrom zero room tags (suc at) l)
+    by true t again = refl
+    by false true again =
+        ap (λ (u : Turn). S.found room (k + at) u (λ left n. scanFrom (n - 1) left tags (suc (k + at)) l)) (turn-moved k tags at (b ∷ l))
+        ∙ found-moved k room at (turnOf tags at (b ∷ l)) (λ left n. scanFrom (n - 1) left tags (suc at) l) (λ left n. scanFrom (n - 1) left tags (suc (k + at)) l)
+        (λ left n. again (n - 1) left)
+    by false false again = again zero room
+
+from-zero : (k room : ℕ) (tags l : List ℕ) → scanFrom 0 room tags (k + 0) l ≡ movedBy k (scanned room tags l)
+unfolding scanned
+from-zero k room tags l = scan-moved k 0 room tags 0 l
+
+-- Whoever scans a, keeps a from its stop on, and scans that with b behind it, gets the rows of a and b together.
+pub chunks-moved : (room : ℕ) (tags a b : List ℕ)
+    → scanned room tags (a ++ b)
+    ≡ onward (scanned room tags a)
+    (movedBy (scanned room tags a .stop) (scanned (room - length (scanned room tags a .rows)) tags (drop (scanned room tags a .stop) a ++ b)))
+chunks-moved room tags a b =
+    let s = scanned room tags a in
+    chunks room tags a b
+    ∙ ap (onward s)
+    (ap (λ (x : ℕ). scanFrom 0 (room - length (s .rows)) tags x (drop (s .stop) a ++ b)) (sym (add-zero (s .stop))) ∙ from-zero (s .stop) (room - length (s .rows)) tags (drop (s .stop) a ++ b))
