@@ -1,16 +1,13 @@
 -- What is answered, case by case.
-use Prim.Native.Nat.{ℕ, zero, suc, _+_, _-_, _*_, _/_, _%_, _≤_, _<_}
+use Prim.Native.Nat.{ℕ, _+_, _-_, _*_, _/_, _%_, _≤_, _<_}
 use native.Mathlib.Nat.{div-add-mod', mod-lt, mul-div-cancel}
 use native.Mathlib.Omega.{arith}
 use mathlib.Core.Path.{_≡_, refl, sym, ap, _∙_}
-use mathlib.Core.Bool.{Bool, true, false, _&&_, and-false}
+use mathlib.Core.Bool.{true, false, and-false}
 use mathlib.Core.List.{List, [], _∷_, _++_}
 use borrow.Author.Tests.{lt-ltb, le-ltb}
-use lib.Dec.{ltb}
 use lib.ListN.{length, take, drop, set, length-append, length-drop}
 use lib.Seq.{length-take-le}
-use Rattle.lists.specs.Lists.{if_then_else_}
-use Rattle.rules.specs.Answers.{Outcome, accepted, refused}
 use Rattle.c_answers.specs.Answers.{refusedNumber, Fills}
 use Rattle.c_answers.proofs.Filling.{fills-refused, fills-whole, fills-as}
 use Rattle.fix_scan_rules.specs.Wanted.{wantedTags}

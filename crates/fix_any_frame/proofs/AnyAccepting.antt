@@ -75,8 +75,14 @@ module _ (b v w : List ℕ) (rest : List ℕ) (c : Counted v) (clean : clear w �
       front-length : length (fieldsBytes (kindOf w ∷ e .front)) ≡ length w + length rest - 3
       unfolding fieldsBytes fieldBytes
       front-length =
-          omega (arith, ap length rest-is, length-append (fieldsBytes (e .front)) (fieldBytes (e .last)), seven,
-          length-append (w ++ (1 ∷ [])) (fieldsBytes (e .front)), length-append w (1 ∷ []))
+          omega (
+            arith,
+            ap length rest-is,
+            length-append (fieldsBytes (e .front)) (fieldBytes (e .last)),
+            seven,
+            length-append (w ++ (1 ∷ [])) (fieldsBytes (e .front)),
+            length-append w (1 ∷ []),
+          )
 
       counts : lengthRight (nineOf v) (kindOf w ∷ e .front) ≡ true
       counts = ap (isNumber (inDigits v)) front-length ∙ L

@@ -1,8 +1,8 @@
 -- Each test of the frame passes on a message of any type with a right frame: where one fails, there is no body.
 use Prim.Native.Nat.{ℕ, _+_, _-_, _%_, _≤_, _<_}
 use native.Mathlib.Omega.{arith}
-use mathlib.Core.Path.{_≡_, refl, sym, ap, subst, _∙_}
-use mathlib.Core.Bool.{true, false}
+use mathlib.Core.Path.{_≡_, refl, sym, ap, _∙_}
+use mathlib.Core.Bool.{true}
 use mathlib.Core.List.{List, [], _∷_, _++_}
 use lib.ListN.{length, getD, take, drop, length-append, length-drop}
 use lib.Seq.{getD-append-add, take-at, drop-at, drop-drop}
@@ -15,7 +15,7 @@ use Rattle.fix_frame.specs.Frames.{headRight, tailRight}
 use Rattle.fix_any_frame.specs.AnyFrames.{typeBegins}
 use Rattle.fix_fields.proofs.Pieces.{clear, clear-head}
 use Rattle.fix_fields.proofs.Tags.{digits-clear}
-use Rattle.fix_fields.proofs.Spanning.{value-clear, split-value, widen}
+use Rattle.fix_fields.proofs.Spanning.{value-clear, split-value}
 use Rattle.fix_frame.proofs.Shapes.{eight, nineOf, tenOf, fields-append, one-bytes}
 use Rattle.fix_frame.proofs.Frames.{same-first, same-rest, at-drop, at-first, head-holds, tailOf, tail-holds}
 use Rattle.fix_frame.proofs.Refusing.{Counted, counted-digits}

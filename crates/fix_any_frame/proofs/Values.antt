@@ -10,7 +10,7 @@ use lib.Seq.{take-at}
 use Rattle.lists.specs.Lists.{if_then_else_}
 use Rattle.rules.specs.Fields.{Field, fieldBytes, pieces, goodTag, goodValue, goodField, splitField, fieldOf, addField, fieldsIn, fieldsOf}
 use Rattle.fix_fields.proofs.Pieces.{clear, clear-tail, one-field, Cut, whole, at, cut-of, all-one}
-use Rattle.fix_fields.proofs.Bytes.{Added, added, fields-bytes}
+use Rattle.fix_fields.proofs.Bytes.{added, fields-bytes}
 use Rattle.fix_frame.proofs.Shapes.{one-bytes}
 
 clear-back : (l m : List ℕ) → clear (l ++ m) ≡ true → clear m ≡ true

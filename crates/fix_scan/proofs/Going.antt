@@ -1,6 +1,6 @@
 -- All rows: those that are made, in front of those that are ahead.
-use Prim.Native.Nat.{ℕ, zero, suc, _+_, _-_, _*_, _≤_, _<_}
-use native.Mathlib.Nat.{add-zero, suc-mul, mul-le-mul-right, eq-or-lt-of-le}
+use Prim.Native.Nat.{ℕ, suc, _+_, _-_, _*_, _≤_, _<_}
+use native.Mathlib.Nat.{suc-mul, mul-le-mul-right, eq-or-lt-of-le}
 use native.Mathlib.Omega.{arith}
 use mathlib.Core.Path.{_≡_, refl, sym, ap, subst, _∙_}
 use mathlib.Core.Bool.{Bool, true, false, _&&_, true≢false}
@@ -11,7 +11,7 @@ use mathlib.Core.Logic.{⊎-elim}
 use mathlib.Core.List.{List, [], _∷_, _++_, append-nil, append-assoc}
 use lib.ListN.{length, take, drop, length-append, length-drop, take-append-drop}
 use lib.Seq.{length-take-le, take-at, drop-at, drop-drop}
-use Rattle.fix_scan_rules.specs.Scans.{Turn, row, cut, turnOf, Scan, stopped, begins, scanFrom, scanned}
+use Rattle.fix_scan_rules.specs.Scans.{row, cut, turnOf, Scan, stopped, begins, scanFrom, scanned}
 use Rattle.fix_scan_rules.specs.Scans as S
 use Rattle.fix_scan_rules.proofs.Scanning.{scan-short, scan-full, scan-cut, scan-row}
 use Rattle.fix_scan.specs.RowsDone.{widthOf, joined, Room, RowsAre, RowsDone}

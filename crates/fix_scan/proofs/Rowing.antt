@@ -1,18 +1,18 @@
 -- The words of a row.
 use Prim.Native.Nat.{ℕ, zero, suc, _+_, _-_, _*_, _≤_, _<_}
 use native.Mathlib.Omega.{arith}
-use mathlib.Core.Path.{_≡_, refl, sym, ap, _∙_}
+use mathlib.Core.Path.{_≡_, sym, ap, _∙_}
 use mathlib.Core.Bool.{Bool, true, false, true≢false}
-use mathlib.Core.List.{List, [], _∷_, _++_, append-nil}
-use mathlib.Core.Option.{Option, none, some}
+use mathlib.Core.List.{List, _∷_, _++_, append-nil}
+use mathlib.Core.Option.{none, some}
 use borrow.Author.Fill.{fill-more}
 use lib.ListN.{length, take, drop, set, replicate, length-append, length-replicate, length-drop, drop-of-length-le}
 use lib.Seq.{drop-length, take-all}
 use Rattle.rules.specs.Fields.{Field, fieldsBytes}
-use Rattle.fix_scan_rules.specs.AnyFrame.{AnyBody, anyBodyIn}
-use Rattle.fix_scan_rules.specs.Rows.{packed, spansIn, rowBy, rowIn}
+use Rattle.fix_scan_rules.specs.AnyFrame.{anyBodyIn}
+use Rattle.fix_scan_rules.specs.Rows.{spansIn, rowBy, rowIn}
 use Rattle.fix_scan_rules.specs.Scans.{row, turnBy}
-use Rattle.fix_fields.specs.Spans.{closed, EndsAt}
+use Rattle.fix_fields.specs.Spans.{closed}
 use Rattle.fix_any_frame.specs.AnyFrames.{anyBodyWith, Framed}
 use Rattle.fix_tag_spans.specs.Slots.{AnySpans, found, wrong}
 use Rattle.fix_scan.specs.RowsDone.{widthOf}

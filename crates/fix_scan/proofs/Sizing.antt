@@ -13,7 +13,7 @@ use lib.Seq.{getD-drop, drop-drop, drop-cons, take-all}
 use Rattle.lists.specs.Lists.{if_then_else_}
 use Rattle.rules.specs.Digits.{isDigit, inDigits}
 use Rattle.rules.specs.Fields.{sameBytes}
-use Rattle.fix_digits.specs.Answers.{capped, cappedBy}
+use Rattle.fix_digits.specs.Answers.{cappedBy}
 use Rattle.fix_digits.proofs.Numbers.{gone}
 use Rattle.fix_fields.proofs.Tags.{digit-not-one}
 use Rattle.fix_fields.proofs.SlotTags.{same-is, same-refl}

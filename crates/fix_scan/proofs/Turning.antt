@@ -1,21 +1,21 @@
 -- One place: its row, and how far to go on.
-use Prim.Native.Nat.{ℕ, zero, suc, _+_, _-_, _*_, _≤_, _<_}
+use Prim.Native.Nat.{ℕ, _+_, _-_, _*_, _≤_, _<_}
 use native.Mathlib.Omega.{arith}
-use mathlib.Core.Path.{_≡_, refl, sym, ap, subst, _∙_}
+use mathlib.Core.Path.{_≡_, refl, sym, ap, _∙_}
 use mathlib.Core.Bool.{Bool, true, false, _&&_}
-use mathlib.Core.List.{List, [], _∷_, _++_}
+use mathlib.Core.List.{List, _∷_}
 use mathlib.Core.Option.{Option, none, some}
 use borrow.Author.Tests.{lt-ltb, le-ltb, leb-true}
-use lib.Dec.{eqb, leb, ltb}
+use lib.Dec.{eqb, leb}
 use lib.ListN.{length, getD, take, drop, replicate, length-drop}
 use lib.Seq.{length-take-le}
 use Rattle.lists.specs.Lists.{if_then_else_}
 use Rattle.rules.specs.Digits.{inDigits}
 use Rattle.rules.specs.Fields.{sameBytes}
 use Rattle.fix_scan_rules.specs.Rows.{rowIn}
-use Rattle.fix_scan_rules.specs.Scans.{digitsFront, head, sizeBy, sizeWith, sizeIn, Turn, row, cut, wrongRow, turnBy, turnWith, turnOf}
+use Rattle.fix_scan_rules.specs.Scans.{digitsFront, head, sizeBy, sizeIn, row, cut, turnBy, turnWith, turnOf}
 use Rattle.fix_scan.specs.RowsDone.{widthOf}
-use Rattle.fix_scan.specs.Internal.{NextStart, TurnDone, made, left}
+use Rattle.fix_scan.specs.Internal.{NextStart, TurnDone, made}
 use Rattle.fix_scan.proofs.Sizing.{front-most}
 
 -- ---- what a length can be

@@ -1,5 +1,5 @@
 -- The words of a message's row: for each tag the place, the length and the repeat of its first value, in the message's own bytes.
-use Prim.Native.Nat.{ℕ, _+_, _-_, _%_}
+use Prim.Native.Nat.{ℕ, _+_, _-_}
 use native.Mathlib.Omega.{arith}
 use mathlib.Core.Path.{_≡_, refl, sym, ap, subst, _∙_}
 use mathlib.Core.Bool.{Bool, true, false}
@@ -8,7 +8,7 @@ use mathlib.Core.Option.{Option, none, some}
 use lib.ListN.{length, drop, length-append}
 use lib.Seq.{drop-at}
 use Rattle.rules.specs.Fields.{Field, fieldBytes, fieldsBytes, fieldsOf, valuesOf}
-use Rattle.rules.specs.Frame.{checksumTag, Ending, endingOf, goodFrame}
+use Rattle.rules.specs.Frame.{Ending, endingOf, goodFrame}
 use Rattle.fix_scan_rules.specs.AnyFrame.{AnyBody, anyBodyBy, anyFramedBy, anyFramed, anyFramedIn, anyBodyIn}
 use Rattle.fix_scan_rules.specs.Rows.{beginIn, sizeOfIn}
 use Rattle.fix_scan_rules.proofs.Meaning.{FirstValue, first-value}

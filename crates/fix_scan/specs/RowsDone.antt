@@ -17,14 +17,14 @@ unfoldable pub joined : List (List ℕ) → List ℕ
 joined [] = []
 joined (r ∷ rs) = r ++ joined rs
 
--- what the scan starts from: tags that may be wanted with their table, two words at the front, and room for a number of rows and no more
+-- what the scan starts from: fewer than 2^32 bytes, tags that may be wanted with their table, and two words at the front
 pub record RowsAsked (b tags slots words : List ℕ) : Type 0 where
   pub few : length b < 4294967296
   pub wanted : wantedTags tags ≡ true
   pub table : SlotTable tags slots
   pub front : 2 ≤ length words
 
--- so many rows fit behind two words, and no more
+-- so many rows fit after two words, and no more
 pub record Room (width n room : ℕ) : Type 0 where
   pub fits : 2 + room * width ≤ n
   pub last : n < 2 + room * width + width

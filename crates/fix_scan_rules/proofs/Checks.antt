@@ -9,7 +9,7 @@ use Rattle.rules.specs.Fields.{fieldBytes, fieldsBytes, pieces, splitField, goo
 use Rattle.rules.specs.Frame.{endingOf}
 use Rattle.fix_scan_rules.specs.AnyFrame.{anyFramed, anyBodyIn}
 use Rattle.fix_scan_rules.specs.Rows.{beginIn, sizeOfIn, spansIn, rowIn}
-use Rattle.fix_scan_rules.specs.Scans.{Scan, digitsFront, sizeIn, turnOf, scanFrom, scanned}
+use Rattle.fix_scan_rules.specs.Scans.{digitsFront, sizeIn, turnOf, scanFrom, scanned}
 
 abbrev then : List ℕ → List ℕ → List ℕ
 then a b = a ++ (1 ∷ b)

@@ -1,14 +1,14 @@
--- Chunks make no difference: the rows of some bytes and others behind them are those of the first bytes up to where their scan stops, then
--- those from there on. The scan looks at no byte behind the message that it decides on.
-use Prim.Native.Nat.{ℕ, zero, suc, _+_, _-_, _*_, _≤_, _<_}
+-- Chunks make no difference: the rows of some bytes and others after them are those of the first bytes up to where their scan stops, then
+-- those from there on. The scan looks at no byte after the message that it decides on.
+use Prim.Native.Nat.{ℕ, zero, suc, _+_, _-_, _≤_, _<_}
 use native.Mathlib.Nat.{add-zero}
 use native.Mathlib.Numerals.{add-one}
 use native.Mathlib.Omega.{arith}
-use mathlib.Core.Path.{_≡_, refl, sym, ap, subst, _∙_}
+use mathlib.Core.Path.{_≡_, refl, sym, ap, _∙_}
 use mathlib.Core.Bool.{Bool, true, false, _&&_}
 use mathlib.Core.List.{List, [], _∷_, _++_, map, append-assoc}
 use mathlib.Core.Option.{Option, none, some}
-use borrow.Author.Tests.{lt-ltb, le-ltb, ltb-true, ltb-false, leb-true}
+use borrow.Author.Tests.{le-ltb, ltb-true, ltb-false}
 use lib.Dec.{eqb, leb, ltb}
 use lib.ListN.{length, getD, take, drop, length-append, length-drop, List·getD-append}
 use lib.Seq.{take-append-le, drop-append-le, drop-drop}
@@ -21,7 +21,7 @@ use Rattle.fix_scan_rules.specs.Scans.{digitsFront, head, sizeBy, sizeWi
 use Rattle.fix_scan_rules.specs.Scans as S
 use Rattle.fix_scan_rules.proofs.Scanning.{scan-short, scan-pass, scan-full, scan-cut, scan-row}
 
--- ---- what is behind 26 bytes is not looked at
+-- ---- what comes after 26 bytes is not looked at
 front-more : (k : ℕ) (l m : List ℕ) → k ≤ length l → digitsFront k (l ++ m) ≡ digitsFront k l
 unfolding digitsFront
 front-more zero l m h = refl
@@ -107,7 +107,7 @@ module _ (tags : List ℕ) (at : ℕ) (l : List ℕ) (long : 26 ≤ length l) wh
 abbrev pub onward : Scan → Scan → Scan
 onward s t = record { rows = s .rows ++ t .rows; stop = t .stop }
 
--- the scan of the bytes from a place on, where others are behind them: up to its stop, then from there on
+-- the scan of the bytes from a place on, where others come after them: up to its stop, then from there on
 pub record Joins (room : ℕ) (tags : List ℕ) (at : ℕ) (l m : List ℕ) : Type 0 where
   pub from : at ≤ scanFrom 0 room tags at l .stop
   pub rows : length (scanFrom 0 room tags at l .rows) ≤ room
@@ -268,7 +268,7 @@ from-zero : (k room : ℕ) (tags l : List ℕ) → scanFrom 0 room tags (k + 0) 
 unfolding scanned
 from-zero k room tags l = scan-moved k 0 room tags 0 l
 
--- Whoever scans a, keeps a from its stop on, and scans that with b behind it, gets the rows of a and b together.
+-- Whoever scans a, keeps a from its stop on, and scans that with b after it, gets the rows of a and b together.
 pub chunks-moved : (room : ℕ) (tags a b : List ℕ)
     → scanned room tags (a ++ b)
     ≡ onward (scanned room tags a)

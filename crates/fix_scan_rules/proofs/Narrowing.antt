@@ -5,7 +5,7 @@ use mathlib.Core.Bool.{Bool, true, false}
 use mathlib.Core.List.{List, [], _∷_}
 use mathlib.Core.Option.{Option, none, some}
 use Rattle.rules.specs.Fields.{Field, fieldsOf}
-use Rattle.rules.specs.Frame.{Kind, Ending, endingOf, goodFrame, bodyBy, kindIn, framedBy, framed, framedIn, bodyIn}
+use Rattle.rules.specs.Frame.{Ending, endingOf, goodFrame, bodyBy, kindIn, framedBy, framed, framedIn, bodyIn}
 use Rattle.fix_scan_rules.specs.AnyFrame.{anyBodyBy, anyFramedBy, anyFramed, anyFramedIn, anyBodyIn, narrowed}
 
 narrow : (kind : Field) (fs : List Field) (g : Bool) → bodyBy g (kindIn (kind .value)) fs ≡ narrowed (anyBodyBy g kind fs)

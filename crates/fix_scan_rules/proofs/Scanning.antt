@@ -6,10 +6,8 @@ use mathlib.Core.Path.{_≡_, refl, sym, ap, _∙_}
 use mathlib.Core.Bool.{true, false}
 use mathlib.Core.List.{List, [], _∷_}
 use borrow.Author.Tests.{lt-ltb, le-ltb}
-use lib.Dec.{ltb}
 use lib.ListN.{length, drop}
-use Rattle.lists.specs.Lists.{if_then_else_}
-use Rattle.fix_scan_rules.specs.Scans.{Turn, row, cut, turnOf, Scan, stopped, before, begins, turned, found, scanFrom}
+use Rattle.fix_scan_rules.specs.Scans.{Turn, row, cut, turnOf, stopped, before, begins, found, scanFrom}
 
 pub scan-skip : (n room : ℕ) (tags : List ℕ) (at : ℕ) (l : List ℕ) → n ≤ length l → scanFrom n room tags at l ≡ scanFrom 0 room tags (at + n) (drop n l)
 unfolding scanFrom

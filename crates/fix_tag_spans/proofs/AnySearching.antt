@@ -151,7 +151,7 @@ module _ (b : List ℕ) (start end : ℕ) (tags slots spans₀ : List ℕ) (A : 
               let cut = q ∙ ap (λ (l : List ℕ). t ++ (61 ∷ l)) (split-value b next to wide) in
               let some : 0 < length value = omega (arith, value-long, r .first) in
               let body = turn-body (drop place b) t value (drop (to + 1) b) g (value-clear b next to wide) cut some
-                  (λ s. n (is ∙ slot-frame tags slots (A .wanted) (A .table) t g s)) in
+              (λ s. n (is ∙ slot-frame tags slots (A .wanted) (A .table) t g s)) in
               record {
                 fs = P .fs ++ (record { tag = t; value = value } ∷ []);
                 so-far = P .so-far ∙ ap (allInFront (P .fs)) body ∙ sym (front-snoc (P .fs) (record { tag = t; value = value }) (closed (drop (to + 1) b)));
@@ -181,7 +181,7 @@ module _ (b : List ℕ) (start end : ℕ) (tags slots spans₀ : List ℕ) (A : 
               by (tag t g q h is) =
                   let room = slot-room z in
                   let has : (j : ℕ) (l : j < length tags) → hasTag (decimalOf (getD tags j 0)) (record { tag = t; value = value }) ≡ eqb (tagSlot slots t) (1 + j) =
-                      λ j l. has-slot tags slots (A .wanted) (A .table) t g j l in
+                  λ j l. has-slot tags slots (A .wanted) (A .table) t g j l in
                   further (notedAt spans (2 * (slot - 1)) next to) t g q h is
                   (words-noted start tags spans (P .fs) (record { tag = t; value = value }) (P .words)
                   (omega (arith, A .small, P .is, P .inside)) (slot - 1) (omega (arith, room .0, room .1))

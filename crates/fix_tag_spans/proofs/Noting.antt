@@ -1,5 +1,5 @@
 -- The words of the wanted tags after a further field.
-use Prim.Native.Nat.{ℕ, zero, suc, _+_, _*_, _-_, _≤_, _<_}
+use Prim.Native.Nat.{ℕ, suc, _+_, _*_, _-_, _≤_, _<_}
 use native.Mathlib.Omega.{arith}
 use mathlib.Core.Path.{_≡_, refl, sym, ap, _∙_}
 use mathlib.Core.Bool.{Bool, true, false, _||_, true≢false}
@@ -230,8 +230,7 @@ module _ (start : ℕ) (tags spans : List ℕ) (fs : List Field) (f : Field) (w 
       let n = noted-first spans (2 * i) from to room (w .begins i h ∙ begin-zero u f start fs e) in
       (n .0 ∙ where-from ∙ sym (begin-first u f mine start fs e), n .1 ∙ how-long ∙ sym (size-first u f mine fs e))
   mine-words true e =
-      let n = noted-again spans (2 * i) from to room u f (λ z. begin-some u f start fs e (sym (w .begins i h) ∙ z)) in
-      (
+      let n = noted-again spans (2 * i) from to room u f (λ z. begin-some u f start fs e (sym (w .begins i h) ∙ z)) in (
         n .0 ∙ w .begins i h ∙ sym (begin-stays u f start fs e),
         n .1 ∙ ap (marked u f) (w .sizes i h) ∙ sym (size-again u f mine fs small e),
       )

@@ -1,12 +1,12 @@
 -- What a tag's slot says: which wanted tag it is, or that it is of the frame.
-use Prim.Native.Nat.{ℕ, zero, suc, _+_, _*_, _-_, _/_, _%_, _≤_, _<_}
+use Prim.Native.Nat.{ℕ, _+_, _*_, _-_, _/_, _%_, _≤_, _<_}
 use native.Mathlib.Omega.{arith}
 use mathlib.Core.Path.{_≡_, refl, sym, ap, _∙_}
 use mathlib.Core.Bool.{Bool, true, false, _&&_, _||_, true≢false}
 use mathlib.Core.List.{List, [], _∷_, _++_}
 use borrow.Author.Tests.{eqb-true, eqb-false, ne-eqb, leb-true, leb-false, le-leb, lt-leb, ltb-true, ltb-false}
 use lib.Dec.{eqb, leb, ltb}
-use lib.ListN.{length, getD, length-append}
+use lib.ListN.{length, getD}
 use Rattle.lists.specs.Lists.{if_then_else_}
 use Rattle.rules.specs.Digits.{isDigit, allDigits, numberFrom, decimalOf}
 use Rattle.rules.specs.Fields.{goodTag, sameBytes}
@@ -19,7 +19,7 @@ use Rattle.fix_fields.proofs.Tags.{tag-ranges}
 use Rattle.fix_fields.proofs.SlotTags.{same-is, same-refl}
 use Rattle.fix_fields.proofs.Slots.{frame-8, frame-9, frame-10, frame-35}
 use Rattle.fix_writer.proofs.Decimals.{one-digit, last-digit, number-is}
-use Rattle.fix_tag_spans.proofs.Wanting.{Placed, placed, Wanted, wanted, few, place-few}
+use Rattle.fix_tag_spans.proofs.Wanting.{placed, wanted, few, place-few}
 
 -- ---- tags of up to three digits
 pub data Short : List ℕ → Type 0 where

@@ -6,10 +6,9 @@ use mathlib.Core.Path.{_≡_, refl, sym, ap, _∙_}
 use mathlib.Core.Bool.{true, false, _||_}
 use mathlib.Core.List.{List, [], _∷_, _++_}
 use borrow.Author.Tests.{le-leb, lt-leb}
-use lib.Dec.{ltb, leb}
+use lib.Dec.{ltb}
 use lib.ListN.{length, getD, drop}
 use lib.Seq.{drop-cons}
-use Rattle.lists.specs.Lists.{if_then_else_}
 use Rattle.rules.specs.Digits.{isDigit, allDigits, numberFrom}
 use Rattle.rules.specs.Fields.{fieldOf}
 use Rattle.fix_fields.specs.Ends.{ClosedFrom}

@@ -1,8 +1,8 @@
 -- `c_scan::quoting_fix_scan` meets its contract: 3 by the tags or the bytes, 16 by the words, or the rows with their number and the stop.
-use mathlib.Core.Path.{refl, ap, sym, _∙_}
+use mathlib.Core.Path.{sym, _∙_}
 use native.Mathlib.Omega.{arith}
 use borrow.Author.Tests.{not-true, not-false}
-use lib.ListN.{length, length-set}
+use lib.ListN.{length-set}
 use Rattle.c_scan.proofs.Words.{bad-tags, too-many-bytes, no-room, used-two, count-small, behind-length, answered}
 use borrow.Author.Needs.{needs}
 use Rattle.c_scan.proofs.quoting_fix_scan.Statement.{statement}

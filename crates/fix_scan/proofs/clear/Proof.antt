@@ -1,6 +1,6 @@
 -- `fix_scan::clear` meets its contract. The loop's invariant: the words before the place are 0, and the others as they were.
 use Prim.Native.Nat.{_-_, _≤_}
-use mathlib.Core.Path.{_≡_, refl, ap, _∙_}
+use mathlib.Core.Path.{_≡_}
 use mathlib.Core.List.{_++_}
 use native.Mathlib.Omega.{arith}
 use lib.ListN.{length, drop, replicate}
@@ -26,11 +26,10 @@ loop-less : tie.Need-loop-less Inv-loop μ-loop
 loop-less c = omega (arith, c .loop-test .taken, zeros-length (c .before .before .args .words .now) (c .before .loop .words) (c .before .loop .i) (c .before .loop .inv .0) (c .before .loop .inv .1))
 
 loop-again : tie.Need-loop-again Inv-loop μ-loop
-loop-again c =
-    (
-      omega (arith, c .loop-test .taken, zeros-length (c .before .before .args .words .now) (c .before .loop .words) (c .before .loop .i) (c .before .loop .inv .0) (c .before .loop .inv .1)),
-      zeros-more (c .before .before .args .words .now) (c .before .loop .words) (c .before .loop .i) (c .before .loop .inv .0) (c .before .loop .inv .1) (c .loop-test .taken),
-    )
+loop-again c = (
+  omega (arith, c .loop-test .taken, zeros-length (c .before .before .args .words .now) (c .before .loop .words) (c .before .loop .i) (c .before .loop .inv .0) (c .before .loop .inv .1)),
+  zeros-more (c .before .before .args .words .now) (c .before .loop .words) (c .before .loop .i) (c .before .loop .inv .0) (c .before .loop .inv .1) (c .loop-test .taken),
+)
 
 same-length : tie.Need-same-length Inv-loop μ-loop
 same-length c = zeros-length (c .before .before .args .words .now) (c .before .loop .words) (c .before .loop .i) (c .before .loop .inv .0) (c .before .loop .inv .1)

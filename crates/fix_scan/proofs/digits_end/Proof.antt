@@ -2,7 +2,6 @@
 use Prim.Native.Nat.{_-_, _+_}
 use mathlib.Core.Path.{sym, _∙_}
 use native.Mathlib.Omega.{arith}
-use lib.ListN.{length}
 use borrow.Author.Tests.{not-true, not-false}
 use Rattle.fix_scan.proofs.Sizing.{DigitsTo, digits-start, digits-more, digits-stop, digits-all}
 use borrow.Author.Needs.{needs}

@@ -4,7 +4,6 @@ use mathlib.Core.Path.{sym, _∙_}
 use native.Mathlib.Omega.{arith}
 use lib.ListN.{length}
 use Rattle.fix_scan.proofs.Starting.{Passed, start, onward, found-next, over-next}
-use borrow.Author.Needs.{needs}
 use Rattle.fix_scan.proofs.next_start.Statement.{statement}
 use Rattle.fix_scan.proofs.next_start.Tie as tie
 

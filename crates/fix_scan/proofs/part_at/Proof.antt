@@ -1,7 +1,6 @@
 -- `fix_scan::part_at` meets its contract: the length that the message says, against the bytes that are there.
 use mathlib.Core.Path.{sym, ap, _∙_}
-use native.Mathlib.Omega.{arith}
-use lib.ListN.{length, length-drop}
+use lib.ListN.{length-drop}
 use Rattle.fix_scan.specs.Internal.{shownSize}
 use borrow.Author.Needs.{needs}
 use Rattle.fix_scan.proofs.part_at.Statement.{statement}

@@ -1,10 +1,9 @@
 -- `fix_scan::put_row` meets its contract: the frame and the fields decide, and the row is that of `turnBy`.
-use Prim.Native.Nat.{ℕ, _-_, _*_}
-use mathlib.Core.Path.{_≡_, ap, sym, subst, _∙_}
-use mathlib.Core.List.{List, _++_}
+use Prim.Native.Nat.{ℕ, _*_}
+use mathlib.Core.Path.{ap, subst, _∙_}
 use native.Mathlib.Omega.{arith}
 use borrow.Author.Tests.{not-true, not-false}
-use lib.ListN.{length, take, drop, set, length-replicate, length-set, length-append}
+use lib.ListN.{length, length-replicate, length-set}
 use Rattle.fix_any_frame.specs.declared.AnyFrame.{AnyFrame}
 use Rattle.fix_any_frame.specs.AnyFrames.{AnyFrameFound}
 use Rattle.fix_scan.proofs.Rowing.{wrong-turn, no-row, wrong-length, zeros-part, nothing-behind, not-spanned, is-spanned, message-turn}

@@ -1,8 +1,8 @@
 -- `fix_scan::put_wrong` meets its contract: all words are 0 but the place and 20.
 use Prim.Native.Nat.{ℕ}
-use mathlib.Core.Path.{ap, sym, _∙_}
+use mathlib.Core.Path.{ap, _∙_}
 use native.Mathlib.Omega.{arith}
-use lib.ListN.{length, replicate, set, length-replicate, length-set}
+use lib.ListN.{length, set, length-replicate, length-set}
 use Rattle.fix_scan.proofs.Rowing.{wrong-put}
 use borrow.Author.Needs.{needs}
 use Rattle.fix_scan.proofs.put_wrong.Statement.{statement}

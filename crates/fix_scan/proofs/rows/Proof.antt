@@ -1,10 +1,9 @@
 -- `fix_scan::rows` meets its contract. The loop's invariant: the rows that are made, in front of those that are ahead, are those of the scan.
-use Prim.Native.Nat.{ℕ, _+_, _-_}
-use mathlib.Core.Path.{_≡_, refl, ap, sym, subst, _∙_}
+use Prim.Native.Nat.{_-_}
+use mathlib.Core.Path.{_∙_}
 use native.Mathlib.Omega.{arith}
-use lib.ListN.{length, take, drop}
+use lib.ListN.{length}
 use Rattle.fix_tag_spans.proofs.Wanting.{few}
-use Rattle.fix_scan.specs.RowsDone.{widthOf}
 use Rattle.fix_scan.proofs.Going.{Going, going-start, same-size, ends, more-bytes, more-words, part-wide, stop-turn, next-turn, farther}
 use borrow.Author.Needs.{needs}
 use Rattle.fix_scan.proofs.rows.Statement.{statement}
@@ -49,19 +48,22 @@ part-turn-end c =
     (c .loop-test .taken)
 
 turn-requires : tie.Need-turn-requires Inv-loop μ-loop
-turn-requires c κs =
-    (
-      record {
-        wide = part-wide (c .before .before .before .before .before .before .before .args .b .now) (c .before .before .before .before .before .before .before .args .tags .now) (c .before .before .before .before .before .before .before .args .words .now) (c .before .before .before .before .before .before .before .pre .front) (c .before .before .loop .words) (c .before .before .loop .at) (c .before .before .loop .used) (c .before .before .loop .inv)
-    (c .before .loop-test .taken);
-        wanted = c .before .before .before .before .before .before .before .pre .wanted;
-        table = c .before .before .before .before .before .before .before .pre .table;
-        small = omega (arith, c .before .before .before .before .before .before .before .pre .few, more-bytes (c .before .before .before .before .before .before .before .args .b .now) (c .before .before .before .before .before .before .before .args .tags .now) (c .before .before .before .before .before .before .before .args .words .now) (c .before .before .before .before .before .before .before .pre .front) (c .before .before .loop .words) (c .before .before .loop .at) (c .before .before .loop .used) (c .before .before .loop .inv)
-    (c .before .loop-test .taken));
-      },
+turn-requires c κs = (
+  record {
+    wide = part-wide (c .before .before .before .before .before .before .before .args .b .now) (c .before .before .before .before .before .before .before .args .tags .now) (c .before .before .before .before .before .before .before .args .words .now) (c .before .before .before .before .before .before .before .pre .front) (c .before .before .loop .words) (c .before .before .loop .at) (c .before .before .loop .used) (c .before .before .loop .inv)
+        (c .before .loop-test .taken);
+    wanted = c .before .before .before .before .before .before .before .pre .wanted;
+    table = c .before .before .before .before .before .before .before .pre .table;
+    small = omega (
+      arith,
+      c .before .before .before .before .before .before .before .pre .few,
       more-bytes (c .before .before .before .before .before .before .before .args .b .now) (c .before .before .before .before .before .before .before .args .tags .now) (c .before .before .before .before .before .before .before .args .words .now) (c .before .before .before .before .before .before .before .pre .front) (c .before .before .loop .words) (c .before .before .loop .at) (c .before .before .loop .used) (c .before .before .loop .inv)
-    (c .before .loop-test .taken),
-    )
+          (c .before .loop-test .taken),
+    );
+  },
+  more-bytes (c .before .before .before .before .before .before .before .args .b .now) (c .before .before .before .before .before .before .before .args .tags .now) (c .before .before .before .before .before .before .before .args .words .now) (c .before .before .before .before .before .before .before .pre .front) (c .before .before .loop .words) (c .before .before .loop .at) (c .before .before .loop .used) (c .before .before .loop .inv)
+      (c .before .loop-test .taken),
+)
 
 same-length : tie.Need-same-length Inv-loop μ-loop
 same-length c = c .before .before .words .given .1 ∙ same-size (c .before .before .before .before .before .before .before .before .before .before .before .args .b .now) (c .before .before .before .before .before .before .before .before .before .before .before .args .tags .now) (c .before .before .before .before .before .before .before .before .before .before .before .args .words .now) (c .before .before .before .before .before .before .before .before .before .before .before .pre .front) (c .before .before .before .before .before .before .loop .words) (c .before .before .before .before .before .before .loop .at) (c .before .before .before .before .before .before .loop .used) (c .before .before .before .before .before .before .loop .inv)
@@ -73,10 +75,15 @@ returns c =
 
 loop-less : tie.Need-loop-less Inv-loop μ-loop
 loop-less c =
-    omega (arith, farther (c .before .before .before .before .before .before .before .before .before .before .before .args .b .now) (c .before .before .before .before .before .before .before .before .before .before .before .args .tags .now) (c .before .before .before .before .before .before .before .before .before .before .before .args .words .now) (c .before .before .before .before .before .before .before .before .before .before .before .pre .front) (c .before .before .before .before .before .before .loop .words) (c .before .before .before .before .before .before .loop .at) (c .before .before .before .before .before .before .loop .used) (c .before .before .before .before .before .before .loop .inv)
-    (c .before .before .before .before .before .loop-test .taken) (c .before .before .before .turn .last .1 .1 .1 .1 .0) (c .before .before .before .turn .result) (c .before .before .before .turn .ensures) (c .if1 .left), more-bytes (c .before .before .before .before .before .before .before .before .before .before .before .args .b .now) (c .before .before .before .before .before .before .before .before .before .before .before .args .tags .now) (c .before .before .before .before .before .before .before .before .before .before .before .args .words .now) (c .before .before .before .before .before .before .before .before .before .before .before .pre .front) (c .before .before .before .before .before .before .loop .words) (c .before .before .before .before .before .before .loop .at) (c .before .before .before .before .before .before .loop .used) (c .before .before .before .before .before .before .loop .inv)
-    (c .before .before .before .before .before .loop-test .taken), (next-turn (c .before .before .before .before .before .before .before .before .before .before .before .args .b .now) (c .before .before .before .before .before .before .before .before .before .before .before .args .tags .now) (c .before .before .before .before .before .before .before .before .before .before .before .args .words .now) (c .before .before .before .before .before .before .before .before .before .before .before .pre .front) (c .before .before .before .before .before .before .loop .words) (c .before .before .before .before .before .before .loop .at) (c .before .before .before .before .before .before .loop .used) (c .before .before .before .before .before .before .loop .inv)
-    (c .before .before .before .before .before .loop-test .taken) (c .before .before .before .turn .last .1 .1 .1 .1 .0) (c .before .before .before .turn .result) (c .before .before .before .turn .ensures) (c .if1 .left) (c .before .before .words .given .0)) .place)
+    omega (
+      arith,
+      farther (c .before .before .before .before .before .before .before .before .before .before .before .args .b .now) (c .before .before .before .before .before .before .before .before .before .before .before .args .tags .now) (c .before .before .before .before .before .before .before .before .before .before .before .args .words .now) (c .before .before .before .before .before .before .before .before .before .before .before .pre .front) (c .before .before .before .before .before .before .loop .words) (c .before .before .before .before .before .before .loop .at) (c .before .before .before .before .before .before .loop .used) (c .before .before .before .before .before .before .loop .inv)
+          (c .before .before .before .before .before .loop-test .taken) (c .before .before .before .turn .last .1 .1 .1 .1 .0) (c .before .before .before .turn .result) (c .before .before .before .turn .ensures) (c .if1 .left),
+      more-bytes (c .before .before .before .before .before .before .before .before .before .before .before .args .b .now) (c .before .before .before .before .before .before .before .before .before .before .before .args .tags .now) (c .before .before .before .before .before .before .before .before .before .before .before .args .words .now) (c .before .before .before .before .before .before .before .before .before .before .before .pre .front) (c .before .before .before .before .before .before .loop .words) (c .before .before .before .before .before .before .loop .at) (c .before .before .before .before .before .before .loop .used) (c .before .before .before .before .before .before .loop .inv)
+          (c .before .before .before .before .before .loop-test .taken),
+      (next-turn (c .before .before .before .before .before .before .before .before .before .before .before .args .b .now) (c .before .before .before .before .before .before .before .before .before .before .before .args .tags .now) (c .before .before .before .before .before .before .before .before .before .before .before .args .words .now) (c .before .before .before .before .before .before .before .before .before .before .before .pre .front) (c .before .before .before .before .before .before .loop .words) (c .before .before .before .before .before .before .loop .at) (c .before .before .before .before .before .before .loop .used) (c .before .before .before .before .before .before .loop .inv)
+          (c .before .before .before .before .before .loop-test .taken) (c .before .before .before .turn .last .1 .1 .1 .1 .0) (c .before .before .before .turn .result) (c .before .before .before .turn .ensures) (c .if1 .left) (c .before .before .words .given .0)) .place,
+    )
 
 loop-again : tie.Need-loop-again Inv-loop μ-loop
 loop-again c =

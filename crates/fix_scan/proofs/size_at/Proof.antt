@@ -1,8 +1,7 @@
 -- `fix_scan::size_at` meets its contract: where a test fails the bytes say no length, and the last line is the length that they say.
-use Prim.Native.Nat.{_+_, _-_}
 use mathlib.Core.Path.{sym, ap, _∙_}
 use native.Mathlib.Omega.{arith}
-use lib.ListN.{length, length-drop}
+use lib.ListN.{length-drop}
 use borrow.Author.Tests.{not-true, not-false}
 use Rattle.fix_digits.specs.Answers.{shownNumber}
 use Rattle.fix_frame.specs.Frames.{headRight}

@@ -1,8 +1,7 @@
 -- `fix_scan::turn` meets its contract: a message that is cut off is left; a place without a length, or with one, gets the row of `turnOf`.
-use Prim.Native.Nat.{ℕ, _+_, _-_}
-use mathlib.Core.Path.{_≡_, refl, ap, sym, subst, _∙_}
+use mathlib.Core.Path.{refl, subst}
 use native.Mathlib.Omega.{arith}
-use lib.ListN.{length, take, drop, length-drop}
+use lib.ListN.{length, drop, length-drop}
 use Rattle.fix_scan.specs.declared.Part.{Part}
 use Rattle.fix_scan.specs.Internal.{PartIs, made, left}
 use Rattle.fix_scan.proofs.Turning.{size-range, cut-turn, no-size-turn, part-length, step-range, row-made}

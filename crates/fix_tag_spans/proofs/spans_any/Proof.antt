@@ -1,14 +1,13 @@
 -- `fix_tag_spans::spans_any` meets its contract. The loop's invariant: the fields read so far are in front of those that are left, and each
 -- wanted tag has its words of them.
-use Prim.Native.Nat.{ℕ, _-_, _+_, _*_}
-use mathlib.Core.Path.{_≡_, refl, sym, ap, subst, _∙_}
+use Prim.Native.Nat.{ℕ, _-_, _+_}
+use mathlib.Core.Path.{sym, subst, _∙_}
 use mathlib.Core.Logic.{⊎-elim}
 use mathlib.Core.List.{List}
 use native.Mathlib.Omega.{arith}
 use lib.ListN.{length}
 use Rattle.fix_fields.proofs.Searching.{not-last}
 use Rattle.fix_tag_spans.proofs.AnySearching.{Progress, begins, stops, finishes, framed, next-inside, same-size, slot-room, words-room, slot-small, emptied, onwards-skip, onwards-noted, farther, to-small}
-use borrow.Author.Needs.{needs}
 use Rattle.fix_tag_spans.proofs.spans_any.Statement.{statement}
 use Rattle.fix_tag_spans.proofs.spans_any.Tie as tie
 
@@ -49,8 +48,11 @@ returns-2 c =
 
 add-end-of : tie.Need-add-end-of Inv-loop μ-loop
 add-end-of c =
-    omega (arith, next-inside (c .before .before .before .before .before .before .before .before .before .args .b .now) (c .before .before .before .before .before .before .before .before .before .args .start) (c .before .before .before .before .before .before .before .before .before .args .end) (c .before .before .before .before .before .before .before .before .before .args .tags .now) (c .before .before .before .before .before .before .before .before .before .args .slots .now) (c .before .before .before .before .before .before .before .before .before .args .spans .now) (c .before .before .before .before .before .before .before .before .before .pre) (c .before .before .before .before .before .loop .spans) (c .before .before .before .before .before .loop .at) (c .before .before .before .before .before .loop .inv)
-    (c .before .before .before .before .loop-test .taken) (c .before .before .before .slot-at .result .slot) (c .before .before .before .slot-at .result .next) (c .before .before .before .slot-at .ensures) (c .before .before .if1 .left))
+    omega (
+      arith,
+      next-inside (c .before .before .before .before .before .before .before .before .before .args .b .now) (c .before .before .before .before .before .before .before .before .before .args .start) (c .before .before .before .before .before .before .before .before .before .args .end) (c .before .before .before .before .before .before .before .before .before .args .tags .now) (c .before .before .before .before .before .before .before .before .before .args .slots .now) (c .before .before .before .before .before .before .before .before .before .args .spans .now) (c .before .before .before .before .before .before .before .before .before .pre) (c .before .before .before .before .before .loop .spans) (c .before .before .before .before .before .loop .at) (c .before .before .before .before .before .loop .inv)
+          (c .before .before .before .before .loop-test .taken) (c .before .before .before .slot-at .result .slot) (c .before .before .before .slot-at .result .next) (c .before .before .before .slot-at .ensures) (c .before .before .if1 .left),
+    )
 
 end-of-requires : tie.Need-end-of-requires Inv-loop μ-loop
 end-of-requires c κs =
@@ -66,20 +68,19 @@ end-of-requires c κs =
 words-at-requires : tie.Need-words-at-requires Inv-loop μ-loop
 words-at-requires c κs =
     let r = slot-room (c .before .before .before .before .before .before .before .before .before .before .before .before .args .b .now) (c .before .before .before .before .before .before .before .before .before .before .before .before .args .start) (c .before .before .before .before .before .before .before .before .before .before .before .before .args .end) (c .before .before .before .before .before .before .before .before .before .before .before .before .args .tags .now) (c .before .before .before .before .before .before .before .before .before .before .before .before .args .slots .now) (c .before .before .before .before .before .before .before .before .before .before .before .before .args .spans .now) (c .before .before .before .before .before .before .before .before .before .before .before .before .pre) (c .before .before .before .before .before .before .before .before .loop .spans) (c .before .before .before .before .before .before .before .before .loop .at) (c .before .before .before .before .before .before .before .before .loop .inv)
-        (c .before .before .before .before .before .before .before .loop-test .taken) (c .before .before .before .before .before .before .slot-at .result .slot) (c .before .before .before .before .before .before .slot-at .result .next) (c .before .before .before .before .before .before .slot-at .ensures) (c .before .before .before .before .before .if1 .left) (c .before .if3 .taken) in
+    (c .before .before .before .before .before .before .before .loop-test .taken) (c .before .before .before .before .before .before .slot-at .result .slot) (c .before .before .before .before .before .before .slot-at .result .next) (c .before .before .before .before .before .before .slot-at .ensures) (c .before .before .before .before .before .if1 .left) (c .before .if3 .taken) in
     let s = slot-small (c .before .before .before .before .before .before .before .before .before .before .before .before .args .b .now) (c .before .before .before .before .before .before .before .before .before .before .before .before .args .start) (c .before .before .before .before .before .before .before .before .before .before .before .before .args .end) (c .before .before .before .before .before .before .before .before .before .before .before .before .args .tags .now) (c .before .before .before .before .before .before .before .before .before .before .before .before .args .slots .now) (c .before .before .before .before .before .before .before .before .before .before .before .before .args .spans .now) (c .before .before .before .before .before .before .before .before .before .before .before .before .pre) (c .before .before .before .before .before .before .before .before .loop .spans) (c .before .before .before .before .before .before .before .before .loop .at) (c .before .before .before .before .before .before .before .before .loop .inv)
-        (c .before .before .before .before .before .before .before .loop-test .taken) (c .before .before .before .before .before .before .slot-at .result .slot) (c .before .before .before .before .before .before .slot-at .result .next) (c .before .before .before .before .before .before .slot-at .ensures) (c .before .before .before .before .before .if1 .left) (c .before .if3 .taken) in
+    (c .before .before .before .before .before .before .before .loop-test .taken) (c .before .before .before .before .before .before .slot-at .result .slot) (c .before .before .before .before .before .before .slot-at .result .next) (c .before .before .before .before .before .before .slot-at .ensures) (c .before .before .before .before .before .if1 .left) (c .before .if3 .taken) in
     (r .0, s)
 
 note-requires : tie.Need-note-requires Inv-loop μ-loop
 note-requires c κs =
     let w = words-room (c .before .before .before .before .before .before .before .before .before .before .before .before .before .args .b .now) (c .before .before .before .before .before .before .before .before .before .before .before .before .before .args .start) (c .before .before .before .before .before .before .before .before .before .before .before .before .before .args .end) (c .before .before .before .before .before .before .before .before .before .before .before .before .before .args .tags .now) (c .before .before .before .before .before .before .before .before .before .before .before .before .before .args .slots .now) (c .before .before .before .before .before .before .before .before .before .before .before .before .before .args .spans .now) (c .before .before .before .before .before .before .before .before .before .before .before .before .before .pre) (c .before .before .before .before .before .before .before .before .before .loop .spans) (c .before .before .before .before .before .before .before .before .before .loop .at) (c .before .before .before .before .before .before .before .before .before .loop .inv)
-        (c .before .before .before .before .before .before .before .before .loop-test .taken) (c .before .before .before .before .before .before .before .slot-at .result .slot) (c .before .before .before .before .before .before .before .slot-at .result .next) (c .before .before .before .before .before .before .before .slot-at .ensures) (c .before .before .before .before .before .before .if1 .left) (c .before .before .if3 .taken) in
-    (
+    (c .before .before .before .before .before .before .before .before .loop-test .taken) (c .before .before .before .before .before .before .before .slot-at .result .slot) (c .before .before .before .before .before .before .before .slot-at .result .next) (c .before .before .before .before .before .before .before .slot-at .ensures) (c .before .before .before .before .before .before .if1 .left) (c .before .before .if3 .taken) in (
       omega (arith, w, c .words-at .ensures),
       omega (arith, c .before .before .before .end-of .ensures .first),
       to-small (c .before .before .before .before .before .before .before .before .before .before .before .before .before .args .b .now) (c .before .before .before .before .before .before .before .before .before .before .before .before .before .args .start) (c .before .before .before .before .before .before .before .before .before .before .before .before .before .args .end) (c .before .before .before .before .before .before .before .before .before .before .before .before .before .args .tags .now) (c .before .before .before .before .before .before .before .before .before .before .before .before .before .args .slots .now) (c .before .before .before .before .before .before .before .before .before .before .before .before .before .args .spans .now) (c .before .before .before .before .before .before .before .before .before .before .before .before .before .pre) (c .before .before .before .before .before .before .before .before .before .loop .spans) (c .before .before .before .before .before .before .before .before .before .loop .at) (c .before .before .before .before .before .before .before .before .before .loop .inv)
-      (c .before .before .before .before .before .before .before .before .loop-test .taken) (c .before .before .before .before .before .before .before .slot-at .result .slot) (c .before .before .before .before .before .before .before .slot-at .result .next) (c .before .before .before .before .before .before .before .slot-at .ensures) (c .before .before .before .before .before .before .if1 .left) (c .before .before .before .before .if2 .left) (c .before .before .before .end-of .result) (c .before .before .before .end-of .ensures),
+          (c .before .before .before .before .before .before .before .before .loop-test .taken) (c .before .before .before .before .before .before .before .slot-at .result .slot) (c .before .before .before .before .before .before .before .slot-at .result .next) (c .before .before .before .before .before .before .before .slot-at .ensures) (c .before .before .before .before .before .before .if1 .left) (c .before .before .before .before .if2 .left) (c .before .before .before .end-of .result) (c .before .before .before .end-of .ensures),
     )
 
 add-at : tie.Need-add-at Inv-loop μ-loop
@@ -87,8 +88,12 @@ add-at c = omega (arith, c .before .end-of .ensures .inside)
 
 loop-less : tie.Need-loop-less Inv-loop μ-loop
 loop-less c =
-    omega (arith, c .before .end-of .ensures .inside, farther (c .before .before .before .before .before .before .before .before .before .before .before .args .b .now) (c .before .before .before .before .before .before .before .before .before .before .before .args .start) (c .before .before .before .before .before .before .before .before .before .before .before .args .end) (c .before .before .before .before .before .before .before .before .before .before .before .args .tags .now) (c .before .before .before .before .before .before .before .before .before .before .before .args .slots .now) (c .before .before .before .before .before .before .before .before .before .before .before .args .spans .now) (c .before .before .before .before .before .before .before .before .before .before .before .pre) (c .before .before .before .before .before .before .before .loop .spans) (c .before .before .before .before .before .before .before .loop .at) (c .before .before .before .before .before .before .before .loop .inv)
-    (c .before .before .before .before .before .before .loop-test .taken) (c .before .before .before .before .before .slot-at .result .slot) (c .before .before .before .before .before .slot-at .result .next) (c .before .before .before .before .before .slot-at .ensures) (c .before .before .before .before .if1 .left) (c .before .before .if2 .left) (c .before .end-of .result) (c .before .end-of .ensures))
+    omega (
+      arith,
+      c .before .end-of .ensures .inside,
+      farther (c .before .before .before .before .before .before .before .before .before .before .before .args .b .now) (c .before .before .before .before .before .before .before .before .before .before .before .args .start) (c .before .before .before .before .before .before .before .before .before .before .before .args .end) (c .before .before .before .before .before .before .before .before .before .before .before .args .tags .now) (c .before .before .before .before .before .before .before .before .before .before .before .args .slots .now) (c .before .before .before .before .before .before .before .before .before .before .before .args .spans .now) (c .before .before .before .before .before .before .before .before .before .before .before .pre) (c .before .before .before .before .before .before .before .loop .spans) (c .before .before .before .before .before .before .before .loop .at) (c .before .before .before .before .before .before .before .loop .inv)
+          (c .before .before .before .before .before .before .loop-test .taken) (c .before .before .before .before .before .slot-at .result .slot) (c .before .before .before .before .before .slot-at .result .next) (c .before .before .before .before .before .slot-at .ensures) (c .before .before .before .before .if1 .left) (c .before .before .if2 .left) (c .before .end-of .result) (c .before .end-of .ensures),
+    )
 
 loop-again : tie.Need-loop-again Inv-loop μ-loop
 loop-again c =
