@@ -1,6 +1,6 @@
-# Every target but `install` needs the Rattle kit (`rt` on the path) and Python 3; `test` also what tests/packages lists, `client`, `library` and
-# `dist` a C compiler, `card` the same, `bench` Rust with cargo.
-.PHONY: test help demo statement card client library install dist bench clean
+# `test`, `demo`, `client`, `library` and `bench` need the Rattle kit (`rt` on the path) and Python 3, and all but `demo` a C compiler; `test` also
+# what tests/packages lists, `bench` Rust with cargo. The other targets take what `make library` has built, and build it where it is missing.
+.PHONY: test help demo statement card client library archives link install dist bench clean
 
 VERSION := $(shell cat VERSION)
 MAJOR := $(firstword $(subst ., ,$(VERSION)))
@@ -8,6 +8,10 @@ PREFIX ?= /usr/local
 # A Python that sees Debian's packages; another python3 may come first on the path and does not.
 PYTHON ?= /usr/bin/python3
 LIBRARY := target/library
+ARCHIVES := target/staticlib
+# The archives of which the library is made: crate `quoting` with every call, then those with one call each that must be fast. In an archive of
+# its own the compiler inlines all that a call runs; with two callers in one archive it inlines that into neither.
+HOT := session c_records $(if $(wildcard crates/c_scan),c_scan)
 STRICT := -std=c11 -O2 -Wall -Wextra -Wpedantic -Werror -Iinclude
 
 test:  ## the gate: proofs, must-fail edits, programs and all tests; tests alone: bash tests/run
@@ -42,14 +46,21 @@ client:  ## target/client: the C client of examples/client.c
 	cc -O2 -Iinclude -o target/client examples/client.c target/staticlib/libsession.a
 
 # Every proved call for C, with the refusals' sentences: target/library has both libraries, the header and what pkg-config reads.
-library:  ## target/library: the library for C, with its header and what pkg-config reads
-	rt staticlib quoting
+# BUILT says from which commit and by which kit.
+library: archives link  ## target/library: the library for C, with its headers and what pkg-config reads
+	{ echo "version $(VERSION)"; echo "commit $$(git describe --always --dirty --abbrev=40 --exclude '*')"; echo "kit $$(rt version)"; } > $(LIBRARY)/BUILT
+
+archives:
+	for crate in quoting $(HOT); do rt staticlib $$crate || exit 1; done
+
+# The library of archives that are there, so that one that was built elsewhere can be linked too: make link ARCHIVES=FOLDER
+link:
 	mkdir -p $(LIBRARY)
+	lib/link $(LIBRARY)/libquoting.a $(foreach crate,quoting $(HOT),$(ARCHIVES)/lib$(crate).a)
 	cc $(STRICT) -fPIC -c lib/refusals.c -o $(LIBRARY)/refusals.o
 	cc $(STRICT) -fPIC -c lib/version.c -o $(LIBRARY)/version.o
-	cp target/staticlib/libquoting.a $(LIBRARY)/libquoting.a
 	ar rcs $(LIBRARY)/libquoting.a $(LIBRARY)/refusals.o $(LIBRARY)/version.o
-	cc -shared -Wl,-soname,libquoting.so.$(MAJOR) -Wl,--version-script=lib/quoting.map -Wl,-z,defs -Wl,--gc-sections \
+	cc -shared -Wl,-soname,libquoting.so.$(MAJOR) -Wl,--version-script=lib/quoting.map -Wl,-z,defs -Wl,-z,now -Wl,--gc-sections \
 		-Wl,--whole-archive $(LIBRARY)/libquoting.a -Wl,--no-whole-archive -o $(LIBRARY)/libquoting.so.$(VERSION)
 	ln -sf libquoting.so.$(VERSION) $(LIBRARY)/libquoting.so.$(MAJOR)
 	ln -sf libquoting.so.$(MAJOR) $(LIBRARY)/libquoting.so

@@ -621,7 +621,7 @@ def test_shared_library():
     """It shows what the header declares, under its soname."""
     declared = set(re.findall(r"^[a-z][\w ]*[ *](quoting_\w+)\(", HEADER, re.M)) - {"quoting_refusal_of"}
     names = subprocess.run(["nm", "-D", "--defined-only", LIBRARY / "libquoting.so"], capture_output=True, text=True, check=True)
-    shown = {line.split()[-1] for line in names.stdout.splitlines()}
+    shown = {line.split()[-1].split("@")[0] for line in names.stdout.splitlines() if " T " in line}
     assert shown == declared, f"shown and not declared, or the other way round: {shown ^ declared}"
     dynamic = subprocess.run(["readelf", "-d", LIBRARY / "libquoting.so"], capture_output=True, text=True, check=True).stdout
     assert f"[libquoting.so.{VERSION.split('.')[0]}]" in dynamic, "the soname is wrong"
