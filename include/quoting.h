@@ -57,6 +57,12 @@
 #define QUOTING_PAIRS_WORDS(records) ((size_t) (records) + 4)
 #define QUOTING_ACCOUNT_WORDS(records) (3 * (size_t) (records) + 10)
 
+/* The words of a row that quoting_fix_scan writes for so many tags, the most tags, and what is added to the length of a value whose tag
+   occurs again. */
+#define QUOTING_SCAN_ROW_WORDS(tags) (4 + 2 * (size_t) (tags))
+#define QUOTING_SCAN_TAGS 100
+#define QUOTING_SCAN_AGAIN 2147483648u
+
 /* The most stack that a call uses, in bytes, as measured on x86-64 (tests/stack.c) and rounded up. What the thread itself needs comes on top.
    BYTES is for every call, MONTH for quoting_month_call and quoting_calls, STANDING for quoting_standing, OTHERS for the rest. A month's
    events, asks and looks stay within OTHERS too. */
@@ -267,6 +273,32 @@ uint64_t quoting_fix(const uint8_t *bytes, size_t bytes_length, uint32_t *buffer
  */
 uint64_t quoting_fix_write(
     const uint32_t *fields, size_t fields_length, const uint8_t *sixty, size_t sixty_length, uint8_t *buffer, size_t buffer_length);
+
+/*
+ * Finds the messages of a log, of any type, and in each of them the values of some tags. Fields are separated by the byte 1.
+ *
+ * bytes  the log, or a piece of it that begins where the scan before stopped; bytes_length below 4294967296.
+ * tags   the tags whose values are wanted, tags_length numbers from 1 to 999: none of 8, 9, 10 and 35, none twice, QUOTING_SCAN_TAGS at most.
+ * words  words_length words: 2, then as many rows of QUOTING_SCAN_ROW_WORDS(tags_length) words as fit. Written are
+ *           0  the number of rows           1  the first byte that was not read
+ *        and in each row, in the order of the log:
+ *           0  the byte where `8=FIX.` begins
+ *           1  the length of the message, 0 where there is none
+ *           2  0, or 20 where there is none: the frame, length or checksum is wrong
+ *           3  its type (35) of one to four bytes, the first one low; 0 where it is longer, or there is no message
+ *           4 + 2 i and 5 + 2 i  of tag i, where its first value begins, counted from the message's first byte, and its length, with
+ *              QUOTING_SCAN_AGAIN added where the tag occurs again; 0 and 0 where it does not occur
+ *
+ * A message begins at `8=FIX.` and is as long as its 9 says (thirteen digits at most, 65,535 at most). After a message the scan goes on at
+ * its end, after anything else that begins like one a byte later. It stops at the byte of word 1: where fewer than 26 bytes are left, where
+ * a message is longer than what is left, and where the next row does not fit.
+ *
+ * Answers the number of words written. Refused by
+ *    3  a tag that may not be wanted, there twice, or past QUOTING_SCAN_TAGS; or 4294967296 bytes or more
+ *   16  words_length is below 2 and one row
+ */
+uint64_t quoting_fix_scan(
+    const uint8_t *bytes, size_t bytes_length, const uint32_t *tags, size_t tags_length, uint32_t *words, size_t words_length);
 
 /*
  * Whether a board of strikes is met: every strike has 100 K at least first * L, and 100 times the sum of K is at least second * L * the

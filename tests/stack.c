@@ -276,6 +276,12 @@ static uint64_t fix_write(const void *given) {
     return quoting_fix_write(fields, 6, (const uint8_t *) "20261102-10:00:09.500", 21, bytes, sizeof bytes);
 }
 
+static uint64_t fix_scan(const void *given) {
+    static const uint32_t tags[3] = {11, 41, 60};
+    const struct call *c = given;
+    return quoting_fix_scan(c->bytes, c->length, tags, 3, buffer, 4096);
+}
+
 static uint64_t board(const void *given) {
     (void) given;
     for (int i = 0; i < 64; i++) buffer[i] = i % 2 ? 10000 : 7000;
@@ -347,6 +353,9 @@ static void others(void) {
     accepted("quoting_choose_row", choose_row, NULL);
     accepted("quoting_fix", fix, &said);
     accepted("quoting_fix_write", fix_write, NULL);
+    accepted("quoting_fix_scan", fix_scan, &said);
+    said.bytes[said.length - 2] ^= 1; /* a wrong checksum */
+    accepted("quoting_fix_scan", fix_scan, &said);
     accepted("quoting_board", board, NULL);
     accepted("quoting_sigma", sigma, NULL);
     accepted("quoting_volatile", volatile_day, NULL);

@@ -33,6 +33,7 @@ CALLS: dict[str, list[Any]] = {
     "quoting_choose_row": [BYTES, SIZE, BYTES, SIZE, WORD, WORD, WORD, BYTES, SIZE],
     "quoting_fix": [BYTES, SIZE, BYTES, SIZE],
     "quoting_fix_write": [BYTES, SIZE, BYTES, SIZE, BYTES, SIZE],
+    "quoting_fix_scan": [BYTES, SIZE, BYTES, SIZE, BYTES, SIZE],
     "quoting_board": [BYTES, SIZE, WORD, WORD],
     "quoting_sigma": [BYTES, SIZE, BYTES, SIZE],
     "quoting_volatile": [BYTES, SIZE, WORD],
