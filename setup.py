@@ -7,6 +7,11 @@ from setuptools import setup
 from setuptools.command.build_py import build_py
 from setuptools.dist import Distribution
 
+try:
+    from setuptools.command.bdist_wheel import bdist_wheel
+except ImportError:  # before setuptools 70
+    from wheel.bdist_wheel import bdist_wheel
+
 LIBRARY = Path(__file__).resolve().parent / "target" / "library" / "libquoting.so"
 BUILT = LIBRARY.with_name("BUILT")  # its version, its commit and the kit that proved it
 
@@ -28,4 +33,11 @@ class OfOneMachine(Distribution):
         return True
 
 
-setup(cmdclass={"build_py": BuildWithLibrary}, distclass=OfOneMachine)
+class WheelOfEveryPython(bdist_wheel):
+    """The library is loaded by ctypes: there is no extension module, so the wheel is for every Python 3 of its system."""
+
+    def get_tag(self) -> tuple[str, str, str]:
+        return "py3", "none", super().get_tag()[2]
+
+
+setup(cmdclass={"build_py": BuildWithLibrary, "bdist_wheel": WheelOfEveryPython}, distclass=OfOneMachine)

@@ -1,45 +1,28 @@
 /* Reads a session file, 32 leading bytes and the records, and prints K or the refusal and its place. */
+#include <inttypes.h>
 #include <stdio.h>
-#include <stdlib.h>
 
-#include "quoting.h"
+#include "quoting_typed.h"
+
+enum { HEAD = 32, MOST = HEAD + QUOTING_RECORD_BYTES * 4000001 }; /* a record more than a session may have */
 
 int main(int count, char **words) {
-    if (count != 2) {
-        fprintf(stderr, "usage: client FILE\n");
-        return 2;
-    }
-    FILE *file = fopen(words[1], "rb");
+    static uint8_t bytes[MOST];
+    FILE *file = count == 2 ? fopen(words[1], "rb") : NULL;
     if (file == NULL) {
-        perror(words[1]);
+        if (count == 2) perror(words[1]);
+        else fprintf(stderr, "usage: client FILE\n");
         return 2;
     }
-    size_t room = 65536, length = 0;
-    uint8_t *bytes = malloc(room);
-    while (bytes != NULL) {
-        length += fread(bytes + length, 1, room - length, file);
-        if (length < room) {
-            break;
-        }
-        room *= 2;
-        uint8_t *more = realloc(bytes, room);
-        if (more == NULL) {
-            free(bytes);
-        }
-        bytes = more;
-    }
-    if (bytes == NULL || ferror(file)) {
+    size_t length = fread(bytes, 1, MOST, file), head = length < HEAD ? length : HEAD;
+    if (ferror(file)) {
         fprintf(stderr, "client: %s could not be read\n", words[1]);
         return 2;
     }
     fclose(file);
-    size_t head = length < 32 ? length : 32;
-    uint64_t answer = quoting_session(bytes, head, bytes + head, length - head);
-    free(bytes);
-    if (answer < 4294967296u) {
-        printf("kept %llu\n", (unsigned long long) answer);
-    } else {
-        printf("refused %llu at %llu\n", (unsigned long long) (answer >> 32), (unsigned long long) (answer & 4294967295u));
-    }
+    uint32_t kept, place;
+    quoting_status status = quoting_session_kept(bytes, head, bytes + head, length - head, &kept, &place);
+    if (status == QUOTING_ACCEPTED) printf("kept %" PRIu32 "\n", kept);
+    else printf("refused %" PRIu32 " at %" PRIu32 "\n", status, place);
     return 0;
 }

@@ -4,7 +4,7 @@
  * What holds of every call
  *   - It answers one number of 64 bits. Below 4294967296 it is the answer; from there on the call is refused, by the refusal
  *     quoting_refusal_of(answer), at the place answer & 4294967295 (a record counted from 1 in a session, a lent buffer counted from 1 in
- *     quoting_month_call and quoting_month_view, else 0).
+ *     quoting_month_call, quoting_month_records and quoting_month_view, else 0).
  *   - Of the causes that apply, the refusal is the lowest number, but 16, a buffer too short, comes after all others.
  *   - A refused call leaves every lent buffer as it was. What an accepted call writes is at the front of the buffer; the rest of the
  *     buffer keeps its contents.
@@ -14,14 +14,14 @@
  *   - Nothing is allocated and no state is kept between calls. Threads may call at the same time on different buffers only: while a call
  *     writes to a buffer, a month's words or its hints for one, no other call may read or write it. A month that several threads use needs
  *     a lock of theirs around each call.
- *   - A call works on its thread's stack: QUOTING_STACK_MONTH and its neighbours say with how many bytes at most. A thread with a stack of
- *     128 KB is too small for a month's messages, reports and opens.
- *   - The words of a month are written by quoting_month_fresh and quoting_month_call alone: a caller may keep, copy and store them, and
- *     hands quoting_month_call and quoting_month_view no others.
+ *   - A call works on its thread's stack, with QUOTING_STACK_BYTES at most. A thread with a stack of 128 KB is too small for a month's
+ *     messages, reports and opens.
+ *   - The words of a month are written by quoting_month_fresh, quoting_month_call and quoting_month_records alone: a caller may keep, copy
+ *     and store them, and hands these calls and quoting_month_view no others.
  * A caller has no other duties: whatever numbers, bytes and words are passed, each call ends and answers as described here. That is proved
  * of every call but quoting_refusal_text and quoting_version, which are plain C.
  *
- * Words that are not a month's. On entry quoting_month_call and quoting_month_view check the few words that the others depend on: the place
+ * Words that are not a month's. On entry quoting_month_call, quoting_month_records and quoting_month_view check the few words that the others depend on: the place
  * of the open cell is below 186, L is not 0, and there are 64 orders at most. Words that fail are refused by 3 at place 1 and nothing is written;
  * that, and that a month's words always pass, is proved. Damaged words may pass. What is then answered and left in the words, the hints and
  * the buffer is not specified, but nothing outside the lent buffers is touched, and nothing traps: this is tested (tests/foreign_words.c), not proved.
@@ -29,6 +29,8 @@
  * A row is seven words: expiry (1 or 2), quantum (0 to 2), L (a multiple of 1,000 from 1,000 to 86,400,000), M (1 to 100,000), a (0 to
  * 100,000), b (0 to 1,000,000) and p in tenths of a percent (1 to 799): 600 is 60%, and 60 is 6%, which is met with a tenth of the time that
  * 60% needs. A price is signed, in two's complement where it is a word.
+ *
+ * quoting_typed.h has the month's calls as functions of named arguments and structs, for C; quoting.hpp has them for C++17.
  */
 #ifndef QUOTING_H
 #define QUOTING_H
@@ -36,7 +38,9 @@
 #include <stddef.h>
 #include <stdint.h>
 
-#define QUOTING_VERSION "1.3.0"
+/* The version of this header, as a text and as a number: 10000 * major + 100 * minor + patch. */
+#define QUOTING_VERSION "1.4.0"
+#define QUOTING_VERSION_NUMBER 10400
 
 /* The longest FIX message that quoting_fix_write writes, in bytes, and the words of one that quoting_fix reads. */
 #define QUOTING_FIX_BYTES 114
@@ -49,9 +53,20 @@
 /* The most words of a view: 17, and four for each of 64 orders. */
 #define QUOTING_VIEW_WORDS 273
 
+/* Words that are always enough for quoting_session_pairs and for quoting_account of a session with so many records, one cut short included. */
+#define QUOTING_PAIRS_WORDS(records) ((size_t) (records) + 4)
+#define QUOTING_ACCOUNT_WORDS(records) (3 * (size_t) (records) + 10)
+
+/* The words of a row that quoting_fix_scan writes for so many tags, the most tags, and what is added to the length of a value whose tag
+   occurs again. */
+#define QUOTING_SCAN_ROW_WORDS(tags) (4 + 2 * (size_t) (tags))
+#define QUOTING_SCAN_TAGS 100
+#define QUOTING_SCAN_AGAIN 2147483648u
+
 /* The most stack that a call uses, in bytes, as measured on x86-64 (tests/stack.c) and rounded up. What the thread itself needs comes on top.
-   MONTH is for quoting_month_call and quoting_calls, STANDING for quoting_standing, OTHERS for every other call. A month's events, asks and
-   looks stay within OTHERS too. */
+   BYTES is for every call, MONTH for quoting_month_call and quoting_calls, STANDING for quoting_standing, OTHERS for the rest. A month's
+   events, asks and looks stay within OTHERS too. */
+#define QUOTING_STACK_BYTES QUOTING_STACK_MONTH
 #define QUOTING_STACK_MONTH 147456
 #define QUOTING_STACK_STANDING 69632
 #define QUOTING_STACK_OTHERS 12288
@@ -260,6 +275,32 @@ uint64_t quoting_fix_write(
     const uint32_t *fields, size_t fields_length, const uint8_t *sixty, size_t sixty_length, uint8_t *buffer, size_t buffer_length);
 
 /*
+ * Finds the messages of a log, of any type, and in each of them the values of some tags. Fields are separated by the byte 1.
+ *
+ * bytes  the log, or a piece of it that begins where the scan before stopped; bytes_length below 4294967296.
+ * tags   the tags whose values are wanted, tags_length numbers from 1 to 999: none of 8, 9, 10 and 35, none twice, QUOTING_SCAN_TAGS at most.
+ * words  words_length words: 2, then as many rows of QUOTING_SCAN_ROW_WORDS(tags_length) words as fit. Written are
+ *           0  the number of rows           1  the first byte that was not read
+ *        and in each row, in the order of the log:
+ *           0  the byte where `8=FIX.` begins
+ *           1  the length of the message, 0 where there is none
+ *           2  0, or 20 where there is none: the frame, length or checksum is wrong
+ *           3  its type (35) of one to four bytes, the first one low; 0 where it is longer, or there is no message
+ *           4 + 2 i and 5 + 2 i  of tag i, where its first value begins, counted from the message's first byte, and its length, with
+ *              QUOTING_SCAN_AGAIN added where the tag occurs again; 0 and 0 where it does not occur
+ *
+ * A message begins at `8=FIX.` and is as long as its 9 says (thirteen digits at most, 65,535 at most). After a message the scan goes on at
+ * its end, after anything else that begins like one a byte later. It stops at the byte of word 1: where fewer than 26 bytes are left, where
+ * a message is longer than what is left, and where the next row does not fit.
+ *
+ * Answers the number of words written. Refused by
+ *    3  a tag that may not be wanted, there twice, or past QUOTING_SCAN_TAGS; or 4294967296 bytes or more
+ *   16  words_length is below 2 and one row
+ */
+uint64_t quoting_fix_scan(
+    const uint8_t *bytes, size_t bytes_length, const uint32_t *tags, size_t tags_length, uint32_t *words, size_t words_length);
+
+/*
  * Whether a board of strikes is met: every strike has 100 K at least first * L, and 100 times the sum of K is at least second * L * the
  * number of strikes.
  *
@@ -332,9 +373,9 @@ uint64_t quoting_month_fresh(uint32_t *words, size_t words_length);
  *
  * words    the words of a month, as quoting_month_fresh or this call left them; those after the first QUOTING_MONTH_WORDS are not read.
  * hints    at least QUOTING_HINT_BYTES bytes, in which the call may leave where an order was found. They may hold anything, at the first
- *          call and later, and change nothing that is answered or left in the words; kept from call to call they save time. A refused
- *          call leaves them as they were, and so does a call that is neither an event (kinds 2 to 6) nor an ask. What an accepted event or
- *          ask leaves in the first QUOTING_HINT_BYTES is not specified; bytes after these never change.
+ *          call and later, and change nothing that is answered or left in the words; kept from call to call they save time. Events (kinds
+ *          2 to 6), messages, asks and commits that are accepted may change the first QUOTING_HINT_BYTES; what they leave there is not
+ *          specified. Every other call, and every refused one, leaves the hints as they were. Bytes after these never change.
  * call     one block of a list of calls (docs/FORMATS.md, "A list of calls"), and nothing more: words of four bytes, low byte first, of
  *          which the first is the kind, of enum quoting_call. call_length is the number of bytes.
  * answer   answer_length words, of which QUOTING_ANSWER_WORDS are written; those that the kind doesn't take are 0:
@@ -359,6 +400,28 @@ uint64_t quoting_month_fresh(uint32_t *words, size_t words_length);
 uint64_t quoting_month_call(
     uint32_t *words, size_t words_length, uint8_t *hints, size_t hints_length, const uint8_t *call, size_t call_length, uint32_t *answer,
     size_t answer_length);
+
+/*
+ * Takes event records on a month, one after the other, until one is refused: as many event calls of quoting_month_call, at a session's pace.
+ *
+ * words    as for quoting_month_call.
+ * hints    as for quoting_month_call. Where no record is taken they are left as they were.
+ * records  the records, 20 bytes each, as quoting_session takes them. records_length is the number of bytes. 1 to 19 bytes after the last
+ *          full record are one more record, cut short.
+ * answer   answer_length words, of which QUOTING_ANSWER_WORDS are written: the answer of an accepted call where every record was taken, also
+ *          where there is none; else that of a refused call, whose number is what refuses the first record that was not taken: 7 with no
+ *          quantum open, 8 to 14 as the event call is, 15 for a record cut short, of unknown kind or with a nonzero byte where zero is
+ *          needed, or for the record after 4,000,000,000. Of 7 and 15 it is 7.
+ *
+ * Answers the number n of records that were taken: the words are those after their n event calls, and to go on after a refused record is to
+ * pass those from n + 1 on. Refused, with nothing changed, by
+ *    3  at place 1, there are QUOTING_MONTH_WORDS words and they are not a month's
+ *   16  at place 1, words_length is below QUOTING_MONTH_WORDS; at place 2, hints_length is below QUOTING_HINT_BYTES; at place 3,
+ *       answer_length is below QUOTING_ANSWER_WORDS; the first of them that applies, and the 3 comes before places 2 and 3
+ */
+uint64_t quoting_month_records(
+    uint32_t *words, size_t words_length, uint8_t *hints, size_t hints_length, const uint8_t *records, size_t records_length,
+    uint32_t *answer, size_t answer_length);
 
 /*
  * The open quantum of a month as it is now. The words are not changed.

@@ -62,14 +62,14 @@ static size_t element(const struct item *it) {
     return it->call == 6 ? 1 : 4;
 }
 
-/* Whether a call of this kind may note in the hints: events and asks. */
+/* Whether a call of this kind may note in the hints: events, asks, commits and messages. */
 static int may_note(uint32_t kind) {
-    return (2 <= kind && kind <= 6) || kind == 14;
+    return (2 <= kind && kind <= 6) || (14 <= kind && kind <= 16);
 }
 
 /* A list of calls one by one on a month of its own, each answer after the one before. The second string has each call's length. Of the
-   hints, which are longer than they need be, a refused call and one that is neither an event nor an ask must leave every byte; no call may
-   change one after the first QUOTING_HINT_BYTES. */
+   hints, which are longer than they need be, a refused call and one that may not note must leave every byte; no call may change one after the
+   first QUOTING_HINT_BYTES. */
 static uint64_t run_month(const struct item *it, uint32_t *answers) {
     enum { LENT = QUOTING_HINT_BYTES + 100 };
     uint32_t *words = room(QUOTING_MONTH_WORDS * sizeof *words);
@@ -136,6 +136,54 @@ static uint64_t run_one(const struct item *it, uint32_t *answer) {
     return made;
 }
 
+/* Opens a quantum on day 1, by the leading bytes of a session. */
+static void open_by(const uint8_t *head, uint32_t *words, uint8_t *hints) {
+    uint32_t front[3] = {QUOTING_CALL_OPEN, 7, 1}, limit = 65535, out[QUOTING_ANSWER_WORDS];
+    uint8_t call[48];
+    memcpy(call, front, 8);
+    memcpy(call + 8, head, 28);
+    memcpy(call + 36, front + 2, 4);
+    memcpy(call + 40, head + 28, 4);
+    memcpy(call + 44, &limit, 4);
+    quoting_month_call(words, QUOTING_MONTH_WORDS, hints, QUOTING_HINT_BYTES, call, sizeof call, out, QUOTING_ANSWER_WORDS);
+}
+
+/* The event call of a record that is an event. */
+static void send_record(const uint8_t *record, uint32_t *words, uint8_t *hints) {
+    uint32_t f[4], out[QUOTING_ANSWER_WORDS]; /* t, id, price, volume */
+    memcpy(f, record + 4, sizeof f);
+    uint32_t add[6] = {QUOTING_CALL_ADD, f[0], f[1], record[0], f[2], f[3]}, amend[5] = {QUOTING_CALL_AMEND, f[0], f[1], f[2], f[3]};
+    uint32_t deal[4] = {QUOTING_CALL_DEAL, f[0], f[1], f[3]}, rest[3] = {record[0], f[0], f[1]}; /* a cancel, or a tick */
+    const void *call = record[0] < 3 ? add : record[0] == 3 ? amend : record[0] == 5 ? deal : rest;
+    size_t size = record[0] < 3 ? 24 : record[0] == 3 ? 20 : record[0] == 5 ? 16 : record[0] == 4 ? 12 : 8;
+    quoting_month_call(words, QUOTING_MONTH_WORDS, hints, QUOTING_HINT_BYTES, call, size, out, QUOTING_ANSWER_WORDS);
+    if (out[0] != QUOTING_ANSWER_ACCEPTED) stop("a record was taken that the event call refuses");
+}
+
+/* Records on a month in n[0] words with n[1] bytes of hints, in which the second string, if it is not empty, has opened a quantum. The words
+   must then be those after the event calls of the records that were taken; with none taken, the hints must stay. */
+static uint64_t run_records(const struct item *it, uint32_t *answer) {
+    const uint32_t *n = it->numbers;
+    uint32_t *words = room(n[0] * sizeof *words), *other = room(n[0] * sizeof *words);
+    uint8_t *hints = room(n[1]), *before = room(n[1]), free_hints[QUOTING_HINT_BYTES] = {0};
+    if (n[0] != 0) memset(words, (int) it->fill, n[0] * sizeof *words);
+    if (n[1] != 0) memset(hints, (int) it->fill, n[1]);
+    if (quoting_month_fresh(words, n[0]) == QUOTING_MONTH_WORDS && it->sizes[1] != 0) open_by(it->parts[1], words, free_hints);
+    if (n[0] != 0) memcpy(other, words, n[0] * sizeof *words);
+    if (n[1] != 0) memcpy(before, hints, n[1]);
+    uint64_t taken = quoting_month_records(words, n[0], hints, n[1], it->parts[0], it->sizes[0], answer, it->count);
+    int is_refused = taken >= 4294967296;
+    for (uint64_t k = 0; !is_refused && k < taken; k++) send_record(it->parts[0] + 20 * k, other, free_hints);
+    if (n[0] != 0 && memcmp(words, other, n[0] * sizeof *words) != 0) stop("the words are not those after the event calls");
+    size_t noted = is_refused || taken == 0 || n[1] < QUOTING_HINT_BYTES ? 0 : QUOTING_HINT_BYTES;
+    if (n[1] != noted && memcmp(hints + noted, before + noted, n[1] - noted) != 0) stop("records changed hints that must stay");
+    free(words);
+    free(other);
+    free(hints);
+    free(before);
+    return taken;
+}
+
 /* Calls on n[0] records with the count n[1]. The buffer has the records and after them the outcomes. */
 static uint64_t run_standing(const struct item *it, uint32_t *buffer) {
     size_t size = it->numbers[0], rest = it->count - 2 * size;
@@ -179,6 +227,7 @@ static uint64_t run(const struct item *it, void *buffer) {
     case 17: return quoting_account(others, other / 4, words[0], words[1], words[2], words[3], words[4], words[5], a + 24, size - 24, buffer, count);
     case 18: return run_view(it, buffer);
     case 19: return quoting_sigma(prices, size / 4, buffer, count);
+    case 20: return run_records(it, buffer);
     default: stop("no such call"); return 0;
     }
 }

@@ -238,6 +238,12 @@ static uint64_t session(const void *given) {
     return quoting_session(head, 32, records, given_records);
 }
 
+/* On a month with an open quantum, or with none. */
+static uint64_t month_records(const void *given) {
+    (void) given;
+    return quoting_month_records(words, MONTH, hints, HINTS, records, given_records, answer, ANSWER);
+}
+
 static uint64_t session_pairs(const void *given) {
     (void) given;
     return quoting_session_pairs(head, 32, records, given_records, buffer, 4096);
@@ -268,6 +274,12 @@ static uint64_t fix_write(const void *given) {
     static const uint32_t fields[6] = {3, 4294967295u, 4294967295u, 1, 4294967295u, 0x80000000u};
     (void) given;
     return quoting_fix_write(fields, 6, (const uint8_t *) "20261102-10:00:09.500", 21, bytes, sizeof bytes);
+}
+
+static uint64_t fix_scan(const void *given) {
+    static const uint32_t tags[3] = {11, 41, 60};
+    const struct call *c = given;
+    return quoting_fix_scan(c->bytes, c->length, tags, 3, buffer, 4096);
 }
 
 static uint64_t board(const void *given) {
@@ -318,11 +330,15 @@ static void others(void) {
     struct call c = message(3, 12, 11, "20261102-10:00:09.500");
     struct call said = {.length = c.bytes[8]};
     memcpy(said.bytes, c.bytes + 12 + 21, said.length);
+    struct call opened = BLOCK("open", 1, 7, 1, 1, 10000, 5, 100, 10, 600, 1, 5000, 65535);
     make_session();
+    accepted("quoting_month_fresh", month_fresh, NULL);
+    if (month_call(&opened) != ANSWER || answer[0] == QUOTING_ANSWER_REFUSED) stop("no quantum was opened");
     for (int i = 0; i < 70; i++) table[i] = i < 63 ? 2 : row[i - 63];
     for (int i = 0; i < 200; i++) prices[i] = 7000 + (i < 120 ? i % 3 : i * 37 % 200);
     for (int turn = 0; turn < 2; turn++) {
         accepted("quoting_session", session, NULL);
+        accepted("quoting_month_records", month_records, NULL);
         accepted("quoting_session_pairs", session_pairs, NULL);
         accepted("quoting_account", account, NULL);
         accepted("quoting_account", account, &strike);
@@ -330,12 +346,16 @@ static void others(void) {
     }
     given_records = 20 * 100 + 7; /* refused by 15 */
     measure("quoting_session", session, NULL);
+    measure("quoting_month_records", month_records, NULL);
     measure("quoting_session_pairs", session_pairs, NULL);
     measure("quoting_account", account, NULL);
     accepted("quoting_weight", weight, NULL);
     accepted("quoting_choose_row", choose_row, NULL);
     accepted("quoting_fix", fix, &said);
     accepted("quoting_fix_write", fix_write, NULL);
+    accepted("quoting_fix_scan", fix_scan, &said);
+    said.bytes[said.length - 2] ^= 1; /* a wrong checksum */
+    accepted("quoting_fix_scan", fix_scan, &said);
     accepted("quoting_board", board, NULL);
     accepted("quoting_sigma", sigma, NULL);
     accepted("quoting_volatile", volatile_day, NULL);

@@ -16,7 +16,7 @@ from collections import defaultdict, namedtuple
 import pytest
 
 from recount import account as accounts
-from recount import fix, game, programs, standing, strikes, volatile
+from recount import fix, game, programs, records, standing, strikes, volatile
 from recount import session as run
 from recount.book import (
     BUY, NO_LIMIT, PRICE_LIMIT, Accepted, Add, Amend, Ask, Asked, Book, Cancel, CellView, Close, Commit, Deal, Look, Message, Open, Outlook, Refused,
@@ -40,8 +40,9 @@ NAMES = {
     4: ("choose_row", [16]), 5: ("fix", [16, 20, 21]), 6: ("fix_write", [3, 16, 21]), 7: ("board", [18]), 8: ("volatile", [22]),
     9: ("ease", [22]), 10: ("safe_minutes", [26]), 11: ("month_fresh", [16]), 12: ("calls", [16]), 13: ("calls_words", []),
     14: ("month_call, a list", []), 15: ("month_call", [3, 16]), 16: ("standing", [3, 16]),
-    17: ("account", [1, 2, 3, *range(8, 17), 18]), 18: ("month_view", [16]), 19: ("sigma", [16]),
+    17: ("account", [1, 2, 3, *range(8, 17), 18]), 18: ("month_view", [16]), 19: ("sigma", [16]), 20: ("month_records", [16]),
 }
+REFUSED_RECORDS = {7, 8, 9, 10, 11, 12, 13, 14, 15}  # the answers that the records' cases must show
 MONTH_WORDS, HINT_BYTES, ANSWER_WORDS = 2464, 2048, 20
 
 # The kinds of a month's calls that name orders (add, amend, cancel, deal, tick, ask, commit, message), each with the refusals that its lists
@@ -210,6 +211,31 @@ def month_case(case, buffer):
     return (answer if answer == SHORT else answer // ANSWER_WORDS), after
 
 
+def month_records(case, buffer):
+    """The second string has the leading bytes of a session, by which a quantum is opened; where it is empty, none is."""
+    for place, (size, needed) in enumerate(zip((*case.numbers, case.count), (MONTH_WORDS, HINT_BYTES, ANSWER_WORDS))):
+        if size < needed:
+            return SHORT + place + 1, buffer
+    taken, answer = taken_records(case.first, case.second)
+    return taken, writes(answer_words(answer), buffer)[1]
+
+
+def taken_records(data, head):
+    """How many records a month takes, and its answer: accepted, or what refuses the next one."""
+    book = Book()
+    if head:
+        words, sp = run.read_head(head)
+        book.call(Open(words, 1, sp, NO_LIMIT))
+    for taken, record in enumerate(records.split(data)):
+        event = records.read(record)
+        answer = book.call(Tick(0) if event is None else event)  # no event: 7 with no quantum open
+        if event is None and not (isinstance(answer, Refused) and answer.number == 7):
+            answer = Refused(15)
+        if isinstance(answer, Refused):
+            return taken, answer
+    return -(-len(data) // 20), Accepted()
+
+
 def widest(row, sp):
     """The greatest D that the spread limit allows, by halves; 0 where it allows none."""
     low, high = 0, 2**32
@@ -274,7 +300,7 @@ def due(case):
         row = programs.to_words(case.second)
         answer = inside(case.first, numbers[1])
         return answer, volatile.eased(row, numbers[0] != 0) if answer == 1 else row
-    filling = {2: session_pairs, 5: read_fix, 6: written_fix, 17: account, 18: view_case, 19: last_sigma}
+    filling = {2: session_pairs, 5: read_fix, 6: written_fix, 17: account, 18: view_case, 19: last_sigma, 20: month_records}
     if case.call in filling:
         return filling[case.call](case, buffer)
     if case.call == 4:
@@ -453,6 +479,21 @@ def list_cases(rng, count):
         yield Case(15, rng.choice([ANSWER_WORDS] * 5 + [ANSWER_WORDS + 4, ANSWER_WORDS - 1]), rng.randrange(256), shape, call)
 
 
+def record_cases(rng, count):
+    sessions = [(head, data) for head, data in known.sessions() if len(head) == 32 and len(data) < 40_000]
+    sessions += [generate.any_session(rng)[1:] for _ in range(count)]
+    for head, data in sessions:
+        shape = rng.choice([MONTH_WORDS] * 9 + [MONTH_WORDS + 1, MONTH_WORDS - 1, 0]), rng.choice([HINT_BYTES] * 9 + [HINT_BYTES + 40, HINT_BYTES - 1])
+        answer = rng.choice([ANSWER_WORDS] * 9 + [ANSWER_WORDS + 4, ANSWER_WORDS - 1])
+        opened = head if len(head) == 32 and rng.random() < 0.9 else b""
+        yield Case(20, answer, rng.randrange(256), shape, data[: rng.choice([len(data), len(data), rng.randrange(len(data) + 1)])], opened)
+    head, first = run.HEAD.pack(*Row(1, 1, 10_000, 500, 100, 1, 600), 2_000), Add(5, 1, BUY, 100, 500)
+    refused = [Tick(4), Tick(10_001), first, Cancel(5, 9), Amend(5, 1, PRICE_LIMIT + 1, 500), Deal(5, 1, 501)]
+    for data in [b"", b"\1", *map(records.write, refused)]:
+        yield Case(20, ANSWER_WORDS, 1, (MONTH_WORDS, HINT_BYTES), records.write(first) + data + records.write(Tick(9)), head)
+        yield Case(20, ANSWER_WORDS, 1, (MONTH_WORDS, HINT_BYTES), data, b"")
+
+
 def maker_cases(rng, count):
     for at in range(count):
         words = programs.to_words((standing_cases.from_nothing if at % 2 else standing_cases.from_records)(rng))
@@ -465,7 +506,7 @@ def maker_cases(rng, count):
 
 
 def all_cases(rng, count):
-    for make in (session_cases, account_cases, weight_cases, row_cases, fix_cases, other_cases, list_cases, maker_cases):
+    for make in (session_cases, account_cases, weight_cases, row_cases, fix_cases, other_cases, list_cases, record_cases, maker_cases):
         yield from make(rng, count)
 
 
@@ -594,6 +635,15 @@ def test_refused_kinds(cases):
     assert not missing, f"no call of these kinds was refused by these numbers: {missing}"
 
 
+@pytest.mark.xdist_group("library")
+def test_refused_records(cases):
+    """The records of `run_records` are refused by every number that may refuse one, after others that were taken."""
+    found = [taken_records(case.first, case.second) for case in cases if case.call == 20 and case.numbers[0] >= MONTH_WORDS]
+    met = {answer.number for taken, answer in found if isinstance(answer, Refused) and (taken or answer.number == 7)}
+    assert met == REFUSED_RECORDS, met ^ REFUSED_RECORDS
+    assert any(taken > 20 and isinstance(answer, Accepted) for taken, answer in found)
+
+
 # ---------------------------------------------------------------- header, example, symbols, installation
 
 
@@ -610,6 +660,8 @@ def test_header_alone(tmp_path, compiler, language, standard):
 
 def test_header_numbers():
     assert f'#define QUOTING_VERSION "{VERSION}"' in HEADER, "VERSION and the header differ"
+    major, minor, patch = map(int, VERSION.split("."))
+    assert f"#define QUOTING_VERSION_NUMBER {10_000 * major + 100 * minor + patch}\n" in HEADER, "VERSION and the header's number differ"
     for name, first, last in (("refusal", 0, 26), ("call", 1, 17), ("state", 0, 5), ("answer", 0, 5)):
         [enum] = re.findall(rf"^enum quoting_{name} {{(.*?)}}", HEADER, re.M | re.S)
         assert re.findall(r" = (\d+)", enum) == [str(n) for n in range(first, last + 1)], f"the numbers of enum quoting_{name}"
@@ -621,7 +673,7 @@ def test_shared_library():
     """It shows what the header declares, under its soname."""
     declared = set(re.findall(r"^[a-z][\w ]*[ *](quoting_\w+)\(", HEADER, re.M)) - {"quoting_refusal_of"}
     names = subprocess.run(["nm", "-D", "--defined-only", LIBRARY / "libquoting.so"], capture_output=True, text=True, check=True)
-    shown = {line.split()[-1] for line in names.stdout.splitlines()}
+    shown = {line.split()[-1].split("@")[0] for line in names.stdout.splitlines() if " T " in line}
     assert shown == declared, f"shown and not declared, or the other way round: {shown ^ declared}"
     dynamic = subprocess.run(["readelf", "-d", LIBRARY / "libquoting.so"], capture_output=True, text=True, check=True).stdout
     assert f"[libquoting.so.{VERSION.split('.')[0]}]" in dynamic, "the soname is wrong"

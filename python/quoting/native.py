@@ -42,6 +42,7 @@ CALLS: dict[str, list[Any]] = {
     "quoting_month_fresh": [BYTES, SIZE],
     "quoting_month_call": [BYTES, SIZE, BYTES, SIZE, BYTES, SIZE, BYTES, SIZE],
     "quoting_month_view": [BYTES, SIZE, BYTES, SIZE],
+    "quoting_month_records": [BYTES, SIZE, BYTES, SIZE, BYTES, SIZE, BYTES, SIZE],
     "quoting_calls": [BYTES, SIZE, BYTES, SIZE],
     "quoting_calls_words": [BYTES, SIZE],
     "quoting_account": [BYTES, SIZE, WORD, WORD, WORD, WORD, WORD, WORD, BYTES, SIZE, BYTES, SIZE],
