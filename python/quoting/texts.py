@@ -106,11 +106,11 @@ def check_head(found: Sequence[Optional[int]], given: Optional[bytes]) -> None:
 
 
 class SessionReader:
-    """Collects the items of a session's text in the order in which the bytes have them."""
+    """Collects the items of a session's text in the order in which the bytes have them: what `keep` makes of each event, and bytes."""
 
-    def __init__(self, options: Options = PLAIN, given: Optional[bytes] = None) -> None:
-        self.options, self.head = options, Head(options, given)
-        self.rest: list[bytes] = []
+    def __init__(self, options: Options = PLAIN, given: Optional[bytes] = None, keep: Callable[[Event], Any] = record) -> None:
+        self.options, self.head, self.keep = options, Head(options, given), keep
+        self.rest: list[Any] = []
 
     def take(self, name: str, words: list[str]) -> None:
         head = self.head
@@ -127,7 +127,7 @@ class SessionReader:
         elif name in EVENT_COLUMNS:
             if head.sp is None and (head.row is not None or head.given is None):
                 raise TextError("row and sp come before the first event")
-            self.rest.append(record(event(name, words, self.options)))
+            self.rest.append(self.keep(event(name, words, self.options)))
         else:
             known = ", ".join(["row", "sp", *EVENT_COLUMNS, "bytes"])
             raise TextError(f"{values.brief(name)!r} is not known; a line begins with one of {known}")
@@ -150,6 +150,13 @@ def session_bytes(text: str, options: Options = PLAIN, given: Optional[bytes] = 
     reader = SessionReader(options, given)
     reading.read_by_lines(text, reader.take)
     return reader.data()
+
+
+def session_events(text: str, options: Options = PLAIN) -> Optional[tuple[bytes, list[Event]]]:
+    """The leading bytes and the events of a session's text; None where it has lines `bytes`, which may be anything."""
+    reader = SessionReader(options, keep=lambda each: each)
+    reading.read_by_lines(text, reader.take)
+    return None if any(isinstance(item, bytes) for item in reader.rest) else (reader.head.data(), reader.rest)
 
 
 def session_sizes(text: str) -> Iterator[tuple[int, int]]:
@@ -188,16 +195,17 @@ class CsvReader:
     head: Head
     names: Optional[list[str]] = None
 
-    def take(self, cells: list[str]) -> bytes:
+    def take(self, cells: list[str]) -> Optional[Event]:
+        """The event of a line that has one."""
         if self.names is not None:
-            return record(self.event(cells))
+            return self.event(cells)
         if cells[0] == "row":
             self.head.take_row(cells[1:])
         elif cells[0] == "sp":
             self.head.take_sp(cells[1:])
         else:
             self.names = self.header(cells)
-        return b""
+        return None
 
     def header(self, cells: list[str]) -> list[str]:
         if sorted(cells) != sorted(CSV_COLUMNS):
@@ -231,17 +239,30 @@ def csv_bytes(text: str, options: Options = PLAIN, head: Optional[bytes] = None)
     >>> len(csv_bytes('row,1,1,10_000,500,100,1,60%\\nsp,2000\\nt,kind,id,side,price,volume\\n0,add,1,buy,99,500\\n'))
     52
     """
-    reader, out = CsvReader(options, Head(options, head)), []
+    reader = CsvReader(options, Head(options, head))
+    records = b"".join(map(record, csv_items(reader, text)))
+    return reader.head.data() + records
+
+
+def csv_events(text: str, options: Options = PLAIN) -> tuple[bytes, list[Event]]:
+    """The leading bytes and the events of a session in CSV."""
+    reader = CsvReader(options, Head(options))
+    events = list(csv_items(reader, text))
+    return reader.head.data(), events
+
+
+def csv_items(reader: CsvReader, text: str) -> Iterator[Event]:
     for at, line in enumerate(reading.split_lines(text), start=1):
         cells = csv_cells(line)
         try:
-            out.append(reader.take(cells) if any(cells) else b"")
+            found = reader.take(cells) if any(cells) else None
         except TextError as error:
             error.line = error.line or at
             raise
+        if found is not None:
+            yield found
     if reader.names is None:
         raise TextError(f"there is no line with the columns {','.join(CSV_COLUMNS)}")
-    return reader.head.data() + b"".join(out)
 
 
 def csv_sizes(text: str) -> Iterator[tuple[int, int]]:
