@@ -15,12 +15,16 @@ from quoting.watch.meter import Meter, refusal
 class Detail:
     """What a contract's pages are shown. It has what the server of `quoting watch` needs of a watch."""
 
-    def __init__(self, wall: Wall, recounts: Recounts, contract: Contract) -> None:
-        self.wall, self.recounts, self.contract = wall, recounts, contract
+    def __init__(self, wall: Wall, recounts: Recounts, key: str) -> None:
+        self.wall, self.recounts, self.key = wall, recounts, key
         self.shown = Changes()
         self.clients = 0
-        step = wall.desk.programme.instruments[contract.instrument].step
-        self.empty = Meter(contract.symbol, 0, step)
+        contract = self.contract
+        self.empty = Meter(contract.symbol, 0, wall.desk.programme.instruments[contract.instrument].step)
+
+    @property
+    def contract(self) -> Contract:
+        return self.wall.contract_of(self.key)
 
     @property
     def running(self) -> Optional[Running]:

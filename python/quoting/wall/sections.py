@@ -5,7 +5,7 @@ from typing import Any, Optional
 
 from quoting.cells import ALLOWED, SERIES
 from quoting.desk.settlement import InstrumentMonth
-from quoting.formats import counted, roubles, series_text, thousands
+from quoting.formats import counted, series_text, thousands
 from quoting.states import State
 from quoting.values import clock, part_text, share_text
 from quoting.wall import tiles as t
@@ -102,7 +102,7 @@ def band(wall: Wall, tiles: list[Tile], differ: str) -> Section:
         return {**made, "sign": "none", "head": "Reading the logs", "then": f"{counted(wall.counts()['messages'], 'message')} so far", "spoken": "Reading the logs"}
     if not tiles:
         return {**made, **nothing_due(wall)}
-    first = tiles[0]
+    first = foremost(tiles)
     if first.kind in (*AWAY, "unknown", "hold"):
         return {**made, **worst(first, tiles)}
     if first.now is None:
@@ -110,9 +110,15 @@ def band(wall: Wall, tiles: list[Tile], differ: str) -> Section:
     return {**made, **quiet(tiles)}
 
 
+def foremost(tiles: list[Tile]) -> Tile:
+    """The tile of the band: the first, unless that was lost longer ago and has time, and another has just been lost."""
+    fresh = [tile for tile in tiles if tile.kind == "alarm"]
+    return fresh[0] if fresh and tiles[0].kind == "lost" else tiles[0]
+
+
 def worst(first: Tile, tiles: list[Tile]) -> Section:
     said = t.said(first)
-    then = [brief(tile) for tile in tiles[1:] if tile.kind in (*AWAY, "unknown", "hold")]
+    then = [brief(tile) for tile in tiles if tile is not first and tile.kind in (*AWAY, "unknown", "hold")]
     more = [f"{len(then) - 2} more"] if len(then) > 2 else []
     loud = {"alarm": "tape", "unknown": "unknown"}.get(first.kind, "yellow")
     number = f"{said.number} {said.what}" if first.kind == "hold" else said.number
@@ -214,13 +220,22 @@ def ago_text(seconds: float) -> str:
 # ---------------------------------------------------------------- below the tiles
 
 
+def amount(kopecks: int) -> str:
+    """In roubles.
+
+    >>> amount(11_255_633)
+    '112,556.33'
+    """
+    return f"{kopecks // 100:,}.{kopecks % 100:02}"
+
+
 def month_row(wall: Wall, month: InstrumentMonth) -> Section:
     most = month.failed
     worst_series = SERIES[month.report.failed.index(most)]
     met = sum(each.cell.met for each in month.cells)
     return {
         "name": month.instrument, "met": met, "failed": len(month.cells) - met, "most": most, "allowed": ALLOWED, "left": ALLOWED - most,
-        "series": series_text(worst_series) if most else "", "fee": roubles(month.fee)}
+        "series": series_text(worst_series) if most else "", "fee": amount(month.fee)}
 
 
 def month(wall: Wall) -> Section:
@@ -229,7 +244,7 @@ def month(wall: Wall) -> Section:
     note = f"Closed quanta only. More than {ALLOWED} failed quanta in one series make that instrument's fee 0."
     if missing:
         note += f" {counted(missing, 'closed quantum', 'closed quanta')} without charges so far: charged 0 and 0."
-    return {"head": f"{wall.desk.date(1):%B} so far, by instrument", "rows": rows, "sum": roubles(wall.fee), "note": note}
+    return {"head": f"{wall.desk.date(1):%B} so far, by instrument", "rows": rows, "sum": amount(wall.fee), "note": note}
 
 
 def refused(wall: Wall) -> Section:

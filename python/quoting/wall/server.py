@@ -46,7 +46,7 @@ class Live:
         self.clients = 0
         self.is_new = True  # something came since it was shown
         self.made = 0.0
-        self.details = {key: Detail(wall, self.recounts, contract) for contract, key in wall.keys.items()}
+        self.details = {key: Detail(wall, self.recounts, key) for key in dict.fromkeys(wall.keys.values())}
 
     async def read(self) -> None:
         """Reads on for ever."""
@@ -173,9 +173,12 @@ class WallPages:
         """The pages of a contract, as `quoting watch` has them."""
         pages = Pages(self.live.details[key], self.access)  # type: ignore[arg-type]
 
+        query = f"?token={self.access.token}" if self.access.token else ""
+        back = f'<body>\n<nav><a href="../../{query}">All contracts</a></nav>'.encode()
+
         async def file(request: Request) -> Response:
             data, kind = pages.files["/" + request.url.path.rpartition("/")[2]]
-            return Response(data, media_type=kind)
+            return Response(data.replace(b"<body>", back, 1) if kind == "text/html" else data, media_type=kind)
 
         return [*(Route(path, file, methods=["GET"]) for path in pages.files), WebSocketRoute("/live", pages.live)]
 

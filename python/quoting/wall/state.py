@@ -6,6 +6,7 @@ code of `quoting desk settle`, so after the month's end the wall has the same ce
 """
 
 import datetime as dt
+import re
 import time
 from dataclasses import dataclass
 from pathlib import Path
@@ -30,6 +31,7 @@ from quoting.wall.tiles import Tile
 
 SECOND = 1_000
 AHEAD = 2 * SECOND  # by which the logs' times may be after the machine's clock
+UNSAFE = re.compile(r"[^A-Za-z0-9._+-]")
 BEHIND = 10 * SECOND  # by which messages that have just come may be before it
 
 
@@ -259,6 +261,12 @@ class Wall:
         found = [tile for contract in self.by_contract if (tile := self.tile(contract)) is not None]
         return sorted(found, key=lambda tile: tile.turn)
 
+    def contract_of(self, key: str) -> Contract:
+        """The contract of that name that is due today, else the first one."""
+        own = [contract for contract, name in self.keys.items() if name == key]
+        due = [contract for contract in own if self.due(self.by_contract[contract]) is not None]
+        return (due or own)[0]
+
     def next_start(self) -> Optional[Planned]:
         """The next quantum of the plan."""
         later = [each for plan in self.by_contract.values() for each in plan if each.start_ms > self.now]
@@ -293,12 +301,11 @@ def place_of(planned: Planned) -> tuple[Contract, dt.date, int]:
 
 
 def keys_of(contracts: list[Contract]) -> dict[Contract, str]:
-    """A name for each contract: its symbol, with more where several have one symbol."""
+    """A name for each contract that can be part of an address: its symbol, and its accounts where others have the same symbol on a day. A
+    contract that rolls from one expiry to another keeps its name."""
     found: dict[Contract, str] = {}
     for each in contracts:
-        twins = [other for other in contracts if other.symbol == each.symbol]
-        more = "" if len(twins) == 1 else f"-{each.instrument}-{each.expiry}" if len({(one.instrument, one.expiry) for one in twins}) == len(twins) else f"-{contracts.index(each)}"
-        found[each] = f"{each.symbol}{more}"
+        others = [other for other in contracts if other != each and other.symbol == each.symbol and each.first <= other.last and other.first <= each.last]
+        name = "-".join([each.symbol, *(each.accounts or ())]) if others else each.symbol
+        found[each] = UNSAFE.sub("_", name)
     return found
-
-
