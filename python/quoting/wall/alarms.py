@@ -11,8 +11,8 @@ from typing import Any, Iterator, Optional
 
 from quoting.states import State
 from quoting.values import MINUTE, SECOND
-from quoting.wall import tiles as t
 from quoting.wall.tiles import Tile
+from quoting.watch.sentences import had
 
 AFTER = 5 * SECOND
 REPEAT = 30 * SECOND
@@ -125,10 +125,10 @@ class Alarms:
         is_away = tile.kind in ("alarm", "risk", "lost")
         if is_away and now.lost_for >= self.after and not seen.is_lost:
             seen.is_lost, seen.sounded = True, tile.moment
-            yield self.of(tile, "lost", f"{now.state.label} for {t.had(now.lost_for)}")
+            yield self.of(tile, "lost", f"{now.state.label} for {had(now.lost_for)}")
         elif is_away and seen.is_lost and tile.moment - seen.sounded >= REPEAT:
             seen.sounded = tile.moment
-            yield self.of(tile, "lost", f"still {now.state.label}, for {t.had(now.lost_for)}")
+            yield self.of(tile, "lost", f"still {now.state.label}, for {had(now.lost_for)}")
         elif seen.is_lost and now.state == State.KEPT:
             seen.is_lost = False
             yield self.of(tile, "regained", "kept again")
@@ -138,7 +138,7 @@ class Alarms:
         assert now is not None
         passed = sum(now.spare <= each for each in NEAR) if tile.kind in ("alarm", "risk", "lost") else 0
         if passed > seen.near:
-            yield self.of(tile, "near", f"latest moment in {t.had(now.spare)}")
+            yield self.of(tile, "near", f"latest moment in {had(now.spare)}")
         seen.near = max(seen.near, passed) if passed else 0
 
     def of_lapses(self, tile: Tile, seen: Seen) -> Iterator[Alarm]:

@@ -86,7 +86,7 @@ def text(wall: Wall, recounts: Recounts) -> bytes:
     from prometheus_client import CollectorRegistry, generate_latest
 
     registry = CollectorRegistry(auto_describe=False)
-    registry.register(Collector(wall, recounts))
+    registry.register(Collector(wall, recounts))  # type: ignore[arg-type]  # anything with a method collect
     return bytes(generate_latest(registry))
 
 

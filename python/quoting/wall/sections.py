@@ -13,6 +13,7 @@ from quoting.wall.alarms import Alarm, Alarms
 from quoting.wall.recounting import Recounts
 from quoting.wall.state import Wall
 from quoting.wall.tiles import Tile
+from quoting.watch.sentences import had
 
 Section = dict[str, Any]
 AWAY = ("alarm", "risk", "lost")
@@ -44,7 +45,7 @@ def share_of(tile: Tile) -> Section:
     have = tile.kept / tile.length
     left = tile.now.left if tile.now is not None else 0
     return {
-        "kept": part_text(tile.kept, tile.length), "required": share_text(tile.planned.row.share), "have": round(100 * have, 2),
+        "kept": part_text(tile.kept, tile.length), "required": share_text(tile.share), "have": round(100 * have, 2),
         "may": round(100 * min(1.0, (tile.kept + left) / tile.length) - 100 * have, 2), "need": tile.share / 10}
 
 
@@ -135,8 +136,8 @@ def brief(tile: Tile) -> str:
     if tile.kind == "hold":
         return f"{tile.symbol} must not let go"
     if tile.kind == "risk":
-        return f"{tile.symbol} must start within {t.had(now.spare)}"
-    return f"{tile.symbol} {now.state.label}, {t.had(now.spare)} to spare"
+        return f"{tile.symbol} must start within {had(now.spare)}"
+    return f"{tile.symbol} {now.state.label}, {had(now.spare)} to spare"
 
 
 def quiet(tiles: list[Tile]) -> Section:

@@ -28,6 +28,7 @@ from quoting.wall.files import LogFiles
 from quoting.wall.orders import Followed, Orderly
 from quoting.wall.running import Running, zone_text
 from quoting.wall.tiles import Tile
+from quoting.watch.sentences import due, had
 
 SECOND = 1_000
 AHEAD = 2 * SECOND  # by which the logs' times may be after the machine's clock
@@ -123,9 +124,9 @@ class Wall:
         if newest is None or self.clock == "feed":
             return
         if newest > wall + AHEAD:
-            self.disagreement = f"The logs' time is {t.due(newest - wall)} ahead of this machine's clock: the wall goes by the logs"
+            self.disagreement = f"The logs' time is {due(newest - wall)} ahead of this machine's clock: the wall goes by the logs"
         elif not self.is_reading and newest < wall - BEHIND:
-            self.disagreement = f"Messages come with times {t.had(wall - newest)} behind this machine's clock: --clock feed goes by the logs"
+            self.disagreement = f"Messages come with times {had(wall - newest)} behind this machine's clock: --clock feed goes by the logs"
 
     # ------------------------------------------------------------ messages
 
@@ -270,7 +271,7 @@ class Wall:
     def next_start(self) -> Optional[Planned]:
         """The next quantum of the plan."""
         later = [each for plan in self.by_contract.values() for each in plan if each.start_ms > self.now]
-        return min(later, key=lambda each: each.start_ms, default=None)
+        return min(later, key=lambda each: each.start_ms) if later else None
 
     @property
     def fee(self) -> int:
