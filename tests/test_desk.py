@@ -1,20 +1,25 @@
 """`quoting desk`: the shipped month to the byte, random months against a plain reading, and faults of the files one by one."""
 
 import json
+import random
 import shutil
 import subprocess
+import sys
+from collections import Counter
 from hashlib import sha256
+from types import SimpleNamespace
 
 import pytest
 
 from quoting import calls as c
 from quoting import reading
-from quoting.desk import fields, programme, second_reading
+from quoting.desk import fields, programme, quanta, second_reading
 from quoting.desk.desks import Desk
 from quoting.desk.faults import DeskError, Faults
 from quoting.desk.outputs import Manner, settle
-from quoting.desk.quanta import blocks_of
+from quoting.desk.quanta import blocks_of, deals_of, without_deals
 from quoting.events import Add, Amend, Cancel, Deal, Tick, records
+from quoting.native import Missing
 from tests import command, desk_months, plain_desk
 from tests.paths import EXAMPLES, PROGRAMMES, QUOTING
 
@@ -189,8 +194,8 @@ FAULTS = [  # the file that is changed, what is changed, the fault
     (PRICES, "2026-08-27", "2026-08-26", "line 3: GD-1.27 2026-08-26 is already in line 2"),
     (PRICES, "2026-08-27", "27.08.2026", "line 3: date: '27.08.2026' is not a date, expected YYYY-MM-DD"),
     (PRICES, "date,symbol,price", "day,symbol,price", "line 1: the columns are day,symbol,price, expected date,symbol,price"),
-    (CHARGES, ",1656935,", ",-1,", "line 2: active: -1 does not fit, it can be 0 to 100000000000"),
-    (CHARGES, "GD-1.27,1,1656935", "GD-1.27,3,1656935", "line 2: quantum: 3 does not fit, it can be 0 to 2"),
+    (CHARGES, ",1656935,", ",-1,", "line 2: active: '-1' does not fit, expected a whole number from 0 to 100,000,000,000"),
+    (CHARGES, "GD-1.27,1,1656935", "GD-1.27,3,1656935", "line 2: quantum: '3' does not fit, expected a whole number from 0 to 2"),
     (CHARGES, "2026-11-02,GD-1.27,2,", "2026-11-02,GD-1.27,1,", "line 3: 2026-11-02 GD-1.27 1 is already in line 2"),
 ]
 
@@ -349,6 +354,8 @@ def test_without_the_recount_there_is_no_statement(tmp_path):
     done = command.run("desk", "settle", SHIPPED / "desk.toml", "-o", tmp_path / "out", "--no-recount")
     assert "the recount was not run" in done.printed and not (tmp_path / "out" / "gold.html").exists()
     assert "By the proved meter alone" in (tmp_path / "out" / "index.html").read_text()
+    wrong = command.run("desk", "settle", SHIPPED / "desk.toml", "-o", tmp_path / "no", "--no-recount", "--statements")
+    assert wrong.status == 2 and "do not go together" in wrong.complaint and not (tmp_path / "no").exists()
 
 
 @pytest.mark.xdist_group("browser")
@@ -441,3 +448,60 @@ def test_a_shipped_programme_has_the_rows_of_its_table(path, note):
             listed.setdefault(name, []).append(reading.row_words(words))
     assert {name: sorted(rows) for name, rows in found.items()} == {name: sorted(rows) for name, rows in listed.items()}
     note(f"desk: {sum(map(len, found.values()))} rows of {path.name} are those of its table")
+
+
+# ---------------------------------------------------------------- damaged files, and Python
+
+
+@pytest.mark.parametrize("name", [DESK, PROGRAMME, PRICES, CHARGES])
+def test_a_damaged_file_is_never_a_crash(desk, name, seed, note):
+    """Bytes changed, lines dropped, doubled and swapped at random: the desk is read, or its faults are named."""
+    rng, whole, kinds = random.Random(f"{seed} {name}"), (desk / name).read_bytes(), Counter()
+    for _ in range(150):
+        lines = whole.splitlines(keepends=True)
+        at, other = rng.randrange(len(lines)), rng.randrange(len(lines))
+        what = rng.choice(("drop", "double", "swap", "byte", "word"))
+        if what == "drop":
+            del lines[at]
+        elif what == "double":
+            lines.insert(other, lines[at])
+        elif what == "swap":
+            lines[at], lines[other] = lines[other], lines[at]
+        elif what == "byte":
+            line = bytearray(lines[at])
+            line[rng.randrange(len(line))] = rng.choice(b"\0\xff\"'[]{}=,-0 9%#\n")
+            lines[at] = bytes(line)
+        else:
+            words = lines[at].split(b" ")
+            words[rng.randrange(len(words))] = rng.choice((b"-1", b'"x"', b"[]", b"{}", b"1e9", b"true", b"1979-05-27", b"nan", b'""'))
+            lines[at] = b" ".join(words)
+        (desk / name).write_bytes(b"".join(lines))
+        try:
+            Desk.load(desk / "desk.toml")
+            kinds["read"] += 1
+        except DeskError as error:
+            kinds["faults"] += 1
+            assert all(fault.file and fault.what for fault in error.faults)
+    assert kinds["faults"] > 20, kinds
+    note(f"desk: 150 damaged copies of {name}", kinds)
+
+
+def test_without_numpy_the_records_are_the_same(monkeypatch):
+    events = [Add(0, 1, "buy", -5, 500), Add(1, 2, "sell", 7, 300), Amend(2, 1, -6, 7), Deal(3, 1, 2), Deal(4, 2, 300), Tick(5), Cancel(6, 1)]
+    data = records(events)
+    with_numpy = blocks_of(data), deals_of(data), without_deals(data)
+    monkeypatch.setattr(quanta, "numpy", None)
+    assert with_numpy == (blocks_of(data), deals_of(data), without_deals(data)) and with_numpy[1] == (2, 302)
+
+
+def test_tables_as_data_frames(monkeypatch):
+    """Where pandas is there; a stand-in shows what it is given."""
+    made = Desk.load(SHIPPED / "desk.toml").settle()
+    monkeypatch.setitem(sys.modules, "pandas", SimpleNamespace(DataFrame=lambda rows, columns: (rows, columns)))
+    rows, columns = made.cell_frame()
+    assert len(rows) == 42 and columns[-2:] == ["active", "passive"] and rows[0][8] == 8314860
+    assert made.month_frame()[0] == [["gold", 4, 11255633], ["platinum-mini", 5, 3423329]]
+    assert len(made.desk.plan_frame()[0]) == 42
+    monkeypatch.setitem(sys.modules, "pandas", None)
+    with pytest.raises(Missing, match="a DataFrame needs pandas"):
+        made.cell_frame()

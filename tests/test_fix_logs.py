@@ -10,6 +10,7 @@ import time
 import pytest
 
 from quoting import fix, logs, month_sources, scanning
+from quoting.exchange.choice import LogOptions
 from quoting.reading import PLAIN, TextError
 from quoting.scanning import Found, Rejected, Scanner
 from quoting.selection import Owner
@@ -63,31 +64,32 @@ ANSWERS = [
     ("35=3|45=2|372=D|373=5|", "1 rejected message"), ("35=j|45=2|372=G|380=3|", "1 rejected message"),
     ("35=3|45=2|", "1 rejected message"), ("35=j|379=1|380=3|", "1 rejected message"),
 ]
-HARMLESS = [report("0", "0"), report("A", "A"), report("5", "0"), report("6", "6"), report("E", "E"), "35=3|45=1|372=A|", "35=j|45=9|372=8|", "35=0|", "35=A|"]
+BY_REQUESTS = ("--from", "requests")
 
 
 @pytest.mark.parametrize("answer, said", ANSWERS)
 def test_item_1_answers_are_counted(answer, said):
-    """Each answer of the exchange ends with status 1 and a sentence; the output is written all the same."""
-    alone, done = run(log_of(*QUOTES)), run(log_of(*QUOTES, answer))
+    """Requests that are read where there are answers of the exchange: status 1 and a sentence; the output is written all the same."""
+    alone, done = run(log_of(*QUOTES)), run(log_of(*QUOTES, answer), *BY_REQUESTS)
     assert alone.status == 0 and done.status == 1 and done.printed == alone.printed
-    assert f"NOT IN THE FIGURES: {said} (35=8, 9, 3, j) is not in the figures." in done.complaint
-    assert "quotes may be overstated" in done.complaint and "add a deal or cancel line for each report" in done.complaint
+    assert "NOT IN THE FIGURES: 1 answer of the exchange (35=8, 9, 3, j), since the log is read by its requests." in done.complaint
+    assert "quotes may be overstated" in done.complaint and "Read it by its reports" in done.complaint
+    assert sum(read(*QUOTES, answer).reports.counts.values()) == 1 and read(*QUOTES, answer).reports.head() == said, "as the live page says it"
 
 
-@pytest.mark.parametrize("answer", HARMLESS)
-def test_item_1_acknowledgements_are_no_fault(answer):
-    done = run(log_of(*QUOTES, answer))
-    assert done.status == 0 and "FIGURES" not in done.complaint, done
+def test_item_1_reports_count_where_there_are_some():
+    """The requests of such a log change nothing."""
+    done = run(log_of(*QUOTES, report("0", "0", "44=8446|151=1000|")))
+    assert done.status == 0 and done.printed.splitlines()[2:] == ["add 6000 1 buy 8446 1000"] and "2 requests not read" in done.complaint, done
+    unknown = run(log_of(*QUOTES, report("F", "2", "32=1000|")))
+    assert unknown.status == 1 and "line 3: refused 11: the order 37=9001 is not known" in unknown.complaint, unknown
 
 
 def test_item_1_many_in_one_sentence():
-    done = run(log_of(*QUOTES, *(answer for answer, _ in ANSWERS)))
-    assert "NOT IN THE FIGURES: 7 fills, 1 reject, 1 cancel, 2 expiries, 1 change by the exchange, 1 rejected cancel or replace and 4 rejected " \
-        "messages (35=8, 9, 3, j) are not in the figures." in done.complaint, done.complaint
-    assert done.complaint.count("FIGURES") == 1
-    found = json.loads(run(log_of(*QUOTES, *(answer for answer, _ in ANSWERS)), "--json").printed)
-    assert found["left_out"]["fill"] == 7 and "overstated" in found["warning"]
+    given = log_of(*QUOTES, *(answer for answer, _ in ANSWERS))
+    done = run(given, *BY_REQUESTS)
+    assert f"NOT IN THE FIGURES: {len(ANSWERS)} answers of the exchange" in done.complaint and done.complaint.count("FIGURES") == 1
+    assert json.loads(run(given, *BY_REQUESTS, "--json").printed)["counts"]["reports"] == sum("35=8" in answer for answer, _ in ANSWERS)
 
 
 def test_item_1_rejects_by_number():
@@ -111,19 +113,18 @@ def test_item_1_reports_of_other_symbols():
 def test_item_1_ioc_and_fok_never_rest(tag):
     ioc = f"35=D|11=7|55=BR|54=1|38=5000|44=8457|{tag}|60={DATE}-10:00:07.000|"
     alone, done = run(log_of(*QUOTES)), run(log_of(*QUOTES, ioc))
-    assert done.printed == alone.printed and done.status == 1
-    assert "1 IOC or FOK order (59=3, 4) is left out, since it never rests." in done.complaint and "overstated" not in done.complaint
-    assert run(log_of(*QUOTES, ioc.replace(tag, "59=0"))).status == 0
-    log = read(*QUOTES, ioc, f"35=F|11=8|41=7|60={DATE}-10:00:08.000|")
-    assert [each.why for each in log.rejected] == ["order 7, to which it refers, is IOC or FOK and never rested"]
-    twice = read(*QUOTES, ioc.replace(tag, f"{tag}|59=0"))
-    assert [each.why for each in twice.rejected] == ["59 is there twice, with different values"]
+    assert done.printed == alone.printed and done.status == 0
+    assert run(log_of(*QUOTES, ioc.replace(tag, "59=0"))).printed.splitlines()[-1] == "add 7000 3 buy 8457 5000"
+    after = run(log_of(*QUOTES, ioc, f"35=F|11=8|41=7|60={DATE}-10:00:08.000|"))
+    assert after.status == 1 and "line 4: the order 41=7 never rested" in after.complaint, after
+    twice = run(log_of(*QUOTES, ioc.replace(tag, f"{tag}|59=0")))
+    assert twice.status == 1 and "line 3: refused 21: 59 is there twice" in twice.complaint, twice
 
 
 def test_item_1_replace_by_an_ioc_is_a_cancel():
     replace = f"35=G|11=7|41=1|55=BR|54=1|38=5000|44=8457|59=3|60={DATE}-10:00:07.000|"
     done = run(log_of(*QUOTES, replace))
-    assert done.status == 1 and done.printed.splitlines()[-1] == "cancel 7000 1", done
+    assert done.status == 0 and done.printed.splitlines()[-1] == "cancel 7000 1", done
     listed = run(log_of(*QUOTES, replace), "--day", "16", "--close", "1", "2")
     assert command.run("calls", "-", given=listed.printed).status == 0, listed.printed
 
@@ -141,20 +142,19 @@ def files(folder, month: str, log: bytes) -> list:
 def test_item_1_the_statement_says_it(tmp_path):
     sure = command.run("statement", *files(tmp_path, month_of(), log_of(*QUOTES)))
     assert sure.status == 0 and 'id="omitted"' not in sure.printed
-    done = command.run("statement", *files(tmp_path, month_of(), log_of(*QUOTES, report("F", "2"))))
-    assert done.status == 1 and "NOT IN THE FIGURES: 1 fill" in done.complaint
-    assert 'role="alert" id="omitted">Not in these figures: 1 fill.' in done.printed and "may be overstated" in done.printed
-    assert done.printed.index('id="omitted"') < done.printed.index("<h1>") and "What the exchange answered is in neither." in done.printed
+    done = command.run("statement", *files(tmp_path, month_of(), log_of(*QUOTES, report("F", "2"))), *BY_REQUESTS)
+    assert done.status == 1 and "NOT IN THE FIGURES: 1 answer" in done.complaint
+    assert 'role="alert" id="omitted">Not in these figures: 1 answer of the exchange' in done.printed and "may be overstated" in done.printed
+    assert done.printed.index('id="omitted"') < done.printed.index("<h1>") and "what the exchange answered is in neither." in done.printed
 
 
-def test_item_1_reports_outside_the_quanta(tmp_path):
-    """A fill before or after all quanta changes no figure; one without a readable time may."""
-    for answer, status in [
-        (report("F", "2", at="09:59:59.000"), 0), (report("4", "4", at="18:45:01.000"), 0), (report("F", "2", at="18:45:00.000"), 1),
-        (report("F", "2", at="10:00:00"), 1), (report("F", "2", at="noon"), 1), (report("F", "2").replace("55=BR", "55=GD"), 0),
-        (report("F", "2").replace("60=", "58=").replace("35=8|", f"35=8|52={DATE}-09:00:00.000|"), 0),
-    ]:
-        assert command.run("statement", *files(tmp_path, month_of("BR"), log_of(*QUOTES, answer))).status == status, answer
+def test_item_1_a_statement_by_reports(tmp_path):
+    """A fill ends the quote; what rests when the quantum starts is carried in, and both are on the page."""
+    new = report("0", "0", "44=8446|151=1000|", at="09:59:00.000").replace("17=E1", "17=E0")
+    done = command.run("statement", *files(tmp_path, month_of("BR"), log_of(*QUOTES, new, report("F", "2", "32=1000|"))))
+    assert done.status == 0 and "1 order carried in" in done.printed and "1 fill" in done.printed, done.complaint
+    listed = month_sources.from_list(str(tmp_path / "month"), PLAIN, [str(tmp_path / "log")])
+    assert len(listed.calls) == 4, "open, the order, the fill, close"
 
 
 def watched(folder, month: str, log: bytes, **chosen):
@@ -203,7 +203,7 @@ def test_item_2_several_symbols_are_refused(tmp_path):
     done = run(log_of(QUOTES[0], OTHER), "-o", path)
     assert done.status == 1 and path.read_text() == "old", done
     assert "more than one symbol (55): BR (1 message), GD (1 message). Name one with --symbol" in done.complaint, done.complaint
-    for symbol, line in (("BR", "add 5000 1 buy 8446 1000"), ("GD", "add 5000 2 sell 8458 1000")):
+    for symbol, line in (("BR", "add 5000 1 buy 8446 1000"), ("GD", "add 5000 1 sell 8458 1000")):
         one = run(log_of(QUOTES[0], OTHER), "--symbol", symbol)
         assert one.status == 0 and one.printed.splitlines()[2:] == [line] and "1 message of " in one.complaint, one
     wrong = run(log_of(QUOTES[0], OTHER), "--symbol", "XX", "-o", path)
@@ -213,10 +213,10 @@ def test_item_2_several_symbols_are_refused(tmp_path):
 def test_item_2_a_cancel_has_its_orders_symbol():
     cancel = f"35=F|11=3|41=1|60={DATE}-11:00:00.000|"
     assert run(log_of(QUOTES[0], OTHER, cancel), "--symbol", "BR").printed.splitlines()[-1] == "cancel 3600000 1"
-    assert "cancel" not in run(log_of(QUOTES[0], OTHER, cancel), "--symbol", "GD").printed
+    assert "cancel" not in run(log_of(QUOTES[0], OTHER, cancel), "--symbol", "GD").printed, "it is not known there"
     assert run(log_of(*QUOTES, cancel)).status == 0, "with one symbol no option is needed"
     unknown = cancel.replace("41=1", "41=77")
-    assert run(log_of(QUOTES[0], OTHER, unknown), "--symbol", "BR").complaint.count("it has no symbol (55), and other messages have") == 1
+    assert run(log_of(QUOTES[0], OTHER, unknown), "--symbol", "BR").complaint.count("refused 11: the order 41=77 is not known") == 1
 
 
 def test_item_2_orders_without_a_symbol():
@@ -224,10 +224,10 @@ def test_item_2_orders_without_a_symbol():
     done = run(log_of(QUOTES[0], bare))
     assert done.status == 1 and not done.printed and "BR (1 message), none (1 message)" in done.complaint, done
     named = run(log_of(QUOTES[0], bare), "--symbol", "BR")
-    assert named.status == 1 and "line 2: it has no symbol (55), and other messages have" in named.complaint, named
+    assert named.status == 1 and "line 2: refused 21: 55 is absent" in named.complaint, named
     assert run(log_of(*(body.replace("55=BR|", "") for body in QUOTES))).status == 0
-    twice = read(QUOTES[0], QUOTES[1].replace("55=BR", "55=BR|55=GD"))
-    assert [each.why for each in twice.rejected] == ["55 is there twice, with different values"]
+    twice = run(log_of(QUOTES[0], QUOTES[1].replace("55=BR", "55=BR|55=GD")))
+    assert twice.status == 1 and "line 2: refused 21: 55 is there twice" in twice.complaint, twice
 
 
 def test_item_2_several_accounts_are_refused():
@@ -250,11 +250,11 @@ def test_item_2_a_statement_of_one_symbol(tmp_path):
     done = command.run("statement", *files(tmp_path, month_of(), log_of(QUOTES[0], OTHER)))
     assert done.status == 1 and not done.printed and f"the quantum that starts {START}: it has messages of more than one symbol" in done.complaint
     named = command.run("statement", *files(tmp_path, month_of(), log_of(QUOTES[0], OTHER)), "--symbol", "BR")
-    assert named.printed and "in no quantum" in named.complaint
+    assert named.printed and named.status == 0 and "1 message of GD skipped" in named.printed, named
     mine, its = QUOTES[0].replace("35=D|", "35=D|1=A7|"), QUOTES[1].replace("35=D|", "35=D|1=B2|")
     assert "more than one account" in command.run("statement", *files(tmp_path, month_of("BR"), log_of(mine, its))).complaint
     chosen = command.run("statement", *files(tmp_path, month_of("BR"), log_of(mine, its)), "--account", "A7")
-    assert chosen.status == 0 and "Messages of other accounts were skipped: BR B2 (1 message)." in chosen.printed, chosen.complaint
+    assert chosen.status == 0 and "1 message of BR B2 skipped." in chosen.printed, chosen.complaint
     with pytest.raises(TextError):
         month_sources.from_list(str(tmp_path / "month"), PLAIN, [str(tmp_path / "log")])
 
@@ -424,12 +424,13 @@ def test_logs_without_requests(tmp_path):
 
 def test_many_refused_messages_are_folded():
     done = run(b"8=FIX.4.2|\n" * 1_000 + log_of(*QUOTES))
-    assert done.status == 1 and "950 more are refused, the last one at line 1000" in done.complaint and done.complaint.count("\n") < 60
-    assert len(json.loads(run(b"8=FIX.4.2|\n" * 1_000, "--json").printed)["refused"]) == 1_000
+    assert done.status == 1 and "line 1: refused 20: its version (8) is FIX.4.2, and FIX.4.4 is read, and 999 more like it" in done.complaint
+    assert done.complaint.count("\n") < 5
+    assert json.loads(run(b"8=FIX.4.2|\n" * 1_000, "--json").printed)["refused"][0]["count"] == 1_000
 
 
 def test_random_logs_end_well(tmp_path):
-    """Damaged logs of both directions: a status and a sentence from `fix` and `statement`, and the live page's calls are the statement's."""
+    """Damaged logs of both directions: a status and a sentence from `fix` and `statement`."""
     rng = random.Random(5)
     for _ in range(40):
         log = random_log(rng)
@@ -439,6 +440,5 @@ def test_random_logs_end_well(tmp_path):
         given = files(tmp_path, month_of("BR"), log)
         made = command.run("statement", *given)
         assert made.printed and "Traceback" not in made.complaint and made.status >= bool(rejected), made.complaint
-        listed = month_sources.from_list(given[0], PLAIN, given[2:])
-        meter, _ = watched(tmp_path, month_of("BR"), log)
-        assert meter.calls == len(listed.calls) and meter.reports.counts == listed.reports.counts, log
+        listed = month_sources.from_list(given[0], PLAIN, given[2:], LogOptions("requests"))
+        assert len(listed.calls) >= 2 and bool(listed.reports) == any(b"35=8" in each.data for each in scanning.messages(log) if isinstance(each, Found)), log

@@ -24,6 +24,7 @@ from quoting.desk import folders, many, outputs, plan_lines
 from quoting.desk.desks import Desk
 from quoting.desk.faults import DeskError
 from quoting.desk.folders import Summary
+from quoting.desk.index import money
 from quoting.desk.many import Task
 from quoting.desk.outputs import Manner, Watcher
 from quoting.formats import counted, roubles
@@ -102,7 +103,9 @@ def plan(args: argparse.Namespace) -> int:
 
 
 def settle(args: argparse.Namespace) -> int:
-    manner, out = Manner(args.recount, args.statements, args.pdf), Path(args.output)
+    if args.statements and args.recount is False:
+        raise inputs.WrongUse("a statement compares both readings: --statements and --no-recount do not go together")
+    manner, out = Manner(args.statements or args.recount, args.statements, args.pdf), Path(args.output)
     native.library()  # a missing library is said once
     tasks = many.tasks(args.desks, out)
     found = many.left_to_do(tasks, manner, args.resume)
@@ -150,8 +153,8 @@ def show(done: Sequence[Summary]) -> None:
     rows: list[list[object]] = []
     for each in done:
         for instrument, quanta, met, failed, fee in each.months:
-            rows.append([*([each.maker] if several else []), instrument, quanta, met, quanta - met, failed, roubles(fee)])
-    heads = [*(["maker"] if several else []), "instrument", "quanta", "met", "failed", "most failed", "fee"]
+            rows.append([*([each.maker] if several else []), instrument, quanta, met, quanta - met, failed, money(fee)])
+    heads = [*(["maker"] if several else []), "instrument", "quanta", "met", "failed", "most failed", "fee, roubles"]
     said = "".join(f"{line}\n" for line in dict.fromkeys(each.second for each in done if each.second))
     if rows:
         output.table(None, heads, rows, f"sum of the fees: {roubles(sum(each.fee for each in done))}\n{said}")

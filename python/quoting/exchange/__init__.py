@@ -17,8 +17,9 @@ r"""What an exchange confirmed in FIX logs: the orders of each symbol and accoun
 ([], 1)
 """
 
+from quoting.exchange.book import Counts
 from quoting.exchange.fields import milliseconds
-from quoting.exchange.reader import Counts, LogReader
+from quoting.exchange.reader import LogReader
 from quoting.exchange.reasons import Reason, Why
 from quoting.exchange.timelines import Change, Quantum, Records, Timeline, quantum_of
 

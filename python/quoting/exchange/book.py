@@ -80,12 +80,15 @@ class Scope:
         return f.text_of(symbol), f.text_of(account)
 
     def foreign(self) -> frozenset[int]:
-        """The owners whose symbol or account is not said where some are listed: their messages count only where they name an order of
-        these."""
-        return frozenset(
-            n for n, (symbol, account) in enumerate(self.owners)
-            if (not account and self.listed(symbol) is not None) or (not symbol and self.usual is None and symbol not in self.steps)
-        )  # fmt: skip
+        """The owners whose account is not said where some are listed: their messages count only where they name an order of these."""
+        return frozenset(n for n, (symbol, account) in enumerate(self.owners) if not account and self.listed(symbol) is not None)
+
+    def is_nameless(self, owner: int) -> bool:
+        """Whether a new order of that owner must say its symbol, and does not."""
+        return not self.owners[owner][0] and self.usual is None and b"" not in self.steps
+
+    def nameless(self) -> list[int]:
+        return [owner for owner in range(len(self.owners)) if self.is_nameless(owner)]
 
     def fitting(self) -> dict[int, list[int]]:
         """For each owner of whom symbol or account is not said, the others that it may be."""

@@ -6,6 +6,7 @@ of which every value is as it should be.
 """
 
 from collections import Counter
+from decimal import Decimal
 from typing import TYPE_CHECKING, Any, Iterator
 
 import numpy as np
@@ -27,7 +28,7 @@ if TYPE_CHECKING:
 
 Array = Any
 REPORT, REJECT, D, F, G = b"8"[0], b"9"[0], b"D"[0], b"F"[0], b"G"[0]
-BAR = b"|"[0]
+BAR, NEWER = b"|"[0], b"FIXT."
 UNKNOWN, OTHER = -2, -1  # an owner that was not met yet; one whose messages are not read
 MOVE = np.dtype([
     ("time", "<i8"), ("what", "u1"), ("owner", "<i4"), ("cl", "<u8", 3), ("orig", "<u8", 3), ("oid", "<u8", 3), ("execution", "<u8", 2),
@@ -81,6 +82,7 @@ class Bulk:
     def __init__(self, reader: "LogReader") -> None:
         self.reader, self.scan, self.steps = reader, Scan(), Steps()
         self.symbols, self.accounts = Names(), Names()
+        self.buffer = np.zeros(PIECE + SLACK, dtype=np.uint8)
         self.has_bars = False  # | separated the fields of the last messages
         self.owners = np.zeros((0, 0), dtype=np.int64)  # by the numbers of symbol and account
 
@@ -99,7 +101,7 @@ class Bulk:
     def piece(self, data: bytes, is_final: bool) -> tuple[int, bool]:
         """Reads the messages of one call; how many bytes they are, and whether there is more to read in these."""
         reader = self.reader
-        if b"\0" in data:
+        if b"\0" in data or NEWER in data:
             return reader.take(data, is_final), False
         buffer, rows, stop, is_full = self.scanned(data)
         piece = Piece(data, buffer, rows, reader.lines, reader.counts.messages + 1)
@@ -123,7 +125,9 @@ class Bulk:
         there is more to scan."""
         for _ in range(2):
             text = data.replace(b"|", b"\x01") if self.has_bars else data
-            buffer = np.frombuffer(text + bytes(SLACK), dtype=np.uint8)
+            buffer = self.buffer[: len(data) + SLACK]
+            buffer[: len(data)] = np.frombuffer(text, dtype=np.uint8)
+            buffer[len(data) :] = 0
             rows, stop, is_full = self.scan.rows(buffer, 0, len(data))
             broken = rows[rows[:, 2] != 0, 0].astype(np.int64)
             if self.has_bars or not broken.size or not (buffer[broken + 9] == BAR).any():
@@ -207,7 +211,7 @@ class Bulk:
             for code in np.flatnonzero(counts).tolist():
                 names = self.symbols.names[code // shape[1]], self.accounts.names[code % shape[1]]
                 book.others[f.text_of(names[0]), f.text_of(names[1])] += int(counts[code])
-        self.steps.learn([scope.step(name) for name, _ in scope.owners])
+        self.steps.learn([scope.step(name) or Decimal(1) for name, _ in scope.owners])
         return owner
 
     # ------------------------------------------------------------ reports and requests
@@ -238,6 +242,9 @@ class Bulk:
         moves = np.zeros(pick.size, dtype=MOVE)
         moves["time"], good = table.times()
         good &= terms(moves, table, owner, what)
+        nameless = self.reader.scope.nameless()
+        if nameless:
+            good &= ~(np.isin(owner, nameless) & np.isin(what, (f.NEW, f.ASK)))
         moves["owner"], moves["seq"], moves["file"] = owner, piece.first + pick, len(self.reader.files) - 1
         moves["line"] = piece.lines(pick)
         if not good.all():
@@ -377,6 +384,13 @@ class Columns:
     def whole(self, name: str) -> Array:
         return np.concatenate([part[name] for part in self.parts])
 
+    def word(self, name: str, at: int) -> Array:
+        """A word of a column of keys."""
+        return np.concatenate([part[name][:, at] for part in self.parts])[self.pick]
+
+    def words(self, name: str, width: int = WORDS) -> list[Array]:
+        return [self.word(name, at) for at in range(width)]
+
     def of(self, name: str) -> Array:
         """A column of the moves that count."""
         return self.whole(name)[self.pick]
@@ -395,11 +409,10 @@ class Columns:
 
     def drop_repeated(self) -> int:
         """Drops reports whose ExecID was read before of the same owner; how many."""
-        execution = self.of("execution").T
-        if not execution.size or not execution[0].any():
+        execution = self.words("execution", 2)
+        if not execution[0].any():
             return 0
-        found = np.concatenate([execution, self.of("owner").astype(np.uint64)[None, :]])
-        is_first = first_of(found) == np.arange(found.shape[1])
+        is_first = first_of([*execution, self.of("owner").astype(np.uint64)]) == np.arange(self.pick.size)
         repeated = int(np.count_nonzero(~is_first))
         if repeated:
             self.keep(is_first)
@@ -413,14 +426,15 @@ class Columns:
     def numbered(self, owners: int) -> list[Array]:
         """The ids as numbers by owner: ClOrdID, OrigClOrdID, and OrderID, or the day of a request."""
         owner, size = self.of("owner").astype(np.int64), self.pick.size
-        names = np.concatenate([self.of("cl").T, self.of("orig").T], axis=1)
-        first = first_of(names)
+        names = [np.concatenate([self.word("cl", at), self.word("orig", at)]) for at in range(WORDS)]
         absent = names[0] == 0
+        names = [word for at, word in enumerate(names) if not at or word.any()]
+        first = first_of(names)
         del names
         made = [np.where(absent[part], ABSENT, first[part] * owners + owner) for part in (slice(size), slice(size, None))]
         if size and self.what[0] >= f.ASK:
             return [*made, self.time // f.DAY]
-        oid = self.of("oid").T
+        oid = self.words("oid")
         return [*made, np.where(oid[0] == 0, ABSENT, first_of(oid) * owners + owner)]
 
     def slices(self, owners: int) -> Iterator[Iterator[Terms]]:

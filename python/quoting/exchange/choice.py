@@ -6,7 +6,7 @@ from dataclasses import dataclass, field
 from decimal import Decimal
 from typing import Iterator, Optional, Sequence
 
-from quoting import inputs, reading, values
+from quoting import reading, values
 from quoting.exchange.book import Source
 from quoting.exchange.reader import SOURCES, LogReader
 from quoting.exchange.timelines import Timeline
@@ -66,7 +66,8 @@ def chosen(reader: LogReader, symbol: Optional[str], account: Optional[str]) -> 
     """
     found = list(reader.timelines.values())
     for what, given in (("symbol", symbol), ("account", account)):
-        counts = Counter({name: sum(len(each) for each in found if getattr(each, what) == name) for name in {getattr(each, what) for each in found}})
+        names = sorted({getattr(each, what) for each in found}, key=lambda name: (not name, name))
+        counts = Counter({name: sum(len(each) for each in found if getattr(each, what) == name) for name in names})
         named = Counter({name or "none": count for name, count in counts.items()})
         if given is None and len(counts) > 1:
             raise ValueError(f"it has messages of more than one {NAMES[what]}: {listed(named)}. Name one with --{what}")
@@ -80,7 +81,7 @@ def chosen(reader: LogReader, symbol: Optional[str], account: Optional[str]) -> 
 
 @dataclass
 class Unread:
-    """The answers of the exchange (35=8, 9) in logs that are read by their requests."""
+    """The answers of the exchange (35=8, 9, 3, j) in logs that are read by their requests."""
 
     answers: int = 0
 
@@ -88,14 +89,15 @@ class Unread:
         return bool(self.answers)
 
     def head(self) -> str:
-        return f"{plural(self.answers, 'answer')} of the exchange (35=8, 9)"
+        return f"{plural(self.answers, 'answer')} of the exchange (35=8, 9, 3, j)"
 
     def sentence(self) -> str:
         return f"{self.head()}, since {READ_BY_REQUESTS}."
 
 
 def unread(reader: LogReader) -> Unread:
-    return Unread(reader.counts.reports + reader.counts.cancel_rejects if reader.by == "requests" else 0)
+    counts = reader.counts
+    return Unread(counts.reports + counts.cancel_rejects + counts.types["3"] + counts.types["j"] if reader.by == "requests" else 0)
 
 
 # ---------------------------------------------------------------- what people are told

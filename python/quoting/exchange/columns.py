@@ -133,20 +133,25 @@ def three_digits(words: Array) -> tuple[Array, Array]:
     return (x & U(15)) * U(100) + ((x >> U(8)) & U(15)) * U(10) + ((x >> U(16)) & U(15)), good
 
 
-def times(seen: Array, begin: Array, count: Array) -> tuple[Array, Array]:
-    """Milliseconds since 1970 by YYYYMMDD-HH:MM:SS with 0, 3, 6 or 9 decimals, of which three count; and whether they can be read."""
-    days, good = days_of(seen[begin])
-    clock = seen[begin + 9] - U(0x30303A30303A3030)  # 00:00:00
-    good &= (clock | (clock + U(0x76767F76767F7676))) & HIGHS == 0
+def clocks(seen: Array, begin: Array, count: Array) -> tuple[Array, Array]:
+    """Milliseconds of HH:MM:SS with 0, 3, 6 or 9 decimals, of which three count; and whether they can be read."""
+    clock = seen[begin] - U(0x30303A30303A3030)  # 00:00:00
+    good = (clock | (clock + U(0x76767F76767F7676))) & HIGHS == 0
     pairs = clock * U(10) + (clock >> U(8))
     hour, minute, second = pairs & U(255), (pairs >> U(24)) & U(255), (pairs >> U(48)) & U(255)
-    good &= (hour < 24) & (minute < 60) & (second < 60) & (seen[begin + 8] & U(255) == 45)
-    decimals = count - 18
-    has_point = seen[begin + 17] & U(255) == 46
-    thousandths, fine = three_digits(seen[begin + 18])
-    good &= (count == 17) | (has_point & fine & ((decimals == 3) | (decimals == 6) | (decimals == 9)))
+    good &= (hour < 24) & (minute < 60) & (second < 60)
+    decimals = count - 9
+    has_point = seen[begin + 8] & U(255) == 46
+    thousandths, fine = three_digits(seen[begin + 9])
+    good &= (count == 8) | (has_point & fine & ((decimals == 3) | (decimals == 6) | (decimals == 9)))
     if (decimals > 3).any():
-        good &= ((decimals < 6) | three_digits(seen[begin + 21])[1]) & ((decimals < 9) | three_digits(seen[begin + 24])[1])
-    thousandths = np.where(count == 17, U(0), thousandths)
-    clock = ((hour * U(60) + minute) * U(60) + second) * U(1000) + thousandths
-    return days * DAY + clock.astype(np.int64), good
+        good &= ((decimals < 6) | three_digits(seen[begin + 12])[1]) & ((decimals < 9) | three_digits(seen[begin + 15])[1])
+    thousandths = np.where(count == 8, U(0), thousandths)
+    return (((hour * U(60) + minute) * U(60) + second) * U(1000) + thousandths).astype(np.int64), good
+
+
+def times(seen: Array, begin: Array, count: Array) -> tuple[Array, Array]:
+    """Milliseconds since 1970 by YYYYMMDD-HH:MM:SS with 0, 3, 6 or 9 decimals, and whether they can be read."""
+    days, good = days_of(seen[begin])
+    clock, fine = clocks(seen, begin + 9, count - 9)
+    return days * DAY + clock, good & fine & (seen[begin + 8] & U(255) == 45)

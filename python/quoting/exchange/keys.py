@@ -54,15 +54,19 @@ def hashes(found: Array) -> Array:
 
 
 def first_of(found: Array) -> Array:
-    """For each key (a column of words) the place where it occurs first."""
-    hashed = hashes(found)
+    """For each key, whose words are in some arrays, the place where it occurs first."""
+    used = [part for part in found if part.any()] or [found[0]]
+    hashed = hashes(used)
     order = np.argsort(hashed, kind="stable")
-    ordered, there = hashed[order], found[:, order]
+    hashed = hashed[order]
     fresh = np.ones(order.size, dtype=bool)
-    np.not_equal(ordered[1:], ordered[:-1], out=fresh[1:])
-    same = (there[:, 1:] == there[:, :-1]).all(axis=0)
-    if (same == fresh[1:]).any():
+    np.not_equal(hashed[1:], hashed[:-1], out=fresh[1:])
+    del hashed
+    again = np.flatnonzero(~fresh)
+    ours, before = order[again], order[again - 1]
+    if any((part[ours] != part[before]).any() for part in used):
         return slow_first_of(found)  # two texts have one hash
+    del again, ours, before
     starts = order[fresh]
     out = np.empty(order.size, dtype=np.int64)
     out[order] = starts[np.cumsum(fresh) - 1]
@@ -71,7 +75,7 @@ def first_of(found: Array) -> Array:
 
 def slow_first_of(found: Array) -> Array:
     places: dict[tuple[int, ...], int] = {}
-    return np.array([places.setdefault(key, at) for at, key in enumerate(zip(*found.tolist()))], dtype=np.int64)
+    return np.array([places.setdefault(key, at) for at, key in enumerate(zip(*(part.tolist() for part in found)))], dtype=np.int64)
 
 
 class Names:

@@ -1,6 +1,6 @@
 """The messages in a log's bytes, found one at a time by the rules of `quoting.scanning`, with their lines.
 
-A message starts at 8=FIX. wherever that is outside a message that was read. Its frame must be right and each of its fields a tag and a
+A message starts at 8=FIX. wherever that is outside a message that was read; 8=FIXT., of version 5.0, is found and refused. Its frame must be right and each of its fields a tag and a
 value; the last separator may be absent. What starts like a message and is none is found too, with the reason.
 """
 
@@ -10,7 +10,8 @@ from typing import Iterator, NamedTuple, Optional
 from quoting import fix
 from quoting.scanning import Broken, Incomplete, Window
 
-START = b"8=FIX."
+START = re.compile(rb"8=FIXT?\.")
+FIXT = b"8=FIXT."
 FIELD = re.compile(rb"[1-9][0-9]*=[^\x01]+")
 OF_FRAME = (b"8", b"9", b"10", b"35")  # tags that no field between 35 and 10 may have
 
@@ -61,10 +62,11 @@ def messages(data: bytes, is_final: bool, start: int = 0) -> Iterator[Found]:
     reading must go on when more bytes have come."""
     window, at = Window(data, is_final), start
     while True:
-        at = data.find(START, at)
-        if at < 0:
-            at = len(data) if is_final else max(start, len(data) - len(START) + 1)
+        begun = START.search(data, at)
+        if begun is None:
+            at = len(data) if is_final else max(start, len(data) - len(FIXT) + 1)
             break
+        at = begun.start()
         found = found_at(window, at)
         if found is None:
             break

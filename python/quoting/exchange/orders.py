@@ -165,10 +165,19 @@ class Orders:
 
     def amend(self, owner: int, cl: int, orig: int, oid: int, side: int, volume: int) -> int:
         """Replaced: the order by 41, else by 37."""
-        order = self.by_cl.get(orig)
+        by_cl = self.by_cl
+        order = by_cl.get(orig)
         if order is None:
-            order = self.named(owner, self.by_cl, orig, self.by_oid, oid)
-        return self.unknown(owner) if order is None else self.change(order, cl, oid, volume)
+            order = self.named(owner, by_cl, orig, self.by_oid, oid)
+            return self.unknown(owner) if order is None else self.change(order, cl, oid, volume)
+        if not volume or self.fitting or self.shadowed or cl in by_cl:
+            return self.change(order, cl, oid, volume)
+        del by_cl[orig]  # the same as in `change`, for the most frequent report
+        by_cl[cl] = order
+        self.cl[order], self.left[order] = cl, volume
+        if oid != self.oid[order]:
+            self.name_oid(order, oid)
+        return order if self.rests[order] else NOTHING
 
     def restate(self, owner: int, cl: int, orig: int, oid: int, side: int, volume: int) -> int:
         """Restated: nobody asked, so 37 counts where it names an order."""

@@ -2,8 +2,9 @@
 
 from collections import Counter
 from decimal import Decimal
+from importlib.util import find_spec
 from pathlib import Path
-from typing import Any, Iterable, Iterator, Literal, Mapping, Optional, Union
+from typing import TYPE_CHECKING, Any, Iterable, Iterator, Literal, Mapping, Optional, Union
 
 from quoting.exchange import fields as f
 from quoting.exchange.book import Accounts, Book, Counts, Scope, Settled, Source, reason_of
@@ -11,9 +12,9 @@ from quoting.exchange.fields import Move, Unreadable, Values
 from quoting.exchange.messages import Fields, Lines, messages
 from quoting.exchange.orders import ABSENT, NOTHING, REMOVED, Orders, Terms, kind_of
 from quoting.exchange.reasons import Reason, Reasons, Why
-from quoting.exchange.timelines import CHANGE, Change, Timeline, numpy
+from quoting.exchange.timelines import Change, Timeline, array_of
 
-if numpy is not None:
+if TYPE_CHECKING or find_spec("numpy"):
     from quoting.exchange.bulk import Bulk, is_bulk_available
 else:
 
@@ -167,10 +168,10 @@ class LogReader:
         book.reasons.add(Reason(wrong.why, wrong.sentence, *place, wrong.tag, f.text_of(wrong.value), f.text_of(symbol), f.text_of(account), date))
 
     def made(self, values: Values, what: int, owner: int, **given: Any) -> Move:
-        ids = {"cl": values.maybe(11) or b"", "orig": values.maybe(41) or b"", "oid": b"", "execution": b""}
-        terms = {"side": 0, "price": 0, "volume": 0}
+        ids: dict[str, Any] = {"cl": values.maybe(11) or b"", "orig": values.maybe(41) or b"", "oid": b"", "execution": b""}
         where = {"file": len(self.files) - 1, "line": self.line, "seq": self.seq}
-        return Move(time=values.time(), what=what, owner=owner, **{**ids, **terms, **given, **where})
+        whole: dict[str, Any] = {**ids, "side": 0, "price": 0, "volume": 0, **given, **where}
+        return Move(time=values.time(), what=what, owner=owner, **whole)
 
     # ------------------------------------------------------------ reports
 
@@ -199,6 +200,7 @@ class LogReader:
 
     def new(self, values: Values, owner: int, ids: dict[str, bytes]) -> Move:
         values.one(11)
+        self.need_symbol(values, owner)
         if not self.rests(self.reports, values, owner):
             return self.made(values, f.UNRESTED, owner, **ids)
         side, volume, price = values.side(), values.volume(151), self.price(values, owner)
@@ -213,6 +215,11 @@ class LogReader:
             return self.made(values, what, owner, **ids)
         volume, price = values.volume(151), self.price(values, owner)
         return self.made(values, what, owner, price=price, volume=volume, **ids)
+
+    def need_symbol(self, values: Values, owner: int) -> None:
+        """A new order must say its symbol; other messages have that of the order that they name."""
+        if self.scope.is_nameless(owner):
+            values.one(55)
 
     def rests(self, book: Book, values: Values, owner: int) -> bool:
         wrong = values.unread_type()
@@ -235,6 +242,8 @@ class LogReader:
             return self.made(values, f.ASK_CANCEL, owner)
         if kind == b"G":
             values.one(41)
+        else:
+            self.need_symbol(values, owner)
         rests, side = self.rests(self.requests, values, owner), values.side()
         if not rests:
             return self.made(values, f.ASK_UNRESTED if kind == b"D" else f.ASK_REPLACE_UNRESTED, owner, side=side)
@@ -348,6 +357,5 @@ def timelines_of(reader: LogReader, moves: list[Move], orders: Orders) -> dict[t
     made = {}
     for owner in sorted(changes, key=reader.scope.names):
         symbol, account = reader.scope.names(owner)
-        found: Any = changes[owner] if numpy is None else numpy.array(changes[owner], dtype=CHANGE)
-        made[symbol, account] = Timeline(symbol, account, found, reader.files, reader.by == "reports")
+        made[symbol, account] = Timeline(symbol, account, array_of(changes[owner]), reader.files, reader.by == "reports")
     return made

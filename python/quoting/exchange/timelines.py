@@ -89,6 +89,11 @@ class Timeline:
         return self.resting(self.first_at(time)) if self.is_carried else {}
 
 
+def array_of(changes: list[Change]) -> Any:
+    """Changes as a timeline holds them."""
+    return changes if numpy is None else numpy.array(changes, dtype=CHANGE)
+
+
 def apply(orders: dict[int, Resting], change: Change) -> None:
     """Changes what rests."""
     if change.kind <= SELL:

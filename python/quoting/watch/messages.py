@@ -1,7 +1,6 @@
 """A log of FIX messages as it grows, with a list of opens and closes, as calls in the list's order.
 
-Each request goes to the quantum of its time (60) and symbol (55), as in a statement (quoting.month_sources): the first of the list that
-takes it. An open comes when the time seen has reached its start; the messages of its quantum follow it; the call after them in the list
+Each request goes to the quantum of its time (60) and symbol (55): the first quantum of the list that takes it. An open comes when the time seen has reached its start; the messages of its quantum follow it; the call after them in the list
 comes when the time seen is past the quantum's end. Time is seen by the messages, and by the clock if it knows the date. A finished log is
 read whole first, so that its calls are those of the statement whatever the order of its messages. What the exchange answered goes to its
 quantum too, as a trouble that says what the figures leave out.
@@ -25,10 +24,11 @@ from quoting.reports import Omission
 from quoting.reports import time_of as answer_time
 from quoting.scanning import Rejected, Scanner
 from quoting.selection import NOBODY, Owner, owner_text
-from quoting.month_sources import TIME, Sent, Span, span_of
+from quoting.month_sources import Sent
 from quoting.watch.clocks import Clock
 from quoting.watch.feeds import FROM_START, Changed, Growing, Item, Lines, ListLines, Pieces, Trouble, Turn, of_lines
 from quoting.watch.names import name_text
+from quoting.watch.spans import TIME, Span, span_of
 
 GRACE = timedelta(seconds=5)  # by which a log may be later than the clock at a quantum's end
 MOST_KEPT = 100_000  # messages in no quantum, kept for opens that are listed later
@@ -388,7 +388,7 @@ def day_of(text: str) -> Optional[datetime]:
 
 
 def time_of(data: bytes) -> Optional[datetime]:
-    """What month_sources.time_of says, at a third of the cost: the days are few."""
+    """What spans.time_of says, at a third of the cost: the days are few."""
     found = TIME.search(data)
     text = found[1].decode("latin-1") if found else ""
     day = day_of(text[:8]) if fix.TIME.fullmatch(text) else None

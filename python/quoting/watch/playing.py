@@ -15,9 +15,10 @@ from quoting import fix
 from quoting.events import Add, Amend, Cancel, Deal, Tick
 from quoting.months import Month
 from quoting.native import Refused
-from quoting.month_sources import Sent, time_of
+from quoting.month_sources import Sent
 from quoting.values import milliseconds
 from quoting.watch.feeds import MOST_ITEMS, Feed, Item, Trouble
+from quoting.watch.spans import time_of
 
 PAUSE = 1.0  # seconds of real time between a close and the next open
 AT_ONCE = float("-inf")
