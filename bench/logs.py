@@ -21,5 +21,6 @@ changes = sum(map(len, reader.timelines.values()))
 settled = time.process_time()
 count = reader.counts.messages
 print(f"{count:,} messages, {changes:,} changes, {'many at once' if reader.bulk else 'one at a time'}")
-print(f"read {(read - begin) / count * 1e9:.0f} ns, orders followed {(settled - read) / count * 1e9:.0f} ns, all {(settled - begin) / count * 1e9:.0f} ns a message")
+first, second = (read - begin) / count * 1e9, (settled - read) / count * 1e9
+print(f"read {first:.0f} ns, orders followed {second:.0f} ns, all {first + second:.0f} ns a message")
 print(f"{resource.getrusage(resource.RUSAGE_SELF).ru_maxrss // 1024} MB")
