@@ -1,9 +1,9 @@
 /* Holds a month in its own memory and prints a line a call, as `replay` does.
 
      month < CALLS                                        CALLS are blocks of words (docs/FORMATS.md, "A list of calls")
-     month view < CALLS                                   the same, and at the end of input what stands then: the open quantum and its orders
+     month view < CALLS                                   the same, and at the end of input the view: the open quantum and its orders
      month START EXPIRY QUANTUM L M A B P DAY SP < LINES  opens a quantum on that row, day and SP; then each line is one FIX message, with
-                                                          `|` or the byte 1 behind each field, and START is the quantum's start
+                                                          `|` or the byte 1 after each field, and START is the quantum's start
                                                           (YYYYMMDD-HH:MM:SS.sss). At the end of input it prints a report.
 
    Each answer is out before more is read, so a program can write a call and wait for its line. */

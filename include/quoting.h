@@ -6,9 +6,9 @@
  *     quoting_refusal_of(answer), at the place answer & 4294967295 (a record counted from 1 in a session, a lent buffer counted from 1 in
  *     quoting_month_call and quoting_month_view, else 0).
  *   - Of the causes that apply, the refusal is the lowest number, but 16, a buffer too short, comes after all others.
- *   - A refused call leaves every lent buffer as it was. What an accepted call writes stands at the front of the buffer; what is behind it
- *     keeps its contents.
- *   - Lent strings, tables and buffers are looked at only during the call. What is only read may overlap; what is written may overlap
+ *   - A refused call leaves every lent buffer as it was. What an accepted call writes is at the front of the buffer; the rest of the
+ *     buffer keeps its contents.
+ *   - Lent strings, tables and buffers are read only during the call. What is only read may overlap; what is written may overlap
  *     nothing else. A pointer may be null only if its length is 0.
  *   - A length counts what the pointer points to: bytes, words of 32 bits, prices, strikes or records, not bytes alone.
  *   - Nothing is allocated and no state is kept between calls. Threads may call at the same time on different buffers only: while a call
@@ -18,17 +18,17 @@
  *     128 KB is too small for a month's messages, reports and opens.
  *   - The words of a month are written by quoting_month_fresh and quoting_month_call alone: a caller may keep, copy and store them, and
  *     hands quoting_month_call and quoting_month_view no others.
- * Nothing else is asked of the caller: whatever numbers, bytes and words are handed over, each call ends and answers as is said here. That
- * is proved of every call but quoting_refusal_text and quoting_version, which are plain C.
+ * A caller has no other duties: whatever numbers, bytes and words are passed, each call ends and answers as described here. That is proved
+ * of every call but quoting_refusal_text and quoting_version, which are plain C.
  *
- * Words that are no month's. On entry quoting_month_call and quoting_month_view test the few words that all others rest on: the place of the
- * open cell is below 186, L is not 0, and there are 64 orders at most. Words that fail are refused by 3 at place 1 and nothing is written;
+ * Words that are not a month's. On entry quoting_month_call and quoting_month_view check the few words that the others depend on: the place
+ * of the open cell is below 186, L is not 0, and there are 64 orders at most. Words that fail are refused by 3 at place 1 and nothing is written;
  * that, and that a month's words always pass, is proved. Damaged words may pass. What is then answered and left in the words, the hints and
- * the buffer is free, but nothing outside the lent buffers is touched, and nothing traps: this is tested (tests/foreign_words.c), not proved.
+ * the buffer is not specified, but nothing outside the lent buffers is touched, and nothing traps: this is tested (tests/foreign_words.c), not proved.
  *
  * A row is seven words: expiry (1 or 2), quantum (0 to 2), L (a multiple of 1,000 from 1,000 to 86,400,000), M (1 to 100,000), a (0 to
  * 100,000), b (0 to 1,000,000) and p in tenths of a percent (1 to 799): 600 is 60%, and 60 is 6%, which is met with a tenth of the time that
- * 60% asks for. A price is signed, in two's complement where it is a word.
+ * 60% needs. A price is signed, in two's complement where it is a word.
  */
 #ifndef QUOTING_H
 #define QUOTING_H
@@ -91,6 +91,38 @@ enum quoting_refusal {
     QUOTING_ABOVE_SIXTY = 26
 };
 
+/* The kinds of a month's calls: the first word of a block (docs/FORMATS.md, "A list of calls"). OPEN_STRIKE is an open with a strike's four
+   numbers in place of SP. */
+enum quoting_call {
+    QUOTING_CALL_OPEN = 1,
+    QUOTING_CALL_ADD = 2,
+    QUOTING_CALL_AMEND = 3,
+    QUOTING_CALL_CANCEL = 4,
+    QUOTING_CALL_DEAL = 5,
+    QUOTING_CALL_TICK = 6,
+    QUOTING_CALL_CLOSE = 7,
+    QUOTING_CALL_DROP = 8,
+    QUOTING_CALL_CHARGE = 9,
+    QUOTING_CALL_WITHDRAW = 10,
+    QUOTING_CALL_LOOK = 11,
+    QUOTING_CALL_REPORT = 12,
+    QUOTING_CALL_OPEN_STRIKE = 13,
+    QUOTING_CALL_ASK = 14,
+    QUOTING_CALL_COMMIT = 15,
+    QUOTING_CALL_MESSAGE = 16,
+    QUOTING_CALL_OUTLOOK = 17
+};
+
+/* The states of a quantum's orders: CROSSED where D is below 1, WIDE where it is above the spread limit. */
+enum quoting_state {
+    QUOTING_STATE_KEPT = 0,
+    QUOTING_STATE_NO_BID = 1,
+    QUOTING_STATE_NO_ASK = 2,
+    QUOTING_STATE_NEITHER = 3,
+    QUOTING_STATE_CROSSED = 4,
+    QUOTING_STATE_WIDE = 5
+};
+
 /* The kinds of an answer to a month's call: its word 0. */
 enum quoting_answer {
     QUOTING_ANSWER_ACCEPTED = 0,
@@ -120,7 +152,7 @@ const char *quoting_version(void);
  *          number of bytes.
  * records  the records, 20 bytes each: kind (1 add buy, 2 add sell, 3 amend, 4 cancel, 5 deal, 6 tick), three zero bytes, then t, id, price
  *          (two's complement) and volume, four bytes each, low byte first; fields that the call doesn't take are zero. records_length is
- *          the number of bytes. 1 to 19 bytes behind the last full record are one more record, cut short.
+ *          the number of bytes. 1 to 19 bytes after the last full record are one more record, cut short.
  *
  * Answers K, the kept milliseconds below L, or 4294967296 * refusal + place. The place is the record counted from 1, or 0 for the refusals
  * 1, 2 and 3:
@@ -130,7 +162,7 @@ const char *quoting_version(void);
  *    8  t is below the last accepted time        9  t is above L
  *   10  add with a live id                      11  amend, cancel or deal on an id that is not live
  *   12  price or volume outside its range       13  add with 64 live orders
- *   14  deal above what is left of the order    15  a record cut short, of unknown kind, with a nonzero byte where zero is due, or the
+ *   14  deal above the order's remaining volume 15  a record cut short, of unknown kind, with a nonzero byte where zero is needed, or the
  *                                                   record after 4,000,000
  */
 uint64_t quoting_session(const uint8_t *head, size_t head_length, const uint8_t *records, size_t records_length);
@@ -151,7 +183,7 @@ uint64_t quoting_session_pairs(
 /*
  * Where the time of a session went. Runs its records as quoting_session does and writes to a lent buffer of words: the milliseconds of each
  * of the six states, the number n of stretches, then the n stretches of one state, from 0 to L, as triples of offset, length and state, each
- * as long as it can be. The states are 0 kept, 1 no best bid, 2 no best ask, 3 neither quote, 4 locked or crossed (D below 1), 5 too wide (D
+ * as long as it can be. The states (enum quoting_state) are 0 kept, 1 no best bid, 2 no best ask, 3 neither quote, 4 locked or crossed (D below 1), 5 too wide (D
  * above the spread limit).
  *
  * row      row_length words, which should be seven: expiry, quantum, L, M, a, b, p.
@@ -159,7 +191,7 @@ uint64_t quoting_session_pairs(
  *          Any other number: it goes by a strike's a (in tenths), difference, days and b; sp and the row's a and b are unread.
  * sp       SP in two's complement.
  * records  records_length bytes.
- * buffer   buffer_length words. It keeps its contents on a refusal, and behind what is written.
+ * buffer   buffer_length words. It keeps its contents on a refusal, and after what is written.
  *
  * Answers the number of words written, 7 + 3 n, or 4294967296 * refusal + place. The refusals are those of quoting_session, where 1 says
  * that row_length is not 7, and at place 0:
@@ -180,10 +212,10 @@ uint64_t quoting_weight(uint32_t kept, uint32_t length, uint32_t share);
 
 /*
  * Chooses the row for an expiry and a quantum and writes its seven words to a lent buffer: on a holiday the first row of the holiday table
- * whose first two words are these; where it has none, or on other days, the first of the usual table. Words are compared as they stand:
+ * whose first two words are these; where it has none, or on other days, the first of the usual table. Words are compared as they are:
  * a row that is chosen need not be in range.
  *
- * usual, holiday   the two tables, seven words a row; words behind the last full seven are ignored. Lengths are in words.
+ * usual, holiday   the two tables, seven words a row; words after the last full seven are ignored. Lengths are in words.
  * is_holiday       0 for other days, anything else for a holiday.
  * buffer           buffer_length words.
  *
@@ -201,7 +233,7 @@ uint64_t quoting_choose_row(
  *    3  side (54; D and G): 1 buy, 2 sell   4  volume (38; D and G)       5  price (44; D and G), in two's complement
  *    6 to 12  the time (60): year, month, day, hour, minute, second, millisecond
  *
- * bytes    the whole message from 8= to the byte 1 behind the checksum, and nothing else.
+ * bytes    the whole message from 8= to the byte 1 after the checksum, and nothing else.
  * buffer   buffer_length words.
  *
  * Answers the number of words written, 13. Refused by
@@ -219,7 +251,7 @@ uint64_t quoting_fix(const uint8_t *bytes, size_t bytes_length, uint32_t *buffer
  * sixty    the bytes of 60, of the form YYYYMMDD-HH:MM:SS.sss.
  * buffer   buffer_length bytes; QUOTING_FIX_BYTES are always enough.
  *
- * Answers the number of bytes written, no zero byte behind them. Refused by
+ * Answers the number of bytes written, with no zero byte after them. Refused by
  *    3  fields_length is below 6, the kind is not 1, 2 or 3, or the side of a D or G is not 1 or 2
  *   21  the bytes of 60 are no time of that form, with a Gregorian date from year 0001, hours to 23, minutes and seconds to 59
  *   16  buffer_length is below the length of the message
@@ -298,13 +330,13 @@ uint64_t quoting_month_fresh(uint32_t *words, size_t words_length);
  * and the hints as they were and is answered like any other: this number says only whether a call was made, and the answer's kind says the
  * rest.
  *
- * words    the words of a month, as quoting_month_fresh or this call left them; those behind QUOTING_MONTH_WORDS are not looked at.
+ * words    the words of a month, as quoting_month_fresh or this call left them; those after the first QUOTING_MONTH_WORDS are not read.
  * hints    at least QUOTING_HINT_BYTES bytes, in which the call may leave where an order was found. They may hold anything, at the first
  *          call and later, and change nothing that is answered or left in the words; kept from call to call they save time. A refused
  *          call leaves them as they were, and so does a call that is neither an event (kinds 2 to 6) nor an ask. What an accepted event or
  *          ask leaves in the first QUOTING_HINT_BYTES is not specified; bytes after these never change.
  * call     one block of a list of calls (docs/FORMATS.md, "A list of calls"), and nothing more: words of four bytes, low byte first, of
- *          which the first is the kind (1 open, 2 add, 3 amend, 4 cancel, 5 deal, 6 tick, 7 close .. 17 outlook). call_length is the number of bytes.
+ *          which the first is the kind, of enum quoting_call. call_length is the number of bytes.
  * answer   answer_length words, of which QUOTING_ANSWER_WORDS are written; those that the kind doesn't take are 0:
  *             0  kind, of enum quoting_answer     1  the refusal's number, of a refused call
  *          a cell (of a look), from word 2 on: filled, K, L, p, lapse limit (65535 for none), lapses, active charge (low word, high word),
@@ -313,14 +345,14 @@ uint64_t quoting_month_fresh(uint32_t *words, size_t words_length);
  *             id, price and volume, 10 and 11 its count (low, high)
  *          a report: 2 whether a quantum is open, 3 time, 4 live orders, 5 and 6 the best bid, 7 and 8 the best ask, 9 kept milliseconds,
  *             10 lapses, 11 to 16 the failed quanta of each series, 17 and 18 the fee (low, high)
- *          an outlook: 2 milliseconds that must still be kept, 3 those that are left; 4 and 5 the latest time until which nothing need be
+ *          an outlook: 2 milliseconds that must still be kept, 3 those that remain; 4 and 5 the latest time until which nothing need be
  *             kept (whether there is one, the time), 6 and 7 milliseconds that must still be kept for the full weight (whether that can
  *             be, how many); 8 and 9 lapses left (0 no limit, 1 over it, 2 and how many); 10 whether it is met if nothing more is kept;
- *             11 whether it is failed whatever comes; 12 and 13 the weight if nothing more is kept, and if all that is left is
+ *             11 whether it is failed whatever comes; 12 and 13 the weight if nothing more is kept, and if all the remaining time is
  *
  * Answers the number of words written, QUOTING_ANSWER_WORDS. Refused, with nothing changed, by
  *    3  at place 0, the bytes are not one block of a call: of another kind, cut short, with an add's side other than 1 or 2, or with more
- *       behind it; else at place 1, there are QUOTING_MONTH_WORDS words and they are no month's
+ *       after it; else at place 1, there are QUOTING_MONTH_WORDS words and they are not a month's
  *   16  at place 1, words_length is below QUOTING_MONTH_WORDS; at place 2, hints_length is below QUOTING_HINT_BYTES; at place 3,
  *       answer_length is below QUOTING_ANSWER_WORDS; the first of them that applies
  */
@@ -329,27 +361,27 @@ uint64_t quoting_month_call(
     size_t answer_length);
 
 /*
- * What stands now: the open quantum of the month whose words these are. The words are as they were.
+ * The open quantum of a month as it is now. The words are not changed.
  *
- * words   the month's, words_length of them; what is behind QUOTING_MONTH_WORDS is not looked at.
+ * words   the month's, words_length of them; those after the first QUOTING_MONTH_WORDS are not read.
  * buffer  buffer_length words, of which the first are written: QUOTING_VIEW_WORDS are always enough.
  *            0 the day, 1 to 7 the row, 8 to 12 what the spread limit goes by (0, SP and three zeros, or 1 and a strike's a, difference, days
- *            and b), 13 the lapse limit, 14 the widest D allowed, 15 the state now (0 kept, 1 no bid, 2 no ask, 3 neither, 4 crossed, 5
- *            wide), 16 the number of live orders; from 17 on four words for each of them, in the order in which they were added: id, side (1
+ *            and b), 13 the lapse limit, 14 the widest D allowed, 15 the state now, of enum
+ *            quoting_state, 16 the number of live orders; from 17 on four words for each of them, in the order in which they were added: id, side (1
  *            buy, 2 sell), price, volume
  *
  * Answers the number of words written, 0 with no quantum open. Refused, with nothing changed, by
- *    3  at place 1, there are QUOTING_MONTH_WORDS words and they are no month's
+ *    3  at place 1, there are QUOTING_MONTH_WORDS words and they are not a month's
  *   16  at place 1, words_length is below QUOTING_MONTH_WORDS; at place 2, buffer_length is below 17 and four for each live order
  */
 uint64_t quoting_month_view(const uint32_t *words, size_t words_length, uint32_t *buffer, size_t buffer_length);
 
 /*
  * Runs a whole list of calls from a fresh month, each on the month that the one before left, and writes each call's answer, as
- * quoting_month_call does, one behind the other. It stops where the words are no call: what is left is not looked at further, and
+ * quoting_month_call does, one after the other. It stops at the first words that are not a call: nothing after them is read, and
  * quoting_calls_words says where that is.
  *
- * calls    the blocks, one directly behind the other. calls_length is the number of bytes.
+ * calls    the blocks, one directly after the other. calls_length is the number of bytes.
  * answers  answers_length words, QUOTING_ANSWER_WORDS for each call. A block has a word at least, so 5 * calls_length are always enough.
  *
  * Answers the number of calls that were made. Refused by
@@ -359,8 +391,8 @@ uint64_t quoting_month_view(const uint32_t *words, size_t words_length, uint32_t
 uint64_t quoting_calls(const uint8_t *calls, size_t calls_length, uint32_t *answers, size_t answers_length);
 
 /*
- * The number of words, from the first on, that are calls one behind the other. Where four times that is calls_length, all of the bytes are
- * calls; else no call begins behind it. Refused by
+ * The number of words, from the first on, that are calls one after the other. Where four times that is calls_length, all of the bytes are
+ * calls; else what follows is not a call. Refused by
  *    3  calls_length is 17179869184 or above
  */
 uint64_t quoting_calls_words(const uint8_t *calls, size_t calls_length);
@@ -387,7 +419,7 @@ struct quoting_maker {
  *
  * Answers the count after the calls, or 4294967295 where it is greater (it can be only with as many records, or where it was before).
  * Refused, with no call made, by
- *    3  the words are no list of calls: of another kind, a leave with a rating, or not three words a call
+ *    3  the words are not a list of calls: of another kind, a leave with a rating, or not three words a call
  *   16  outcomes_length is below the number of calls
  */
 uint64_t quoting_standing(

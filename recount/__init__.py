@@ -1,1 +1,1 @@
-"""Document 01 worked out afresh, in another language than the meter's."""
+"""Document 01 worked out again, in another language than the meter's."""

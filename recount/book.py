@@ -1,7 +1,7 @@
 """The plain book of document 01 and of document 02, W1, W2, W4, W5, W6 and W11, written from the papers:
 calls, refusals, quotes, kept time, lapses, pay; and the outlook, which is no call of theirs.
 
-Open is told SP, or a strike in its place (W4): wherever `sp` stands, a Strike may.
+Open takes SP, or a strike in its place (W4): wherever `sp` is, a Strike may be.
 
 Nothing is carried that the paper does not carry. Quotes, kept time, verdicts, weights, failure
 counts and fee are worked out from the book each time they are asked for.
@@ -258,7 +258,7 @@ def lapses_by_milliseconds(row, sp, events, end):
 
 
 def lapses_by_stretches(pairs, end):
-    """The gaps that the kept stretches leave below `end`, before, between and behind them."""
+    """The gaps that the kept stretches leave below `end`, before, between and after them."""
     ends = [0, *(offset + length for offset, length in pairs)]
     starts = [*(offset for offset, _ in pairs), end]
     return sum(1 for stop, start in zip(ends, starts) if stop < start)
@@ -553,7 +553,7 @@ class Book:
         )
 
     def outlook(self) -> OutlookView:
-        """How the open quantum stands, by trying what may follow."""
+        """The outlook on the open quantum, by trying what may follow."""
         q, row = self.quoting, self.quoting.row
 
         def judge(pairs: Pairs) -> Judged:

@@ -109,7 +109,7 @@ def since(start: bytes, time: bytes) -> int:
 
 
 def field(piece: bytes) -> Field:
-    """What stands between two bytes 1. The first equals sign ends the tag."""
+    """What is between two bytes 1. The first equals sign ends the tag."""
     tag, equals, value = piece.partition(b"=")
     if not equals:
         raise Unread(20, "a field without equals sign")
@@ -181,7 +181,7 @@ def only_value(inner: list[Field], tag: int) -> bytes:
     if not values:
         raise ValueError("is absent")
     if len(values) > 1:
-        raise ValueError("stands there twice")
+        raise ValueError("is there twice")
     return values[0]
 
 
@@ -206,7 +206,7 @@ def read(data: bytes) -> Order:
 
 
 def framed(body: bytes) -> bytes:
-    """The message of which the body is given: 8 and 9 before it, 10 behind it."""
+    """The message of which the body is given: 8 and 9 before it, 10 after it."""
     before = BEGIN + b"9=%d" % len(body) + END + body
     return before + b"10=" + checksum(before) + END
 

@@ -1,7 +1,7 @@
 """Request W14, maker against taker, from its sentences.
 
 Three counts of the same number G, each by itself: the game played out by recursion, its recurrence
-minute by minute, and the closed form. The two ways of choosing that the proof gives stand here too,
+minute by minute, and the closed form. The two ways of choosing that the proof gives are here too,
 to be played against all that the other side can do.
 """
 
@@ -58,7 +58,7 @@ def doubles_first(h):
 
 def singles_first(m, h, k):
     """The taker voids a single minute if he can, and a double one if, besides its two knocks, he
-    has one for each minute behind it that must be single."""
+    has one for each minute after it that must be single."""
 
     def voids(past, quoted):
         kept_back = 0

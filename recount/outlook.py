@@ -1,7 +1,7 @@
 """Whether the maker may rest: the outlook on an open quantum, by trying what may follow.
 
-A way to go on is told by the kept stretches of the whole quantum: those before the present time as
-they are, behind it any others. Each way that is tried is judged as the cell that a close would leave.
+A way to go on is the kept stretches of the whole quantum: those before the present time as they are,
+after it any others. Each way that is tried is checked as the cell that a close would leave.
 """
 
 from bisect import bisect_left
@@ -47,7 +47,7 @@ class Ahead(NamedTuple):
 
 
 def followed(past: Pairs, more: Pairs) -> Pairs:
-    """The stretches and more behind them, joined where they touch."""
+    """The stretches and more after them, joined where they touch."""
     pairs = list(past)
     for start, length in more:
         if pairs and sum(pairs[-1]) == start:

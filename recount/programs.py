@@ -35,16 +35,16 @@ def lines(items):
 
 
 def read_call(words, at):
-    """The call of the block at `at` and the place behind it, or None where no call stands."""
+    """The call of the block at `at` and the place after it, or None where there is no call."""
 
     def take(count):
-        """That many words behind the block's kind, or None where the block is cut short."""
+        """That many words after the block's kind, or None where the block is cut short."""
         block = words[at + 1 : at + 1 + count]
         return block if len(block) == count else None
 
     kind = words[at]
     if kind in (1, 13):
-        told = 3 if kind == 1 else 6  # words behind the row's
+        told = 3 if kind == 1 else 6  # words after the row's
         if at + 1 == len(words) or at + 2 + words[at + 1] + told > len(words):
             return None
         count = words[at + 1]

@@ -49,5 +49,5 @@ def write(event):
 
 
 def split(data):
-    """The record bytes one by one; bytes behind the last full record are one cut short."""
+    """The record bytes one by one; bytes after the last full record are one that is cut short."""
     return (data[i : i + SIZE] for i in range(0, len(data), SIZE))

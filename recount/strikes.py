@@ -1,6 +1,6 @@
-"""Request W4, strikes: what open is told of one in place of SP, its spread limit, and the board.
+"""Request W4, strikes: what open takes of one in place of SP, its spread limit, and the board.
 
-The limit is found by comparing squares of fractions, a board is judged by shares as fractions.
+The limit is found by comparing squares of fractions, a board is checked by shares as fractions.
 """
 
 from collections import namedtuple

@@ -79,7 +79,7 @@ def commit_situations(call, answer, count):
 
 
 def between_situations(call, answer, between):
-    """Of a commit and what stands between the ask and it."""
+    """Of a commit and what is between the ask and it."""
     accepted = [other for other, line in between if line == "accepted" and not isinstance(other, UNCOUNTED)]
     if answer == "accepted":
         for other, line in between:

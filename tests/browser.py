@@ -76,14 +76,14 @@ SEEN = """
 const texts = {};
 for (const each of document.querySelectorAll("[data-figure]")) texts[each.dataset.figure] = each.textContent;
 const kind = id => document.getElementById(id).dataset.kind ?? "";
-return {...texts, title: document.title, band: kind("hero"), feed_kind: kind("feed"), readings_kind: kind("readings"),
-  state_key: document.querySelector("[data-figure=state]").dataset.key ?? "", is_open: !document.getElementById("open").hidden,
-  answer_kind: kind("answer"), answer_n: document.getElementById("answer").dataset.n ?? "",
+return {...texts, title: document.title, band: kind("hero"), feedKind: kind("feed"), readingsKind: kind("readings"),
+  stateKey: document.querySelector("[data-figure=state]").dataset.key ?? "", isOpen: !document.getElementById("open").hidden,
+  answerKind: kind("answer"), answerN: document.getElementById("answer").dataset.n ?? "",
   orders: [...document.querySelectorAll("#orders tr")].map(row => [...row.children].map(cell => cell.textContent)),
   problems: [...document.querySelectorAll("#problems tr")].map(row => row.textContent),
   cells: Object.fromEntries([...document.querySelectorAll("[data-cell]")].map(cell => [cell.dataset.cell, cell.dataset.kind])),
   stop: [...document.querySelectorAll("#stop-rows tr")].map(row => [...row.children].map(cell => cell.textContent).concat(row.dataset.same)),
-  is_red: document.body.classList.contains("differs"), all_hidden: document.getElementById("all").hidden};
+  isRed: document.body.classList.contains("differs"), allHidden: document.getElementById("all").hidden};
 """
 
 
@@ -160,7 +160,7 @@ class Browser:
         self.driver.execute_cdp_cmd("Emulation.setEmulatedMedia", {"features": features})
 
     def shoot(self, name, widths=(1280, 390), themes=("light", "dark")):
-        """Pictures to be looked at; nothing may stand out to the right, nor may a cell's text be cut."""
+        """Pictures to be looked at; nothing may stick out to the right, nor may a cell's text be cut."""
         SHOTS.mkdir(parents=True, exist_ok=True)
         for width in widths:
             self.size(width)

@@ -2,7 +2,7 @@
 
    Standard input, case by case until its end: the length of the leading bytes and the length of the
    record bytes, four bytes each, low byte first, then both. Each answer is a line of its own.
-   Each part stands in memory of exactly its size, so that a tool that watches memory sees a read
+   Each part is in memory of exactly its size, so that a tool that watches memory sees a read
    past its end; an empty part is a null pointer. */
 
 #include <inttypes.h>

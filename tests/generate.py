@@ -354,7 +354,7 @@ def programme(rng):
 
 
 def refused_event(rng):
-    """A maker's day with a wrong event at some place, and more behind it."""
+    """A maker's day with a wrong event at some place, and more after it."""
     row = rng.choice([short_row, long_row])(rng)
     sp, count = any_sp(rng), rng.choice([1, 5, 20, 40])
     s = scene(rng, row, sp, count)
@@ -398,7 +398,7 @@ def fill(s):
 
 
 def far_behind(rng):
-    """Orders far behind the best price are amended, and much later they are the best."""
+    """Orders far from the best price are amended, and much later they are the best."""
     row, sp = rng.choice([short_row, long_row, programme_row])(rng), any_sp(rng)
     s = scene(rng, row, sp, 60)
     deep = []
@@ -425,7 +425,7 @@ def far_behind(rng):
 
 
 def becomes_best(head, data):
-    """Whether an order that was amended behind the best quote of its side stands at it later."""
+    """Whether an order that was amended away from the best quote of its side is at it later."""
     least = HEAD.unpack(head)[3]
     live, hidden = {}, set()
     for event in map(records.read, records.split(data)):
@@ -443,7 +443,7 @@ def becomes_best(head, data):
 
 
 def feed_gap(rng):
-    """The end of an order is missed: the maker's bid stands at or above his own ask, then parts from it."""
+    """The end of an order is missed: the maker's bid is at or above his own ask, then moves away from it."""
     row, sp = keeping_a_step(rng.choice([short_row, long_row, programme_row])(rng)), any_sp(rng)
     s = scene(rng, row, sp, 40)
     s.quote()
@@ -509,7 +509,7 @@ def at_limits(rng):
 
 
 def at_verdict(rng):
-    """K planned to stand at, or a millisecond beside, the share or a step of the weight."""
+    """K planned to be at, or a millisecond beside, the share or a step of the weight."""
     row = keeping_a_step(rng.choice([short_row, long_row, programme_row])(rng))
     wanted = rng.choice([
         -(-row.share * row.length // 1_000),

@@ -286,7 +286,7 @@ STRIKES = [
 
 
 def spread_calls(strike, day=1):
-    """A strike's quantum that stands ten milliseconds at its limit, ten a step past it, ten a step less."""
+    """A strike's quantum that is ten milliseconds at its limit, ten a step past it, ten a step less."""
     wide = widest(STRIKE_ROW, strike)
     yield Open(list(STRIKE_ROW), day, strike)
     yield from [Add(0, 1, BUY, -500, 500), Add(0, 2, SELL, wide - 500, 500), Tick(10), Report()]

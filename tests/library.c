@@ -3,7 +3,7 @@
 
    Standard input, case by case until its end, in words of four bytes, low byte first: which call, the count of the lent buffer's elements,
    what fills them (a byte in each of their bytes), four numbers, and the lengths of two byte strings; then the strings. Each string and
-   buffer stands in memory of exactly its size, so that a tool that watches memory sees a read or a write past its end; an empty one is a
+   buffer is in memory of exactly its size, so that a tool that watches memory sees a read or a write past its end; an empty one is a
    null pointer. */
 
 #include <inttypes.h>
@@ -67,7 +67,7 @@ static int may_note(uint32_t kind) {
     return (2 <= kind && kind <= 6) || kind == 14;
 }
 
-/* A list of calls one by one on a month of its own, each answer behind the one before. The second string has each call's length. Of the
+/* A list of calls one by one on a month of its own, each answer after the one before. The second string has each call's length. Of the
    hints, which are longer than they need be, a refused call and one that is neither an event nor an ask must leave every byte; no call may
    change one after the first QUOTING_HINT_BYTES. */
 static uint64_t run_month(const struct item *it, uint32_t *answers) {
@@ -96,7 +96,7 @@ static uint64_t run_month(const struct item *it, uint32_t *answers) {
     return answer;
 }
 
-/* What stands after a list of calls, of the first n[0] words of their month. The second string has each call's length. */
+/* The view after a list of calls, of the first n[0] words of their month. The second string has each call's length. */
 static uint64_t run_view(const struct item *it, uint32_t *buffer) {
     uint32_t *words = room(QUOTING_MONTH_WORDS * sizeof *words);
     uint8_t *hints = room(QUOTING_HINT_BYTES);
@@ -136,7 +136,7 @@ static uint64_t run_one(const struct item *it, uint32_t *answer) {
     return made;
 }
 
-/* Calls on n[0] records with the count n[1]. The buffer has the records and behind them the outcomes. */
+/* Calls on n[0] records with the count n[1]. The buffer has the records and after them the outcomes. */
 static uint64_t run_standing(const struct item *it, uint32_t *buffer) {
     size_t size = it->numbers[0], rest = it->count - 2 * size;
     struct quoting_maker *records = room(size * sizeof *records);

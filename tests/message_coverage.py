@@ -31,7 +31,7 @@ MUST_READ = [
     *(f"20: {why}" for why in FRAME_REASONS),
     *(
         f"21: {kind}: {tag} {why}" for kind, tags in TAGS.items() for tag in tags
-        for why in ("is absent", "stands there twice", *VALUE_REASONS[tag])
+        for why in ("is absent", "is there twice", *VALUE_REASONS[tag])
     ),
 ]
 
@@ -183,7 +183,7 @@ def kind_of(data: bytes) -> str:
 
 
 def ticket_situations(call: Commit, answer: str, ticket: Ticket | None, between: Since) -> Iterator[str]:
-    """Of a commit, by the ticket that was given for its amendment and what stands between."""
+    """Of a commit, by the ticket that was given for its amendment and what is between."""
     counted = [other for other, line in between if line == "accepted" and not isinstance(other, UNCOUNTED)]
     kinds = [kind_of(other.bytes) for other in counted if isinstance(other, Message)]
     if call.ticket == ticket:

@@ -7,7 +7,7 @@ from typing import Iterator
 from recount import fix
 from recount.fix import END, USED, WORD
 
-Parts = list[bytes]  # fields of a body behind 35, without byte 1
+Parts = list[bytes]  # fields of a body after 35, without byte 1
 
 DAY = 86_400_000
 LATE = WORD + 1  # milliseconds that are past 32 bits
@@ -243,7 +243,7 @@ def damaged_inside(rng: Random) -> bytes:
 
 
 def noise(rng: Random) -> bytes:
-    """Fields of few tags and signs, framed, in which any rule may be broken several times."""
+    """Fields of few tags and characters, framed, in which any rule may be broken several times."""
     signs = [b"8", b"9", b"10", b"11", b"35", b"41", b"54", b"38", b"44", b"60", b"=", b"=", b"1", b"0", b"-", END, END]
     text = b"".join(rng.choices(signs, k=rng.randrange(30)))
     return rng.choice([fix.framed(b"35=" + rng.choice([b"D", b"F", b"G"]) + END + text), fix.framed(text), text])

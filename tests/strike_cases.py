@@ -34,7 +34,7 @@ MUST_SHOW = [
     "18: an empty board", "18: 33 strikes", "18: 64 strikes", "18: unequal lengths", "18: K above L",
     "18: a share of 0", "18: a share above 100", "18: a length of 0", "18: a length below a second",
     "18: a length above a row's", "18: a length with part of a second", "18: an odd number of words",
-    "bad case: 129 words or more", "bad case: cut short", "bad case: more behind it",
+    "bad case: 129 words or more", "bad case: cut short", "bad case: more after it",
 ]
 
 
@@ -162,6 +162,6 @@ def odd_and_bad():
     for size in range(len(good)):
         yield good[:size], "bad case: cut short"
     for more in (b"\0", words(0), words(5, 1_000)):
-        yield good + more, "bad case: more behind it"
-        yield words(4, 1, 1, 1, 1_000) + more, "bad case: more behind it"
+        yield good + more, "bad case: more after it"
+        yield words(4, 1, 1, 1, 1_000) + more, "bad case: more after it"
     yield words(4, 1, 1, 3, 1_000, 1_000), "bad case: cut short"

@@ -180,7 +180,7 @@ def test_letters(tmp_path):
 
 
 def wait_for_read(child):
-    """Until the child waits for its standard input: it is in the system call read (0), of file 0. Where that is not told, some seconds."""
+    """Until the child waits for its standard input: it is in the system call read (0), of file 0. Where that is not known, some seconds."""
     ends, where = time.monotonic() + 60, Path(f"/proc/{child.pid}/syscall")
     try:
         while not where.read_text().startswith("0 0x0 "):
@@ -259,7 +259,7 @@ def test_damaged(note):
             done = command.run(*words, given=given)
             said = done.printed + done.complaint
             assert done.status in statuses and "Traceback" not in said, (words, given, done)
-            assert done.status == 0 or re.search(r"refused \d+|standard input|quoting: -: |stopped at word|passed over|no message", said), (words, given, done)
+            assert done.status == 0 or re.search(r"refused \d+|standard input|quoting: -: |stopped at word|no message", said), (words, given, done)
             statuses[done.status] += 1
     assert statuses[0] > DAMAGED and statuses[1] > DAMAGED, statuses
     note(f"commands: {sum(statuses.values())} damaged files ended in a sentence")

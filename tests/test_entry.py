@@ -44,7 +44,7 @@ def test_script_ignores_empty_entries_of_pythonpath(folder: Path, path: str) -> 
 
 
 def test_script_keeps_entries_of_pythonpath(tmp_path: Path) -> None:
-    """PYTHONPATH may name packages that the command uses, in folders whose names have blanks and stars too."""
+    """PYTHONPATH may name packages that the command uses, in folders whose names have spaces and stars too."""
     named = tmp_path / "a * b"
     named.mkdir()
     (named / "sitecustomize.py").write_text(f"open({str(tmp_path / 'found')!r}, 'w')\n")

@@ -138,7 +138,7 @@ def test_bad_lines(tmp_path):
     assert [at for at, item in enumerate(found, start=1) if isinstance(item, Sent)] == [1, 6, 15], found
     said = {item.place: item.text for item in found if isinstance(item, Trouble)}
     assert said["line 2"].startswith("'tock' is not known; a line begins with one of open, strike"), said
-    assert said["line 3"] == "this is no text (not UTF-8)"
+    assert said["line 3"] == "this is not a text: it is not UTF-8"
     assert said["line 4"] == "add takes t id side price volume, got 4 words: '1 2 buy 3'"
     assert said["line 5"] == said["line 7"] == "these words are not one call"
     options = Options(start=36_000_000, step=reading.Decimal("0.01"))
@@ -148,7 +148,7 @@ def test_bad_lines(tmp_path):
 
 
 def test_starts(tmp_path):
-    """`start` gives the open behind it its start; one that no open follows is said, and the call is taken all the same."""
+    """`start` gives the open after it its start; one that no open follows is reported, and the call is taken all the same."""
     at = "20261102-10:00:00.000"
     text = f"start {at} BR\n# x\n{OPEN}\nstart {at}\nreport\nstart\nstart {at}\nstart 20261102-11:00:00.000\n{OPEN}\n{OPEN}\nstart {at} B\n"
     found = drained(Steps(tmp_path, data=text.encode()).feed(False))
@@ -177,7 +177,7 @@ def test_long_lines(tmp_path):
 
 
 def test_blocks(tmp_path):
-    """Whole blocks as they come; where no call stands nothing more is read."""
+    """Whole blocks as they come; where there is no call nothing more is read."""
     rng = random.Random(2)
     calls = [c.Open([1, 1, 10_000, 500, 100, 1, 600], 1, 2000), c.Open([1], 1, c.Strike(1, 2, 3, 4)), c.Withdraw(1, 1, 1), Tick(5)]
     calls += [c.Report()]
@@ -203,7 +203,7 @@ def test_blocks(tmp_path):
     feed = stopped.feed()
     drained(feed)
     append(stopped.path, c.block(c.Report()))
-    assert not drained(feed), "read on behind what is no call"
+    assert not drained(feed), "read on after what is not a call"
     for short in (b"\x06", c.pack([6]), c.pack([1, 7, 1])):
         feed = Steps(tmp_path, "short", written + short).feed(False)
         assert shown(drained(feed))[-1] == ("", f"stopped at word {word}: {feeds.NO_CALL}") and feed.ended == "end", short
@@ -223,7 +223,7 @@ def test_items_per_read(tmp_path):
 
 
 def test_bounded_read(tmp_path):
-    """A read that finds nothing to give ends after some pieces, and says that more stands there."""
+    """A read that finds nothing to give ends after some pieces, and says that there is more."""
     log = log_of(*(message(id, "10:00:01.000") for id in range(5_000)))
     for feed in (Steps(tmp_path, data=b"# a comment\n" * 50_000).feed(), Month(tmp_path, quantum("10:00:00.000"), log, follow=False).feed):
         reads, before = 0, 0
@@ -620,7 +620,7 @@ def test_times():
 
 
 def test_time(tmp_path):
-    """An open comes when its start is seen, the call behind its messages when its end is past; no damaged message moves the time."""
+    """An open comes when its start is seen, the call after its messages when its end is past; no damaged message moves the time."""
     month = Month(tmp_path, quantum("10:00:00.000", "A") + quantum("10:00:20.000", "A", 2) + "report\n")
     assert month.read() == []
     assert month.more(message(1, "10:00:00.000")) == ["line 2", "log: line 1"]
@@ -668,13 +668,13 @@ def test_clock(tmp_path):
 
 
 def test_listed_later(tmp_path):
-    """An open that is written behind its messages gets them; the command's start stands for an open without one."""
+    """An open that is written after its messages gets them; an open without a start has the command's."""
     month = Month(tmp_path, "", log_of(message(1, "10:00:01.000"), message(2, "10:00:30.000"), message(3, None)))
     assert month.read() == [in_none(1)]
     assert month.feed.skipped == 3
     assert month.listed("report\n" + quantum("10:00:00.000").rsplit("\n", 2)[0]) == ["line 1"], "the last line has no end so far"
     assert month.listed("\n") == ["line 3", "log: line 1"] and month.feed.skipped == 2
-    assert month.more(message(4, "10:00:09.000")) == ["log: line 4"], "it stays open while nothing is listed behind it"
+    assert month.more(message(4, "10:00:09.000")) == ["log: line 4"], "it stays open while nothing is listed after it"
     assert month.listed("close 1 2\n") == ["line 4"]
     assert month.feed.count == month.list.stat().st_size + month.log.stat().st_size
     month = Month(tmp_path, f"{OPEN}\nclose 1 2\n", start="20261102-10:00:00.000")
@@ -850,7 +850,7 @@ def test_playing_clock(tmp_path):
     playing = Playing(Steps(tmp_path, data=f"{OPEN}\ndrop\n".encode()).feed(), 10, moments)
     playing.read()
     moments.time += 1
-    assert shown(playing.read()) == ["line 2"] and playing.ended is None and playing.now(None, 7, 0) == 7, "time goes on behind a drop"
+    assert shown(playing.read()) == ["line 2"] and playing.ended is None and playing.now(None, 7, 0) == 7, "time goes on after a drop"
 
 
 def test_played_months():

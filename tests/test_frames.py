@@ -34,7 +34,7 @@ SERIES = [(expiry, quantum) for expiry in (1, 2) for quantum in (0, 1, 2)]
 ROW = "1 1 8:45:00 1000 150 3 60%"
 H, MIN, S = 3_600_000, 60_000, 1_000
 CAME = 1_000_000.0
-ALTERING = (8, 9, 10)  # drop, charge, withdraw
+ALTERING = (c.Kind.DROP, c.Kind.CHARGE, c.Kind.WITHDRAW)
 START = "20261115-10:00:00.000"
 
 
@@ -65,7 +65,7 @@ def meter_of(text, day_start=0, start=None, step=None):
     """A meter that has taken the calls of a text; `start` is each open's."""
     meter = Meter("Brent", day_start, step)
     for line, block in enumerate(c.blocks(calls_text.to_bytes(text))[0], start=1):
-        meter.take(Sent(block, f"line {line}", start if block[0] in (1, 13) else None), CAME)
+        meter.take(Sent(block, f"line {line}", start if block[0] in c.OPENS else None), CAME)
     return meter
 
 
@@ -180,7 +180,7 @@ def test_other_bands():
     assert found["state"] == {"key": "unknown", "word": "not known", "since": "last kept"}, found["state"]
     assert found["feed"] == {"kind": "broken", "text": "Feed silent for 0:01:37, 4 calls read"}
     assert found["alert"]["head"] == "Feed silent for 0:01:37."
-    assert frames.day(meter, 5 * H, frames.Status("broken"), None)[0]["now_text"] == "last 14:00:00"
+    assert frames.day(meter, 5 * H, frames.Status("broken"), None)[0]["nowText"] == "last 14:00:00"
     closed = frames.Status("broken", CAME, why="standard input has closed")
     assert frames.sections(meter, 5 * H, closed)["feed"]["text"] == "Feed broken off: standard input has closed, 4 calls read"
     assert band(meter_of(opened() + QUOTES.format(t="0") + "tick 6:00:00", 10 * H), 6 * H, "broken")[3] == (
@@ -397,7 +397,7 @@ def ends_met(before, now, *ways):
 
 
 def try_promise(before, now, found, outlook):
-    """Does what the band says from the next millisecond on, since the present one goes as the orders stand; which band it was."""
+    """Does what the band says from the next millisecond on, since the present one goes as the orders are; which band it was."""
     length, then = before.quoting.row.length, now + 1
     is_kept = accounts.state(before.quoting.row, before.quoting.sp, before.quoting.live) == 0
     if found["kind"] == "lost":
@@ -448,7 +448,7 @@ def test_promises(note):
 
 
 def moments(rng, quoting):
-    """Some times to look at: the last event's, just behind it, anywhere, the end, and past it."""
+    """Some times to look at: the last event's, just after it, anywhere, the end, and past it."""
     if quoting is None:
         return [0]
     last, length = max([0, *(event.t for event in quoting.events)]), quoting.row.length
@@ -466,7 +466,7 @@ def test_lists(note):
     for blocks in lists:
         pair, often = Pair(), max(1, len(blocks) // 12)
         for at, block in enumerate(blocks):
-            if block[0] in ALTERING:  # what was made of the month before is old behind the call
+            if block[0] in ALTERING:  # what was made of the month before is old after the call
                 pair.compare_month(frames.month(pair.meter))
             pair.take(block)
             if at % often == 0 or at == len(blocks) - 1 or block[0] in ALTERING:
@@ -615,13 +615,13 @@ def test_ask_texts():
     assert meter_of(text).ask("5:00:01", "1", "8446", "1000", 0)["head"] == "Would keep"
     time_due = "h:mm:ss, or milliseconds from the quantum's start"
     for given, due in (
-        (("9:00:00", "1", "8446", "1000"), f"at: 9:00:00 is before the quantum's start, 10:00:00; expected is {time_due}."),
-        (("noon", "1", "8446", "1000"), f"at: 'noon' is not a number; expected is {time_due}."),
-        (("15:00", "1", "8446", "1000"), f"at: '15:00' is not a time h:mm:ss; expected is {time_due}."),
-        (("15:00:01", "", "8446", "1000"), "order: nothing is given; expected is the id of a live order."),
-        (("15:00:01", "1", "84.46", "1000"), "price: '84.46' is not a number; expected is a price."),
-        (("15:00:01", "1", "84,46", "1000"), "price: '84,46' is not a number; expected is a price."),
-        (("15:00:01", "1", "8446", "5e3"), "contracts: '5e3' is not a number; expected is a whole number of contracts."),
+        (("9:00:00", "1", "8446", "1000"), f"at: 9:00:00 is before the quantum's start, 10:00:00; expected {time_due}."),
+        (("noon", "1", "8446", "1000"), f"at: 'noon' is not a number; expected {time_due}."),
+        (("15:00", "1", "8446", "1000"), f"at: '15:00' is not a time h:mm:ss; expected {time_due}."),
+        (("15:00:01", "", "8446", "1000"), "order: nothing is given; expected the id of a live order."),
+        (("15:00:01", "1", "84.46", "1000"), "price: '84.46' is not a number; expected a price."),
+        (("15:00:01", "1", "84,46", "1000"), "price: '84,46' is not a number; expected a price."),
+        (("15:00:01", "1", "8446", "5e3"), "contracts: '5e3' is not a number; expected a whole number of contracts."),
     ):
         assert known.ask(*given, 0) == {"kind": "refused", "head": "Not understood", "lines": [due]}, (given, known.ask(*given, 0))
     steps = meter_of(text, start=START, step=Decimal("0.01"))

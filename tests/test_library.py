@@ -180,7 +180,7 @@ def answer_words(answer):
 
 
 def list_words(data):
-    """Each answer's words, one behind the other, and how many words of the list are calls."""
+    """Each answer's words, one after the other, and how many words of the list are calls."""
     calls, stop = programs.read_calls(data)
     book = Book()
     return [word for call in calls for word in answer_words(book.call(call))], len(data) // 4 if stop is None else stop
@@ -220,7 +220,7 @@ def widest(row, sp):
 
 
 def view_words(data):
-    """What stands after a list of calls, as words."""
+    """The view after a list of calls, as words."""
     book = Book()
     for call in programs.read_calls(data)[0]:
         book.call(call)
@@ -569,7 +569,7 @@ def test_calls(cases, tmp_path, note):
     seen = defaultdict(set)
     for case, (answer, *after) in zip(cases, found):
         wanted, buffer = due(case)
-        if buffer is None:  # a fresh month: none open, no call counted, no cell filled, and what is behind it as it was
+        if buffer is None:  # a fresh month: none open, no call counted, no cell filled, and what is after it as it was
             assert after[:6] == [0] * 6 and set(after[604:MONTH_WORDS:10]) == {0} and after[MONTH_WORDS:] == lent(case)[MONTH_WORDS:]
             buffer = after
         assert (answer, after) == (wanted, buffer), (NAMES[case.call][0], case, answer, wanted, after, buffer)
@@ -610,9 +610,9 @@ def test_header_alone(tmp_path, compiler, language, standard):
 
 def test_header_numbers():
     assert f'#define QUOTING_VERSION "{VERSION}"' in HEADER, "VERSION and the header differ"
-    for name, last in (("refusal", 27), ("answer", 6)):
+    for name, first, last in (("refusal", 0, 26), ("call", 1, 17), ("state", 0, 5), ("answer", 0, 5)):
         [enum] = re.findall(rf"^enum quoting_{name} {{(.*?)}}", HEADER, re.M | re.S)
-        assert re.findall(r" = (\d+)", enum) == [str(n) for n in range(last)], f"the numbers of enum quoting_{name}"
+        assert re.findall(r" = (\d+)", enum) == [str(n) for n in range(first, last + 1)], f"the numbers of enum quoting_{name}"
     for name, number in (("MONTH_WORDS", MONTH_WORDS), ("HINT_BYTES", HINT_BYTES), ("ANSWER_WORDS", ANSWER_WORDS)):
         assert f"#define QUOTING_{name} {number}\n" in HEADER, name
 

@@ -161,7 +161,7 @@ def test_the_words_of_every_month_are_taken(note: Note) -> None:
         w = month_words.read(month.words())
         assert Month.from_words(month.words()) == month
         count += 1
-        orders = [w[first + month_words.NUMBER] for first in month_words.SIDES.values()]
+        orders = [w[first + month_words.NUMBER] for first in month_words.SIDE_STARTS.values()]
         is_open = bool(w[month_words.OPEN])
         met["open"] += is_open
         met["strike"] += w[month_words.SPREAD]
@@ -199,7 +199,7 @@ COUNTS = {month_words.ACCEPTED, month_words.ACCEPTED + 1}
 # the spread limit goes by, as far as nothing else follows from them.
 FREE = {
     month_words.PLACE, month_words.LIMIT, month_words.TIME, month_words.KEPT, month_words.LAPSES, month_words.LAST,
-    *(first + at for first in month_words.SIDES.values() for at in range(month_words.KEYS, month_words.NUMBER)),
+    *(first + at for first in month_words.SIDE_STARTS.values() for at in range(month_words.KEYS, month_words.NUMBER)),
     month_words.ROW + 4, month_words.ROW + 5, *range(month_words.SPREAD + 1, month_words.CELLS),
 }
 
@@ -219,7 +219,7 @@ def test_a_damaged_word_is_refused_by_its_number(make: Callable[[], Month], note
             try:
                 found = Month.from_words(with_word(month, at, value))
             except ValueError as error:
-                assert re.match(r"these are no month's words: word [0-9]+, ", str(error)), error
+                assert re.match(r"these are not a month's words: word [0-9]+, ", str(error)), error
                 refused += 1
             else:
                 assert at in cells | COUNTS or (given[month_words.OPEN] and at in FREE), (at, value)
@@ -265,7 +265,7 @@ def test_the_message_names_the_word_and_what_it_is(at: int, value: int, said: st
     due = f"word {at}, {said}" if said else "word 272, an order's id, is 2, which another order has"
     if at == 611:  # its charge begins a word earlier
         due = due.replace("611", "610")
-    with pytest.raises(ValueError, match=re.escape(f"these are no month's words: {due}")):
+    with pytest.raises(ValueError, match=re.escape(f"these are not a month's words: {due}")):
         Month.from_words(with_word(quoted(), at, value))
 
 
@@ -296,5 +296,5 @@ def test_damaged_words_that_the_library_refuses_are_said_to_be_damaged(monkeypat
 
     monkeypatch.setattr(native, "call", refuse)
     for call in (month.report, month.view, month.glance, lambda: month.call(Add(0, 1, "buy", 1, 1))):
-        with pytest.raises(ValueError, match="^the words of this month are damaged: they are no month's$"):
+        with pytest.raises(ValueError, match="^the words of this month are damaged: they are not a month's$"):
             call()

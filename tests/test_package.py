@@ -16,7 +16,7 @@ import numpy
 import pytest
 
 import quoting
-from quoting import Add, Amend, Cancel, Deal, Refused, Row, Rule, State, Tenths, Tick, events, fix, inputs, native, refusals, standings, texts
+from quoting import Add, Amend, Cancel, Deal, Refused, Row, Rule, State, Tenths, Tick, calls, events, fix, inputs, native, refusals, standings, texts
 from quoting.answers import line
 from recount import game, programs, records, standing, strikes, volatile
 from recount import account as recount_account
@@ -62,7 +62,7 @@ TYPES = {"size_t": native.SIZE, "uint32_t": native.WORD}
 
 
 def test_header():
-    """The types of each call are those of the header."""
+    """The types of each call are those of the header, and so are the numbers of calls and states."""
     header = re.sub(r"/\*.*?\*/", "", (ROOT / "include" / "quoting.h").read_text(), flags=re.S)
     declared = re.findall(r"^uint64_t (quoting_\w+)\(([^)]*)\);", header, re.M)
     assert len(declared) >= 10, declared
@@ -70,6 +70,10 @@ def test_header():
         name: [native.BYTES if "*" in argument else TYPES[argument.split()[0]] for argument in arguments.split(",")] for name, arguments in declared
     }
     assert types == native.CALLS, "the package's types are not the header's"
+    for name, kinds in (("call", calls.Kind), ("state", State)):
+        [enum] = re.findall(rf"^enum quoting_{name} {{(.*?)}};", header, re.M | re.S)
+        numbers = re.findall(rf"QUOTING_{name.upper()}_(\w+) = (\d+)", enum)
+        assert numbers == [(each.name, str(each.value)) for each in kinds], f"the package's numbers are not those of enum quoting_{name}"
     assert quoting.version() == (ROOT / "VERSION").read_text().strip()
 
 

@@ -16,7 +16,7 @@ import pytest
 
 import quoting
 from quoting import inputs, reading, texts
-from quoting.events import SIZE
+from quoting.events import SIZE, event_of, split
 from quoting.rows import HEAD
 from tests import command
 from tests.paths import EXAMPLES, QUOTING
@@ -257,7 +257,7 @@ def test_a_byte_0_in_a_text_is_named_with_its_line(name: str) -> None:
     words, text = LISTS[name]
     lines = text.splitlines(keepends=True)
     lines[-1] = lines[-1].replace("\n", "\0\n")
-    assert f"standard input: line {len(lines)}: a byte 0 is here: no text has one" in refused(*words, given="".join(lines))
+    assert f"standard input: line {len(lines)}: this line has a byte 0, and no text has one" in refused(*words, given="".join(lines))
 
 
 def test_bytes_are_still_bytes() -> None:
@@ -276,7 +276,7 @@ def test_bytes_are_still_bytes() -> None:
 ])
 def test_a_number_out_of_range_is_refused_with_the_range(words: list[str]) -> None:
     said = refused(*words, status=2)
-    assert re.search(r"error: argument .*: ('.*' is not a number|.* does not fit, it can be \d+ to \d+)\n$", said), said
+    assert re.search(r"error: argument .*: ('.*' is not a number|.* is out of range, it can be \d+ to \d+)\n$", said), said
     assert len(said) < 2_000
 
 
@@ -389,3 +389,33 @@ def test_damaged_lists_answer_every_call_or_say_where_they_stop(name: str) -> No
             else:
                 written = sum(len(texts.calls_bytes(each["call"])) for each in found["calls"])
                 assert written == len(data) or (found["stopped_at_word"], done.status) == (written // 4 + 1, 1), (data, done)
+
+
+# ---------------------------------------------------------------- events, for a month
+
+RULE_LINES = "row 1 1 10000 500 100 1 60%\nsp 2000\n"
+SESSION_FILES = {
+    "a.session": RULE_LINES + "add 0 1 buy 99 500\namend 5 1 98 400\ncancel 7 1\ntick 9\n",
+    "b.csv": "row,1,1,10000,500,100,1,60%\nsp,2000\nvolume,price,side,id,kind,t\n500,99,buy,1,add,0\n\n400,98,,1,amend,5\n100,,,1,deal,6\n",
+    "c.session": RULE_LINES + "add 0 1 buy 99 500\nbytes 06 00 00 00 05 00 00 00 00 00\nbytes 00 00 00 00 00 00 00 00 00 00\n",
+    "d.session": RULE_LINES + "tick 1\nbytes 07\n",
+}
+
+
+@pytest.mark.parametrize("name", SESSION_FILES)
+def test_events_of_a_text_are_those_of_its_bytes(name: str) -> None:
+    """Read without encoding them, the events are those of the records; and the same of the records alone."""
+    text = SESSION_FILES[name].encode()
+    data = inputs.session_of(name, text).data
+    due = data[: HEAD.size], [event_of(each) for each in split(data[HEAD.size :])]
+    for given, content in ((name, text), ("e.bin", data)):
+        head, found = inputs.events_of(given, content)
+        assert (head, list(found)) == due and len(due[1]) > 1, (given, found)
+    assert (None in due[1]) == (name == "d.session")
+
+
+@pytest.mark.parametrize(("name", "text", "line"), [("a.session", RULE_LINES + "tick 1\ntick x\n", 4), ("b.csv", "t,kind,id,side,price,volume\n1,tick\n", 2)])
+def test_events_of_a_wrong_text_name_file_and_line(name: str, text: str, line: int) -> None:
+    with pytest.raises(reading.TextError) as error:
+        inputs.events_of(name, text.encode())
+    assert (error.value.file, error.value.line) == (name, line)

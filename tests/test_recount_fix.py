@@ -140,7 +140,7 @@ def test_used_tags(kind: str, body: str) -> None:
         assert refused(framed(gone)) == (21, f"{tag} is absent"), tag
         assert refused(framed(f"{gone}{tag}=x|"))[0] == 21, tag
         for again in (part, f"{tag}=x|", f"{tag}=9|"):
-            assert refused(framed(body + again)) == (21, f"{tag} stands there twice"), tag
+            assert refused(framed(body + again)) == (21, f"{tag} is there twice"), tag
     for turn in range(1, len(parts)):
         for order in (parts[turn:] + parts[1:turn], (parts[turn:] + parts[1:turn])[::-1]):
             assert fix.read(framed(parts[0] + "".join(order))) == due, order

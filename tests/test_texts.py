@@ -91,7 +91,7 @@ def test_message_texts():
         assert calls.to_text(written) == f"message {start} frame {body}\n", line
     size = len(start) + len(data)
     assert written[:12] == packed(16, len(start), len(data)) and len(written) == 12 + size + -size % 4
-    # Each other sign, no bytes at all, and words of the text itself as bytes.
+    # Each other character, no bytes at all, and words of the text itself as bytes.
     for data, shown in [
         (b"", "-"), (b"-", r"\x2d"), (b"--", "--"), (b"frame", r"\x66rame"), (b"\x01\x01", "||"), (b"\\x41", r"\\x41"),
         (b"a|b\\c#d e\0\x7f\xff~", r"a\|b\\c\x23d\x20e\x00\x7f\xff~"),
@@ -203,7 +203,7 @@ ERRORS = [  # what reads, a text, the line and what is said
     (session, "# a\nrow 1 1 10000 500 100 1 60%\nsp 4_294_967_296", 3, "SP: 4_294_967_296"),
     (session, "row 1 1 0:00:10 500 100 1 60%\nsp 1\nadd 0 1 bid 1 1", 3, "side: 'bid'"),
     (session, "row 1 1 10000 500 100 1 60%\nsp 1\nadd 0 1 buy 1", 3, "add takes t id side"),
-    (session, "row 1 1 10000 500 100 1 60%\nsp 1\nadd -1 1 buy 1 1", 3, "t: -1 does not fit"),
+    (session, "row 1 1 10000 500 100 1 60%\nsp 1\nadd -1 1 buy 1 1", 3, "t: -1 is out of range"),
     (session, "row 1 1 10000 500 100 1 60%\nsp 1\ntick 1:60:00", 3, "t: '1:60:00' is not"),
     (session, "row 1 1 10000 500 100 1 60%\nsp 1\nbytes 0g", 3, "bytes takes pairs"),
     (session, "row 1 1 10000 500 100 1 60%\nsp 1\nsell 1", 3, "'sell' is not known"),
@@ -215,7 +215,7 @@ ERRORS = [  # what reads, a text, the line and what is said
     (session, "row 1 1 10000 500 100 1 60\nsp 1", 1, "p: 60 has no unit: write 60% (600 tenths of a percent) or 60 tenths (6%)"),
     (session, "row 1 1 10000 500 100 1 725\nsp 1", 1, "p: 725 has no unit: write 725% (7250 tenths of a percent) or 725 tenths (72.5%)"),
     (calls, "open row 1 1 10000 500 100 1 60 day 1 sp 1", 1, "p: 60 has no unit"),
-    (session, "row 1 1 10000 500 100 1 60%\rsp 1\r\nadd " + 5000 * "9" + " 1 buy 1 1", 3, "t: 9999999999999999..99999999 (5000 characters) does"),
+    (session, "row 1 1 10000 500 100 1 60%\rsp 1\r\nadd " + 5000 * "9" + " 1 buy 1 1", 3, "t: 9999999999999999..99999999 (5000 characters) is out"),
     (calls, "tick 1 # \u2028report 1\x0creport 1\x85report 1\nreport 1", 2, "report takes nothing"),
     (calls, "report\u2028", 1, "'report\\u2028' is not known"),
     (calls, "report\nopen 1 1 day 1 sp 1", 2, "open is written"),
@@ -223,9 +223,9 @@ ERRORS = [  # what reads, a text, the line and what is said
     (calls, "open row 1 1 day 1 sp 1 lapses some", 1, "lapses: 'some' is not a number"),
     (calls, "strike row 1 1 day 1 sp 1", 1, "strike is written"),
     (calls, "strike row 1 1 day 1 a 1 difference 1 days 1 lapses 1", 1, "strike is written"),
-    (calls, "strike row 1 1 day 1 a 1 difference -1 days 1 b 1", 1, "difference: -1 does not fit"),
+    (calls, "strike row 1 1 day 1 a 1 difference -1 days 1 b 1", 1, "difference: -1 is out of range"),
     (calls, "ask 1 2 3", 1, "ask takes t id price volume"),
-    (calls, "ask 1 2 3 -4", 1, "volume: -4 does not fit"),
+    (calls, "ask 1 2 3 -4", 1, "volume: -4 is out of range"),
     (calls, "commit 1 2 3 4", 1, "commit is written"),
     (calls, "commit 1 2 3 4 with 1 2 3 4 5", 1, "commit is written"),
     (calls, "commit 1 2 3 4 ticket 1 2 3 4 18446744073709551616", 1, "count: 18446744073709551616"),

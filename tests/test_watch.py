@@ -262,7 +262,7 @@ RATE, SECONDS, PAUSE = 1_000, 3, 0.005
 
 
 def line_of(number):
-    """An event that its volume tells from every other."""
+    """An event with a volume of its own."""
     return f"amend {1_000 + number} 1 8446 {1_000 + number}\n"
 
 
@@ -281,7 +281,7 @@ def write_fast(path, written):
 
 
 async def lags_seen(served, written):
-    """For each event the time until a page had it, or one behind it."""
+    """For each event the time until a page had it, or one after it."""
     lags, shown = [], 0
     async with connect(served) as page:
         while shown < RATE * SECONDS:

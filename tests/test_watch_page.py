@@ -72,14 +72,14 @@ def calls_read(seen):
 def hold(seen, blocks):
     """Every figure that was seen is replay's, for the calls read by then and a tick to the page's own moment."""
     count = calls_read(seen)
-    gone = reading.time(seen["account-gone"]) if seen["is_open"] else 0
-    tick = [c.block(c.Tick(gone))] if seen["is_open"] else []
+    gone = reading.time(seen["account-gone"]) if seen["isOpen"] else 0
+    tick = [c.block(c.Tick(gone))] if seen["isOpen"] else []
     looks = [c.block(c.Look(*cell)) for cell in CELLS]
     lines = replayed(blocks[:count] + tick + looks + [c.block(c.Report()), c.block(c.Outlook())])
     report, cells = report_of(lines[-2]), lines[count + len(tick) : -2]
-    assert report.is_open == seen["is_open"], (seen["feed"], lines[-2])
+    assert report.is_open == seen["isOpen"], (seen["feed"], lines[-2])
     hold_month(seen, report, {cell: line for cell, line in zip(CELLS, cells) if line.startswith("cell")})
-    if seen["is_open"]:
+    if seen["isOpen"]:
         assert report.time == gone, (report, gone)
         hold_open(seen, report, outlook_of(lines[-1]))
     return gone
@@ -156,8 +156,8 @@ def played(page, blocks):
     """The moments at which the figures were held while it was played, and what is seen at the end."""
     moments, began = set(), time.monotonic()
     seen = page.seen()
-    while seen["feed_kind"] != "ended":
-        if seen["is_open"] and time.monotonic() > began + len(moments):
+    while seen["feedKind"] != "ended":
+        if seen["isOpen"] and time.monotonic() > began + len(moments):
             moments.add(hold(seen, blocks))
         time.sleep(0.05)
         seen = page.seen()
@@ -169,7 +169,7 @@ def hold_end(page, seen, blocks):
     assert hold(seen, blocks) == reading.time("0:20:00") and calls_read(seen) == len(blocks), seen
     assert seen["cells"]["1,1,2"] == "met" and seen["cells"]["2,1,2"] == "open", seen["cells"]
     assert len(seen["problems"]) == 2 and "line 11" in seen["problems"][0] and "refused 8" in seen["problems"][0], seen["problems"]
-    page.until("both agree on all", lambda seen: (seen["readings_kind"], f"all {len(blocks)} calls" in seen["readings-text"]) == ("agree", True))
+    page.until("both agree on all", lambda seen: (seen["readingsKind"], f"all {len(blocks)} calls" in seen["readings-text"]) == ("agree", True))
 
 
 STOPS = """
@@ -221,11 +221,11 @@ def test_fed(page):
     """Calls as they come: what can't be read, what is refused, asks, and the recount that is killed."""
     with Served("--calls", "-", "--silence", "0") as served:
         page.visit(served.link)
-        seen = page.until("nothing is open", lambda seen: seen["band"] == "none" and seen["feed_kind"] == "following")
+        seen = page.until("nothing is open", lambda seen: seen["band"] == "none" and seen["feedKind"] == "following")
         text = OPEN + QUOTES
         served.send(text)
-        page.until("the quote is there", lambda seen: seen["state_key"] == "kept")
-        seen = page.until("time goes on behind the last event", lambda seen: reading.time(seen["account-gone"]) > 1_200)
+        page.until("the quote is there", lambda seen: seen["stateKey"] == "kept")
+        seen = page.until("time goes on after the last event", lambda seen: reading.time(seen["account-gone"]) > 1_200)
         assert hold(seen, blocks_of(text)) > 1_200
         served.send("tik 0:00:02\n")
         seen = page.until("the broken line is shown", lambda seen: seen["problems"])
@@ -233,7 +233,7 @@ def test_fed(page):
         assert seen["alert"].startswith("Line 4: not read"), seen["alert"]
         text += "amend 0:00:02 2 8461 1000\n"
         served.send(text.splitlines()[-1] + "\n")
-        seen = page.until("the reading goes on", lambda seen: seen["state_key"] == "wide")
+        seen = page.until("the reading goes on", lambda seen: seen["stateKey"] == "wide")
         hold(seen, blocks_of(text))
         text += "cancel 0:00:02 77\n"
         served.send(text.splitlines()[-1] + "\n")
@@ -252,26 +252,26 @@ def check_asks(page, text):
     assert page.run("return document.activeElement.name") == "price"
     page.press(browser.Keys.CONTROL, "a")
     page.press("8449", browser.ENTER)
-    seen = page.until("an answer", lambda seen: seen["answer_n"] == "1")
+    seen = page.until("an answer", lambda seen: seen["answerN"] == "1")
     t, order, price, volume = page.run(fields)
     assert (order, price, volume) == ("1", "8449", "1000"), (order, price, volume)
     ticket = re.fullmatch(r"ticket: (\S+), order 1, 8449, 1,000, count 4", seen["answer-1"])
-    assert ticket and (seen["answer"], seen["answer_kind"]) == ("Would keep", "kept"), seen
+    assert ticket and (seen["answer"], seen["answerKind"]) == ("Would keep", "kept"), seen
     asked = replayed(blocks_of(text + f"ask {reading.time(ticket[1])} 1 8449 1000\n"))[-1]
     assert asked.startswith("asked bid 8449 ask 8461 ") and asked.endswith(" count 4"), asked
     assert seen["answer-0"] == "bid 8449, ask 8461, D 12 of at most 12", seen["answer-0"]
     page.press(browser.Keys.CONTROL, "a")
     page.press("8400", browser.ENTER)
-    seen = page.until("too wide", lambda seen: seen["answer_n"] == "2")
-    assert seen["answer"].startswith("Would not keep") and seen["answer_kind"] == "wide", seen["answer"]
+    seen = page.until("too wide", lambda seen: seen["answerN"] == "2")
+    assert seen["answer"].startswith("Would not keep") and seen["answerKind"] == "wide", seen["answer"]
     page.run("const t = document.getElementById('ask').elements.t; t.focus(); t.select()")
     page.press("0:00:01", browser.ENTER)
-    seen = page.until("a refused ask", lambda seen: seen["answer_n"] == "3")
-    assert (seen["answer_kind"], seen["answer"]) == ("refused", "Refused, 8"), seen
+    seen = page.until("a refused ask", lambda seen: seen["answerN"] == "3")
+    assert (seen["answerKind"], seen["answer"]) == ("refused", "Refused, 8"), seen
     page.press(browser.Keys.CONTROL, "a")
     page.press("soon", browser.ENTER)
-    seen = page.until("what is no time", lambda seen: seen["answer_n"] == "4")
-    assert seen["answer_kind"] == "refused" and "soon" in seen["answer-0"], seen
+    seen = page.until("what is no time", lambda seen: seen["answerN"] == "4")
+    assert seen["answerKind"] == "refused" and "soon" in seen["answer-0"], seen
     hold(page.seen(), blocks_of(text))
 
 
@@ -279,10 +279,10 @@ def check_killed(page, served, text):
     """The recount's process is killed: the page says so, and the reading goes on."""
     for pid in children(served.process.pid):
         os.kill(pid, signal.SIGKILL)
-    page.until("the recount has stopped", lambda seen: seen["readings"] == "The recount has stopped" and seen["readings_kind"] == "absent")
+    page.until("the recount has stopped", lambda seen: seen["readings"] == "The recount has stopped" and seen["readingsKind"] == "absent")
     text += "amend 0:00:02 1 8450 1000\n"
     served.send(text.splitlines()[-1] + "\n")
-    hold(page.until("the reading goes on", lambda seen: seen["state_key"] == "kept"), blocks_of(text))
+    hold(page.until("the reading goes on", lambda seen: seen["stateKey"] == "kept"), blocks_of(text))
 
 
 def test_broken(page):
@@ -292,11 +292,11 @@ def test_broken(page):
         served.send(OPEN + QUOTES)
         seen = page.until("broken off", lambda seen: seen["band"] == "broken")
         assert seen["band-head"] == "Feed broken off" and seen["band-why"].startswith("Keep quoting until it is back."), seen
-        assert "0:00:01" in seen["band-sub"] and seen["state_key"] == "unknown" and seen["feed_kind"] == "broken", seen
+        assert "0:00:01" in seen["band-sub"] and seen["stateKey"] == "unknown" and seen["feedKind"] == "broken", seen
         assert page.run("return document.getElementById('ask-fields').disabled && document.getElementById('open').classList.contains('stale')")
         page.shoot("broken", widths=(1280,), themes=("light",))
         served.send("tick 0:00:03\n")
-        seen = page.until("it is back", lambda seen: seen["feed_kind"] == "following")
+        seen = page.until("it is back", lambda seen: seen["feedKind"] == "following")
         assert seen["band"] != "broken" and not page.run("return document.getElementById('ask-fields').disabled"), seen["band"]
         served.process.stdin.close()
         seen = page.until("standard input has closed", lambda seen: "standard input has closed" in seen["feed"])
@@ -309,7 +309,7 @@ def test_broken(page):
 # An edit of the recount, the last call that is sent, the call that is named, what differs. No answer shows the first, nothing but an answer
 # the second.
 EDITS = [
-    # locked quotes are kept: they differ once time has gone by at them, behind an agreement on what was before
+    # locked quotes are kept: they differ once time has gone by at them, after an agreement on what was before
     ("return gap >= 1 and narrow", "return gap >= 0 and narrow", "tick 4:30:00", "amend 2:12:00 1 8449 1000", "≠ kept"),
     # another event at the same time is refused for its time, and not since its order is not there
     ("if event.t < quoting.time:", "if event.t <= quoting.time and quoting.events:", "cancel 0:55:00 9", "cancel 0:55:00 9", "≠ answer"),
@@ -329,7 +329,7 @@ def tree(tmp_path, monkeypatch):
 def test_no_recount(page, tree):
     with Served("--calls", EXAMPLE, "--no-follow", tree=tree) as served:
         page.visit(served.link)
-        page.until("no recount", lambda seen: (seen["readings"], seen["readings_kind"]) == ("The recount is not here", "absent"))
+        page.until("no recount", lambda seen: (seen["readings"], seen["readingsKind"]) == ("The recount is not here", "absent"))
         page.leave()
 
 
@@ -352,8 +352,8 @@ def check_red(page, folder, last, call, word):
         served.send("\n".join(lines[: at - 3]) + "\n")
         page.until("agreement so far", lambda seen: f"all {before} calls" in seen["readings-text"])
         served.send("\n".join(lines[at - 3 : lines.index(last) + 1]) + "\n")
-        seen = page.until("the red page", lambda seen: seen["is_red"] and "looked for" not in seen["stop-text"])
-        assert seen["band"] == "stop" and seen["band-head"] == "Stop: readings differ" and seen["all_hidden"], seen
+        seen = page.until("the red page", lambda seen: seen["isRed"] and "looked for" not in seen["stop-text"])
+        assert seen["band"] == "stop" and seen["band-head"] == "Stop: readings differ" and seen["allHidden"], seen
         assert f"Call {due}, line {at + 1}: {call.split()[0]}" in seen["stop-text"], (seen["stop-text"], due)
         assert f"last agreed on {before} calls" in seen["stop-text"], seen["stop-text"]
         unlike = [row for row in seen["stop"] if row[-1] == "false"]
@@ -393,13 +393,13 @@ def test_many(page, note):
     with Served("--calls", "-", "--silence", "0") as served:
         page.visit(served.link)
         served.send(OPEN + QUOTES)
-        page.until("the quote is there", lambda seen: seen["state_key"] == "kept")
+        page.until("the quote is there", lambda seen: seen["stateKey"] == "kept")
         page.run("for (let at = 0; at < 19; at++) window.open(location.href)")
         handles = page.driver.window_handles
         assert len(handles) == 20, handles
         for handle in (handles[1], handles[-1]):
             page.driver.switch_to.window(handle)
-            page.until("this page too", lambda seen: seen["state_key"] == "kept" and seen["band"] != "away")
+            page.until("this page too", lambda seen: seen["stateKey"] == "kept" and seen["band"] != "away")
         assert not page.console()
         took = asyncio.run(run())
         assert took < 2, f"Ctrl-C took {took:.2f} s"
@@ -410,7 +410,7 @@ def test_many(page, note):
 def test_listened(page):
     with Served("--calls", EXAMPLE, "--no-follow", "--listen", "127.0.0.1") as served:
         page.visit(served.link)
-        page.until("the figures", lambda seen: seen["is_open"] and seen["feed_kind"] == "ended")
+        page.until("the figures", lambda seen: seen["isOpen"] and seen["feedKind"] == "ended")
         page.leave()
 
 
@@ -422,7 +422,7 @@ def test_restarted(page):
     for number_ in (signal.SIGTERM, signal.SIGINT):
         with Served(*words) as served:
             page.visit(served.link)
-            seen = page.until("the log is read", lambda seen: seen["feed_kind"] == "ended")
+            seen = page.until("the log is read", lambda seen: seen["feedKind"] == "ended")
             found.append((seen["fee"], seen["fee-kopecks"], seen["cells"], calls_read(seen), len(seen["problems"])))
             if number_ == signal.SIGTERM:
                 page.shoot("month", widths=(1280, 1100, 390, 320))

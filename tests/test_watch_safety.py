@@ -278,7 +278,7 @@ def test_the_page_says_in_its_largest_type_since_when_figures_are_not_reliable(t
     path.write_text((EXAMPLES / "watch.calls").read_text() + "tick 0:30:00\n")
     with Served("--calls", path, "--silence", "0") as served, Browser() as page:
         page.visit(served.link)
-        page.until("both agree", lambda seen: seen["readings_kind"] == "agree")
+        page.until("both agree", lambda seen: seen["readingsKind"] == "agree")
         whole = path.read_text()
         os.truncate(path, len(whole.encode()) - 13)
         seen = page.until("it says so", lambda seen: seen["band"] == "doubt" and "it ends at" in seen["band-why"])
@@ -291,7 +291,7 @@ def test_the_page_says_in_its_largest_type_since_when_figures_are_not_reliable(t
         saved = path.with_suffix(".swap")
         saved.write_text(whole + "tick 0:30:01\n")
         saved.rename(path)
-        page.until("it is reliable again", lambda seen: seen["band"] != "doubt" and seen["readings_kind"] == "agree")
+        page.until("it is reliable again", lambda seen: seen["band"] != "doubt" and seen["readingsKind"] == "agree")
         page.leave()
 
 

@@ -8,6 +8,7 @@
 
 import struct
 from dataclasses import dataclass
+from enum import IntEnum
 from typing import Any, Callable, Optional, Sequence, Union
 
 from quoting import ranges
@@ -15,6 +16,31 @@ from quoting.events import SIDE_NAMES, Add, Amend, Cancel, Deal, Event, Tick, si
 from quoting.values import Time, time_of
 
 NO_LIMIT = 65_535  # says that there is no lapse limit
+
+
+class Kind(IntEnum):
+    """A block's first word. The numbers are those of `enum quoting_call` in quoting.h."""
+
+    OPEN = 1
+    ADD = 2
+    AMEND = 3
+    CANCEL = 4
+    DEAL = 5
+    TICK = 6
+    CLOSE = 7
+    DROP = 8
+    CHARGE = 9
+    WITHDRAW = 10
+    LOOK = 11
+    REPORT = 12
+    OPEN_STRIKE = 13
+    ASK = 14
+    COMMIT = 15
+    MESSAGE = 16
+    OUTLOOK = 17
+
+
+OPENS = frozenset((Kind.OPEN, Kind.OPEN_STRIKE))
 
 
 @dataclass(frozen=True)
@@ -155,43 +181,43 @@ def ticket_words(ticket: Ticket) -> list[int]:
 
 def add_block(call: Add) -> bytes:
     t, id, side = time_of(call.t, "t"), ranges.word(call.id, "id"), side_number(call.side)
-    return ADD.pack(2, t, id, side, ranges.signed(call.price, "price"), ranges.word(call.volume, "volume"))
+    return ADD.pack(Kind.ADD, t, id, side, ranges.signed(call.price, "price"), ranges.word(call.volume, "volume"))
 
 
 def open_block(call: Open) -> bytes:
     words = [ranges.word(number, f"row[{at}]") for at, number in enumerate(call.words)]
     front, limit = [len(words), *words, ranges.word(call.day, "day")], ranges.word(call.lapses, "lapses")
     if isinstance(call.spread, Strike):
-        return pack([13, *front, *strike_words(call.spread), limit])
-    return pack([1, *front, ranges.two_complement(call.spread, "sp"), limit])
+        return pack([Kind.OPEN_STRIKE, *front, *strike_words(call.spread), limit])
+    return pack([Kind.OPEN, *front, ranges.two_complement(call.spread, "sp"), limit])
 
 
 def commit_block(call: Commit) -> bytes:
-    return AMEND.pack(15, *amendment(call)) + pack(ticket_words(call.ticket))
+    return AMEND.pack(Kind.COMMIT, *amendment(call)) + pack(ticket_words(call.ticket))
 
 
 def message_block(call: Message) -> bytes:
     start, message = ranges.data(call.start, "start"), ranges.data(call.bytes, "message")
-    return pack([16, len(start), len(message)]) + start + message + bytes(-(len(start) + len(message)) % 4)
+    return pack([Kind.MESSAGE, len(start), len(message)]) + start + message + bytes(-(len(start) + len(message)) % 4)
 
 
 WRITERS: dict[type, Callable[[Any], bytes]] = {
     Open: open_block,
     Add: add_block,
-    Amend: lambda call: AMEND.pack(3, *amendment(call)),
-    Cancel: lambda call: CANCEL.pack(4, time_of(call.t, "t"), ranges.word(call.id, "id")),
-    Deal: lambda call: DEAL.pack(5, time_of(call.t, "t"), ranges.word(call.id, "id"), ranges.word(call.volume, "volume")),
-    Tick: lambda call: TICK.pack(6, time_of(call.t, "t")),
-    Close: lambda call: pack([7, *halves(call.active, "active"), *halves(call.passive, "passive")]),
-    Drop: lambda call: pack([8]),
-    Charge: lambda call: pack([9, *cell_words(call), *halves(call.active, "active"), *halves(call.passive, "passive")]),
-    Withdraw: lambda call: pack([10, *cell_words(call)]),
-    Look: lambda call: pack([11, *cell_words(call)]),
-    Report: lambda call: pack([12]),
-    Ask: lambda call: AMEND.pack(14, *amendment(call)),
+    Amend: lambda call: AMEND.pack(Kind.AMEND, *amendment(call)),
+    Cancel: lambda call: CANCEL.pack(Kind.CANCEL, time_of(call.t, "t"), ranges.word(call.id, "id")),
+    Deal: lambda call: DEAL.pack(Kind.DEAL, time_of(call.t, "t"), ranges.word(call.id, "id"), ranges.word(call.volume, "volume")),
+    Tick: lambda call: TICK.pack(Kind.TICK, time_of(call.t, "t")),
+    Close: lambda call: pack([Kind.CLOSE, *halves(call.active, "active"), *halves(call.passive, "passive")]),
+    Drop: lambda call: pack([Kind.DROP]),
+    Charge: lambda call: pack([Kind.CHARGE, *cell_words(call), *halves(call.active, "active"), *halves(call.passive, "passive")]),
+    Withdraw: lambda call: pack([Kind.WITHDRAW, *cell_words(call)]),
+    Look: lambda call: pack([Kind.LOOK, *cell_words(call)]),
+    Report: lambda call: pack([Kind.REPORT]),
+    Ask: lambda call: AMEND.pack(Kind.ASK, *amendment(call)),
     Commit: commit_block,
     Message: message_block,
-    Outlook: lambda call: pack([17]),
+    Outlook: lambda call: pack([Kind.OUTLOOK]),
 }
 
 
@@ -236,20 +262,20 @@ def add_of(w: Sequence[int]) -> Optional[Call]:
 
 # The number of words after a block's kind, and the call that they are.
 FIXED: dict[int, tuple[int, Callable[[Sequence[int]], Optional[Call]]]] = {
-    2: (5, add_of),
-    3: (4, lambda w: Amend(*amended(w))),
-    4: (2, lambda w: Cancel(*w)),
-    5: (3, lambda w: Deal(*w)),
-    6: (1, lambda w: Tick(*w)),
-    7: (4, lambda w: Close(long(w[0], w[1]), long(w[2], w[3]))),
-    8: (0, lambda w: Drop()),
-    9: (7, lambda w: Charge(w[0], w[1], w[2], long(w[3], w[4]), long(w[5], w[6]))),
-    10: (3, lambda w: Withdraw(*w)),
-    11: (3, lambda w: Look(*w)),
-    12: (0, lambda w: Report()),
-    14: (4, lambda w: Ask(*amended(w))),
-    17: (0, lambda w: Outlook()),
-    15: (10, lambda w: Commit(*amended(w[:4]), Ticket(*amended(w[4:8]), long(w[8], w[9])))),
+    Kind.ADD: (5, add_of),
+    Kind.AMEND: (4, lambda w: Amend(*amended(w))),
+    Kind.CANCEL: (2, lambda w: Cancel(*w)),
+    Kind.DEAL: (3, lambda w: Deal(*w)),
+    Kind.TICK: (1, lambda w: Tick(*w)),
+    Kind.CLOSE: (4, lambda w: Close(long(w[0], w[1]), long(w[2], w[3]))),
+    Kind.DROP: (0, lambda w: Drop()),
+    Kind.CHARGE: (7, lambda w: Charge(w[0], w[1], w[2], long(w[3], w[4]), long(w[5], w[6]))),
+    Kind.WITHDRAW: (3, lambda w: Withdraw(*w)),
+    Kind.LOOK: (3, lambda w: Look(*w)),
+    Kind.REPORT: (0, lambda w: Report()),
+    Kind.ASK: (4, lambda w: Ask(*amended(w))),
+    Kind.COMMIT: (10, lambda w: Commit(*amended(w[:4]), Ticket(*amended(w[4:8]), long(w[8], w[9])))),
+    Kind.OUTLOOK: (0, lambda w: Outlook()),
 }
 
 
@@ -262,9 +288,9 @@ def size_at(data: bytes, at: int) -> Optional[int]:
     kind = word_at(data, at)
     if kind in FIXED and len(data) >= at + 4:
         return 4 + 4 * FIXED[kind][0]
-    if kind in (1, 13) and len(data) >= at + 8:
-        return 4 * (2 + word_at(data, at + 4) + (3 if kind == 1 else 6))
-    if kind == 16 and len(data) >= at + 12:
+    if kind in OPENS and len(data) >= at + 8:
+        return 4 * (2 + word_at(data, at + 4) + (3 if kind == Kind.OPEN else 6))
+    if kind == Kind.MESSAGE and len(data) >= at + 12:
         return 12 + -(-(word_at(data, at + 4) + word_at(data, at + 8)) // 4) * 4
     return None
 
@@ -272,13 +298,13 @@ def size_at(data: bytes, at: int) -> Optional[int]:
 def call_of(data: bytes) -> Optional[Call]:
     """The call of one whole block."""
     kind = word_at(data, 0)
-    if kind == 16:
+    if kind == Kind.MESSAGE:
         s, m = word_at(data, 4), word_at(data, 8)
         return Message(data[12 : 12 + s], data[12 + s : 12 + s + m])
     words = struct.unpack(f"<{len(data) // 4}I", data)
-    if kind == 1:
+    if kind == Kind.OPEN:
         return Open(list(words[2:-3]), words[-3], signed(words[-2]), words[-1])
-    if kind == 13:
+    if kind == Kind.OPEN_STRIKE:
         return Open(list(words[2:-6]), words[-6], Strike(*words[-5:-1]), words[-1])
     return FIXED[kind][1](words[1:])
 

@@ -5,11 +5,11 @@ from bisect import bisect_right
 from dataclasses import dataclass
 from decimal import Decimal
 from pathlib import Path
-from typing import Callable, Optional
+from typing import Callable, Optional, Sequence
 
 from quoting import calls as c
 from quoting import reading, texts, values
-from quoting.events import SIZE
+from quoting.events import SIZE, Event, event_of, split
 from quoting.native import Refused
 from quoting.reading import STANDARD, Options, TextError
 from quoting.rows import HEAD
@@ -144,6 +144,21 @@ def session_of(name: str, data: bytes, options: Options = reading.PLAIN, head: O
         error.file = name
         raise
     return Source(name, made, text, form)
+
+
+def events_of(name: str, data: bytes, options: Options = reading.PLAIN) -> tuple[bytes, Sequence[Optional[Event]]]:
+    """The leading bytes and the events of a session's file, with None for a record that is not an event. A text's events are not encoded."""
+    form = format_of(name, data)
+    try:
+        text = "" if form == "bytes" else reading.whole_text(data, options)
+        found = None if form == "bytes" else texts.csv_events(text, options) if form == "csv" else texts.session_events(text, options)
+    except TextError as error:
+        error.file = name
+        raise
+    if found is not None:
+        return found
+    whole = session_of(name, data, options).data
+    return whole[: HEAD.size], [event_of(each) for each in split(whole[HEAD.size :])]
 
 
 def session(name: str, args: argparse.Namespace) -> Source:

@@ -12,7 +12,6 @@ from typing import Optional, Sequence
 
 from quoting import calls as c
 from quoting import exchange, fix, inputs, reading, texts, values
-from quoting.events import event_of, split
 from quoting.exchange import choice
 from quoting.exchange.choice import LogOptions, Unread
 from quoting.reading import Options, TextError
@@ -173,7 +172,7 @@ def from_list(name: str, options: Options, log_names: Sequence[str] = (), log_op
     if not reading.holds_bytes(data):
         return text_list(name, reading.whole_text(data, options, name), options, log_names, log_options)
     if log_names:
-        raise reading.failed("messages are put into a text, which says when each quantum starts, and these are bytes", name)
+        raise reading.failed("messages are put into a text, which says when each quantum starts, and this list is bytes", name)
     found = inputs.calls_of(name, data, options)
     made = Listed(name, [Sent(placed.block, f"call {at}") for at, placed in enumerate(found.blocks, start=1)])
     if found.stop:
@@ -212,7 +211,7 @@ def charges_of(path: Path, options: Options) -> dict[tuple[int, ...], Charged]:
             error.line, error.file = at, str(path)
             raise
         if cell in found:
-            raise reading.failed("this day, expiry and quantum are here twice", str(path), at)
+            raise reading.failed("this day, expiry and quantum have two lines", str(path), at)
         found[cell] = charged
     return found
 
@@ -228,15 +227,14 @@ def charge_of(header: list[str], cells: list[str]) -> tuple[tuple[int, ...], Cha
 
 def session_calls(path: Path, day: int, charged: Charged, options: Options) -> list[Sent]:
     """A session as an open, its events and a close."""
-    source = inputs.session_of(str(path), path.read_bytes(), options)
-    if len(source.data) < HEAD.size:
-        raise reading.failed(f"a session has at least {HEAD.size} bytes, and this {len(source.data)}", str(path))
-    rule = Rule.of_bytes(source.data[: HEAD.size])
+    head, events = inputs.events_of(str(path), path.read_bytes(), options)
+    if len(head) < HEAD.size:
+        raise reading.failed(f"a session has at least {HEAD.size} bytes, and this one {len(head)}", str(path))
+    rule = Rule.of_bytes(head)
     made = [Sent(c.block(c.Open(rule.row.words, day, rule.sp, charged.lapses)), str(path))]
-    for at, record in enumerate(split(source.data[HEAD.size :]), start=1):
-        event = event_of(record)
+    for at, event in enumerate(events, start=1):
         if event is None:
-            raise reading.failed(f"record {at} is none", str(path))
+            raise reading.failed(f"record {at} is not an event", str(path))
         made.append(Sent(c.block(event), f"{path}: record {at}"))
     return [*made, Sent(c.block(c.Close(charged.active, charged.passive)), f"{path}: close")]
 

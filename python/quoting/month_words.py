@@ -18,7 +18,7 @@ OPEN, PLACE, SHARE, LIMIT = range(4)
 ACCEPTED = 4  # the count of accepted calls: 4 its low word, 5 its high word
 QUANTUM = 6  # the open quantum, up to the cells
 LENGTH, MINIMUM, WIDEST, TIME, KEPT, KEEPS, LAPSES, LAST = range(6, 14)
-SIDES: dict[Side, int] = {"buy": 16, "sell": 272}  # each: 64 ids, 64 keys of prices, 64 volumes, 64 of which the first is their number
+SIDE_STARTS: dict[Side, int] = {"buy": 16, "sell": 272}  # each: 64 ids, 64 keys of prices, 64 volumes, 64 of which the first is their number
 KEYS, VOLUMES, NUMBER = 64, 128, 192  # from a side's first word on
 ARRIVALS = 528  # 64 ids in the order in which they were added
 ROW, SPREAD = 592, 599
@@ -62,7 +62,7 @@ class Opening:
 
 
 def wrong(at: int, what: str) -> NoReturn:
-    raise ValueError(f"these are no month's words: word {at}, {what}")
+    raise ValueError(f"these are not a month's words: word {at}, {what}")
 
 
 def within(w: tuple[int, ...], at: int, span: Span, name: str) -> int:
@@ -129,7 +129,7 @@ def check_spread(w: tuple[int, ...]) -> Union[int, Strike]:
 
 def orders_of(w: tuple[int, ...], side: Side) -> Iterator[tuple[int, Order]]:
     """The orders of a side, with the word of the id."""
-    first = SIDES[side]
+    first = SIDE_STARTS[side]
     for at in range(first, first + within(w, first + NUMBER, (0, MOST_ORDERS), f"the number of {side} orders")):
         key = within(w, at + KEYS, (ZERO_KEY + PRICES[0], ZERO_KEY + PRICES[1]), "the key of an order's price")
         volume = within(w, at + VOLUMES, (1, 1_000_000), "an order's volume")
@@ -139,13 +139,13 @@ def orders_of(w: tuple[int, ...], side: Side) -> Iterator[tuple[int, Order]]:
 def check_orders(w: tuple[int, ...]) -> list[Order]:
     """The orders as they were added: ids are distinct, and the notes have the same as the table."""
     known: dict[int, Order] = {}
-    for side in SIDES:
+    for side in SIDE_STARTS:
         for at, order in orders_of(w, side):
             if order.id in known:
                 wrong(at, f"an order's id, is {order.id}, which another order has")
             known[order.id] = order
     if len(known) > MOST_ORDERS:
-        wrong(SIDES["sell"] + NUMBER, f"the number of sell orders, is {w[SIDES['sell'] + NUMBER]}, which makes {len(known)} orders of {MOST_ORDERS} at most")
+        wrong(SIDE_STARTS["sell"] + NUMBER, f"the number of sell orders, is {w[SIDE_STARTS['sell'] + NUMBER]}, which makes {len(known)} orders of {MOST_ORDERS} at most")
     arrived = w[ARRIVALS : ARRIVALS + len(known)]
     for at, id in enumerate(arrived):
         if id not in known or id in arrived[:at]:

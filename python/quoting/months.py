@@ -29,6 +29,7 @@ from quoting import calls as c
 from quoting import month_words, native, ranges
 from quoting.answers import WORDS, Answer, Asked, Cell, MonthReport, Outlook, answer_of, quote
 from quoting.events import Add, Amend, Cancel, Deal, Side, Tick
+from quoting.formats import counted
 from quoting.native import Refused
 from quoting.rows import Row
 from quoting.states import State
@@ -37,7 +38,7 @@ from quoting.views import MOST_WORDS as VIEW_WORDS
 from quoting.views import View, view_of
 
 HINT_BYTES = 2_048
-NO_CALL = 3  # the library's refusal of bytes that are not one block, and, at place 1, of words that are no month's
+NO_CALL = 3  # the library's refusal of bytes that are not one block, and, at place 1, of words that are not a month's
 STATE_WORD = 15  # of a view
 REPORT_BLOCK = c.block(c.Report())
 
@@ -64,7 +65,7 @@ def fresh_words() -> bytes:
 def raise_for(refused: Refused) -> NoReturn:
     """Raises a refusal of the call itself, which is no answer of the month."""
     if refused.number == NO_CALL and refused.place == 1:
-        raise ValueError("the words of this month are damaged: they are no month's")
+        raise ValueError("the words of this month are damaged: they are not a month's")
     if refused.number == NO_CALL:
         raise ValueError("these bytes are not one call")
     raise refused
@@ -129,7 +130,7 @@ class Month:
         w = month_words.read(self.words())
         closed = sum(w[month_words.CELLS :: month_words.CELL_WORDS])
         day, expiry = w[month_words.PLACE] // 6 + 1, w[month_words.PLACE] // 3 % 2 + 1
-        orders = sum(w[first + month_words.NUMBER] for first in month_words.SIDES.values())
+        orders = sum(w[first + month_words.NUMBER] for first in month_words.SIDE_STARTS.values())
         opened = f"day {day} expiry {expiry} quantum {w[month_words.PLACE] % 3} open at {clock(w[month_words.TIME])} with {counted(orders, 'order')}"
         accepted = c.long(*w[month_words.ACCEPTED : month_words.ACCEPTED + 2])
         shown = f"{counted(accepted, 'call')} accepted, {counted(closed, 'quantum', 'quanta')} closed, {opened if w[month_words.OPEN] else 'none open'}"
@@ -152,7 +153,7 @@ class Month:
         >>> damaged[4 * 2460] = 1
         >>> Month.from_words(damaged)
         Traceback (most recent call last):
-        ValueError: these are no month's words: word 2454, whether the cell is filled, is 0, but others of its words are not 0
+        ValueError: these are not a month's words: word 2454, whether the cell is filled, is 0, but others of its words are not 0
         """
         given = month_words.read(words)
         due = cls._reopened(month_words.opening(given))
@@ -175,7 +176,7 @@ class Month:
             for order in opening.orders:
                 month.add(0, order.id, order.side, order.price, order.volume)
         except Refused as refused:
-            raise ValueError(f"these are no month's words: the quantum is {refused}") from None
+            raise ValueError(f"these are not a month's words: the quantum is {refused}") from None
         return month._words
 
     @classmethod
@@ -326,11 +327,6 @@ def view_words(words: Any, view: Any) -> int:
         return native.call("quoting_month_view", words, month_words.COUNT, view, VIEW_WORDS)
     except Refused as refused:
         raise_for(refused)
-
-
-def counted(number: int, one: str, more: str = "") -> str:
-    """A number with its noun: 1 call, 2 calls."""
-    return f"{number} {one if number == 1 else more or one + 's'}"
 
 
 def answers_to(blocks: Iterable[bytes]) -> Iterator[Answer]:

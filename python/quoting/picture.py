@@ -43,19 +43,19 @@ Quote = tuple[int, Optional[int], Optional[int]]  # time, bid, ask
 
 
 def quarter(t: int, length: int) -> int:
-    """The quarter of a pixel in which a time stands."""
+    """The quarter of a pixel in which a time is."""
     return 4 * COLUMNS * t // length
 
 
 def blocks_of(data: bytes, limit: int) -> Iterator[bytes]:
-    """The session as calls of a month: open, its events, close, look; with a report behind the last event of a quarter of a pixel."""
+    """The session as calls of a month: open, its events, close, look; with a report after the last event of a quarter of a pixel."""
     rule = Rule.of_bytes(data[: HEAD.size])
     yield c.block(c.Open(rule.row.words, 1, rule.sp, limit))
     found = [event for event in map(event_of, split(data[HEAD.size :])) if event is not None]
     places = [quarter(milliseconds(event.t), milliseconds(rule.row.length)) for event in found]
-    for event, place, behind in zip(found, places, [*places[1:], -1]):
+    for event, place, following in zip(found, places, [*places[1:], -1]):
         yield c.block(event)
-        if place != behind:
+        if place != following:
             yield c.block(c.Report())
     yield c.block(c.Close(0, 0))
     yield c.block(c.Look(1, rule.row.expiry, rule.row.quantum))
@@ -149,7 +149,7 @@ def draw_longest(d: Drawing, spent: Account) -> None:
 
 
 class Plot:
-    """Where times and prices stand."""
+    """Where times and prices are in the picture."""
 
     def __init__(self, length: int, low: int, high: int) -> None:
         self.length, self.low, self.high = length, low, high

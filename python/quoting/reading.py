@@ -89,10 +89,10 @@ def decoded(data: bytes, file: Optional[str] = None) -> str:
         text = data.decode("utf-8-sig")
     except UnicodeDecodeError as error:
         before = LINE_END.findall(data[: error.start].decode("latin-1"))
-        raise failed("this is no text (not UTF-8)", file, len(before) + 1) from None
+        raise failed("this is not a text: it is not UTF-8", file, len(before) + 1) from None
     if "\0" in text:
         before = LINE_END.findall(text[: text.index("\0")])
-        raise failed("a byte 0 is here: no text has one", file, len(before) + 1)
+        raise failed("this line has a byte 0, and no text has one", file, len(before) + 1)
     return text
 
 

@@ -1,4 +1,4 @@
-"""The recount's reading beside the meter's, for --both. The recount stands apart in the tree, and answers nothing in the meter's place."""
+"""The recount's reading beside the meter's, for --both. It is a part of the source tree, not of the package, and never replaces the meter."""
 
 import importlib
 import sys
@@ -12,7 +12,7 @@ from quoting.values import Tenths
 def recount(name: str) -> Any:
     """A module of the recount."""
     if not (ROOT / "recount" / "book.py").exists():
-        raise Missing("the recount stands in the tree (recount/) and is not part of an installed package")
+        raise Missing("the recount is in the source tree (recount/) and not in an installed package")
     if str(ROOT) not in sys.path:  # in front: the folder that the command is run in may have a recount of its own
         sys.path.insert(0, str(ROOT))
     return importlib.import_module(f"recount.{name}")

@@ -3,6 +3,8 @@
 Only a few sessions are in memory at a time, so a folder may be far larger than the memory. A file that can't be read, or is refused, is a row too.
 """
 
+import csv
+import io
 import os
 import select
 import stat
@@ -23,7 +25,7 @@ from quoting.values import part_text
 
 LONGEST = HEAD.size + SIZE * 4_000_001  # a record more than a session may have, so that the library refuses what is longer
 LONGEST_TEXT = 1 << 30
-FRONT = 1 << 16  # bytes by which bytes are told from a text
+FRONT = 1 << 16  # bytes that show whether a file is bytes or a text
 
 
 @dataclass(frozen=True)
@@ -38,7 +40,7 @@ class Settled:
     verdict: str = ""
     weight: str = ""
     lapses: str = ""
-    no_bid: str = ""  # milliseconds of each state but `kept`, which stands above
+    no_bid: str = ""  # milliseconds of each state but `kept`, which is above
     no_ask: str = ""
     neither: str = ""
     crossed: str = ""
@@ -77,19 +79,15 @@ class ReadOptions:
 # ---------------------------------------------------------------- lines of CSV
 
 
-def csv_field(word: str) -> str:
-    """A field, quoted where a reader would otherwise take it apart. Signs that no file can hold are marked."""
-    shown = word.encode("utf-8", "backslashreplace").decode()
-    return '"' + shown.replace('"', '""') + '"' if any(sign in shown for sign in ',"\r\n') else shown
-
-
 def csv_line(words: Iterable[str]) -> str:
-    r"""A line of CSV.
+    r"""A line of CSV; characters that no file can hold are marked.
 
-    >>> csv_line(["a", "b,c"])
-    'a,"b,c"\n'
+    >>> csv_line(["a", "b,c", "d\re"])
+    'a,"b,c","d\re"\n'
     """
-    return ",".join(map(csv_field, words)) + "\n"
+    line = io.StringIO()
+    csv.writer(line, lineterminator="\r\n").writerow([word.encode("utf-8", "backslashreplace").decode() for word in words])  # quotes CR and LF
+    return line.getvalue()[:-2] + "\n"
 
 
 HEADER = csv_line(COLUMNS)
@@ -196,7 +194,7 @@ def content(name: str) -> tuple[bytes, Stamp]:
 
 
 def lapses_of(done: Session) -> int:
-    """The stretches that were not kept: between the pairs, which never touch, and before and behind them."""
+    """The stretches that were not kept: between the pairs, which never touch, and before and after them."""
     words = done.words
     count = int(words[2])
     if not count:
@@ -238,7 +236,7 @@ def unreadable(name: str, error: Exception) -> Settled:
 
 
 def place_of(source: inputs.Source, refused: Refused) -> str:
-    """The record, and the line of the text at which it stands."""
+    """The record, and its line in the text."""
     line = inputs.line_of_record(source, refused.place)
     record = f"record {refused.place}" if refused.place else ""
     return f"{record}, line {line}" if line else record

@@ -115,7 +115,7 @@ class Played:
 
 def read_call(name: str, words: list[str], line: int) -> Call:
     if name not in KINDS:
-        raise TextError(f"{values.brief(name)!r} is no call: join, change or leave")
+        raise TextError(f"{values.brief(name)!r} is not a call: write join, change or leave")
     given = reading.columns(name, words, "maker" if name == "leave" else "maker rating")
     numbers = [reading.number(word, values.WORD, what) for what, word in given.items()]
     return Call(name, numbers[0], 0 if name == "leave" else numbers[1], line)

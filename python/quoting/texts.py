@@ -106,11 +106,11 @@ def check_head(found: Sequence[Optional[int]], given: Optional[bytes]) -> None:
 
 
 class SessionReader:
-    """Collects the items of a session's text in the order in which the bytes have them."""
+    """Collects the items of a session's text in the order in which the bytes have them: what `keep` makes of each event, and bytes."""
 
-    def __init__(self, options: Options = PLAIN, given: Optional[bytes] = None) -> None:
-        self.options, self.head = options, Head(options, given)
-        self.rest: list[bytes] = []
+    def __init__(self, options: Options = PLAIN, given: Optional[bytes] = None, keep: Callable[[Event], Any] = record) -> None:
+        self.options, self.head, self.keep = options, Head(options, given), keep
+        self.rest: list[Any] = []
 
     def take(self, name: str, words: list[str]) -> None:
         head = self.head
@@ -127,7 +127,7 @@ class SessionReader:
         elif name in EVENT_COLUMNS:
             if head.sp is None and (head.row is not None or head.given is None):
                 raise TextError("row and sp come before the first event")
-            self.rest.append(record(event(name, words, self.options)))
+            self.rest.append(self.keep(event(name, words, self.options)))
         else:
             known = ", ".join(["row", "sp", *EVENT_COLUMNS, "bytes"])
             raise TextError(f"{values.brief(name)!r} is not known; a line begins with one of {known}")
@@ -150,6 +150,13 @@ def session_bytes(text: str, options: Options = PLAIN, given: Optional[bytes] = 
     reader = SessionReader(options, given)
     reading.read_by_lines(text, reader.take)
     return reader.data()
+
+
+def session_events(text: str, options: Options = PLAIN) -> Optional[tuple[bytes, list[Event]]]:
+    """The leading bytes and the events of a session's text; None where it has lines `bytes`, which may be anything."""
+    reader = SessionReader(options, keep=lambda each: each)
+    reading.read_by_lines(text, reader.take)
+    return None if any(isinstance(item, bytes) for item in reader.rest) else (reader.head.data(), reader.rest)
 
 
 def session_sizes(text: str) -> Iterator[tuple[int, int]]:
@@ -193,16 +200,17 @@ class CsvReader:
     names: Optional[list[str]] = None
     day: Optional[str] = None  # of the times of a column `timestamp`, with their zone: all of one day
 
-    def take(self, cells: list[str]) -> bytes:
+    def take(self, cells: list[str]) -> Optional[Event]:
+        """The event of a line that has one."""
         if self.names is not None:
-            return record(self.event(cells))
+            return self.event(cells)
         if cells[0] == "row":
             self.head.take_row(cells[1:])
         elif cells[0] == "sp":
             self.head.take_sp([cell.replace(",", ".") if self.options.decimal == "," else cell for cell in cells[1:]])
         else:
             self.names = self.header(cells)
-        return b""
+        return None
 
     def header(self, cells: list[str]) -> list[str]:
         names = csv_names(cells)
@@ -278,19 +286,28 @@ def csv_bytes(text: str, options: Options = PLAIN, head: Optional[bytes] = None)
                 reader.take(cells)
         if reader.names is not None:
             whole = csv_columns.records(text[end:], reader.names, options)
-            return reader.head.data() + (csv_rest(reader, text[end:], at) if whole is None else whole)
+            return reader.head.data() + (b"".join(map(record, csv_items(reader, text[end:], at))) if whole is None else whole)
     raise TextError(f"there is no line with the columns {','.join(CSV_COLUMNS)}")
 
 
-def csv_rest(reader: CsvReader, text: str, before: int) -> bytes:
-    """The events after the line with the columns' names, one at a time."""
-    out, separator = [], csv_separator(reader.options)
+def csv_events(text: str, options: Options = PLAIN) -> tuple[bytes, list[Event]]:
+    """The leading bytes and the events of a session in CSV."""
+    reader = CsvReader(options, Head(options))
+    events = list(csv_items(reader, text, 0))
+    if reader.names is None:
+        raise TextError(f"there is no line with the columns {','.join(CSV_COLUMNS)}")
+    return reader.head.data(), events
+
+
+def csv_items(reader: CsvReader, text: str, before: int) -> Iterator[Event]:
+    """The events of the lines after the first `before`, one at a time."""
+    separator = csv_separator(reader.options)
     for at, line in enumerate(reading.split_lines(text), start=before + 1):
         cells = csv_cells(line, separator)
-        if any(cells):
-            with reading.at_line(at):
-                out.append(reader.take(cells))
-    return b"".join(out)
+        with reading.at_line(at):
+            found = reader.take(cells) if any(cells) else None
+        if found is not None:
+            yield found
 
 
 def csv_separator(options: Options) -> str:

@@ -63,7 +63,7 @@ def whole(word: str, span: Span) -> int:
     value = int(digits) if len(digits) <= MOST_DIGITS else high + abs(low) + 1
     value = -value if word.startswith("-") else value
     if not low <= value <= high:
-        raise ValueError(f"{brief(word)} does not fit, it can be {low} to {high}")
+        raise ValueError(f"{brief(word)} is out of range, it can be {low} to {high}")
     return value
 
 

@@ -1,6 +1,6 @@
 """Writes the constants of the weight card: `python3 tools/dev/card_table.py`.
 
-They stand in `crates/weights/src/table.rt`, and once more, for the proofs, in
+They are in `crates/weights/src/table.rt`, and once more, for the proofs, in
 `crates/weights/proofs/Constants.antt`. The numbers are the recount's; that each is the weight by the
 definitions is proved in `weights`.
 """

@@ -47,7 +47,7 @@ def listed(text: str) -> tuple[list[Group], dict[str, list[str]]]:
 
 
 def below(needs: dict[str, list[str]]) -> dict[str, set[str]]:
-    """All that each crate rests on; crates.txt has a crate after what it needs."""
+    """All that each crate depends on; crates.txt has a crate after what it needs."""
     all_of: dict[str, set[str]] = {}
     for name, named in needs.items():
         all_of[name] = set(named).union(*(all_of[need] for need in named))
@@ -55,7 +55,7 @@ def below(needs: dict[str, list[str]]) -> dict[str, set[str]]:
 
 
 def direct(needs: dict[str, list[str]]) -> dict[str, list[str]]:
-    """What each crate rests on, less what follows from the others."""
+    """What each crate depends on, less what follows from the others."""
     under = below(needs)
     return {
         name: [need for need in named if not any(need in under[other] for other in named)]

@@ -64,16 +64,8 @@ fn account(input: &[u8]) {
         refused(1, 0);
         return;
     }
-    let row = [
-        words::word_at(input, 0),
-        words::word_at(input, 4),
-        words::word_at(input, 8),
-        words::word_at(input, 12),
-        words::word_at(input, 16),
-        words::word_at(input, 20),
-        words::word_at(input, 24),
-    ];
-    let sp = words::to_steps(words::word_at(input, 28));
+    let row = row::leading_words(input);
+    let sp = row::leading_price(input);
     let spread = SpreadRule::Settled(sp);
     let mut buffer = [0u32; 4803];
     let answer = session_account::run_within(1600, &row, spread, &input[32..], &mut buffer);

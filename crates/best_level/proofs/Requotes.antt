@@ -12,18 +12,18 @@ use Rattle.best_quote.specs.declared.Level.{Level}
 use Rattle.best_quote.specs.Levels.{enough, levelAt, bestKey, isBest}
 use Rattle.best_quote.specs.Sums.{keySums, downward}
 use Rattle.best_quote.proofs.Levels.{level-best, best-level}
-use Rattle.small_side.specs.declared.Found.{Found as Small}
-use Rattle.small_side.specs.Small.{Finds as SmallFinds}
+use Rattle.small_side.specs.declared.KeyFound.{KeyFound as Small}
+use Rattle.small_side.specs.Small.{BestKeyFound as SmallFinds}
 use Rattle.order_side.specs.declared.Change.{Change}
 use Rattle.order_side.specs.Slots.{Slot, keysOf, volumesOf, sideOf, levelIn, bestIn, bestKeyIn, keptIn}
 use Rattle.order_side.specs.Internal.{StaleLevel}
 use Rattle.order_side.proofs.Words.{kept-small, kept-large}
 use Rattle.order_side.proofs.Stores.{level-stored}
-use Rattle.best_level.specs.declared.Found.{Found}
+use Rattle.best_level.specs.declared.LevelFound.{LevelFound}
 use Rattle.best_level.specs.Candidates.{nextKey}
 use Rattle.best_level.specs.CandidateKeys.{keyOnly, keysFromFirst, keysFromOld, keysFrom, candidateKeys}
 use Rattle.best_level.specs.Requotes.{sumsIn, Requotes}
-use Rattle.best_level.specs.Internal.{putLevel, Searches, Sought}
+use Rattle.best_level.specs.Internal.{putLevel, Searches, BestLevelFound}
 use Rattle.best_level.proofs.Parts.{moving-count, part-best-key, part-best, part-small, part-search, part-from}
 
 -- ---- which candidates
@@ -108,7 +108,7 @@ module _ (words : List ℕ) (c : Change) (minimum : ℕ) (m : StaleLevel words c
 
     -- the fifth order came
     pub fifth-requotes : leb (length (m .before)) 4 ≡ true → getD words 192 0 ≤ 8
-        → (r : Found) → Searches minimum (take 8 (drop 64 words)) (take 8 (drop 128 words)) 0 0 r
+        → (r : LevelFound) → Searches minimum (take 8 (drop 64 words)) (take 8 (drop 128 words)) 0 0 r
         → (exit : List ℕ) → exit ≡ putLevel (r .level) words
         → Requotes minimum (m .before) (m .after) c exit (record { moves = true; sums = r .sums })
     fifth-requotes first few r f exit p =
@@ -144,7 +144,7 @@ module _ (words : List ℕ) (c : Change) (minimum : ℕ) (m : StaleLevel words c
 
       -- or another is found
       pub sought-requotes : (to n k : ℕ) (en : n ≡ to) (ek : k ≡ to) (more : getD words 192 0 ≤ to) (most : to ≤ 64)
-          → (r : Found) → Sought minimum (take n (drop 64 words)) (take k (drop 128 words)) old (c .key) r
+          → (r : LevelFound) → BestLevelFound minimum (take n (drop 64 words)) (take k (drop 128 words)) old (c .key) r
           → (exit : List ℕ) → exit ≡ putLevel (r .level) words
           → Requotes minimum (m .before) (m .after) c exit (record { moves = true; sums = r .sums })
       sought-requotes to n k en ek more most r f exit p =

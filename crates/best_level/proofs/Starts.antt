@@ -19,17 +19,17 @@ use Rattle.best_quote.specs.declared.Level.{Level}
 use Rattle.best_quote.specs.declared.Searched.{Searched}
 use Rattle.price_keys.specs.Keys.{quoteKey, quoteAt}
 use Rattle.best_quote.specs.Levels.{held, enough, greatest, foundBy, bestKey, levelAt, levelOf, isBest, Searchable}
-use Rattle.best_quote.specs.Searches.{Finds}
+use Rattle.best_quote.specs.Searches.{SearchFinds}
 use Rattle.best_quote.specs.Sums.{foundWith, keySums}
 use Rattle.price_keys.proofs.Keys.{key-quote, good-quote, say-good}
 use Rattle.best_quote.proofs.Levels.{held-le, level-split, level-best, start-below, found-end}
 use Rattle.order_side.specs.Slots.{Slot, keysOf, volumesOf, levelIn, bestKeyIn, GoodSlots}
 use Rattle.best_level.proofs.Parts.{keys-most}
 use Rattle.best_level.specs.declared.Guess.{Guess}
-use Rattle.best_level.specs.declared.Found.{Found}
+use Rattle.best_level.specs.declared.LevelFound.{LevelFound}
 use Rattle.best_level.specs.Candidates.{nextKey, fallsShort, canBeBest}
 use Rattle.best_level.specs.CandidateKeys.{keyOnly, keysFromChange, keysFromSecond, keysFromFirst, keysFromOld, keysFrom}
-use Rattle.best_level.specs.Internal.{Open, Searches, Sought, foundAt, nextLevel, withLevel, stepFarther, atChange}
+use Rattle.best_level.specs.Internal.{Open, Searches, BestLevelFound, foundAt, nextLevel, withLevel, stepFarther, atChange}
 use Rattle.best_level.proofs.Counts.{at-most-one}
 use Rattle.best_level.proofs.Nexts.{not-best, where-enough, where-short, Steps, steps-next}
 
@@ -347,7 +347,7 @@ near-known minimum ks vs l is most =
 
 -- ---- what the search finds
 
-module _ (side : Side) (ks vs : List ℕ) (start minimum : ℕ) (s : Searchable ks vs start) (r : Searched) (f : Finds side ks vs start minimum r) where
+module _ (side : Side) (ks vs : List ℕ) (start minimum : ℕ) (s : Searchable ks vs start) (r : Searched) (f : SearchFinds side ks vs start minimum r) where
   abbrev key : ℕ
   key = foundBy start minimum ks vs (length ks)
 
@@ -418,16 +418,16 @@ module _ (minimum : ℕ) (ks vs : List ℕ) (old : Level) (key : ℕ) where
   allSums = keySums (enough minimum ks vs) 0 (keysFrom minimum ks vs key old)
 
   -- a guess that is the best level
-  pub sought-guess : (g : Guess) (r : Found) → g .level ≡ levelAt ks vs (g .level .key) → isBest (g .level) minimum ≡ true → allSums ≡ g .sums
-      → r ≡ record { level = g .level; sums = g .sums } → Sought minimum ks vs old key r
+  pub sought-guess : (g : Guess) (r : LevelFound) → g .level ≡ levelAt ks vs (g .level .key) → isBest (g .level) minimum ≡ true → allSums ≡ g .sums
+      → r ≡ record { level = g .level; sums = g .sums } → BestLevelFound minimum ks vs old key r
   sought-guess g r is best n e =
-      subst (Sought minimum ks vs old key) (sym e)
+      subst (BestLevelFound minimum ks vs old key) (sym e)
       (record {
         level = is ∙ level-best minimum ks vs (g .level .key) (ap (λ (l : Level). isBest l minimum) (sym is) ∙ best);
         sums = sym n;
       })
 
   -- or what the search finds after it
-  pub sought-search : (g : Guess) (r : Found) → allSums ≡ counted minimum ks vs g ks → Searches minimum ks vs (g .start) (g .sums) r
-      → Sought minimum ks vs old key r
+  pub sought-search : (g : Guess) (r : LevelFound) → allSums ≡ counted minimum ks vs g ks → Searches minimum ks vs (g .start) (g .sums) r
+      → BestLevelFound minimum ks vs old key r
   sought-search g r n s = record { level = s .level; sums = s .sums ∙ sym n }

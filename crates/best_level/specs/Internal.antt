@@ -13,7 +13,7 @@ use Rattle.order_side.specs.declared.Change.{Change}
 use Rattle.order_side.specs.Slots.{Slot, levelIn, GoodSlots}
 use Rattle.order_side.specs.Internal.{Changed, StaleLevel}
 use Rattle.best_level.specs.declared.Guess.{Guess}
-use Rattle.best_level.specs.declared.Found.{Found}
+use Rattle.best_level.specs.declared.LevelFound.{LevelFound}
 use Rattle.best_level.specs.Candidates.{nextKey, fallsShort, canBeBest}
 use Rattle.best_level.specs.CandidateKeys.{keysFrom}
 
@@ -73,12 +73,12 @@ pub record Open (minimum : ℕ) (ks vs : List ℕ) (start : ℕ) : Type 0 where
   pub below : (start ≡ 0) ⊎ (minimum ≤ held (ltb start) ks vs)
 
 -- what the search finds from a start, after so many sums
-pub record Searches (minimum : ℕ) (ks vs : List ℕ) (start before : ℕ) (r : Found) : Type 0 where
+pub record Searches (minimum : ℕ) (ks vs : List ℕ) (start before : ℕ) (r : LevelFound) : Type 0 where
   pub level : r .level ≡ levelOf minimum ks vs
   pub sums : r .sums ≡ before + keySums (enough minimum ks vs) start ks
 
 -- the best level from one that is not, and W3's number for the candidates from there
-pub record Sought (minimum : ℕ) (ks vs : List ℕ) (old : Level) (key : ℕ) (r : Found) : Type 0 where
+pub record BestLevelFound (minimum : ℕ) (ks vs : List ℕ) (old : Level) (key : ℕ) (r : LevelFound) : Type 0 where
   pub level : r .level ≡ levelOf minimum ks vs
   pub sums : r .sums ≡ keySums (enough minimum ks vs) 0 (keysFrom minimum ks vs key old)
 

@@ -20,7 +20,7 @@ ghost use Rattle.order_side.specs.Slots.{Slot, levelIn, GoodSlots};
 ghost use Rattle.order_side.specs.Internal.{StaleLevel, Changed, brings};
 ghost use Rattle.best_level.specs.Requotes.{Requotes};
 ghost use Rattle.best_level.specs.Candidates.{keyAbove, keyBelow, lackingAt, fallsShort, canBeBest};
-ghost use Rattle.best_level.specs.Internal.{IsLevel, SumFits, LevelBefore, levelRead, foundAt, nextLevel, stepFarther, atChange, Sought, Open, Searches, FifthSide, withLevel, putLevel};
+ghost use Rattle.best_level.specs.Internal.{IsLevel, SumFits, LevelBefore, levelRead, foundAt, nextLevel, stepFarther, atChange, BestLevelFound, Open, Searches, FifthSide, withLevel, putLevel};
 ghost use Rattle.best_level.specs.Small.{SmallSide, SmallMoved};
 use best_quote::Level;
 use order_side::AT;
@@ -271,13 +271,13 @@ fn at_change(keys: &[u32], volumes: &[u32], guess: Guess, key: u32, minimum: Con
 
 // The level by the search, from the best price found to qualify, or from none. Where it finds nothing better, that is from none, and all
 // the contracts of the side are before no quote.
-fn by_search(side: Side, keys: &[u32], volumes: &[u32], guess: Guess, minimum: Contracts) -> Found
+fn by_search(side: Side, keys: &[u32], volumes: &[u32], guess: Guess, minimum: Contracts) -> LevelFound
     requires { ⌜ Searchable (now keys) (now volumes) (guess .start) × Open (minimum .0) (now keys) (now volumes) (guess .start) × (1 ≤ minimum .0) × (guess .sums ≤ 8) ⌝ }
     ensures { λ r. ⌜ Searches (minimum .0) (now (keys .entry)) (now (volumes .entry)) (guess .start) (guess .sums) r ⌝ }
 {
     let found = best_quote::search(side, keys, volumes, guess.start, minimum);
     let quote = found.quote;
-    Found {
+    LevelFound {
         level: Level {
             key: price_keys::quote_key(side, quote),
             before: found.before,
@@ -288,16 +288,16 @@ fn by_search(side: Side, keys: &[u32], volumes: &[u32], guess: Guess, minimum: C
 }
 
 // A best level, and for how many orders volumes were added up for it.
-struct Found {
+struct LevelFound {
     level: Level,
     sums: u32,
 }
 
-fn taken(guess: Guess) -> Found
+fn taken(guess: Guess) -> LevelFound
     ensures { λ r. ⌜ r ≡ record { level = guess .level; sums = guess .sums } ⌝ }
 {
     let level = guess.level;
-    Found {
+    LevelFound {
         level,
         sums: guess.sums,
     }
@@ -311,9 +311,9 @@ fn sought(
     old: Level,
     key: u32,
     minimum: Contracts,
-) -> Found
+) -> LevelFound
     requires { ⌜ Searchable (now keys) (now volumes) (old .key) × (old ≡ levelAt (now keys) (now volumes) (old .key)) × (isBest old (minimum .0) ≡ false) × (1 ≤ minimum .0) × Open (minimum .0) (now keys) (now volumes) 0 ⌝ }
-    ensures { λ r. ⌜ Sought (minimum .0) (now (keys .entry)) (now (volumes .entry)) old key r ⌝ }
+    ensures { λ r. ⌜ BestLevelFound (minimum .0) (now (keys .entry)) (now (volumes .entry)) old key r ⌝ }
 {
     let known = Guess {
         level: old,
@@ -360,7 +360,7 @@ fn is_fifth(count: u32, change: Change) -> bool
 }
 
 // The best level is written into the side's words.
-fn put(words: &mut [u32], level: Level)
+fn put_level(words: &mut [u32], level: Level)
     requires { ⌜ length (now words) ≡ 256 ⌝ }
     ensures { λ r. ⌜ now (words .exit) ≡ putLevel level (now (words .entry)) ⌝ }
 {
@@ -379,7 +379,7 @@ fn by_small(words: &mut [u32], minimum: Contracts) -> Requoted
         &words[VOLUMES..VOLUMES + 4],
         minimum,
     );
-    put(
+    put_level(
         words,
         Level {
             key: few.key,
@@ -394,12 +394,12 @@ fn by_small(words: &mut [u32], minimum: Contracts) -> Requoted
 }
 
 // The best level that was found is put.
-fn settled(words: &mut [u32], found: Found) -> Requoted
+fn settled(words: &mut [u32], found: LevelFound) -> Requoted
     requires { ⌜ length (now words) ≡ 256 ⌝ }
     ensures { λ r. ⌜ (now (words .exit) ≡ putLevel (found .level) (now (words .entry))) × (r ≡ record { moves = true; sums = found .sums }) ⌝ }
 {
     let level = found.level;
-    put(words, level);
+    put_level(words, level);
     Requoted {
         moves: true,
         sums: found.sums,
@@ -407,7 +407,7 @@ fn settled(words: &mut [u32], found: Found) -> Requoted
 }
 
 // The best level of a side to which the fifth order came, by the search from none: a small side keeps no level that could be carried.
-fn by_fifth(words: &[u32], side: Side, minimum: Contracts) -> Found
+fn by_fifth(words: &[u32], side: Side, minimum: Contracts) -> LevelFound
     requires { ⌜ FifthSide (now words) (minimum .0) ⌝ }
     ensures { λ r. ⌜ Searches (minimum .0) (take 8 (drop 64 (now (words .entry)))) (take 8 (drop 128 (now (words .entry)))) 0 0 r ⌝ }
 {
@@ -444,7 +444,7 @@ pub fn requote(words: &mut [u32], side: Side, change: Change, minimum: Contracts
     }
     let old = moved(level_of(words), change);
     if best_quote::is_best(old, minimum) {
-        put(words, old);
+        put_level(words, old);
         return Requoted {
             moves: false,
             sums: 0,

@@ -25,7 +25,7 @@ use Rattle.best_quote.specs.declared.Searched.{Searched}
 use Rattle.price_keys.specs.Keys.{keyOf, keyIn, quoteKey, quoteAt}
 use Rattle.best_quote.specs.Levels.{held, enough, greatest, bestKey, foundBy, shortBy, depthFrom}
 use Rattle.best_quote.specs.Sums.{foundWith, foundIn, keySums}
-use Rattle.best_quote.specs.Searches.{ColumnsOf, OrdersOf, Finds}
+use Rattle.best_quote.specs.Searches.{ColumnsOf, OrdersOf, SearchFinds}
 use Rattle.price_keys.proofs.Keys.{key-least, key-most, key-order, key-quote, quote-key, better-at}
 use Rattle.best_quote.proofs.Levels.{enough-blanks, bestKey-blanks}
 use Rattle.best_quote.proofs.Short.{short-all}
@@ -243,7 +243,7 @@ pub finds : (side : Side) (ks vs : List ℕ) (start minimum : ℕ) (r : Searched
     → r .quote ≡ quoteAt side (foundBy start minimum ks vs (length ks)) → r .sums ≡ keySums (enough minimum ks vs) start ks
     → r .before ≡ shortBy start minimum ks vs (length ks)
     → r .depth ≡ depthFrom start (foundBy start minimum ks vs (length ks)) ks vs
-    → Finds side ks vs start minimum r
+    → SearchFinds side ks vs start minimum r
 finds side ks vs start minimum r most e f b d =
     record {
       found = e;

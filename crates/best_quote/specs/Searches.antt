@@ -29,7 +29,7 @@ pub record OrdersOf (side : Side) (orders : List Order) : Type 0 where
   pub sided : (o : Order) → List·Memᴰ o orders → same side (o .side) ≡ true
   pub prices : (o : Order) → List·Memᴰ o orders → goodPrice (o .price .0) ≡ true
 
-pub record Finds (side : Side) (ks vs : List ℕ) (start minimum : ℕ) (r : Searched) : Type 0 where
+pub record SearchFinds (side : Side) (ks vs : List ℕ) (start minimum : ℕ) (r : Searched) : Type 0 where
   -- in keys, with the contracts at better ones, and those at it or better: 0 where nothing better than the start is found
   pub found : r .quote ≡ quoteAt side (foundBy start minimum ks vs (length ks))
   pub before : r .before ≡ held (ltb (foundBy start minimum ks vs (length ks))) ks vs

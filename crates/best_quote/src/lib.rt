@@ -8,7 +8,7 @@ ghost use Prim.Native.Nat.{_+_, _≤_};
 ghost use lib.Dec.{eqb};
 ghost use Rattle.lists.specs.Lists.{if_then_else_};
 ghost use Rattle.best_quote.specs.Levels.{held, levelAt, isBest, Columns, Searchable};
-ghost use Rattle.best_quote.specs.Searches.{Finds};
+ghost use Rattle.best_quote.specs.Searches.{SearchFinds};
 use rules::Contracts;
 use rules::Quote;
 use rules::Side;
@@ -84,7 +84,7 @@ pub fn is_best(level: Level, minimum: Contracts) -> bool
 // of them is what stands before it, and nothing is added up again for it.
 pub fn search(side: Side, keys: &[u32], volumes: &[u32], start: u32, minimum: Contracts) -> Searched
     requires { ⌜ Searchable (now keys) (now volumes) start ⌝ }
-    ensures { λ r. ⌜ Finds side (now (keys .entry)) (now (volumes .entry)) start (minimum .0) r ⌝ }
+    ensures { λ r. ⌜ SearchFinds side (now (keys .entry)) (now (volumes .entry)) start (minimum .0) r ⌝ }
 {
     let m = minimum.0;
     let mut found: u32 = start;

@@ -27,7 +27,7 @@ use Rattle.price_keys.proofs.Keys.{key-least, key-most}
 use Rattle.best_level.specs.CandidateKeys.{changedKey}
 use Rattle.order_side.specs.declared.Change.{Change}
 use Rattle.order_side.specs.Slots.{Slot, blankSlot, slotOf, sideOf, keptIn, GoodSlots}
-use Rattle.order_side.specs.Internal.{Changed, Sized, HasOrder, Added, Put, Removed, Grows}
+use Rattle.order_side.specs.Internal.{Changed, Sized, HasOrder, Added, OrderReplaced, Removed, Grows}
 use Rattle.order_side.proofs.Words.{words-length, count-is}
 use Rattle.order_side.proofs.Changes.{changed-added, changed-amended, changed-removed, GoodSlot, good-added, good-amended, good-removed, grows-none, grows-added, grows-amended, grows-removed}
 use Rattle.book.specs.declared.Answer.{Answer}
@@ -181,7 +181,7 @@ module _ (t : Millis) (minimum : ℕ) (live : List Order) (table : List ℕ) (re
     set-turn : (e : Event) → firstNumber (traderCauses live e) ≡ 0 → names id e → idOf e ≡ id → sideFor live e ≡ sideAt n
         → (new : Order) (half : List ℕ) (c : Change) (r : Answer)
         → hasId id new ≡ true → new .side ≡ sideAt n → goodPrice (new .price .0) ≡ true → new .volume .0 ≤ 1000000
-        → ofSide (sideAt n) (apply live e) ≡ set (ofSide (sideAt n) live) k new → Put k new (lent n table) half c → r ≡ answer 0 n c
+        → ofSide (sideAt n) (apply live e) ≡ set (ofSide (sideAt n) live) k new → OrderReplaced k new (lent n table) half c → r ≡ answer 0 n c
         → Applied e minimum live (putBack n table half) r
     set-turn e h named same-id side new half c r has its good most own made is =
         let x : Slot = slotOf (new .side) new in
@@ -200,7 +200,7 @@ module _ (t : Millis) (minimum : ℕ) (live : List Order) (table : List ℕ) (re
     -- with another price and volume
     pub applied-amend : (price : Steps) (volume : Contracts) (new : Order) (half : List ℕ) (c : Change) (r : Answer)
         → firstNumber (traderCauses live (Amend t id price volume)) ≡ 0 → new ≡ orderWith (orderIn at live) price volume
-        → Put k new (lent n table) half c → r ≡ answer 0 n c
+        → OrderReplaced k new (lent n table) half c → r ≡ answer 0 n c
         → Applied (Amend t id price volume) minimum live (putBack n table half) r
     applied-amend price volume new half c r h q made is =
         let p = trader-passes live (Amend t id price volume) h in
@@ -216,7 +216,7 @@ module _ (t : Millis) (minimum : ℕ) (live : List Order) (table : List ℕ) (re
     pub applied-deal : (volume : Contracts) (new : Order) (half : List ℕ) (c : Change) (r : Answer)
         → firstNumber (traderCauses live (Deal t id volume)) ≡ 0 → volume .0 < orderIn at live .volume .0
         → new ≡ orderWith (orderIn at live) (orderIn at live .price) (contracts (orderIn at live .volume .0 - volume .0))
-        → Put k new (lent n table) half c → r ≡ answer 0 n c → Applied (Deal t id volume) minimum live (putBack n table half) r
+        → OrderReplaced k new (lent n table) half c → r ≡ answer 0 n c → Applied (Deal t id volume) minimum live (putBack n table half) r
     applied-deal volume new half c r h some q made is =
         let o = orderIn at live in
         let most = its-volume live (represents .good) (sideAt n) k id has-slot in

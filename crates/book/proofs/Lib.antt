@@ -5,5 +5,5 @@ pub mod Changes
 pub mod Causes
 pub mod Applied
 pub mod ByKind
-pub mod Sendings
+pub mod EventAnswered
 pub mod Searching

@@ -15,7 +15,7 @@ use Rattle.record.specs.declared.Fields.{Fields}
 use Rattle.record.specs.Fields.{readFields}
 use Rattle.book.specs.declared.Sent.{Sent}
 use Rattle.order_table.specs.Table.{tableOf, GoodOrders}
-use Rattle.book.specs.Sending.{sumsBetween, Sending, SendsRead}
+use Rattle.book.specs.EventAnswered.{sumsBetween, EventAnswered, FieldsAnswered}
 use Rattle.book.specs.Searching.{AcceptedAfter, Accepted, nextSums}
 
 bounds-after : (row : Row) (before events : List Event) → EventBounds row before → AcceptedAfter row before events → EventBounds row (before ++ events)
@@ -35,7 +35,7 @@ unfolding eventRefusal eventCauses
 trader-accepts row events e h = passed 8 _ _ (passed 7 _ _ h .1) .1
 
 next-event : (row : Row) (events : List Event) (e : Event) → Accepted row events → eventRefusal row events e ≡ 0
-    → (widest keeping : ℕ) (exit : List ℕ) (r : Sent) → Sending e (row .minimum .0) widest keeping (tableOf (row .minimum .0) (live events)) exit r
+    → (widest keeping : ℕ) (exit : List ℕ) (r : Sent) → EventAnswered e (row .minimum .0) widest keeping (tableOf (row .minimum .0) (live events)) exit r
     → r .sums ≡ nextSums row events e
 next-event row events e a h widest keeping exit r sending =
     let bounds = accepted-bounds row events a in
@@ -47,7 +47,7 @@ next-event row events e a h widest keeping exit r sending =
 
 pub next-search : (row : Row) (events : List Event) (e : Event) → Accepted row events → eventRefusal row events e ≡ 0
     → (f : Fields) → readFields f ≡ accepted e → (widest keeping : ℕ) (exit : List ℕ) (r : Sent)
-    → SendsRead (readFields f) (row .minimum .0) widest keeping (tableOf (row .minimum .0) (live events)) exit r → r .sums ≡ nextSums row events e
+    → FieldsAnswered (readFields f) (row .minimum .0) widest keeping (tableOf (row .minimum .0) (live events)) exit r → r .sums ≡ nextSums row events e
 next-search row events e a h f is widest keeping exit r sends =
     next-event row events e a h widest keeping exit r
-    (subst (λ (o : Outcome Event). SendsRead o (row .minimum .0) widest keeping (tableOf (row .minimum .0) (live events)) exit r) is sends)
+    (subst (λ (o : Outcome Event). FieldsAnswered o (row .minimum .0) widest keeping (tableOf (row .minimum .0) (live events)) exit r) is sends)

@@ -43,6 +43,6 @@ sentTo zero live e = apply live e
 sentTo (suc n) live e = live
 
 -- what an event promises: for all live orders that the table stands for, the trader's refusal and the table after it
-pub record Sends (e : Event) (minimum : ℕ) (entry exit : List ℕ) (r : ℕ) : Type 0 where
+pub record TableChanged (e : Event) (minimum : ℕ) (entry exit : List ℕ) (r : ℕ) : Type 0 where
   pub refusal : (live : List Order) → GoodOrders live → entry ≡ tableOf minimum live → r ≡ firstNumber (traderCauses live e)
   pub table : (live : List Order) → GoodOrders live → entry ≡ tableOf minimum live → exit ≡ tableOf minimum (sentTo r live e)

@@ -7,7 +7,7 @@ use Rattle.rules.specs.declared.Row.{Row}
 use Rattle.rules.specs.declared.Event.{Event}
 use Rattle.rules.specs.Orders.{live}
 use Rattle.rules.specs.Causes.{eventRefusal}
-use Rattle.book.specs.Sending.{sumsBetween}
+use Rattle.book.specs.EventAnswered.{sumsBetween}
 
 -- each of the events is accepted after those before it
 abbrev pub AcceptedAfter : Row → List Event → List Event → Type 0

@@ -15,7 +15,7 @@ ghost use Rattle.rules.specs.Units.{goodPrice, goodVolume};
 ghost use Rattle.order_table.specs.Table.{slotIn, Held, Holding};
 ghost use Rattle.order_table.specs.Internal.{Represents, Located};
 ghost use Rattle.record.specs.Fields.{readFields};
-ghost use Rattle.book.specs.Sending.{SendsRead};
+ghost use Rattle.book.specs.EventAnswered.{FieldsAnswered};
 ghost use Rattle.book.specs.Internal.{addOf, orderWith, orderBy, Lessens, answer, noChange, Applied, AppliedRead, keepsBy};
 use numbers::both;
 use order_side::BEST;
@@ -129,7 +129,7 @@ fn amend(
         order_table::note(hints, id, slot);
         return done(
             s,
-            order_side::put(
+            order_side::replace_order(
                 &mut table[WORDS * s..WORDS * s + WORDS],
                 slot % 64,
                 renewed(order, price, volume),
@@ -181,7 +181,7 @@ fn deal(table: &mut [u32], hints: &mut [u8], id: u32, slot: usize, volume: Contr
         order_table::note(hints, id, slot);
         return done(
             s,
-            order_side::put(
+            order_side::replace_order(
                 &mut table[WORDS * s..WORDS * s + WORDS],
                 slot % 64,
                 renewed(order, price, Contracts(held - dealt)),
@@ -290,7 +290,7 @@ pub fn send(
     keeping: u32,
 ) -> Sent
     requires { ⌜ Holding (now table) (now hints) (minimum .0) × (f .kind ≡ 6 → ⊥) ⌝ }
-    ensures { λ r. ⌜ SendsRead (readFields f) (minimum .0) widest keeping (now (table .entry)) (now (table .exit)) r × (0 < r .refusal → now (hints .exit) ≡ now (hints .entry)) ⌝ }
+    ensures { λ r. ⌜ FieldsAnswered (readFields f) (minimum .0) widest keeping (now (table .entry)) (now (table .exit)) r × (0 < r .refusal → now (hints .exit) ≡ now (hints .entry)) ⌝ }
 {
     let answer = changed(table, hints, f);
     let refusal = answer.refusal;

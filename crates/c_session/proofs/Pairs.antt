@@ -7,18 +7,16 @@ use mathlib.Core.Bool.{Bool, true, false}
 use lib.Dec.{ltb}
 use lib.ListN.{length, take, drop, set, length-drop, drop-of-length-le}
 use lib.Seq.{take-all}
-use borrow.Author.Tests.{eq-eqb, ne-eqb, ltb-true, ltb-false}
+use borrow.Author.Tests.{ne-eqb, ltb-true, ltb-false}
 use Rattle.rules.specs.declared.Millis.{Millis}
-use Rattle.rules.specs.declared.Steps.{Steps}
 use Rattle.rules.specs.declared.Refusal.{Refusal}
 use Rattle.rules.specs.declared.SessionAnswer.{SessionAnswer}
 use Rattle.rules.specs.declared.SessionAnswer.the-variants as S
-use Rattle.lists.specs.Lists.{if_then_else_, below}
+use Rattle.lists.specs.Lists.{if_then_else_}
 use Rattle.rules.specs.Terms.{paper}
 use Rattle.rules.specs.Answers.{numberOf}
 use Rattle.rules.specs.Stretches.{pairWords}
-use Rattle.rules.specs.Records.{wordAt}
-use Rattle.rules.specs.Session.{Ran, shownSession, Session, mostRecords, session, sessionBytes, leadingWords, leadingPrice, ran, front, bufferAfter}
+use Rattle.rules.specs.Session.{Ran, shownSession, Session, mostRecords, sessionBytes, ran, front, bufferAfter}
 use Rattle.rules.proofs.Stretches.{pairWords-length}
 use Rattle.c_answers.specs.Answers.{refusedNumber}
 use Rattle.c_session.specs.Sessions.{pairsNumber, FillsPairs}
@@ -107,20 +105,10 @@ short-fills (Session.accepted k w ss) b r h e =
 short-fills (Session.refused m p) b r h e = record { number = e; buffer = refl }
 
 -- ---- the leading bytes
-pub words-read : (head : List ℕ) {a b c d e f g : ℕ} → a ≡ wordAt head 0 → b ≡ wordAt head 4 → c ≡ wordAt head 8 → d ≡ wordAt head 12
-    → e ≡ wordAt head 16 → f ≡ wordAt head 20 → g ≡ wordAt head 24 → a ∷ b ∷ c ∷ d ∷ e ∷ f ∷ g ∷ [] ≡ leadingWords head
-unfolding below
-words-read head a b c d e f g = λ i. a i ∷ b i ∷ c i ∷ d i ∷ e i ∷ f i ∷ g i ∷ []
-
-module _ (head records : List ℕ) where
-  pub no-head : (b : List ℕ) (r : ℕ) → (length head ≡ 32 → ⊥) → r ≡ refusedNumber 1 → FillsPairs (sessionBytes paper mostRecords head records) b b r
-  unfolding sessionBytes
-  no-head b r h e = rw (ne-eqb (length head) 32 h) (record { number = e ∙ omega arith; buffer = refl })
-
-  pub by-head : length head ≡ 32 → (row : List ℕ) (sp : Steps) → row ≡ leadingWords head → sp ≡ leadingPrice head
-      → session paper mostRecords row sp records ≡ sessionBytes paper mostRecords head records
-  unfolding sessionBytes
-  by-head h row sp e f = (λ i. session paper mostRecords (e i) (f i) records) ∙ rw (eq-eqb (length head) 32 h) refl
+pub no-head : (head records b : List ℕ) (r : ℕ) → (length head ≡ 32 → ⊥) → r ≡ refusedNumber 1
+    → FillsPairs (sessionBytes paper mostRecords head records) b b r
+unfolding sessionBytes
+no-head head records b r h e = rw (ne-eqb (length head) 32 h) (record { number = e ∙ omega arith; buffer = refl })
 
 pub fills-same : {s t : Session} {b e : List ℕ} {r : ℕ} → s ≡ t → FillsPairs s b e r → FillsPairs t b e r
 fills-same {s} {t} {b} {e} {r} h f = subst (λ (x : Session). FillsPairs x b e r) h f

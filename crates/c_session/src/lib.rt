@@ -5,31 +5,9 @@ ghost use mathlib.Core.Path.{_≡_};
 ghost use Prim.Native.Nat.{ℕ, _≤_, _<_};
 ghost use lib.ListN.{length};
 ghost use Rattle.rules.specs.Terms.{paper};
-ghost use Rattle.rules.specs.Session.{shownSession, mostRecords, session, sessionBytes, leadingWords, leadingPrice};
+ghost use Rattle.rules.specs.Session.{shownSession, mostRecords, session, sessionBytes};
 ghost use Rattle.c_session.specs.Sessions.{pairsNumber, FillsPairs};
 ghost use Rattle.c_session.specs.Internal.{shortNumber, ranNumber, headed};
-
-fn leading_words(head: &[u8]) -> [u32; 7]
-    requires { ⌜ 32 ≤ length (now head) ⌝ }
-    ensures { λ r. ⌜ r ≡ leadingWords (now (head .entry)) ⌝ }
-{
-    [
-        words::word_at(head, 0),
-        words::word_at(head, 4),
-        words::word_at(head, 8),
-        words::word_at(head, 12),
-        words::word_at(head, 16),
-        words::word_at(head, 20),
-        words::word_at(head, 24),
-    ]
-}
-
-fn leading_price(head: &[u8]) -> Steps
-    requires { ⌜ 32 ≤ length (now head) ⌝ }
-    ensures { λ r. ⌜ r ≡ leadingPrice (now (head .entry)) ⌝ }
-{
-    words::to_steps(words::word_at(head, 28))
-}
 
 fn short_number(answer: SessionAnswer) -> u64
     ensures { λ r. ⌜ r ≡ shortNumber (shownSession answer) ⌝ }
@@ -92,8 +70,8 @@ pub fn session_pairs(head: &[u8], records: &[u8], buffer: &mut [u32]) -> u64
     if head.len() != 32 {
         return c_answers::refused(1);
     }
-    let row = leading_words(head);
-    let sp = leading_price(head);
+    let row = row::leading_words(head);
+    let sp = row::leading_price(head);
     if buffer.len() < 3 {
         return run_short(&row, sp, records);
     }

@@ -23,7 +23,7 @@ use Rattle.call_blocks.specs.Kinds.{blockSize, callOf}
 use Rattle.call_blocks.specs.Reading.{callsOf}
 use Rattle.call_blocks.specs.Measures.{Measures}
 use Rattle.call_blocks.proofs.Loops.{Passed, at-start, next-call, one-more, none-left}
-use Rattle.call_step.specs.Blocks.{Stepped}
+use Rattle.call_step.specs.Blocks.{NextBlockPerformed}
 use Rattle.answer_words.specs.Words.{answerWords}
 use Rattle.month_words.specs.Calling.{wordsShown}
 use Rattle.month_words.proofs.Calling.{shown-words}
@@ -110,7 +110,7 @@ module _ (ws before out : List ℕ) (month : Month) (at k : ℕ) (g : Ongoing ws
   pub next-inside : k < length (callsOf ws) → 20 * k + 20 ≤ length out
   next-inside h = omega (arith, out-length, g .room)
 
-  module _ (h : k < length (callsOf ws)) (r : Done) (s : Stepped month ws at r) where
+  module _ (h : k < length (callsOf ws)) (r : Done) (s : NextBlockPerformed month ws at r) where
     abbrev size : ℕ
     size = blockSize (drop at ws)
 

@@ -14,7 +14,7 @@ use Rattle.call_blocks.specs.Decoded.{callWith}
 use Rattle.call_step.specs.declared.Shown.{Shown}
 use Rattle.call_step.specs.declared.Done.{Done}
 use Rattle.call_step.specs.declared.Outcome.the-variants as O
-use Rattle.call_step.specs.Blocks.{showing, shownOf, Performed, Stepped}
+use Rattle.call_step.specs.Blocks.{showing, shownOf, Performed, NextBlockPerformed}
 use Rattle.call_step.specs.Internal.{Tells}
 
 -- what an answer shows, where it is known
@@ -45,7 +45,7 @@ module _ (m : Month) (ws : List ℕ) (at size : ℕ) (part : List ℕ) (p : part
   size-is : size ≡ blockSize (drop at ws)
   size-is = e ∙ ap blockSize p
 
-  pub stepped-none : (r : Done) → size ≡ 0 → (r .month ≡ m) × (r .next ≡ at) × (r .shown ≡ showing O.Accepted) → Stepped m ws at r
+  pub stepped-none : (r : Done) → size ≡ 0 → (r .month ≡ m) × (r .next ≡ at) × (r .shown ≡ showing O.Accepted) → NextBlockPerformed m ws at r
   stepped-none r z s =
       record {
         next = omega (arith, size-is, s .1);
@@ -53,7 +53,7 @@ module _ (m : Month) (ws : List ℕ) (at size : ℕ) (part : List ℕ) (p : part
         some = λ h. absurd (h (sym size-is ∙ z));
       }
 
-  pub stepped-some : (r : Done) → (size ≡ 0 → ⊥) → r .next ≡ at + size → Performed m (callOf part) (r .month) (r .shown) → Stepped m ws at r
+  pub stepped-some : (r : Done) → (size ≡ 0 → ⊥) → r .next ≡ at + size → Performed m (callOf part) (r .month) (r .shown) → NextBlockPerformed m ws at r
   stepped-some r z n d =
       record {
         next = n ∙ ap (λ (n : ℕ). at + n) size-is;

@@ -14,7 +14,7 @@ use Rattle.month.specs.Represents.{monthOf, Reached}
 use Rattle.call_step.specs.declared.Done.{Done}
 use Rattle.call_blocks.specs.Kinds.{blockSize, callOf}
 use Rattle.call_blocks.specs.Reading.{callsOf, wordsRead}
-use Rattle.call_step.specs.Blocks.{Stepped}
+use Rattle.call_step.specs.Blocks.{NextBlockPerformed}
 use Rattle.call_blocks.proofs.Loops.{Passed, at-start, next-call, one-more, all-calls, all-words}
 
 -- one more of a list, where it goes on with that element
@@ -53,7 +53,7 @@ module _ (ws : List ℕ) (from month : Month) (at : ℕ) (u : Underway ws from m
         is = u .month-is (u .given .calls) (u .given .is);
       }
 
-  module _ (r : Done) (s : Stepped month ws at r) where
+  module _ (r : Done) (s : NextBlockPerformed month ws at r) where
     -- no call is left
     pub all-read : r .next ≡ at → at ≡ wordsRead ws
     all-read e = all-words ws (u .calls) at (blockSize (drop at ws)) (u .passed) (omega (arith, s .next))

@@ -56,7 +56,7 @@ pub record Performed (m : Month) (c : Call) (next : Month) (s : Shown) : Type 0 
 
 -- One block, at a place of the words: where there is a call, it ran, and the next place is behind its block; where there is none, the
 -- month and the place are as they were.
-pub record Stepped (m : Month) (ws : List ℕ) (at : ℕ) (r : Done) : Type 0 where
+pub record NextBlockPerformed (m : Month) (ws : List ℕ) (at : ℕ) (r : Done) : Type 0 where
   pub next : r .next ≡ at + blockSize (drop at ws)
   pub none : blockSize (drop at ws) ≡ 0 → (r .month ≡ m) × (r .shown ≡ shownOf (accepted done))
   pub some : (blockSize (drop at ws) ≡ 0 → ⊥) → Performed m (callOf (drop at ws)) (r .month) (r .shown)

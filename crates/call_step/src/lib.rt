@@ -17,7 +17,7 @@ ghost use Rattle.words.specs.Bytes.{wordsIn};
 ghost use Rattle.call_blocks.specs.Kinds.{rowAt, startAt, messageAt};
 ghost use Rattle.call_blocks.specs.Decoded.{callWith};
 ghost use Rattle.call_step.specs.declared.Outcome.the-variants as O;
-ghost use Rattle.call_step.specs.Blocks.{blankReport, showing, shownOf, Performed, Stepped};
+ghost use Rattle.call_step.specs.Blocks.{blankReport, showing, shownOf, Performed, NextBlockPerformed};
 ghost use Rattle.call_step.specs.Internal.{Tells};
 use call_blocks::Decoded;
 use month::AfterCall;
@@ -253,7 +253,7 @@ fn no_call(month: Month, at: usize) -> Done
 // place are as they were.
 pub fn block(month: Month, bytes: &[u8], at: usize) -> Done
     requires { ⌜ Reached month ⌝ }
-    ensures { λ r. ⌜ Stepped month (wordsIn (now (bytes .entry))) at r ⌝ }
+    ensures { λ r. ⌜ NextBlockPerformed month (wordsIn (now (bytes .entry))) at r ⌝ }
 {
     if call_blocks::count(bytes) < at {
         return no_call(month, at);

@@ -40,7 +40,7 @@ use Rattle.rules.proofs.Refusals.{InTurn, passes-call}
 use Rattle.rules.proofs.Histories.{none-parts, parts-none, sent, closes, sends-pass}
 use Rattle.rules.proofs.Bounds.{ReadBounds, bounds, read-bounds}
 use Rattle.continuations.specs.Continuations.{ending, cellLeft, keptOfRest, lapsesOfRest, cancelAll, backAt, fullWeight, Foresees, Outlooks}
-use Rattle.continuations.proofs.Latest.{Found, latest-found, latest-passes, never-passes}
+use Rattle.continuations.proofs.Latest.{LatestPassing, latest-found, latest-passes, never-passes}
 use Rattle.continuations.proofs.Cells.{same-cell, resting-below, resting-from, best-is-keeping, kept-more, count-from, count-all, lapses-added, lapses-kept, may-lapse, within-fewer, enough-met, met-enough}
 use Rattle.continuations.proofs.Weights.{weighs-more, full-needs, full-weighs, full-meets, full-verdict}
 use Rattle.continuations.proofs.Events.{turn-bounds, turn-below, all-cancelled, none-keep, Back, back-at, nothing-keeps}
@@ -242,7 +242,7 @@ module _ (b : Book) (place : ℕ) (row : Row) (opening : Opening) (events : List
   -- ---- until when
 
   abbrev Latest : Possible → Type 0
-  Latest = Found (maySo paper row opening events) t (whole - t)
+  Latest = LatestPassing (maySo paper row opening events) t (whole - t)
 
   latest-by : (s : Millis) → latestRest paper row opening events ≡ At s → Latest (At s)
   unfolding latestRest

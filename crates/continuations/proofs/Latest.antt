@@ -42,9 +42,9 @@ latest-at p t (suc n) s l u e h =
         rw (h (t + suc n) last (omega arith)) (ih (omega arith))
 
 -- what is found passes and none after it does, and where nothing is found none does
-abbrev pub Found : (ℕ → Bool) → ℕ → ℕ → Possible → Type 0
-Found p t n Never = (s : ℕ) → t ≤ s → s ≤ t + n → p s ≡ false
-Found p t n (At s) = (t ≤ s .0) × (s .0 ≤ t + n) × (p (s .0) ≡ true) × ((m : ℕ) → s .0 < m → m ≤ t + n → p m ≡ false)
+abbrev pub LatestPassing : (ℕ → Bool) → ℕ → ℕ → Possible → Type 0
+LatestPassing p t n Never = (s : ℕ) → t ≤ s → s ≤ t + n → p s ≡ false
+LatestPassing p t n (At s) = (t ≤ s .0) × (s .0 ≤ t + n) × (p (s .0) ≡ true) × ((m : ℕ) → s .0 < m → m ≤ t + n → p m ≡ false)
 
 -- the next does not pass either
 one-later : (p : ℕ → Bool) (n s : ℕ) → p (suc n) ≡ false → s ≤ suc n → (s ≤ n → p s ≡ false) → p s ≡ false
@@ -56,24 +56,24 @@ one-later p n s e u h = go (eqb s (suc n)) refl
         let other : (s ≡ suc n → ⊥) = eqb-false s (suc n) f in
         h (omega (arith, other))
 
-found-more : (p : ℕ → Bool) (t n : ℕ) (o : Possible) → Found p t n o → p (suc (t + n)) ≡ false → Found p t (suc n) o
+found-more : (p : ℕ → Bool) (t n : ℕ) (o : Possible) → LatestPassing p t n o → p (suc (t + n)) ≡ false → LatestPassing p t (suc n) o
 found-more p t n Never h e = λ s l u. one-later p (t + n) s e (omega (arith, u)) (λ k. h s l k)
 found-more p t n (At s) h e = (h .0, omega (arith, h .1), h .2, λ m l u. one-later p (t + n) m e (omega (arith, u)) (λ k. h .3 m l k))
 
-found-last : (p : ℕ → Bool) (t n : ℕ) (b : Bool) → p (t + suc n) ≡ b → Found p t n (latest p t n)
-    → Found p t (suc n) (if b then At (millis (t + suc n)) else latest p t n)
+found-last : (p : ℕ → Bool) (t n : ℕ) (b : Bool) → p (t + suc n) ≡ b → LatestPassing p t n (latest p t n)
+    → LatestPassing p t (suc n) (if b then At (millis (t + suc n)) else latest p t n)
 found-last p t n true e h = (omega arith, omega arith, e, λ m l u. absurd (omega (arith, l, u)))
 found-last p t n false e h =
     let next : t + suc n ≡ suc (t + n) = omega arith in
     found-more p t n (latest p t n) h (ap p (sym next) ∙ e)
 
-found-first : (p : ℕ → Bool) (t : ℕ) (b : Bool) → p t ≡ b → Found p t zero (if b then At (millis t) else Never)
+found-first : (p : ℕ → Bool) (t : ℕ) (b : Bool) → p t ≡ b → LatestPassing p t zero (if b then At (millis t) else Never)
 found-first p t true e = (omega arith, omega arith, e, λ m l u. absurd (omega (arith, l, u)))
 found-first p t false e = λ s l u.
     let same : s ≡ t = omega arith in
     ap p same ∙ e
 
-pub latest-found : (p : ℕ → Bool) (t n : ℕ) → Found p t n (latest p t n)
+pub latest-found : (p : ℕ → Bool) (t n : ℕ) → LatestPassing p t n (latest p t n)
 unfolding latest
 latest-found p t zero = found-first p t (p t) refl
 latest-found p t (suc n) = found-last p t n (p (t + suc n)) refl (latest-found p t n)
@@ -83,7 +83,7 @@ module _ (p : ℕ → Bool) (t n : ℕ) where
   pub latest-passes : isNever (latest p t n) ≡ false → (s : ℕ) × (t ≤ s) × (s ≤ t + n) × (p s ≡ true)
   latest-passes = go (latest p t n) (latest-found p t n)
     where
-      go : (o : Possible) → Found p t n o → isNever o ≡ false → (s : ℕ) × (t ≤ s) × (s ≤ t + n) × (p s ≡ true)
+      go : (o : Possible) → LatestPassing p t n o → isNever o ≡ false → (s : ℕ) × (t ≤ s) × (s ≤ t + n) × (p s ≡ true)
       go Never f h = absurd (true≢false h)
       go (At s) f h = (s .0, f .0, f .1, f .2)
 
@@ -91,6 +91,6 @@ module _ (p : ℕ → Bool) (t n : ℕ) where
   pub never-passes : isNever (latest p t n) ≡ true → (s : ℕ) → t ≤ s → s ≤ t + n → p s ≡ false
   never-passes = go (latest p t n) (latest-found p t n)
     where
-      go : (o : Possible) → Found p t n o → isNever o ≡ true → (s : ℕ) → t ≤ s → s ≤ t + n → p s ≡ false
+      go : (o : Possible) → LatestPassing p t n o → isNever o ≡ true → (s : ℕ) → t ≤ s → s ≤ t + n → p s ≡ false
       go Never f h = f
       go (At s) f h = absurd (false≢true h)

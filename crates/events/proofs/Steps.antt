@@ -25,13 +25,13 @@ use Rattle.record.specs.declared.Fields.{Fields}
 use Rattle.record.specs.Fields.{fieldsFor, goodFields, eventBy, readFields}
 use Rattle.record.proofs.Reading.{time-by, tick-by, fields-say}
 use Rattle.book.specs.declared.Sent.{Sent}
-use Rattle.book.specs.Sending.{Sending, SendsRead}
+use Rattle.book.specs.EventAnswered.{EventAnswered, FieldsAnswered}
 use Rattle.order_table.specs.Table.{tableOf, GoodOrders, Holding}
-use Rattle.book.specs.Events.{Sends, sentTo}
+use Rattle.book.specs.Events.{TableChanged, sentTo}
 use Rattle.clock.specs.declared.Duty.{Duty}
 use Rattle.clock.specs.declared.Clock.{Clock}
-use Rattle.events.specs.declared.Stepped.{Stepped}
-use Rattle.events.specs.Represents.{tableAfter, taken, ReachedParts, Represents, Stepping, SteppingRead}
+use Rattle.events.specs.declared.ClockAfter.{ClockAfter}
+use Rattle.events.specs.Represents.{tableAfter, taken, ReachedParts, Represents, EventStepped, FieldsStepped}
 use Rattle.clock.specs.Clocks.{ranOn}
 use Rattle.events.specs.Internal.{InTime, untimelyBy, tickedBy}
 use Rattle.events.proofs.Represents.{good-orders, represents, minimum-is, widest-is, in-time, same-clock, same-table, next-clock, next-table, backwards, past-end}
@@ -56,9 +56,9 @@ module _ {duty : Duty} {clock : Clock} where
 
 -- ---- refused before the orders are looked at: by its number, with clock and table as they were
 
-refused-step : (duty : Duty) (clock : Clock) (e : Event) (table : List ℕ) (r : Stepped) (n : ℕ) → (r .clock ≡ clock) × (r .refusal ≡ suc n)
+refused-step : (duty : Duty) (clock : Clock) (e : Event) (table : List ℕ) (r : ClockAfter) (n : ℕ) → (r .clock ≡ clock) × (r .refusal ≡ suc n)
     → ((row : Row) (sp : SpreadRule) (es : List Event) → Represents row sp es duty clock table → suc n ≡ eventRefusal row es e)
-    → Stepping duty clock e table table r
+    → EventStepped duty clock e table table r
 refused-step duty clock e table r n h k =
     record {
       number = λ row sp es s. h .1 ∙ k row sp es s;
@@ -77,7 +77,7 @@ unfolding apply
 tick-live orders t = refl
 
 tick-step : (duty : Duty) (clock : Clock) (t : Millis) (table : List ℕ) → InTime duty clock t
-    → Stepping duty clock (Tick t) table table (record { clock = ranOn clock t (clock .keeps); refusal = 0 })
+    → EventStepped duty clock (Tick t) table table (record { clock = ranOn clock t (clock .keeps); refusal = 0 })
 tick-step duty clock t table i =
     record {
       number = λ row sp es s. sym (zero-is row sp es s);
@@ -94,7 +94,7 @@ tick-step duty clock t table i =
 -- ---- the orders' answer
 
 module _ (duty : Duty) (clock : Clock) (e : Event) (t : Millis) (entry exit : List ℕ) (n : ℕ) (f : t .0 ≡ timeOf e) (i : InTime duty clock t)
-    (sends : Sends e (duty .minimum .0) entry exit n) where
+    (sends : TableChanged e (duty .minimum .0) entry exit n) where
   number-is : (row : Row) (sp : SpreadRule) (es : List Event) → Represents row sp es duty clock entry → n ≡ eventRefusal row es e
   number-is row sp es s =
       sends .refusal (live es) (good-orders row es (s .bounds)) (minimum-table s) ∙ sym (in-time row sp es duty clock entry s e t f i)
@@ -104,10 +104,10 @@ module _ (duty : Duty) (clock : Clock) (e : Event) (t : Millis) (entry exit : Li
       sends .table (live es) (good-orders row es (s .bounds)) (minimum-table s)
       ∙ ap (λ (m : Contracts). tableOf (m .0) (sentTo n (live es) e)) (minimum-is row sp es duty clock entry s)
 
-  refused-orders : (r : Stepped) → 0 < n → (r .clock ≡ clock) × (r .refusal ≡ n) → Stepping duty clock e entry exit r
+  refused-orders : (r : ClockAfter) → 0 < n → (r .clock ≡ clock) × (r .refusal ≡ n) → EventStepped duty clock e entry exit r
   refused-orders r l h = go n refl
     where
-      go : (m : ℕ) → n ≡ m → Stepping duty clock e entry exit r
+      go : (m : ℕ) → n ≡ m → EventStepped duty clock e entry exit r
       go zero z = absurd (omega (arith, l, z))
       go (suc m) z =
           record {
@@ -133,7 +133,7 @@ module _ (duty : Duty) (clock : Clock) (e : Event) (t : Millis) (entry exit : Li
       (good-orders row (es ++ (e ∷ [])) (event-bounds-more row es e (s .bounds) (sym (number-is row sp es s) ∙ z)))
 
   -- .. and keep the quote or not
-  taken-keeps : (sent : Sent) → Sending e (duty .minimum .0) (duty .widest) (clock .keeps) entry exit sent → sent .refusal ≡ n → n ≤ 0
+  taken-keeps : (sent : Sent) → EventAnswered e (duty .minimum .0) (duty .widest) (clock .keeps) entry exit sent → sent .refusal ≡ n → n ≤ 0
       → (row : Row) (sp : SpreadRule) (es : List Event) → Represents row sp es duty clock entry
       → sent .keeps ≡ one (ordersKeep row sp (apply (live es) e))
   taken-keeps sent h same l row sp es s =
@@ -145,7 +145,7 @@ module _ (duty : Duty) (clock : Clock) (e : Event) (t : Millis) (entry exit : Li
 
   taken-orders : (next : Clock) (keeps : ℕ) → n ≤ 0 → next ≡ ranOn clock t keeps
       → ((row : Row) (sp : SpreadRule) (es : List Event) → Represents row sp es duty clock entry → keeps ≡ one (ordersKeep row sp (apply (live es) e)))
-      → Stepping duty clock e entry exit (record { clock = next; refusal = 0 })
+      → EventStepped duty clock e entry exit (record { clock = next; refusal = 0 })
   taken-orders next keeps l g k =
       let z : n ≡ 0 = omega arith in
       record {
@@ -162,14 +162,14 @@ Timed o t = (e : Event) → o ≡ accepted e → t .0 ≡ timeOf e
 
 -- the orders' answer to them
 module _ (duty : Duty) (clock : Clock) (t : Millis) (entry exit : List ℕ) (sent : Sent) (i : InTime duty clock t) where
-  pub refused-read : (o : Outcome Event) → Timed o t → SendsRead o (duty .minimum .0) (duty .widest) (clock .keeps) entry exit sent → (r : Stepped)
-      → 0 < sent .refusal → (r .clock ≡ clock) × (r .refusal ≡ sent .refusal) → SteppingRead duty clock o entry exit r
+  pub refused-read : (o : Outcome Event) → Timed o t → FieldsAnswered o (duty .minimum .0) (duty .widest) (clock .keeps) entry exit sent → (r : ClockAfter)
+      → 0 < sent .refusal → (r .clock ≡ clock) × (r .refusal ≡ sent .refusal) → FieldsStepped duty clock o entry exit r
   refused-read (accepted e) timed sends r l h = refused-orders duty clock e t entry exit (sent .refusal) (timed e refl) i (sends .sends) r l h
   refused-read (refused k) timed sends r l h = (h .0, h .1 ∙ ap (λ (s : Sent). s .refusal) (sends .0), sends .1)
 
   pub taken-read : sent .refusal ≤ 0 → (o : Outcome Event) → Timed o t → ((k : ℕ) → o ≡ refused k → k ≡ 15)
-      → SendsRead o (duty .minimum .0) (duty .widest) (clock .keeps) entry exit sent → (next : Clock) → next ≡ ranOn clock t (sent .keeps)
-      → SteppingRead duty clock o entry exit (record { clock = next; refusal = 0 })
+      → FieldsAnswered o (duty .minimum .0) (duty .widest) (clock .keeps) entry exit sent → (next : Clock) → next ≡ ranOn clock t (sent .keeps)
+      → FieldsStepped duty clock o entry exit (record { clock = next; refusal = 0 })
   taken-read l (accepted e) timed fifteen sends next g =
       taken-orders duty clock e t entry exit (sent .refusal) (timed e refl) i (sends .sends) next (sent .keeps) l g
       (taken-keeps duty clock e t entry exit (sent .refusal) (timed e refl) i (sends .sends) sent sends refl l)
@@ -177,23 +177,23 @@ module _ (duty : Duty) (clock : Clock) (t : Millis) (entry exit : List ℕ) (sen
 
 -- a tick, and a time that is out of range
 module _ (duty : Duty) (clock : Clock) (f : Fields) (table : List ℕ) where
-  pub tick-read : f .kind ≡ 6 → InTime duty clock (f .t) → (r : Stepped) → r ≡ tickedBy clock f → SteppingRead duty clock (readFields f) table table r
+  pub tick-read : f .kind ≡ 6 → InTime duty clock (f .t) → (r : ClockAfter) → r ≡ tickedBy clock f → FieldsStepped duty clock (readFields f) table table r
   unfolding readFields
-  tick-read k i r e = subst (λ (r : Stepped). SteppingRead duty clock (readFields f) table table r) (sym e) (go (goodFields f))
+  tick-read k i r e = subst (λ (r : ClockAfter). FieldsStepped duty clock (readFields f) table table r) (sym e) (go (goodFields f))
     where
-      go : (b : Bool) → SteppingRead duty clock (if b then accepted (eventBy f) else refused 15) table table
+      go : (b : Bool) → FieldsStepped duty clock (if b then accepted (eventBy f) else refused 15) table table
           (if b then record { clock = ranOn clock (f .t) (clock .keeps); refusal = 0 } else record { clock = clock; refusal = 15 })
       go true =
-          subst (λ (e : Event). Stepping duty clock e table table (record { clock = ranOn clock (f .t) (clock .keeps); refusal = 0 })) (tick-by f k)
+          subst (λ (e : Event). EventStepped duty clock e table table (record { clock = ranOn clock (f .t) (clock .keeps); refusal = 0 })) (tick-by f k)
           (tick-step duty clock (f .t) table i)
       go false = (refl, refl, refl)
 
-  pub untimely-read : leb (clock .time .0) (f .t .0) && leb (f .t .0) (duty .length .0) ≡ false → (r : Stepped) → (r .clock ≡ clock) × (r .refusal ≡ untimelyBy clock f)
-      → SteppingRead duty clock (readFields f) table table r
+  pub untimely-read : leb (clock .time .0) (f .t .0) && leb (f .t .0) (duty .length .0) ≡ false → (r : ClockAfter) → (r .clock ≡ clock) × (r .refusal ≡ untimelyBy clock f)
+      → FieldsStepped duty clock (readFields f) table table r
   unfolding readFields
   untimely-read out r h = go (goodFields f) (h .1)
     where
-      late : (b : Bool) → ltb (f .t .0) (clock .time .0) ≡ b → r .refusal ≡ (if b then 8 else 9) → Stepping duty clock (eventBy f) table table r
+      late : (b : Bool) → ltb (f .t .0) (clock .time .0) ≡ b → r .refusal ≡ (if b then 8 else 9) → EventStepped duty clock (eventBy f) table table r
       late true e k =
           refused-step duty clock (eventBy f) table r 7 (h .0, k)
           (λ row sp es s. backwards row sp es duty clock table s (eventBy f) (f .t) (time-by f) (ltb-true (f .t .0) (clock .time .0) e))
@@ -204,7 +204,7 @@ module _ (duty : Duty) (clock : Clock) (f : Fields) (table : List ℕ) where
           (λ row sp es s. past-end row sp es duty clock table s (eventBy f) (f .t) (time-by f) on past)
 
       go : (b : Bool) → r .refusal ≡ (if b then (if ltb (f .t .0) (clock .time .0) then 8 else 9) else 15)
-          → SteppingRead duty clock (if b then accepted (eventBy f) else refused 15) table table r
+          → FieldsStepped duty clock (if b then accepted (eventBy f) else refused 15) table table r
       go true k = late (ltb (f .t .0) (clock .time .0)) refl k
       go false k = (h .0, k, refl)
 
@@ -212,10 +212,10 @@ module _ (duty : Duty) (clock : Clock) (f : Fields) (table : List ℕ) where
 
 module _ (clock : Clock) (f : Fields) where
   pub ticked-good : goodFields f ≡ true → (next : Clock) → next ≡ ranOn clock (f .t) (clock .keeps)
-      → _≡_ {A = Stepped} (record { clock = next; refusal = 0 }) (tickedBy clock f)
+      → _≡_ {A = ClockAfter} (record { clock = next; refusal = 0 }) (tickedBy clock f)
   ticked-good h next e = rw h (λ i. record { clock = e i; refusal = 0 })
 
-  pub ticked-bad : goodFields f ≡ false → _≡_ {A = Stepped} (record { clock = clock; refusal = 15 }) (tickedBy clock f)
+  pub ticked-bad : goodFields f ≡ false → _≡_ {A = ClockAfter} (record { clock = clock; refusal = 15 }) (tickedBy clock f)
   ticked-bad h = rw h refl
 
   pub untimely-early : goodFields f ≡ true → f .t .0 < clock .time .0 → 8 ≡ untimelyBy clock f
@@ -234,7 +234,7 @@ timely duty clock t h =
     record { onward = leb-true (clock .time .0) (t .0) (k .0); inside = leb-true (t .0) (duty .length .0) (k .1) }
 
 -- an event by its fields
-pub by-fields : (duty : Duty) (clock : Clock) (e : Event) (entry exit : List ℕ) (f : Fields) (r : Stepped) → f ≡ fieldsFor e
-    → SteppingRead duty clock (readFields f) entry exit r → Stepping duty clock e entry exit r
+pub by-fields : (duty : Duty) (clock : Clock) (e : Event) (entry exit : List ℕ) (f : Fields) (r : ClockAfter) → f ≡ fieldsFor e
+    → FieldsStepped duty clock (readFields f) entry exit r → EventStepped duty clock e entry exit r
 by-fields duty clock e entry exit f r h s =
-    subst (λ (o : Outcome Event). SteppingRead duty clock o entry exit r) (ap readFields h ∙ fields-say e) s
+    subst (λ (o : Outcome Event). FieldsStepped duty clock o entry exit r) (ap readFields h ∙ fields-say e) s

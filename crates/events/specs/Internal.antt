@@ -7,7 +7,7 @@ use Rattle.record.specs.declared.Fields.{Fields}
 use Rattle.record.specs.Fields.{goodFields}
 use Rattle.clock.specs.declared.Duty.{Duty}
 use Rattle.clock.specs.declared.Clock.{Clock}
-use Rattle.events.specs.declared.Stepped.{Stepped}
+use Rattle.events.specs.declared.ClockAfter.{ClockAfter}
 use Rattle.clock.specs.Clocks.{ranOn}
 
 -- a time that is neither backwards nor past the end
@@ -20,5 +20,5 @@ abbrev pub untimelyBy : Clock → Fields → ℕ
 untimelyBy c f = if goodFields f then (if ltb (f .t .0) (c .time .0) then 8 else 9) else 15
 
 -- a tick in time
-abbrev pub tickedBy : Clock → Fields → Stepped
+abbrev pub tickedBy : Clock → Fields → ClockAfter
 tickedBy c f = if goodFields f then record { clock = ranOn c (f .t) (c .keeps); refusal = 0 } else record { clock = c; refusal = 15 }

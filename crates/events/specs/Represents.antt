@@ -14,7 +14,7 @@ use Rattle.order_table.specs.Table.{tableOf}
 use Rattle.clock.specs.declared.Duty.{Duty}
 use Rattle.clock.specs.declared.Clock.{Clock}
 use Rattle.clock.specs.Clocks.{dutyOf, clockOf}
-use Rattle.events.specs.declared.Stepped.{Stepped}
+use Rattle.events.specs.declared.ClockAfter.{ClockAfter}
 
 -- the table of the live orders
 abbrev pub tableAfter : Row → List Event → List ℕ
@@ -45,7 +45,7 @@ pub record Represents (row : Row) (sp : SpreadRule) (events : List Event) (duty 
   pub table-is : table ≡ tableAfter row events
 
 -- what an event promises of them: the book's number, and the clock and the table with this event taken or refused
-pub record Stepping (duty : Duty) (clock : Clock) (e : Event) (entry exit : List ℕ) (r : Stepped) : Type 0 where
+pub record EventStepped (duty : Duty) (clock : Clock) (e : Event) (entry exit : List ℕ) (r : ClockAfter) : Type 0 where
   pub number : (row : Row) (sp : SpreadRule) (events : List Event) → Represents row sp events duty clock entry → r .refusal ≡ eventRefusal row events e
   pub clock-after : (row : Row) (sp : SpreadRule) (events : List Event) → Represents row sp events duty clock entry
       → r .clock ≡ clockOf row sp (taken (eventRefusal row events e) events e)
@@ -53,6 +53,6 @@ pub record Stepping (duty : Duty) (clock : Clock) (e : Event) (entry exit : List
       → exit ≡ tableAfter row (taken (eventRefusal row events e) events e)
 
 -- what a record's fields promise: those that say an event what it promises; others their refusal, with the clock and the table as they were
-abbrev pub SteppingRead : Duty → Clock → Outcome Event → List ℕ → List ℕ → Stepped → Type 0
-SteppingRead duty clock (accepted e) entry exit r = Stepping duty clock e entry exit r
-SteppingRead duty clock (refused n) entry exit r = (r .clock ≡ clock) × (r .refusal ≡ n) × (exit ≡ entry)
+abbrev pub FieldsStepped : Duty → Clock → Outcome Event → List ℕ → List ℕ → ClockAfter → Type 0
+FieldsStepped duty clock (accepted e) entry exit r = EventStepped duty clock e entry exit r
+FieldsStepped duty clock (refused n) entry exit r = (r .clock ≡ clock) × (r .refusal ≡ n) × (exit ≡ entry)

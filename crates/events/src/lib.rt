@@ -7,7 +7,7 @@ ghost use mathlib.Core.Path.{_≡_};
 ghost use Prim.Native.Nat.{_<_};
 ghost use Rattle.record.specs.Fields.{readFields};
 ghost use Rattle.clock.specs.Clocks.{Onward};
-ghost use Rattle.events.specs.Represents.{ReachedParts, Stepping, SteppingRead};
+ghost use Rattle.events.specs.Represents.{ReachedParts, EventStepped, FieldsStepped};
 ghost use Rattle.events.specs.Internal.{InTime, untimelyBy, tickedBy};
 use clock::Clock;
 use clock::Duty;
@@ -15,15 +15,15 @@ use record::Fields;
 use rules::Event;
 
 // What an event hands back: the clock after it, and the refusal's number or 0.
-pub struct Stepped {
+pub struct ClockAfter {
     pub clock: Clock,
     pub refusal: u32,
 }
 
-fn refused(clock: Clock, refusal: u32) -> Stepped
+fn refused(clock: Clock, refusal: u32) -> ClockAfter
     ensures { λ r. ⌜ (r .clock ≡ clock) × (r .refusal ≡ refusal) ⌝ }
 {
-    Stepped { clock, refusal }
+    ClockAfter { clock, refusal }
 }
 
 // What refuses fields whose time is out of range. Fields that say no event have no time: 15 is their only cause.
@@ -42,24 +42,24 @@ fn untimely(clock: Clock, f: Fields) -> u32
 }
 
 // A tick in time changes no order.
-fn ticked(clock: Clock, f: Fields) -> Stepped
+fn ticked(clock: Clock, f: Fields) -> ClockAfter
     requires { ⌜ Onward clock (f .t) ⌝ }
     ensures { λ r. ⌜ r ≡ tickedBy clock f ⌝ }
 {
     if record::is_good(f) {
         let t = f.t;
-        return Stepped {
+        return ClockAfter {
             clock: clock::onward(clock, t, clock.keeps),
             refusal: 0,
         };
     }
-    Stepped { clock, refusal: 15 }
+    ClockAfter { clock, refusal: 15 }
 }
 
 // The orders and the best quotes after an event in time that is no tick, then the clock.
-fn taken(duty: Duty, clock: Clock, table: &mut [u32], hints: &mut [u8], f: Fields) -> Stepped
+fn taken(duty: Duty, clock: Clock, table: &mut [u32], hints: &mut [u8], f: Fields) -> ClockAfter
     requires { ⌜ ReachedParts duty clock (now table) (now hints) × InTime duty clock (f .t) × (f .kind ≡ 6 → ⊥) ⌝ }
-    ensures { λ r. ⌜ SteppingRead duty clock (readFields f) (now (table .entry)) (now (table .exit)) r × (0 < r .refusal → now (hints .exit) ≡ now (hints .entry)) ⌝ }
+    ensures { λ r. ⌜ FieldsStepped duty clock (readFields f) (now (table .entry)) (now (table .exit)) r × (0 < r .refusal → now (hints .exit) ≡ now (hints .entry)) ⌝ }
 {
     let minimum = duty.minimum;
     let sent = book::send(table, hints, f, minimum, duty.widest, clock.keeps);
@@ -68,7 +68,7 @@ fn taken(duty: Duty, clock: Clock, table: &mut [u32], hints: &mut [u8], f: Field
         return refused(clock, refusal);
     }
     let t = f.t;
-    Stepped {
+    ClockAfter {
         clock: clock::onward(clock, t, sent.keeps),
         refusal: 0,
     }
@@ -82,9 +82,9 @@ pub fn step_fields(
     table: &mut [u32],
     hints: &mut [u8],
     f: Fields,
-) -> Stepped
+) -> ClockAfter
     requires { ⌜ ReachedParts duty clock (now table) (now hints) ⌝ }
-    ensures { λ r. ⌜ SteppingRead duty clock (readFields f) (now (table .entry)) (now (table .exit)) r × (0 < r .refusal → now (hints .exit) ≡ now (hints .entry)) ⌝ }
+    ensures { λ r. ⌜ FieldsStepped duty clock (readFields f) (now (table .entry)) (now (table .exit)) r × (0 < r .refusal → now (hints .exit) ≡ now (hints .entry)) ⌝ }
 {
     let kind = f.kind;
     let t = f.t;
@@ -98,9 +98,9 @@ pub fn step_fields(
 }
 
 // An event, by its fields.
-pub fn step(duty: Duty, clock: Clock, table: &mut [u32], hints: &mut [u8], e: Event) -> Stepped
+pub fn step(duty: Duty, clock: Clock, table: &mut [u32], hints: &mut [u8], e: Event) -> ClockAfter
     requires { ⌜ ReachedParts duty clock (now table) (now hints) ⌝ }
-    ensures { λ r. ⌜ Stepping duty clock e (now (table .entry)) (now (table .exit)) r × (0 < r .refusal → now (hints .exit) ≡ now (hints .entry)) ⌝ }
+    ensures { λ r. ⌜ EventStepped duty clock e (now (table .entry)) (now (table .exit)) r × (0 < r .refusal → now (hints .exit) ≡ now (hints .entry)) ⌝ }
 {
     step_fields(duty, clock, table, hints, record::event_fields(e))
 }

@@ -22,7 +22,7 @@ pub struct MessageText {
 }
 
 // One byte; the place behind it.
-fn put(out: &mut [u8; 114], at: usize, b: u8) -> usize
+fn put_byte(out: &mut [u8; 114], at: usize, b: u8) -> usize
     requires { ⌜ (length (now out) ≡ 114) × (at < 114) ⌝ }
     ensures { λ r. ⌜ Laid (now (out .entry)) at (b ∷ []) r (now (out .exit)) ⌝ }
 {
@@ -55,10 +55,10 @@ fn put_number(out: &mut [u8; 114], at: usize, n: u32) -> usize
     ensures { λ r. ⌜ Laid (now (out .entry)) at (decimalOf n) r (now (out .exit)) ⌝ }
 {
     if n < 10 {
-        return put(out, at, digit(n));
+        return put_byte(out, at, digit(n));
     }
     let next = put_number(out, at, n / 10);
-    put(out, next, digit(n % 10))
+    put_byte(out, next, digit(n % 10))
 }
 
 // The same with a minus sign if it is negative.
@@ -70,7 +70,7 @@ fn put_signed(out: &mut [u8; 114], at: usize, x: i32) -> usize
     if w < 2147483648 {
         return put_number(out, at, w);
     }
-    let next = put(out, at, 45);
+    let next = put_byte(out, at, 45);
     put_number(out, next, 4294967295 - w + 1)
 }
 
@@ -81,7 +81,7 @@ fn put_word(out: &mut [u8; 114], at: usize, tag: &[u8; 3], n: u32) -> usize
 {
     let a = put_all(out, at, tag);
     let b = put_number(out, a, n);
-    put(out, b, 1)
+    put_byte(out, b, 1)
 }
 
 fn side_digit(side: Side) -> u8
@@ -98,8 +98,8 @@ fn put_side(out: &mut [u8; 114], at: usize, side: Side) -> usize
     ensures { λ r. ⌜ (Laid (now (out .entry)) at (fieldBytes (fieldWith sideTag (sideText side))) r (now (out .exit))) × (r ≡ at + 5) ⌝ }
 {
     let a = put_all(out, at, b"54=");
-    let b = put(out, a, side_digit(side));
-    put(out, b, 1)
+    let b = put_byte(out, a, side_digit(side));
+    put_byte(out, b, 1)
 }
 
 fn put_price(out: &mut [u8; 114], at: usize, p: Steps) -> usize
@@ -108,7 +108,7 @@ fn put_price(out: &mut [u8; 114], at: usize, p: Steps) -> usize
 {
     let a = put_all(out, at, b"44=");
     let b = put_signed(out, a, p.0);
-    put(out, b, 1)
+    put_byte(out, b, 1)
 }
 
 // 54, 38 and 44
@@ -128,7 +128,7 @@ fn put_time(out: &mut [u8; 114], at: usize, sixty: &[u8]) -> usize
 {
     let a = put_all(out, at, b"60=");
     let b = put_all(out, a, sixty);
-    put(out, b, 1)
+    put_byte(out, b, 1)
 }
 
 // 35 stands behind the 15 bytes of 8 and 9.
@@ -137,8 +137,8 @@ fn put_type(out: &mut [u8; 114], kind: u8) -> usize
     ensures { λ r. ⌜ (Laid (now (out .entry)) 15 (fieldBytes (fieldWith typeTag (kind ∷ []))) r (now (out .exit))) × (r ≡ 20) ⌝ }
 {
     let a = put_all(out, 15, b"35=");
-    let b = put(out, a, kind);
-    put(out, b, 1)
+    let b = put_byte(out, a, kind);
+    put_byte(out, b, 1)
 }
 
 // 8 and 9, once the length is known: it has two digits.
@@ -148,7 +148,7 @@ fn put_head(out: &mut [u8; 114], n: usize) -> usize
 {
     let a = put_all(out, 0, b"8=FIX.4.4\x019=");
     let b = put_number(out, a, n as u32);
-    put(out, b, 1)
+    put_byte(out, b, 1)
 }
 
 // 10, three digits of the sum.
@@ -157,10 +157,10 @@ fn put_tail(out: &mut [u8; 114], at: usize, sum: u8) -> usize
     ensures { λ r. ⌜ Laid (now (out .entry)) at (fieldBytes (fieldWith checksumTag (threeDigits sum))) r (now (out .exit)) ⌝ }
 {
     let a = put_all(out, at, b"10=");
-    let b = put(out, a, 48 + sum / 100);
-    let c = put(out, b, 48 + sum / 10 % 10);
-    let d = put(out, c, 48 + sum % 10);
-    put(out, d, 1)
+    let b = put_byte(out, a, 48 + sum / 100);
+    let c = put_byte(out, b, 48 + sum / 10 % 10);
+    let d = put_byte(out, c, 48 + sum % 10);
+    put_byte(out, d, 1)
 }
 
 // The fields from 35 to 60, with 8 and 9 before them and 10 behind.

@@ -12,7 +12,7 @@ pub struct Marks {
 }
 
 // Writes the pair counted n from 0, where it fits.
-fn put(buffer: &mut [u32], n: usize, start: u32, length: u32)
+fn put_pair(buffer: &mut [u32], n: usize, start: u32, length: u32)
     requires { ⌜ n ≤ 100000000 ⌝ }
     ensures { λ r. ⌜ now (buffer .exit) ≡ putPair (now (buffer .entry)) n start length ⌝ }
 {
@@ -56,7 +56,7 @@ pub fn grow(
         let next = begun(marks, from, reaches);
         let n = next.pairs - 1;
         let start = next.start;
-        put(buffer, n as usize, start, to.0 - start);
+        put_pair(buffer, n as usize, start, to.0 - start);
         return next;
     }
     marks

@@ -23,7 +23,7 @@ use Rattle.month.proofs.Words.{month-fits}
 use Rattle.month_in_place.specs.Entry.{mayBeMonth}
 use Rattle.call_step.specs.declared.Shown.{Shown}
 use Rattle.call_step.specs.declared.Done.{Done as Ended}
-use Rattle.call_step.specs.Blocks.{shownOf, Performed, Stepped}
+use Rattle.call_step.specs.Blocks.{shownOf, Performed, NextBlockPerformed}
 use Rattle.answer_words.specs.Words.{answerWords}
 use Rattle.month_words.specs.declared.Called.{Called}
 use Rattle.month_words.specs.declared.Called.the-variants.{Done, WordsShort, NoMonth, HintsShort, AnswerShort, NoCall}
@@ -107,7 +107,7 @@ module _ (words bytes : List ℕ) (m : Month) (read : (k : Month) → Fits k →
   pub month-reached : HoldsMonth words → Reached m
   month-reached h = record { calls = h .calls; is = month-is (h .calls) (h .is) }
 
-  module _ (r : Ended) (stepped : Stepped m (wordsIn bytes) 0 r) (is : isCall bytes ≡ true) where
+  module _ (r : Ended) (stepped : NextBlockPerformed m (wordsIn bytes) 0 r) (is : isCall bytes ≡ true) where
     ran : Performed m (callOf (wordsIn bytes)) (r .month) (r .shown)
     ran = stepped .some (call-some bytes is)
 

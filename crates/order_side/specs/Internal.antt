@@ -52,7 +52,7 @@ pub record Added (order : Order) (entry exit : List ℕ) (r : Change) : Type 0 w
   pub answers : r ≡ change 0 0 (keyIn (order .side) order) (order .volume .0)
 
 -- an order in another's place
-pub record Put (place : ℕ) (order : Order) (entry exit : List ℕ) (r : Change) : Type 0 where
+pub record OrderReplaced (place : ℕ) (order : Order) (entry exit : List ℕ) (r : Change) : Type 0 where
   pub words : (slots : List Slot) (level : Level) → length slots ≤ 64 → place < length slots → entry ≡ sideOf slots level
       → exit ≡ sideOf (set slots place (slotOf (order .side) order)) level
   pub answers : (slots : List Slot) (level : Level) → length slots ≤ 64 → place < length slots → entry ≡ sideOf slots level

@@ -10,7 +10,7 @@ ghost use Rattle.rules.specs.Units.{goodPrice};
 ghost use Rattle.best_quote.specs.declared.Level.{Level};
 ghost use Rattle.price_keys.specs.Keys.{keyIn};
 ghost use Rattle.order_side.specs.Slots.{Slot, slotOf, orderOf, sideOf, seenFrom, seen};
-ghost use Rattle.order_side.specs.Internal.{Sized, HasOrder, Added, Put, Removed, slotAt, stored, shifted};
+ghost use Rattle.order_side.specs.Internal.{Sized, HasOrder, Added, OrderReplaced, Removed, slotAt, stored, shifted};
 use rules::Contracts;
 use rules::Order;
 use rules::Side;
@@ -131,9 +131,9 @@ pub fn add(words: &mut [u32], order: Order) -> Change
 }
 
 // An order in the place of the one that stands there: what its side loses and gains.
-pub fn put(words: &mut [u32], place: usize, order: Order) -> Change
+pub fn replace_order(words: &mut [u32], place: usize, order: Order) -> Change
     requires { ⌜ HasOrder place (now words) × (goodPrice (order .price .0) ≡ true) ⌝ }
-    ensures { λ r. ⌜ Put place order (now (words .entry)) (now (words .exit)) r ⌝ }
+    ensures { λ r. ⌜ OrderReplaced place order (now (words .entry)) (now (words .exit)) r ⌝ }
 {
     let side = order.side;
     let volume = order.volume;

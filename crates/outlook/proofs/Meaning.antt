@@ -23,7 +23,7 @@ use Rattle.rules.specs.Outlook.{needOf, canKeep, cellResting, isNever, maySo, l
 use Rattle.rules.proofs.Bounds.{read-bounds}
 use Rattle.lists.proofs.Counting.{count-none}
 use Rattle.lists.proofs.Lists.{both, and}
-use Rattle.continuations.proofs.Latest.{Found, latest-at, latest-found}
+use Rattle.continuations.proofs.Latest.{LatestPassing, latest-at, latest-found}
 use Rattle.continuations.proofs.Events.{nothing-keeps}
 use Rattle.outlook.proofs.Until.{by-law, never-law}
 use Rattle.outlook.proofs.Endings.{beginsNow}
@@ -42,7 +42,7 @@ module _ (terms : Terms) (row : Row) (opening : Opening) (es : List Event) (insi
   pub by-rest : outlookOf terms row opening es .by ≡ possible.At (row .length) → outlookOf terms row opening es .rest ≡ true
   unfolding outlookOf latestRest maySo
   by-rest e =
-      let found = subst (Found (maySo terms row opening es) (present es) (row .length .0 - present es)) e
+      let found = subst (LatestPassing (maySo terms row opening es) (present es) (row .length .0 - present es)) e
       (latest-found (maySo terms row opening es) (present es) (row .length .0 - present es)) in
       both (eqb (row .length .0) (row .length .0) || canKeep row (opening .spread)) (cellMet terms (cellResting row opening es (row .length .0))) (found .2) .1
 

@@ -17,10 +17,10 @@ use Rattle.order_table.specs.Table.{tableOf, Held}
 use Rattle.order_arrivals.specs.Notes.{notesOf}
 use Rattle.clock.specs.declared.Duty.{Duty}
 use Rattle.clock.specs.declared.Clock.{Clock}
-use Rattle.events.specs.declared.Stepped.{Stepped}
+use Rattle.events.specs.declared.ClockAfter.{ClockAfter}
 use Rattle.quantum.specs.declared.Quantum.{Quantum}
 use Rattle.clock.specs.Clocks.{dutyOf, clockOf}
-use Rattle.events.specs.Represents.{tableAfter, taken, ReachedParts, Represents, Stepping}
+use Rattle.events.specs.Represents.{tableAfter, taken, ReachedParts, Represents, EventStepped}
 use Rattle.quantum.specs.Represents.{quantumOf, Reached, Answered}
 use Rattle.quantum.specs.Internal.{Accepts, Noting}
 use Rattle.events.proofs.Represents.{good-orders}
@@ -74,7 +74,7 @@ opened-is row sp duty clock table notes d c t n = λ i. record { duty = d i; clo
 
 -- ---- what an event's answer shows
 
-module _ (q : Quantum) (e : Event) (exit : List ℕ) (r : Stepped) (h : Stepping (q .duty) (q .clock) e (q .table) exit r) where
+module _ (q : Quantum) (e : Event) (exit : List ℕ) (r : ClockAfter) (h : EventStepped (q .duty) (q .clock) e (q .table) exit r) where
   module _ (row : Row) (sp : SpreadRule) (es : List Event) (g : EventBounds row es) (is : q ≡ quantumOf row sp es) where
     number-is : r .refusal ≡ eventRefusal row es e
     number-is = h .number row sp es (represents-all row sp es q is g)

@@ -12,11 +12,11 @@ use Rattle.rules.specs.Causes.{eventRefusal}
 use Rattle.rules.specs.Bounds.{EventBounds}
 use Rattle.clock.specs.declared.Duty.{Duty}
 use Rattle.clock.specs.declared.Clock.{Clock}
-use Rattle.events.specs.declared.Stepped.{Stepped}
+use Rattle.events.specs.declared.ClockAfter.{ClockAfter}
 use Rattle.quantum.specs.declared.Quantum.{Quantum}
 use Rattle.clock.specs.Clocks.{dutyOf}
 use Rattle.quantum.specs.Represents.{quantumOf}
-use Rattle.events.specs.Represents.{tableAfter, taken, ReachedParts, Represents, Stepping}
+use Rattle.events.specs.Represents.{tableAfter, taken, ReachedParts, Represents, EventStepped}
 use Rattle.clock.specs.Words.{dutyWords, clockWords}
 use Rattle.quantum.proofs.Answers.{represents-all}
 use Rattle.quantum_in_place.specs.Events.{frontWords, HoldsFront, StepsFront}
@@ -80,7 +80,7 @@ module _ (ws : List ℕ) (duty : Duty) (clock : Clock) (size : length ws ≡ 522
         hinted = n;
       }
 
-  module _ (e : Event) (table clock′ : List ℕ) (r : Stepped) (stepped : Stepping duty clock e (take 512 (drop 10 ws)) table r) (put : clock′ ≡ clockWords (r .clock)) where
+  module _ (e : Event) (table clock′ : List ℕ) (r : ClockAfter) (stepped : EventStepped duty clock e (take 512 (drop 10 ws)) table r) (put : clock′ ≡ clockWords (r .clock)) where
     laid : (q : Quantum) → ws ≡ frontWords q → clocked (tabled ws table) clock′ ≡ dutyWords (q .duty) ++ (clock′ ++ (0 ∷ 0 ∷ table))
     laid q is =
         let short : length (q .table) ≤ 512 = omega (arith, ap length is, front-length q) in

@@ -14,9 +14,9 @@ use Rattle.record.specs.Fields.{readFields}
 use Rattle.record.proofs.Reading.{only-fifteen}
 use Rattle.clock.specs.declared.Duty.{Duty}
 use Rattle.clock.specs.declared.Clock.{Clock}
-use Rattle.events.specs.declared.Stepped.{Stepped}
+use Rattle.events.specs.declared.ClockAfter.{ClockAfter}
 use Rattle.clock.specs.Clocks.{clockOf}
-use Rattle.events.specs.Represents.{tableAfter, taken, Represents, SteppingRead}
+use Rattle.events.specs.Represents.{tableAfter, taken, Represents, FieldsStepped}
 use Rattle.record_runs.specs.Internal.{refusalBy}
 
 -- the event that the record says, and the clock and the table with it
@@ -27,13 +27,13 @@ pub record Took (row : Row) (sp : SpreadRule) (es : List Event) (o : Outcome Eve
   pub clock-is : clock ≡ clockOf row sp (es ++ (event ∷ []))
   pub table-is : table ≡ tableAfter row (es ++ (event ∷ []))
 
-module _ (duty : Duty) (clock : Clock) (table next : List ℕ) (stepped : Stepped) (row : Row) (sp : SpreadRule) (es : List Event) (h : Represents row sp es duty clock table) where
-  number-by : (o : Outcome Event) → SteppingRead duty clock o table next stepped → stepped .refusal ≡ refusalBy row es o
+module _ (duty : Duty) (clock : Clock) (table next : List ℕ) (stepped : ClockAfter) (row : Row) (sp : SpreadRule) (es : List Event) (h : Represents row sp es duty clock table) where
+  number-by : (o : Outcome Event) → FieldsStepped duty clock o table next stepped → stepped .refusal ≡ refusalBy row es o
   number-by (accepted e) steps = steps .number row sp es h
   number-by (refused n) steps = steps .1
 
   -- 15 is all that refuses a record that is no event
-  taken-by : (o : Outcome Event) → ((n : ℕ) → o ≡ refused n → n ≡ 15) → SteppingRead duty clock o table next stepped → stepped .refusal ≤ 0
+  taken-by : (o : Outcome Event) → ((n : ℕ) → o ≡ refused n → n ≡ 15) → FieldsStepped duty clock o table next stepped → stepped .refusal ≤ 0
       → Took row sp es o (stepped .clock) next
   taken-by (accepted e) fifteen steps l =
       let passes : eventRefusal row es e ≡ 0 = omega (arith, steps .number row sp es h) in
@@ -47,7 +47,7 @@ module _ (duty : Duty) (clock : Clock) (table next : List ℕ) (stepped : Steppe
   taken-by (refused n) fifteen steps l = absurd (omega (arith, l, steps .1, fifteen n refl))
 
   -- by its fields
-  module _ (f : Fields) (steps : SteppingRead duty clock (readFields f) table next stepped) (o : Outcome Event) (read : readFields f ≡ o) where
+  module _ (f : Fields) (steps : FieldsStepped duty clock (readFields f) table next stepped) (o : Outcome Event) (read : readFields f ≡ o) where
     pub record-number : stepped .refusal ≡ refusalBy row es o
     record-number = number-by (readFields f) steps ∙ ap (refusalBy row es) read
 

@@ -7,7 +7,7 @@ use lib.ListN.{length}
 use Rattle.rules.specs.Choosing.{rowWords, isFor}
 
 -- k is the first full row of the table with that expiry and quantum, or the number of full rows where none has them
-pub record Found (expiry quantum : ℕ) (table : List ℕ) (k : ℕ) : Type 0 where
+pub record FirstRowAt (expiry quantum : ℕ) (table : List ℕ) (k : ℕ) : Type 0 where
   pub full : k ≤ length table / 7
   pub none-before : (j : ℕ) → j < k → isFor expiry quantum (rowWords table j) ≡ false
   pub passes : k < length table / 7 → isFor expiry quantum (rowWords table k) ≡ true

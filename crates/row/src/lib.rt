@@ -1,4 +1,4 @@
-// The row: read from words, and chosen from the two lent tables.
+// The row: read from words or from the leading bytes of a session, and chosen from the two lent tables.
 ghost use mathlib.Core.Path.{_≡_};
 ghost use Prim.Native.Nat.{_+_, _*_, _≤_};
 ghost use lib.ListN.{length};
@@ -6,9 +6,10 @@ ghost use Rattle.rules.specs.Terms.{paper};
 ghost use Rattle.rules.specs.Rows.{goodLength, goodRow, asRead};
 ghost use Rattle.rules.specs.Answers.{shownRow};
 ghost use Rattle.rules.specs.Causes.{readRow};
+ghost use Rattle.rules.specs.Session.{leadingWords, leadingPrice};
 ghost use Rattle.rules.specs.Choosing.{rowWords, isFor, firstRow, chosenRow};
 ghost use Rattle.row.specs.Starts.{startIn, chosenStart};
-ghost use Rattle.row.specs.Internal.{Found};
+ghost use Rattle.row.specs.Internal.{FirstRowAt};
 use numbers::both;
 use ranges::at_most;
 use ranges::between;
@@ -18,6 +19,7 @@ use rules::Refusal;
 use rules::Row;
 use rules::RowRead;
 use rules::SpreadRule;
+use rules::Steps;
 
 // Whether L is in a row's range.
 pub fn is_length(l: u32) -> bool
@@ -77,6 +79,30 @@ pub fn read(words: &[u32], spread: SpreadRule) -> RowRead
     RowRead::Refused(Refusal::RowWordOutOfRange)
 }
 
+// The head of a session, 32 bytes: the row's seven words, then SP.
+pub fn leading_words(head: &[u8]) -> [u32; 7]
+    requires { ⌜ 32 ≤ length (now head) ⌝ }
+    ensures { λ r. ⌜ r ≡ leadingWords (now (head .entry)) ⌝ }
+{
+    [
+        words::word_at(head, 0),
+        words::word_at(head, 4),
+        words::word_at(head, 8),
+        words::word_at(head, 12),
+        words::word_at(head, 16),
+        words::word_at(head, 20),
+        words::word_at(head, 24),
+    ]
+}
+
+// SP in the head of a session, in two's complement.
+pub fn leading_price(head: &[u8]) -> Steps
+    requires { ⌜ 32 ≤ length (now head) ⌝ }
+    ensures { λ r. ⌜ r ≡ leadingPrice (now (head .entry)) ⌝ }
+{
+    words::to_steps(words::word_at(head, 28))
+}
+
 // Whether the row counted k from 0 has that expiry and quantum.
 fn is_for(table: &[u32], k: usize, expiry: u32, quantum: u32) -> bool
     requires { ⌜ 7 * k + 7 ≤ length (now table) ⌝ }
@@ -88,7 +114,7 @@ fn is_for(table: &[u32], k: usize, expiry: u32, quantum: u32) -> bool
 
 // The first full row with that expiry and quantum, counted from 0; the number of full rows where there is none.
 fn find(table: &[u32], expiry: u32, quantum: u32) -> usize
-    ensures { λ r. ⌜ Found expiry quantum (now (table .entry)) r ⌝ }
+    ensures { λ r. ⌜ FirstRowAt expiry quantum (now (table .entry)) r ⌝ }
 {
     let n = table.len() / 7;
     let mut k = 0;

@@ -14,13 +14,11 @@ use Rattle.rules.specs.declared.Refusal.{Refusal}
 use Rattle.rules.specs.declared.Refusal.the-variants.{BufferShort}
 use Rattle.rules.specs.declared.SessionAnswer.{SessionAnswer}
 use Rattle.rules.specs.declared.SessionAnswer.the-variants as S
-use Rattle.lists.specs.Lists.{if_then_else_, below}
+use Rattle.lists.specs.Lists.{if_then_else_}
 use Rattle.rules.specs.Terms.{paper}
-use Rattle.rules.specs.Units.{steps}
 use Rattle.rules.specs.Stretches.{Stretch, pairWords}
 use Rattle.rules.specs.Answers.{numberOf}
-use Rattle.rules.specs.Records.{wordAt, signedOf}
-use Rattle.rules.specs.Session.{shownSession, Ran, Session, session, sessionBytes, ran, front, bufferAfter, oneNumber}
+use Rattle.rules.specs.Session.{shownSession, Ran, Session, session, sessionBytes, leadingWords, leadingPrice, ran, front, bufferAfter, oneNumber}
 use Rattle.rules.proofs.Stretches.{pairWords-length}
 use Rattle.session_pass.specs.Internal.{counted, Passed}
 use Rattle.session.specs.Internal.{filledBy, numberBy}
@@ -119,11 +117,10 @@ pub bytes-short : (most : ℕ) (head bytes : List ℕ) → (length head ≡ 32 �
 unfolding sessionBytes oneNumber
 bytes-short most head bytes h = rw (ne-eqb (length head) 32 h) refl
 
-bytes-whole : (most : ℕ) (head bytes : List ℕ) → length head ≡ 32
-    → sessionBytes paper most head bytes
-    ≡ session paper most (wordAt head 0 ∷ wordAt head 4 ∷ wordAt head 8 ∷ wordAt head 12 ∷ wordAt head 16 ∷ wordAt head 20 ∷ wordAt head 24 ∷ []) (steps (signedOf (wordAt head 28))) bytes
-unfolding sessionBytes below
-bytes-whole most head bytes h = rw (eq-eqb (length head) 32 h) refl
+pub by-head : (most : ℕ) (head bytes : List ℕ) → length head ≡ 32 → {row : List ℕ} {sp : Steps} → row ≡ leadingWords head → sp ≡ leadingPrice head
+    → session paper most row sp bytes ≡ sessionBytes paper most head bytes
+unfolding sessionBytes
+by-head most head bytes h e f = (λ i. session paper most (e i) (f i) bytes) ∙ rw (eq-eqb (length head) 32 h) refl
 
 -- ---- the answers' numbers, case by case
 
@@ -133,12 +130,8 @@ filled-is r k w n e = sym (ap filledBy e)
 pub refused-is : (r : SessionAnswer) (f : Refusal) (place n : ℕ) → r ≡ S.Refused f place → n ≡ numberOf f → 4294967296 * n + place ≡ numberBy (shownSession r)
 refused-is r f place n e is = ap (λ (m : ℕ). 4294967296 * m + place) is ∙ sym (ap (λ (x : SessionAnswer). numberBy (shownSession x)) e)
 
-pub bytes-number : (most : ℕ) (head bytes : List ℕ) → length head ≡ 32 → {a b c d e f g w : ℕ} {sp : Steps} → a ≡ wordAt head 0 → b ≡ wordAt head 4
-    → c ≡ wordAt head 8 → d ≡ wordAt head 12 → e ≡ wordAt head 16 → f ≡ wordAt head 20 → g ≡ wordAt head 24 → w ≡ wordAt head 28 → sp ≡ steps (signedOf w)
-    → (n : ℕ) (r : SessionAnswer) (none none′ : List ℕ) → n ≡ numberBy (shownSession r)
-    → Passed (session paper most (a ∷ b ∷ c ∷ d ∷ e ∷ f ∷ g ∷ []) sp bytes) none none′ r → n ≡ oneNumber (sessionBytes paper most head bytes)
-bytes-number most head bytes l {a} {b} {c} {d} {e} {f} {g} {w} {sp} a′ b′ c′ d′ e′ f′ g′ w′ sp′ n r none none′ is p =
-    is ∙ number-is (session paper most (a ∷ b ∷ c ∷ d ∷ e ∷ f ∷ g ∷ []) sp bytes) none none′ r p
-    ∙ ap oneNumber
-    ((λ i. session paper most (a′ i ∷ b′ i ∷ c′ i ∷ d′ i ∷ e′ i ∷ f′ i ∷ g′ i ∷ []) ((sp′ ∙ ap (λ (x : ℕ). steps (signedOf x)) w′) i) bytes)
-    ∙ sym (bytes-whole most head bytes l))
+pub bytes-number : (most : ℕ) (head bytes : List ℕ) → length head ≡ 32 → {row : List ℕ} {sp : Steps} → row ≡ leadingWords head → sp ≡ leadingPrice head
+    → (n : ℕ) (r : SessionAnswer) (none none′ : List ℕ) → n ≡ numberBy (shownSession r) → Passed (session paper most row sp bytes) none none′ r
+    → n ≡ oneNumber (sessionBytes paper most head bytes)
+bytes-number most head bytes l {row} {sp} e f n r none none′ is p =
+    is ∙ number-is (session paper most row sp bytes) none none′ r p ∙ ap oneNumber (by-head most head bytes l e f)

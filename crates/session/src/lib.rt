@@ -135,16 +135,8 @@ pub extern "C" fn quoting_session(head: &[u8], records: &[u8]) -> u64
     if head.len() != 32 {
         return 4294967296;
     }
-    let row = [
-        words::word_at(head, 0),
-        words::word_at(head, 4),
-        words::word_at(head, 8),
-        words::word_at(head, 12),
-        words::word_at(head, 16),
-        words::word_at(head, 20),
-        words::word_at(head, 24),
-    ];
-    let sp = words::to_steps(words::word_at(head, 28));
+    let row = row::leading_words(head);
+    let sp = row::leading_price(head);
     let mut none = [0u32; 1];
     one_number(session_pass::pass(4000000, &row, sp, records, &mut none))
 }

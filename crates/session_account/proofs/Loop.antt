@@ -28,7 +28,7 @@ use Rattle.record_runs.proofs.Turns.{record-numbered, followed-bounds}
 use Rattle.session_account.specs.declared.AccountAnswer.{AccountAnswer}
 use Rattle.session_account.specs.declared.AccountAnswer.the-variants as S
 use Rattle.session_account.specs.declared.Progress.{Progress}
-use Rattle.session_account.specs.declared.Stepped.{Stepped}
+use Rattle.session_account.specs.declared.ProgressAfter.{ProgressAfter}
 use Rattle.session_account.specs.Shown.{shownAccount}
 use Rattle.session_account.specs.Internal.{Holds, progressAt, partsOf, ReachedEnd, FinalAnswer, Advanced, counted, LoopState, Passed}
 use Rattle.session_account.proofs.Growing.{words-length}
@@ -110,7 +110,7 @@ module _ (most : ℕ) (row : Row) (sp : SpreadRule) (bytes base : List ℕ) wher
       pub loop-short : (exit : List ℕ) → (place ≤ most → length bytes < at + 20) → (cell : ℕ) → Passed (Run cell) base exit (S.Refused BadRecord place)
       loop-short exit h cell = passed-halted (Run cell) BadRecord place base exit (walk-short (walks most cell row sp) bytes at place (g .events) (g .runs cell) l h)
 
-      module _ (p : place ≤ most) (r : Stepped) (next exit : List ℕ) (part : List ℕ) (cut : part ≡ this) (adv : Advanced w duty (readRecord part) r table next buffer exit) where
+      module _ (p : place ≤ most) (r : ProgressAfter) (next exit : List ℕ) (part : List ℕ) (cut : part ≡ this) (adv : Advanced w duty (readRecord part) r table next buffer exit) where
         judged : r .refusal ≡ refusalBy row (g .events) (readRecord this)
         judged = adv .number row sp (g .events) (g .run) ∙ ap (λ (l : List ℕ). refusalBy row (g .events) (readRecord l)) cut
 

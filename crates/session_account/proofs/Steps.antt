@@ -31,9 +31,9 @@ use Rattle.record.specs.declared.Fields.{Fields}
 use Rattle.record.specs.Fields.{readFields}
 use Rattle.clock.specs.declared.Duty.{Duty}
 use Rattle.clock.specs.declared.Clock.{Clock}
-use Rattle.events.specs.declared.Stepped.{Stepped as SteppedOn}
+use Rattle.events.specs.declared.ClockAfter.{ClockAfter as SteppedOn}
 use Rattle.clock.specs.Clocks.{clockOf}
-use Rattle.events.specs.Represents.{tableAfter, ReachedParts, Represents, SteppingRead}
+use Rattle.events.specs.Represents.{tableAfter, ReachedParts, Represents, FieldsStepped}
 use Rattle.clock.proofs.Clocks.{time-is}
 use Rattle.events.proofs.Represents.{good-orders, widest-is, length-is}
 use Rattle.record_runs.specs.Internal.{refusalBy, followed}
@@ -162,7 +162,7 @@ state-of : (row : Row) (sp : SpreadRule) (es : List Event) (w : Progress) (duty 
 state-of row sp es w duty table h n s =
     s row sp (live es) (good-orders row es (h .bounds)) (h .table-is) (widest-is row sp es duty (w .clock) table (represents row sp es w duty table h))
 
-module _ (w : Progress) (duty : Duty) (table next : List ℕ) (stepped : SteppedOn) (f : Fields) (steps : SteppingRead duty (w .clock) (readFields f) table next stepped) where
+module _ (w : Progress) (duty : Duty) (table next : List ℕ) (stepped : SteppedOn) (f : Fields) (steps : FieldsStepped duty (w .clock) (readFields f) table next stepped) where
   pub bounds-taken : stepped .refusal ≤ 0 → (n : ℕ) → StateOf table (duty .widest) n → ReachedEnd w duty table
       → MarksBounds (w .marks) (w .clock .time) (stepped .clock .time) n
   bounds-taken l n s h =

@@ -28,7 +28,7 @@ use Rattle.session_account.specs.declared.AccountAnswer.{AccountAnswer}
 use Rattle.session_account.specs.declared.Times.{Times}
 use Rattle.session_account.specs.declared.Marks.{Marks}
 use Rattle.session_account.specs.declared.Progress.{Progress}
-use Rattle.session_account.specs.declared.Stepped.{Stepped}
+use Rattle.session_account.specs.declared.ProgressAfter.{ProgressAfter}
 use Rattle.session_account.specs.Shown.{shownAccount}
 
 -- ---- the stretches
@@ -139,7 +139,7 @@ pub record ReachedRun (w : Progress) (duty : Duty) (table hints : List ℕ) : Ty
   pub hinted : length hints ≡ 2048
 
 -- what a record promises
-pub record Advanced (w : Progress) (duty : Duty) (o : Outcome Event) (r : Stepped) (table next entry exit : List ℕ) : Type 0 where
+pub record Advanced (w : Progress) (duty : Duty) (o : Outcome Event) (r : ProgressAfter) (table next entry exit : List ℕ) : Type 0 where
   pub number : (row : Row) (sp : SpreadRule) (es : List Event) → RepresentsRun row sp es w duty table → r .refusal ≡ refusalBy row es o
   pub orders : (row : Row) (sp : SpreadRule) (es : List Event) → RepresentsRun row sp es w duty table → refusalBy row es o ≡ 0 → next ≡ tableAfter row (followed es o)
   pub progress : (row : Row) (sp : SpreadRule) (es : List Event) (base : List ℕ) → RepresentsRun row sp es w duty table → Holds base (partsOf row sp es) entry

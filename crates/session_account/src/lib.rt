@@ -58,13 +58,13 @@ struct Progress {
 }
 
 // What a record hands back: the run after it, and the refusal's number or 0.
-struct Stepped {
+struct ProgressAfter {
     progress: Progress,
     refusal: u32,
 }
 
 // Writes the stretch counted n from 0, where it fits.
-fn put(buffer: &mut [u32], n: usize, start: u32, length: u32, state: u32)
+fn put_part(buffer: &mut [u32], n: usize, start: u32, length: u32, state: u32)
     requires { ⌜ n ≤ 100000000 ⌝ }
     ensures { λ r. ⌜ now (buffer .exit) ≡ putPart (now (buffer .entry)) n start length state ⌝ }
 {
@@ -127,7 +127,7 @@ fn grow(marks: Marks, from: Millis, to: Millis, state: u32, buffer: &mut [u32]) 
     let next = begun(marks, from, state);
     let n = next.stretches - 1;
     let start = next.start;
-    put(buffer, n as usize, start, to.0 - start, state);
+    put_part(buffer, n as usize, start, to.0 - start, state);
     let times = marks.times;
     Marks {
         stretches: next.stretches,
@@ -145,7 +145,7 @@ fn step(
     table: &mut [u32],
     hints: &mut [u8],
     buffer: &mut [u32],
-) -> Stepped
+) -> ProgressAfter
     requires { ⌜ ReachedRun progress duty (now table) (now hints) × (20 ≤ length (now bytes)) ⌝ }
     ensures { λ r. ⌜ Advanced progress duty (readRecord (now (bytes .entry))) r (now (table .entry)) (now (table .exit)) (now (buffer .entry)) (now (buffer .exit)) ⌝ }
 {
@@ -157,12 +157,12 @@ fn step(
     let next = stepped.clock;
     let refusal = stepped.refusal;
     if 0 < refusal {
-        return Stepped { progress, refusal };
+        return ProgressAfter { progress, refusal };
     }
     let from = clock.time;
     let to = next.time;
     let grown = grow(marks, from, to, state, buffer);
-    Stepped {
+    ProgressAfter {
         progress: Progress {
             clock: next,
             marks: grown,

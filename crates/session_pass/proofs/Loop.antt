@@ -26,7 +26,7 @@ use Rattle.clock.specs.declared.Duty.{Duty}
 use Rattle.clock.specs.Clocks.{dutyOf}
 use Rattle.events.specs.Represents.{tableAfter}
 use Rattle.session_pass.specs.declared.Progress.{Progress}
-use Rattle.session_pass.specs.declared.Stepped.{Stepped}
+use Rattle.session_pass.specs.declared.ProgressAfter.{ProgressAfter}
 use Rattle.record_runs.specs.Internal.{refusalBy, followed}
 use Rattle.kept_pairs.specs.Internal.{Holds}
 use Rattle.session_pass.specs.Internal.{progressAt, pairsOf, ReachedRun, RepresentsRun, ReachedEnd, FinalAnswer, Advanced, bookWith, counted, LoopState, Passed}
@@ -123,7 +123,7 @@ module _ (most : ℕ) (row : Row) (sp : Steps) (bytes base : List ℕ) where
       pub loop-short : (exit : List ℕ) → (place ≤ most → length bytes < at + 20) → (cell : ℕ) → cell < 186 → Passed (Run cell) base exit (S.Refused BadRecord place)
       loop-short exit h cell c = passed-halted (Run cell) BadRecord place base exit (walk-short (walks most cell row sp) bytes at place (g .events) (g .runs cell) l h)
 
-      module _ (p : place ≤ most) (duty : Duty) (d : duty ≡ dutyOf row (Settled sp)) (r : Stepped) (next exit : List ℕ) (part : List ℕ) (cut : part ≡ take 20 (drop at bytes))
+      module _ (p : place ≤ most) (duty : Duty) (d : duty ≡ dutyOf row (Settled sp)) (r : ProgressAfter) (next exit : List ℕ) (part : List ℕ) (cut : part ≡ take 20 (drop at bytes))
           (adv : Advanced w duty (readRecord part) r table next buffer exit) where
         stood : RepresentsRun row (Settled sp) (g .events) w duty table
         stood = record { bounds = g .bounds; is = g .is; duty-is = d; table-is = g .table-is }

@@ -30,9 +30,9 @@ use Rattle.record.specs.declared.Fields.{Fields}
 use Rattle.record.specs.Fields.{readFields}
 use Rattle.clock.specs.declared.Duty.{Duty}
 use Rattle.clock.specs.declared.Clock.{Clock}
-use Rattle.events.specs.declared.Stepped.{Stepped as SteppedOn}
+use Rattle.events.specs.declared.ClockAfter.{ClockAfter as SteppedOn}
 use Rattle.clock.specs.Clocks.{clockOf, Onward}
-use Rattle.events.specs.Represents.{tableAfter, ReachedParts, Represents, SteppingRead}
+use Rattle.events.specs.Represents.{tableAfter, ReachedParts, Represents, FieldsStepped}
 use Rattle.rules.specs.Runs.{before}
 use Rattle.clock.proofs.Clocks.{time-is, keeps-is, last-is, onward}
 use Rattle.kept_pairs.specs.declared.Marks.{Marks}
@@ -157,7 +157,7 @@ represents row sp es w duty table h =
 abbrev pub run-records : (w : Progress) (duty : Duty) (table hints : List ℕ) (h : ReachedRun w duty table hints) → RepresentsRun (h .row) (h .sp) (h .events) w duty table
 run-records w duty table hints h = record { bounds = h .bounds; is = h .is; duty-is = h .duty-is; table-is = h .table-is }
 
-module _ (w : Progress) (duty : Duty) (table next : List ℕ) (stepped : SteppedOn) (f : Fields) (steps : SteppingRead duty (w .clock) (readFields f) table next stepped) where
+module _ (w : Progress) (duty : Duty) (table next : List ℕ) (stepped : SteppedOn) (f : Fields) (steps : FieldsStepped duty (w .clock) (readFields f) table next stepped) where
   pub bounds-taken : stepped .refusal ≤ 0 → (hints : List ℕ) → ReachedRun w duty table hints
       → MarksBounds (w .marks) (w .clock .time) (stepped .clock .time) (eqb (w .clock .last) 1)
   bounds-taken l hints h =

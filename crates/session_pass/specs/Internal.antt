@@ -27,7 +27,7 @@ use Rattle.events.specs.Represents.{tableAfter}
 use Rattle.record_runs.specs.Internal.{refusalBy, followed, bookOf}
 use Rattle.kept_pairs.specs.Internal.{marksAt, Holds}
 use Rattle.session_pass.specs.declared.Progress.{Progress}
-use Rattle.session_pass.specs.declared.Stepped.{Stepped}
+use Rattle.session_pass.specs.declared.ProgressAfter.{ProgressAfter}
 
 -- ---- a run so far
 
@@ -57,7 +57,7 @@ pub record RepresentsRun (row : Row) (sp : SpreadRule) (es : List Event) (w : Pr
   pub table-is : table ≡ tableAfter row es
 
 -- what a record promises
-pub record Advanced (w : Progress) (duty : Duty) (o : Outcome Event) (r : Stepped) (table next entry exit : List ℕ) : Type 0 where
+pub record Advanced (w : Progress) (duty : Duty) (o : Outcome Event) (r : ProgressAfter) (table next entry exit : List ℕ) : Type 0 where
   pub number : (row : Row) (sp : SpreadRule) (es : List Event) → RepresentsRun row sp es w duty table → r .refusal ≡ refusalBy row es o
   pub orders : (row : Row) (sp : SpreadRule) (es : List Event) → RepresentsRun row sp es w duty table → refusalBy row es o ≡ 0 → next ≡ tableAfter row (followed es o)
   pub progress : (row : Row) (sp : SpreadRule) (es : List Event) (base : List ℕ) → RepresentsRun row sp es w duty table → Holds base (pairsOf row sp es) entry

@@ -28,7 +28,7 @@ struct Progress {
 }
 
 // What a record hands back: the run after it, and the refusal's number or 0.
-struct Stepped {
+struct ProgressAfter {
     progress: Progress,
     refusal: u32,
 }
@@ -41,7 +41,7 @@ fn step(
     table: &mut [u32],
     hints: &mut [u8],
     buffer: &mut [u32],
-) -> Stepped
+) -> ProgressAfter
     requires { ⌜ ReachedRun progress duty (now table) (now hints) × (20 ≤ length (now bytes)) ⌝ }
     ensures { λ r. ⌜ Advanced progress duty (readRecord (now (bytes .entry))) r (now (table .entry)) (now (table .exit)) (now (buffer .entry)) (now (buffer .exit)) ⌝ }
 {
@@ -52,12 +52,12 @@ fn step(
     let next = stepped.clock;
     let refusal = stepped.refusal;
     if 0 < refusal {
-        return Stepped { progress, refusal };
+        return ProgressAfter { progress, refusal };
     }
     let from = clock.time;
     let to = next.time;
     let grown = kept_pairs::grow(marks, from, to, clock.keeps == 1, clock.last == 1, buffer);
-    Stepped {
+    ProgressAfter {
         progress: Progress {
             clock: next,
             marks: grown,

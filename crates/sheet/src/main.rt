@@ -59,18 +59,10 @@ fn sheet(input: &[u8]) {
         refused(1, 0);
         return;
     }
-    let row = [
-        words::word_at(input, 0),
-        words::word_at(input, 4),
-        words::word_at(input, 8),
-        words::word_at(input, 12),
-        words::word_at(input, 16),
-        words::word_at(input, 20),
-        words::word_at(input, 24),
-    ];
+    let row = row::leading_words(input);
     let length = Millis(row[2]);
     let share = row[6];
-    let sp = words::to_steps(words::word_at(input, 28));
+    let sp = row::leading_price(input);
     let mut buffer = [0u32; 1600];
     let answer = session::run_within(1600, &row, sp, &input[32..], &mut buffer);
     match answer {

@@ -14,7 +14,7 @@ use Rattle.best_quote.specs.Levels.{held, enough, bestKey, levelAt, isBest}
 use Rattle.best_quote.proofs.Levels.{best-level}
 use Rattle.best_quote.proofs.Sums.{countAt, downward-sums}
 use Rattle.small_side.specs.Internal.{keyIn, volumeIn, heldOne, heldAll, levelIn, four, Descending}
-use Rattle.small_side.specs.Small.{Finds}
+use Rattle.small_side.specs.Small.{BestKeyFound}
 use Rattle.small_side.proofs.Orders.{one-most, one-all, one-none}
 
 -- the depth with one more order
@@ -203,7 +203,7 @@ module _ (m a b c d one two three deep in4 in3 in2 in1 : ℕ) (some : 1 ≤ m) (
 -- ---- the columns
 
 pub finds : (ks vs xs : List ℕ) (m key sums : ℕ) → ((t : ℕ → Bool) → heldAll t xs ≡ held t ks vs) → isBest (levelIn xs key) m ≡ true
-    → sums ≡ countAt key ks → Finds ks vs m (record { key = key; sums = sums })
+    → sums ≡ countAt key ks → BestKeyFound ks vs m (record { key = key; sums = sums })
 unfolding levelAt bestKey
 finds ks vs xs m key sums same best number =
     let level : levelIn xs key ≡ levelAt ks vs key = λ i. record { key = key; before = same (ltb key) i; at = same (eqb key) i } in

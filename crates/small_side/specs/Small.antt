@@ -4,8 +4,8 @@ use mathlib.Core.Path.{_≡_}
 use mathlib.Core.List.{List}
 use Rattle.best_quote.specs.Levels.{enough, bestKey}
 use Rattle.best_quote.specs.Sums.{keySums, downward}
-use Rattle.small_side.specs.declared.Found.{Found}
+use Rattle.small_side.specs.declared.KeyFound.{KeyFound}
 
-pub record Finds (ks vs : List ℕ) (minimum : ℕ) (r : Found) : Type 0 where
+pub record BestKeyFound (ks vs : List ℕ) (minimum : ℕ) (r : KeyFound) : Type 0 where
   pub key : r .key ≡ bestKey minimum ks vs
   pub sums : r .sums ≡ keySums (enough minimum ks vs) 0 (downward ks)

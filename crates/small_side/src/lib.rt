@@ -10,12 +10,12 @@ ghost use lib.Dec.{ltb};
 ghost use lib.ListN.{length};
 ghost use Rattle.lists.specs.Lists.{if_then_else_, howMany};
 ghost use Rattle.best_quote.specs.Levels.{isBest, Columns};
-ghost use Rattle.small_side.specs.Small.{Finds};
+ghost use Rattle.small_side.specs.Small.{BestKeyFound};
 ghost use Rattle.small_side.specs.Internal.{Descending, four, levelIn};
 use rules::Contracts;
 
 // The best key, 0 where no price qualifies, and for how many orders volumes were added up.
-pub struct Found {
+pub struct KeyFound {
     pub key: u32,
     pub sums: u32,
 }
@@ -101,9 +101,9 @@ fn counted(keys: &[u32], best: u32) -> u32
 }
 
 // The best key of four slots, orders or blanks.
-pub fn best(keys: &[u32], volumes: &[u32], minimum: Contracts) -> Found
+pub fn best(keys: &[u32], volumes: &[u32], minimum: Contracts) -> KeyFound
     requires { ⌜ (length (now keys) ≡ 4) × Columns (now keys) (now volumes) × (1 ≤ minimum .0) ⌝ }
-    ensures { λ r. ⌜ Finds (now (keys .entry)) (now (volumes .entry)) (minimum .0) r ⌝ }
+    ensures { λ r. ⌜ BestKeyFound (now (keys .entry)) (now (volumes .entry)) (minimum .0) r ⌝ }
 {
     let a = packed(keys[0], volumes[0]);
     let b = packed(keys[1], volumes[1]);
@@ -122,7 +122,7 @@ pub fn best(keys: &[u32], volumes: &[u32], minimum: Contracts) -> Found
         worse(q, s),
         minimum,
     );
-    Found {
+    KeyFound {
         key,
         sums: counted(keys, key),
     }

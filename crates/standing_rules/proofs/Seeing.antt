@@ -28,7 +28,7 @@ many-append p [] ys = omega arith
 many-append p (x ∷ xs) ys = omega (arith, many-append p xs ys)
 
 -- what was found after the records xs
-pub record Found (m : Maker) (xs : List Maker) (s : Seen) : Type 0 where
+pub record MakerSeen (m : Maker) (xs : List Maker) (s : Seen) : Type 0 where
   pub present : s .present ≡ present (m .number) xs
   pub above : s .above ≡ othersAbove m xs
 
@@ -56,7 +56,7 @@ look-at : (s : Seen) (i : ℕ) (r m : Maker) → lookOf s i r m .at ≡ (if isOf
 unfolding lookOf
 look-at s i r m = refl
 
-found-next : (m r : Maker) (xs : List Maker) (s : Seen) (i : ℕ) → Found m xs s → Found m (xs ++ (r ∷ [])) (lookOf s i r m)
+found-next : (m r : Maker) (xs : List Maker) (s : Seen) (i : ℕ) → MakerSeen m xs s → MakerSeen m (xs ++ (r ∷ [])) (lookOf s i r m)
 unfolding every any howMany
 found-next m r xs s i f =
     record {
@@ -70,11 +70,11 @@ found-next m r xs s i f =
           ∙ sym (many-append (λ r. not (isOf (m .number) r) && above r m) xs (r ∷ []));
     }
 
-pub found : (l : List Maker) (m : Maker) (n : ℕ) → n ≤ length l → Found m (take n l) (seenIn l m n)
+pub found : (l : List Maker) (m : Maker) (n : ℕ) → n ≤ length l → MakerSeen m (take n l) (seenIn l m n)
 unfolding seenIn every any howMany
 found l m zero h = record { present = refl; above = refl }
 found l m (suc n) h =
-    subst (λ (xs : List Maker). Found m xs (lookOf (seenIn l m n) n (getD l n none) m)) (sym (take-suc l n none h))
+    subst (λ (xs : List Maker). MakerSeen m xs (lookOf (seenIn l m n) n (getD l n none) m)) (sym (take-suc l n none h))
     (found-next m (getD l n none) (take n l) (seenIn l m n) n (found l m n (omega arith)))
 
 -- no more records stand above than were looked at

@@ -241,14 +241,14 @@ call-judged s (Change m) = other-judged (wrong s) (present (m .number) (used s))
 call-judged s (Leave n) = other-judged (wrong s) (present n (used s))
 
 -- a plan that does what the call is to do
-pub record Works (l : List Maker) (c : ℕ) (call : Call) (p : Plan) : Type 0 where
+pub record PlanDoesCall (l : List Maker) (c : ℕ) (call : Call) (p : Plan) : Type 0 where
   pub refusal : p .refusal ≡ refusalOf (standing l c) call
   pub count : p .count ≡ step (standing l c) call .count
   pub kept : (p .refusal ≡ 0 → ⊥) → l ≡ step (standing l c) call .records
   pub moved : p .refusal ≡ 0 → Moved l (p .from) (p .to) (recordOf call) (step (standing l c) call .records)
 
 -- its count and refusal are the call's answer
-pub answered : (l : List Maker) (c : ℕ) (call : Call) (p : Plan) → Works l c call p
+pub answered : (l : List Maker) (c : ℕ) (call : Call) (p : Plan) → PlanDoesCall l c call p
     → _≡_ {A = Answer} (record { count = p .count; refusal = p .refusal }) (answerOf (standing l c) call)
 unfolding answerOf
 answered l c call p w = λ i. record { count = w .count i; refusal = w .refusal i }
@@ -297,7 +297,7 @@ module _ (l : List Maker) (c : ℕ) (call : Call) where
   abbrev plan : Plan
   plan = planned call number c found-of
 
-  refused-works : (refusalOf st call ≡ 0 → ⊥) → Works l c call plan
+  refused-works : (refusalOf st call ≡ 0 → ⊥) → PlanDoesCall l c call plan
   unfolding planned
   refused-works h =
       let q : step st call ≡ st = step-refused st call h in
@@ -308,7 +308,7 @@ module _ (l : List Maker) (c : ℕ) (call : Call) where
         moved = λ k. absurd (h (sym number-is ∙ k));
       })
 
-  accepted-works : refusalOf st call ≡ 0 → Works l c call plan
+  accepted-works : refusalOf st call ≡ 0 → PlanDoesCall l c call plan
   unfolding planned
   accepted-works e =
       let d : Does l c call (accepted call c found-of) = subst (λ (k : ℕ). Does l c call (accepted call c (seenIn l (recordOf call) k))) (sym (min-eq-left (accepted-right st call e .within))) (does l c call e) in
@@ -320,9 +320,9 @@ module _ (l : List Maker) (c : ℕ) (call : Call) where
         moved = λ _. subst (λ (y : List Maker). Moved l (accepted call c found-of .from) (accepted call c found-of .to) (recordOf call) y) (sym (ap (λ (x : Standing). x .records) q)) (d .moves);
       })
 
-  pub works : Works l c call plan
+  pub works : PlanDoesCall l c call plan
   works = go (refusalOf st call) refl
     where
-      go : (r : ℕ) → refusalOf st call ≡ r → Works l c call plan
+      go : (r : ℕ) → refusalOf st call ≡ r → PlanDoesCall l c call plan
       go zero e = accepted-works e
       go (suc r) e = refused-works (λ k. omega (arith, e, k))

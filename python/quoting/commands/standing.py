@@ -1,7 +1,7 @@
 """The standing of makers after a list of joins, changes and leaves: the table of places.
 
 The text, a call a line: join MAKER RATING, change MAKER RATING, leave MAKER; `records N` as the first line says how many records there
-are, 512 where it is not said. Refused calls stand above the table, and the status is then 1.
+are, 512 where it is not said. Refused calls are listed above the table, and the status is then 1.
 
 examples:
   quoting standing examples/makers.standing

@@ -1,7 +1,7 @@
 """Volatile days: each day's sigma, which days are inside a disturbed period, and whether the next one is.
 
 THRESHOLD is in millionths. FILE has the settlement prices, oldest first, one a line, in whole price steps; a date or any other one word
-may stand before each.
+may precede each.
 
 examples:
   quoting volatile 15000 examples/volatile.prices

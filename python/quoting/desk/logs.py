@@ -3,7 +3,7 @@
 from dataclasses import dataclass
 from hashlib import sha256
 from pathlib import Path
-from typing import Callable, Iterator, Optional
+from typing import Callable, Iterator, Optional, Sequence
 
 from quoting.desk.contracts import Contract
 from quoting.desk.desks import Desk
@@ -67,7 +67,11 @@ def timelines_for(reader: LogReader, contract: Contract) -> list[Timeline]:
 
 
 def work_of(desk: Desk, reader: LogReader, planned: Planned) -> Work:
-    quantum = quantum_of(timelines_for(reader, planned.contract), planned.start_ms, planned.end_ms)
+    return work_of_lines(desk, timelines_for(reader, planned.contract), planned)
+
+
+def work_of_lines(desk: Desk, lines: Sequence[Timeline], planned: Planned) -> Work:
+    quantum = quantum_of(lines, planned.start_ms, planned.end_ms)
     return Work(planned, desk.charges_of(planned), quantum.carried.data, quantum.events.data, quantum.events.places)
 
 

@@ -19,14 +19,15 @@ import time
 from dataclasses import dataclass, field
 from typing import Optional
 
+from quoting.calls import OPENS, Kind
 from quoting.cells import Place
 from quoting.formats import counted, place_text, thousands
 from quoting.month_sources import Sent
 from quoting.values import clock
-from quoting.watch.meter import CLOSE, DROP, EVENT_KINDS, OPEN_KINDS, Meter
+from quoting.watch.meter import EVENT_KINDS, Meter
 
 SETTLING = 10.0  # seconds after a change in which the file may be written on: later lines are new ones, and don't bring back lost ones
-PLACED_KINDS = frozenset((*OPEN_KINDS, *EVENT_KINDS, CLOSE, DROP))  # calls that show whether a file goes on where another ended
+PLACED_KINDS = OPENS | EVENT_KINDS | {Kind.CLOSE, Kind.DROP}  # calls that show whether a file goes on where another ended
 
 
 @dataclass(frozen=True)
@@ -99,6 +100,6 @@ class Doubt:
 def goes_on(meter: Meter, kind: int, place: Optional[Place]) -> bool:
     """Whether the first call of a rotated file, of this kind and of this place if it is an open, can follow what was read. While a quantum
     is open no open can; without one only an open of a cell that is not filled can."""
-    if kind in OPEN_KINDS:
+    if kind in OPENS:
         return meter.opened is None and place not in meter.cells()
     return meter.opened is not None

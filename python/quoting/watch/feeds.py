@@ -29,7 +29,7 @@ MOST_ITEMS, MOST_PIECES = 2_000, 3  # of one read
 LONGEST_LINE = 1 << 20
 LONGEST_BLOCK = 4 * 65_536  # docs/FORMATS.md
 TAIL = 4_096  # bytes before the place that is read next: where the file has grown, they must be the same as before
-KINDS = {1, 13, 16, *c.FIXED}
+KINDS = frozenset(c.Kind)
 LINE_END = re.compile(rb"\r\n|\r|\n")
 NO_CALL = "there is no call there, and nothing after it is read"
 FROM_START = "the feed is read again from its start"
@@ -338,7 +338,7 @@ class ListLines:
                 return
             block = one_call(words, self.options)
         except UnicodeDecodeError:
-            yield Trouble(f"line {number}", "this is no text (not UTF-8)")
+            yield Trouble(f"line {number}", "this is not a text: it is not UTF-8")
         except (TextError, ValueError) as error:
             yield Trouble(f"line {number}", str(error))
         else:
@@ -351,7 +351,7 @@ class ListLines:
 
     def call(self, number: int, block: bytes) -> Iterator[Item]:
         start, self.symbol = None, None
-        if self.started is not None and block[0] in (1, 13):
+        if self.started is not None and block[0] in c.OPENS:
             _, start, self.symbol = self.started
             self.started = None
         yield from self.end()

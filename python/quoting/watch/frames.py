@@ -214,7 +214,7 @@ def open_quantum(meter: Meter, shown: Optional[Shown], status: Status) -> Option
     return {
         "stale": is_stale, "asks": not is_stale, "bar": bar(shown), "tiles": tiles(meter, meter.opened, shown),
         "lapses": {"count": shown.report.lapses, "limit": view.limit}, "account": account(shown.seen.totals),
-        "gone": figure(shown.report.time), "ahead": ahead(shown), "orders": orders, "orders_note": orders_note(meter, shown),
+        "gone": figure(shown.report.time), "ahead": ahead(shown), "orders": orders, "ordersNote": orders_note(meter, shown),
         "time": proposed(meter.opened, shown.report.time),
     }
 
@@ -232,7 +232,7 @@ def bar(shown: Shown) -> Section:
     labels = {name: [share_text(part), s.due(-(-part * length // 1000))] for name, part in (("required", share), ("full", FULL))}
     return {
         "kept": kept / length, "reach": reach / length, "required": share / 1000, "full": FULL / 1000,
-        "share": part_text(kept, length), "labels": labels, "out_of_reach": reach < length,
+        "share": part_text(kept, length), "labels": labels, "outOfReach": reach < length,
     }
 
 
@@ -328,7 +328,7 @@ def day(meter: Meter, now: int, status: Status, got: Optional[Got]) -> tuple[Opt
     name = "last" if status.is_still else "now"
     made = {
         "fresh": is_fresh, "length": course.length, "width": course.width, "start": marks(opened), "now": at,
-        "now_text": f"{name} {times.down(at)}",
+        "nowText": f"{name} {times.down(at)}",
         "latest": None if latest is None else {"at": latest, "text": f"latest {times.down(latest)}"},
         "running": {"from": course.time, "key": course.state.word},
         "bid": best(meter, "bid", course.bid), "ask": best(meter, "ask", course.ask),

@@ -79,7 +79,7 @@ class Watch:
     # ------------------------------------------------------------ a feed that has changed
 
     def change(self, item: Changed) -> None:
-        """A rotated file is judged by its first call that shows where it belongs."""
+        """A rotated file is checked by its first call that shows where it belongs."""
         self.rotated = Rotated(Reading.of(self.meter)) if item.may_follow else None
         if item.is_lost:
             self.doubtful(item.text, Reading.of(self.meter), True)

@@ -249,7 +249,7 @@ class MessagesFeed(Pieces):
 
     def enqueue(self, call: Call) -> None:
         sent = call.sent
-        opened = c.call_of(sent.block) if sent.block[0] in (1, 13) else None
+        opened = c.call_of(sent.block) if sent.block[0] in c.OPENS else None
         start = sent.start or (self.start if opened is not None else None)
         if start is None:
             self.queue.append((sent, None))

@@ -13,6 +13,7 @@ from typing import TYPE_CHECKING, Any, Callable, Optional
 from quoting import calls as c
 from quoting import values
 from quoting.answers import Answer, Asked, Cell, MonthReport, Outlook
+from quoting.calls import Kind
 from quoting.cells import CELLS, LOOKS, Place
 from quoting.drawing import short
 from quoting.events import Amend
@@ -31,10 +32,9 @@ if TYPE_CHECKING:
     from quoting.watch.feeds import Trouble
 
 # The kinds of blocks: those that alter the open quantum, and those that alter what cells are filled or which quantum is open.
-EVENT_KINDS = frozenset((2, 3, 4, 5, 6, 15, 16))
-OPEN_KINDS, CLOSE, DROP, WITHDRAW, MESSAGE = (1, 13), 7, 8, 10, 16
-CELL_KINDS = frozenset((*OPEN_KINDS, CLOSE, DROP, 9, WITHDRAW))
-TIMED_KINDS = frozenset((2, 3, 4, 5, 6, 14, 15))
+EVENT_KINDS = frozenset((Kind.ADD, Kind.AMEND, Kind.CANCEL, Kind.DEAL, Kind.TICK, Kind.COMMIT, Kind.MESSAGE))
+CELL_KINDS = c.OPENS | {Kind.CLOSE, Kind.DROP, Kind.CHARGE, Kind.WITHDRAW}
+TIMED_KINDS = EVENT_KINDS - {Kind.MESSAGE} | {Kind.ASK}  # their first word is a time
 LISTED = 20  # problems that are shown
 MOST_SIGNS = 300  # of a problem's text: a message may be as long as it likes
 EXPECTED = {
@@ -149,7 +149,7 @@ class Meter:
         assert glance is not None and self.course is not None and self.opened is not None
         self.course.note(*glance)
         self.came = came
-        if self.opened.start is None and sent.block[0] == MESSAGE:  # a message says when its quantum starts
+        if self.opened.start is None and sent.block[0] == Kind.MESSAGE:  # a message says when its quantum starts
             call = c.call_of(sent.block)
             assert isinstance(call, c.Message)
             self._open(self.opened.place, self.opened.length, call.start.decode("latin-1"))
@@ -162,7 +162,7 @@ class Meter:
             self._open((call.day, call.words[0], call.words[1]), call.words[2], sent.start)
             self.course = Course(call.words[2])
         elif isinstance(call, (c.Close, c.Drop)) and self.opened is not None:
-            self.closed = self.opened.place if kind == CLOSE else self.closed
+            self.closed = self.opened.place if kind == Kind.CLOSE else self.closed
             self.opened = self.course = None
         elif isinstance(call, c.Withdraw) and self.closed == (call.day, call.expiry, call.quantum):
             self.closed = None
@@ -273,14 +273,14 @@ def field(name: str, text: str, read: Callable[[str], int]) -> int:
 
     >>> field("order", " ", int)
     Traceback (most recent call last):
-    ValueError: order: nothing is given; expected is the id of a live order
+    ValueError: order: nothing is given; expected the id of a live order
     """
     try:
         if not text.strip():
             raise ValueError("nothing is given")
         return read(plain(text))
     except ValueError as error:
-        raise ValueError(f"{name}: {error}; expected is {EXPECTED[name]}") from None
+        raise ValueError(f"{name}: {error}; expected {EXPECTED[name]}") from None
 
 
 def wall_text(moment: float, now: float) -> str:

@@ -158,13 +158,13 @@ class Recounter:
         """That they differ, at once; then the call. Where both agree on every call, the month that was shown is not the one that these
         calls make, and it is the last one."""
         yield self.parted(self.calls, answer, ours, theirs, False)
-        yield self.first_parting() or self.parted(self.calls, answer, ours, theirs, True)
+        yield self.first_difference() or self.parted(self.calls, answer, ours, theirs, True)
 
     def parted(self, call: int, answer: str, ours: list[str], theirs: list[str], is_exact: bool) -> Parted:
         called = self.since[call - self.point.calls - 1] if self.since else self.last
         return Parted(call, called, (called.line, answer), ours, theirs, self.point.calls, is_exact)
 
-    def first_parting(self) -> Optional[Parted]:
+    def first_difference(self) -> Optional[Parted]:
         """From the last agreement on both readings go through the calls again: one by one, or where that is too much work halving, which
         names a call after which they differ and before which they do not."""
         events = len(self.book.quoting.events) if self.book.quoting else 0

@@ -30,8 +30,8 @@ best-requires c κs =
       s .pre .some,
     )
 
-put-requires : tie.Need-put-requires
-put-requires c κs =
+put-level-requires : tie.Need-put-level-requires
+put-level-requires c κs =
     let s = c .before .before .before .before .before .before in
     moving-length (s .args .words .now) (s .pre .change) (s .args .minimum .0) (s .pre .stale)
 
@@ -39,7 +39,7 @@ returns : tie.Need-returns
 returns c = λ change m.
     let s = c .before .before .before .before .before .before .before .before .before in
     let best = c .before .before .before .before .best in
-    small-requotes (s .args .words .now) change (s .args .minimum .0) m (s .pre .few) (best .result) (best .ensures) (c .before .before .put .last .0) (c .before .before .put .ensures)
+    small-requotes (s .args .words .now) change (s .args .minimum .0) m (s .pre .few) (best .result) (best .ensures) (c .before .before .put-level .last .0) (c .before .before .put-level .ensures)
 
 pub by-small-spec : {M : Type 1} → statement M
 by-small-spec =
@@ -54,6 +54,6 @@ by-small-spec =
     (λ c. search needs)
     part-best-end-2
     best-requires
-    put-requires
+    put-level-requires
     (λ c. search needs)
     returns)

@@ -126,8 +126,8 @@ is-best-requires c κs =
     level-small (keysOf (m .after)) (volumesOf (m .after)) (c .moved .result) (slots-columns (m .after) (m .good))
     (own-level (keysOf (m .after)) (volumesOf (m .after)) (bestKeyIn (s .args .minimum .0) (m .before)) (c .moved .result) (old-is c m))
 
-put-requires : tie.Need-put-requires
-put-requires c κs =
+put-level-requires : tie.Need-put-level-requires
+put-level-requires c κs =
     let s = c .before .before .before .before .before .before .before .before .before .before .before in
     moving-length (s .args .words .now) (s .args .change) (s .args .minimum .0) (s .pre .0)
 
@@ -136,7 +136,7 @@ returns-3 c m =
     let s = c .before .before .before .before .before .before .before .before .before .before .before .before .before .before in
     let l = c .before .before .before .before .before .before in
     same-requotes (s .args .words .now) (s .args .change) (s .args .minimum .0) m (more (s .args .words .now) (s .args .change) (s .args .minimum .0) m (omega (arith, c .before .before .before .before .before .before .before .before .before .before .before .if1 .left))) (large (l .before) m) (l .moved .result) (old-is l m)
-    (sym (c .before .before .before .before .before .is-best .ensures) ∙ c .before .before .before .before .if3 .taken) (c .before .before .put .last .0) (c .before .before .put .ensures)
+    (sym (c .before .before .before .before .before .is-best .ensures) ∙ c .before .before .before .before .if3 .taken) (c .before .before .put-level .last .0) (c .before .before .put-level .ensures)
 
 room-requires : tie.Need-room-requires
 room-requires c κs =
@@ -239,7 +239,7 @@ requote-spec =
     level-of-requires
     moved-requires
     is-best-requires
-    put-requires
+    put-level-requires
     (λ c. search needs)
     returns-3
     room-requires

@@ -25,8 +25,8 @@ returns c =
 note-requires : tie.Need-note-requires
 note-requires c κs = (c .before .before .before .before .before .before .before .before .pre .1, omega (arith, c .before .before .before .before .before .if1 .left))
 
-put-requires : tie.Need-put-requires
-put-requires c κs =
+replace-order-requires : tie.Need-replace-order-requires
+replace-order-requires c κs =
     let start = c .before .before .before .before .before .before .before .before .before .before .before .before .before in
     let a = start .args in
     let l = start .pre .0 in (
@@ -38,7 +38,7 @@ put-requires c κs =
 returns-2 : tie.Need-returns-2
 returns-2 c =
     let a = c .before .before .before .before .before .before .before .before .before .before .before .before .before .before .before .before .before .args in
-    let put = c .before .before .before .put in
+    let put = c .before .before .before .replace-order in
     let new = c .before .before .before .before .renewed in
     let there = c .before .before .before .before .before .before .before .before .before .before .before .before .before .before .if1 .left in (
       λ t id minimum live represents at.
@@ -74,7 +74,7 @@ amend-spec =
     (λ c. search needs)
     (λ c. search needs)
     (λ c κs. search needs)
-    put-requires
+    replace-order-requires
     (λ c κs. search needs)
     (λ c. search needs)
     (λ c. search needs)

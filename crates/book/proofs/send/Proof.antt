@@ -1,5 +1,5 @@
 -- The orders by `changed`, the best level of their side by `requote`; both halves of the table are then those of the orders after the
--- event, and whether these keep the quote follows from their best keys (Sendings).
+-- event, and whether these keep the quote follows from their best keys (EventAnswered).
 use Prim.Native.Nat.{_+_, _-_, _*_, _<_}
 use native.Mathlib.Omega.{arith}
 use mathlib.Core.Path.{_≡_, _∙_}
@@ -10,7 +10,7 @@ use Rattle.record.specs.Fields.{readFields}
 use Rattle.record.proofs.Reading.{only-fifteen}
 use Rattle.book.specs.Internal.{AppliedRead}
 use Rattle.order_table.proofs.Table.{table-length}
-use Rattle.book.proofs.Sendings.{read-number, read-moving, refused-sends, taken-sends}
+use Rattle.book.proofs.EventAnswered.{read-number, read-moving, refused-sends, taken-sends}
 use Rattle.book.proofs.send.Statement.{statement}
 use Rattle.book.proofs.send.Tie as tie
 

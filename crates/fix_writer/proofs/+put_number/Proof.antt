@@ -10,7 +10,7 @@ use Rattle.fix_writer.proofs.put_number.Reads as put-number
 use Rattle.fix_writer.proofs.put_number.Kinds as put-number-kinds
 use Rattle.fix_writer.proofs.+put_number.Lts-put_number as put-number-lts
 use Rattle.fix_writer.proofs.digit.Reads as digit-reads
-use Rattle.fix_writer.proofs.put.Reads as put-reads
+use Rattle.fix_writer.proofs.put_byte.Reads as put-reads
 use Rattle.fix_writer.proofs.+put_number.{statement}
 use Rattle.fix_writer.proofs.+put_number.Tie.{close}
 
@@ -37,7 +37,7 @@ put-number-digit-requires : (t : ℕ) → put-number-lts.Need-digit-requires (
 put-number-digit-requires t c κs = omega arith
 
 -- src/lib.rt:59:9
-put-number-put-requires : (t : ℕ) → put-number-lts.Need-put-requires (
+put-number-put-requires : (t : ℕ) → put-number-lts.Need-put-byte-requires (
   digit-reads.Asked,
   digit-reads.Learnt,
   put-reads.Asked,
@@ -58,7 +58,7 @@ put-number-returns : (t : ℕ) → put-number-lts.Need-returns (
 ) (put-number-at t) put-number.Post
 put-number-returns t c =
     let start = c .before .before .before .before in
-    one (start .args .out .now) (start .args .at) (start .args .n) _ (c .put .result) _ (c .before .before .before .if1 .taken) (c .before .digit .ensures) (c .put .ensures)
+    one (start .args .out .now) (start .args .at) (start .args .n) _ (c .put-byte .result) _ (c .before .before .before .if1 .taken) (c .before .digit .ensures) (c .put-byte .ensures)
 
 -- src/lib.rt:61:9
 put-number-put-number-requires : (t : ℕ) → put-number-lts.Need-put-number-requires (
@@ -85,7 +85,7 @@ put-number-digit-requires-2 : (t : ℕ) → put-number-lts.Need-digit-requires-2
 put-number-digit-requires-2 t c κs = omega arith
 
 -- src/lib.rt:62:5
-put-number-put-requires-2 : (t : ℕ) → put-number-lts.Need-put-requires-2 (
+put-number-put-requires-2 : (t : ℕ) → put-number-lts.Need-put-byte-requires-2 (
   digit-reads.Asked,
   digit-reads.Learnt,
   put-reads.Asked,
@@ -109,7 +109,7 @@ put-number-returns-2 : (t : ℕ) → put-number-lts.Need-returns-2 (
 ) (put-number-at t) put-number.Post
 put-number-returns-2 t c =
     let start = c .before .before .before .before .before .before in
-    more (start .args .out .now) (start .args .at) (start .args .n) _ _ (c .put2 .result) _ _ (c .before .before .before .before .before .if1 .left) (c .before .digit2 .ensures) (c .before .before .before .put-number .ensures) (c .put2 .ensures)
+    more (start .args .out .now) (start .args .at) (start .args .n) _ _ (c .put-byte2 .result) _ _ (c .before .before .before .before .before .if1 .left) (c .before .digit2 .ensures) (c .before .before .before .put-number .ensures) (c .put-byte2 .ensures)
 
 pub +put-number-spec : {M : Type 1} → statement M
 +put-number-spec = close μ-put-number λ t. put-number-lts.spec (

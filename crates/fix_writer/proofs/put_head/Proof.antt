@@ -12,12 +12,12 @@ use Rattle.fix_writer.proofs.put_head.Tie as tie
 put-number-requires : tie.Need-put-number-requires
 put-number-requires c κs = (c .before .put-all .ensures .size ∙ c .before .before .before .before .pre .0, omega (arith, c .before .put-all .ensures .place, two-digits (c .before .before .before .before .args .n) (c .before .before .before .before .pre .1) (c .before .before .before .before .pre .2)))
 
-put-requires : tie.Need-put-requires
-put-requires c κs = (c .before .put-number .ensures .size ∙ c .before .before .before .put-all .ensures .size ∙ c .before .before .before .before .before .before .pre .0, omega (arith, c .before .before .before .put-all .ensures .place, c .before .put-number .ensures .place, two-digits (c .before .before .before .before .before .before .args .n) (c .before .before .before .before .before .before .pre .1) (c .before .before .before .before .before .before .pre .2)))
+put-byte-requires : tie.Need-put-byte-requires
+put-byte-requires c κs = (c .before .put-number .ensures .size ∙ c .before .before .before .put-all .ensures .size ∙ c .before .before .before .before .before .before .pre .0, omega (arith, c .before .before .before .put-all .ensures .place, c .before .put-number .ensures .place, two-digits (c .before .before .before .before .before .before .args .n) (c .before .before .before .before .before .before .pre .1) (c .before .before .before .before .before .before .pre .2)))
 
 returns : tie.Need-returns
 unfolding fieldBytes headBytes
-returns c = three (c .before .before .before .before .before .before .before .args .out .now) 0 (c .before .before .before .before .put-all .ensures) (c .before .before .put-number .ensures) (c .put .ensures)
+returns c = three (c .before .before .before .before .before .before .before .args .out .now) 0 (c .before .before .before .before .put-all .ensures) (c .before .before .put-number .ensures) (c .put-byte .ensures)
 
 pub put-head-spec : {M : Type 1} → statement M
 put-head-spec =
@@ -27,5 +27,5 @@ put-head-spec =
     (λ c κs. search needs)
     (λ c. search needs)
     put-number-requires
-    put-requires
+    put-byte-requires
     returns)

@@ -16,8 +16,8 @@ returns c =
     let start = c .before .before .before .before .before .before .before .before in
     let tag = c .before .before .before .before .before .put-all .ensures in
     let value = c .before .before .put-signed .ensures in (
-      named (start .args .out .now) (start .args .at) (ap (λ z. 52 ∷ 52 ∷ 61 ∷ (signedDecimal z ++ (1 ∷ []))) (toZ-ofZ (record { sfits = c .before .before .before .struct-told .given .0 .1 }))) (three (start .args .out .now) (start .args .at) tag (value .0) (c .put .ensures)),
-      omega (arith, tag .place, value .1, c .put .ensures .place),
+      named (start .args .out .now) (start .args .at) (ap (λ z. 52 ∷ 52 ∷ 61 ∷ (signedDecimal z ++ (1 ∷ []))) (toZ-ofZ (record { sfits = c .before .before .before .struct-told .given .0 .1 }))) (three (start .args .out .now) (start .args .at) tag (value .0) (c .put-byte .ensures)),
+      omega (arith, tag .place, value .1, c .put-byte .ensures .place),
     )
 
 pub put-price-spec : {M : Type 1} → statement M

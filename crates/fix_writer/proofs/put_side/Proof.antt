@@ -13,9 +13,9 @@ unfolding fieldBytes
 returns c =
     let start = c .before .before .before .before .before .before .before .before in
     let tag = c .before .before .before .before .before .put-all .ensures in
-    let value = c .before .before .put .ensures in (
-      named (start .args .out .now) (start .args .at) (ap (λ v. 53 ∷ 52 ∷ 61 ∷ (v ++ (1 ∷ []))) (c .before .before .before .side-digit .ensures)) (three (start .args .out .now) (start .args .at) tag value (c .put2 .ensures)),
-      omega (arith, tag .place, value .place, c .put2 .ensures .place),
+    let value = c .before .before .put-byte .ensures in (
+      named (start .args .out .now) (start .args .at) (ap (λ v. 53 ∷ 52 ∷ 61 ∷ (v ++ (1 ∷ []))) (c .before .before .before .side-digit .ensures)) (three (start .args .out .now) (start .args .at) tag value (c .put-byte2 .ensures)),
+      omega (arith, tag .place, value .place, c .put-byte2 .ensures .place),
     )
 
 pub put-side-spec : {M : Type 1} → statement M

@@ -22,13 +22,13 @@ returns c =
     )
 
 put-number-requires-2 : tie.Need-put-number-requires-2
-put-number-requires-2 c κs = (c .before .put .ensures .size ∙ c .before .before .before .before .before .pre .0, omega (arith, c .before .put .ensures .place, ten-at-most (4294967295 - c .before .before .before .before .from-steps .result + 1) (omega arith)))
+put-number-requires-2 c κs = (c .before .put-byte .ensures .size ∙ c .before .before .before .before .before .pre .0, omega (arith, c .before .put-byte .ensures .place, ten-at-most (4294967295 - c .before .before .before .before .from-steps .result + 1) (omega arith)))
 
 returns-2 : tie.Need-returns-2
 returns-2 c =
     let start = c .before .before .before .before .before .before in
     let w = c .before .before .before .before .before .from-steps in
-    let sign = c .before .before .put in (
+    let sign = c .before .before .put-byte in (
       with-sign (start .args .out .now) (start .args .at) (start .args .x) (w .result) (start .fits .x .sfits) (w .ensures ∙ ap unsignedOf (toZ-ofZ (start .fits .x))) (sign .result) (c .put-number2 .result) _ _ (c .before .before .before .before .if1 .left) (sign .ensures) (c .put-number2 .ensures),
       omega (arith, sign .ensures .place, c .put-number2 .ensures .place, ten-at-most (4294967295 - w .result + 1) (omega arith)),
     )

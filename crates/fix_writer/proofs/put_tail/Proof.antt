@@ -11,7 +11,7 @@ returns c =
     let start = c .before .before .before .before .before .before .before .before .before .before .before in
     let out = start .args .out .now in
     let at = start .args .at in
-    join out at (join out at (join out at (join out at (c .before .before .before .before .before .before .before .before .put-all .ensures) (c .before .before .before .before .before .before .put .ensures)) (c .before .before .before .before .put2 .ensures)) (c .before .before .put3 .ensures)) (c .put4 .ensures)
+    join out at (join out at (join out at (join out at (c .before .before .before .before .before .before .before .before .put-all .ensures) (c .before .before .before .before .before .before .put-byte .ensures)) (c .before .before .before .before .put-byte2 .ensures)) (c .before .before .put-byte3 .ensures)) (c .put-byte4 .ensures)
 
 pub put-tail-spec : {M : Type 1} → statement M
 put-tail-spec =

@@ -15,8 +15,8 @@ returns c =
     let start = c .before .before .before .before .before .before .before .before in
     let tag = c .before .before .before .before .put-all .ensures in
     let value = c .before .before .put-all2 .ensures in (
-      named (start .args .out .now) (start .args .at) (sym (append-nil (fieldBytes (fieldWith timeTag (start .args .sixty .now))))) (three (start .args .out .now) (start .args .at) tag value (c .put .ensures)),
-      omega (arith, tag .place, value .place, c .put .ensures .place),
+      named (start .args .out .now) (start .args .at) (sym (append-nil (fieldBytes (fieldWith timeTag (start .args .sixty .now))))) (three (start .args .out .now) (start .args .at) tag value (c .put-byte .ensures)),
+      omega (arith, tag .place, value .place, c .put-byte .ensures .place),
     )
 
 pub put-time-spec : {M : Type 1} → statement M

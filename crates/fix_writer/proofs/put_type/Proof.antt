@@ -11,9 +11,9 @@ unfolding fieldBytes
 returns c =
     let start = c .before .before .before .before .before .before .before in
     let tag = c .before .before .before .before .put-all .ensures in
-    let value = c .before .before .put .ensures in (
-      three (start .args .out .now) 15 tag value (c .put2 .ensures),
-      omega (arith, tag .place, value .place, c .put2 .ensures .place),
+    let value = c .before .before .put-byte .ensures in (
+      three (start .args .out .now) 15 tag value (c .put-byte2 .ensures),
+      omega (arith, tag .place, value .place, c .put-byte2 .ensures .place),
     )
 
 pub put-type-spec : {M : Type 1} → statement M

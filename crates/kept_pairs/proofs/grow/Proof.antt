@@ -19,16 +19,16 @@ sub-n c =
     let b = begun-bounds (s .args .marks) (s .args .from .0) (s .args .reaches) (g .begun .result) (g .begun .ensures) (q .started) (q .few) (q .some) in
     b .0
 
-sub-put : tie.Need-sub-put
-sub-put c =
+sub-put-pair : tie.Need-sub-put-pair
+sub-put-pair c =
     let g = c .before .before .before in
     let s = g .before .before .before .before .before .before in
     let q = s .pre in
     let b = begun-bounds (s .args .marks) (s .args .from .0) (s .args .reaches) (g .begun .result) (g .begun .ensures) (q .started) (q .few) (q .some) in
     omega (arith, b .2)
 
-put-requires : tie.Need-put-requires
-put-requires c κs =
+put-pair-requires : tie.Need-put-pair-requires
+put-pair-requires c κs =
     let g = c .before .before .before in
     let s = g .before .before .before .before .before .before in
     let q = s .pre in
@@ -40,7 +40,7 @@ returns-2 c = λ p base is j f h.
     let g = c .before .before .before .before .before .before in
     let s = g .before .before .before .before .before .before in
     grows-by p (s .args .from .0) (s .args .to .0) (s .args .marks) is base (s .args .buffer .now) h (omega arith)
-    (λ k a b. f k a b ∙ g .before .if2 .taken) (s .args .reaches) j (g .begun .result) (g .begun .ensures) (c .before .before .put .last .0) (c .before .before .put .ensures)
+    (λ k a b. f k a b ∙ g .before .if2 .taken) (s .args .reaches) j (g .begun .result) (g .begun .ensures) (c .before .before .put-pair .last .0) (c .before .before .put-pair .ensures)
 
 returns-3 : tie.Need-returns-3
 returns-3 c = λ p base is j f h.
@@ -56,8 +56,8 @@ grow-spec =
     (λ c κs. search needs)
     sub-n
     (λ c. search needs)
-    sub-put
-    put-requires
+    sub-put-pair
+    put-pair-requires
     (λ c. search needs)
     returns-2
     returns-3)

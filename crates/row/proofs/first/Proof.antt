@@ -8,12 +8,12 @@ use lib.ListN.{length, take, drop}
 use Rattle.rules.specs.Choosing.{firstRow}
 use Rattle.rules.proofs.Choosing.{row-none, row-at}
 use Rattle.row.specs.Starts.{Place, startIn}
-use Rattle.row.specs.Internal.{Found}
+use Rattle.row.specs.Internal.{FirstRowAt}
 use Rattle.row.proofs.Starts.{at-none, at-first}
 use Rattle.row.proofs.first.Statement.{statement}
 use Rattle.row.proofs.first.Tie as tie
 
-module _ (expiry quantum : ℕ) (table : List ℕ) (k : ℕ) (found : Found expiry quantum table k) where
+module _ (expiry quantum : ℕ) (table : List ℕ) (k : ℕ) (found : FirstRowAt expiry quantum table k) where
   there : k < length table / 7 → take (7 * k + 7 - 7 * k) (drop (7 * k) table) ≡ firstRow expiry quantum table
   there l =
       let e : 7 * k + 7 - 7 * k ≡ 7 = omega arith in

@@ -17,15 +17,15 @@ sub-n c =
     let s = g .before .before .before .before .before in
     begun-bounds (s .args .marks) (s .args .from .0) (s .args .state) (g .begun .result) (g .begun .ensures) (s .pre .started) (s .pre .few) (s .pre .some) .0
 
-sub-put : tie.Need-sub-put
-sub-put c =
+sub-put-part : tie.Need-sub-put-part
+sub-put-part c =
     let g = c .before .before .before in
     let s = g .before .before .before .before .before in
     let b = begun-bounds (s .args .marks) (s .args .from .0) (s .args .state) (g .begun .result) (g .begun .ensures) (s .pre .started) (s .pre .few) (s .pre .some) in
     omega (arith, b .2)
 
-put-requires : tie.Need-put-requires
-put-requires c κs =
+put-part-requires : tie.Need-put-part-requires
+put-part-requires c κs =
     let g = c .before .before .before in
     let s = g .before .before .before .before .before in
     let b = begun-bounds (s .args .marks) (s .args .from .0) (s .args .state) (g .begun .result) (g .begun .ensures) (s .pre .started) (s .pre .few) (s .pre .some) in
@@ -42,7 +42,7 @@ returns-2 c = λ f base state n is stays h.
     let g = c .before .before .before .before .before .before .before .before .before .before in
     let p = c .before .before .before .before .before .before in
     grows-at f (s .args .from .0) (s .args .to .0) (s .args .marks) is base (s .args .buffer .now) h (omega arith) state stays (s .args .state) n (g .begun .result)
-    (g .begun .ensures) (c .added .result) (c .added .ensures) (p .put .last .0) (p .put .ensures)
+    (g .begun .ensures) (c .added .result) (c .added .ensures) (p .put-part .last .0) (p .put-part .ensures)
 
 pub grow-spec : {M : Type 1} → statement M
 grow-spec =
@@ -52,8 +52,8 @@ grow-spec =
     (λ c κs. search needs)
     sub-n
     (λ c. search needs)
-    sub-put
-    put-requires
+    sub-put-part
+    put-part-requires
     (λ c. search needs)
     added-requires
     (λ c. search needs)

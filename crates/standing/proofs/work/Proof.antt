@@ -47,7 +47,7 @@ use Rattle.standing_rules.specs.declared.Answer.{Answer}
 use Rattle.standing_rules.specs.Calls.{standing, Call, callOf, wrong, step, answerOf}
 use Rattle.standing_rules.specs.Internal.{seenIn, shifted, recordOf, judged, planned}
 use Rattle.standing_rules.proofs.Seeing.{some-seen}
-use Rattle.standing_rules.proofs.Working.{Works, works, answered}
+use Rattle.standing_rules.proofs.Working.{PlanDoesCall, works, answered}
 use Rattle.standing_rules.proofs.Maker as T
 use Rattle.standing_rules.proofs.Maker.Laws as T′
 use Rattle.standing_rules.proofs.Asked as B
@@ -186,14 +186,14 @@ module _ {M : Type 1} (𝓤 : URA M) (H : Heap 𝓤) (A : Atoms 𝓤) (W : Given
   Planned p = p ≡ planned call (judged call bad (seen .present) (leb (length ys) n)) n seen
 
   -- the plan does what the call is to do
-  right : (p : Plan) → Planned p → Works ys n call p
-  right p e = subst (λ (r : Plan). Works ys n call r) (sym (e ∙ ap (λ (t : Bool). planned call (judged call t (seen .present) (leb (length ys) n)) n seen) bad-is)) (works ys n call)
+  right : (p : Plan) → Planned p → PlanDoesCall ys n call p
+  right p e = subst (λ (r : Plan). PlanDoesCall ys n call r) (sym (e ∙ ap (λ (t : Bool). planned call (judged call t (seen .present) (leb (length ys) n)) n seen) bad-is)) (works ys n call)
 
   -- what is ensured of the call
   abbrev Applied : Answer → List Maker → Type 0
   Applied r zs = (r ≡ answerOf (standing ys n) call) × (zs ≡ step (standing ys n) call .records)
 
-  module _ (p : Plan) (w : Works ys n call p) where
+  module _ (p : Plan) (w : PlanDoesCall ys n call p) where
     inside : p .refusal ≡ 0 → (p .from < length ys) × (p .to < length ys)
     inside z = (w .moved z .from-there, w .moved z .to-there)
 

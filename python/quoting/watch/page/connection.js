@@ -63,7 +63,7 @@ function lost() {
 }
 
 // A connection can die without a word. While an open quantum is followed the server has something new every second (how long ago the last
-// call came); an old answer must not stand there as if it were of now.
+// call came); an old answer must not stay there as if it were current.
 function minding() {
   const isDue = link.away || (shown.open && shown.feed?.kind === "following");
   if (isDue && Date.now() - heardAt > LONGEST_SILENCE) lost();

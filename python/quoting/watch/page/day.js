@@ -108,7 +108,7 @@ function stepTo(quote, g) {
 export function paintDay() {
   const svg = $("chart"), width = svg.clientWidth;
   if (!course.info || !width) return;
-  const info = link.away ? { ...course.info, now_text: course.info.now_text.replace(/^now/, "last") } : course.info;
+  const info = link.away ? { ...course.info, nowText: course.info.nowText.replace(/^now/, "last") } : course.info;
   const columns = columnsOf(info, course.buckets, Math.max(1, Math.floor(width - 64))), g = geometry(info, columns, width);
   put(svg, "viewBox", `0 0 ${width} ${g.height}`);
   put(svg, "height", g.height);
@@ -117,6 +117,6 @@ export function paintDay() {
   paintMarks(info, g);
   layLabels(labelsOf(info, g), g);
   const quotes = ["bid", "ask"].map(side => info[side]?.text ?? `${side} absent`).join(", ");
-  say($("chart-said"), `Best bid and ask over the day, from ${info.start[0]?.[1] ?? "its start"} to ${info.now_text}: ${quotes}.`
-    + `${info.latest ? ` ${info.latest.text}.` : ""} The stretches of each state stand in the table below.`);
+  say($("chart-said"), `Best bid and ask over the day, from ${info.start[0]?.[1] ?? "its start"} to ${info.nowText}: ${quotes}.`
+    + `${info.latest ? ` ${info.latest.text}.` : ""} The stretches of each state are in the table below.`);
 }

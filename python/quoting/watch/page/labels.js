@@ -31,12 +31,12 @@ export function paintMarks(info, g) {
   put(parts.latest, "d", latest === null ? "" : `M${latest.toFixed(1)} ${g.top - 4}V${g.strip}${box(latest, g.strip, g.right, g.foot)}`);
 }
 
-// Each label with the places where it may stand, the best first: [x, y, anchor, whether it may cross the line that it avoids]. The first
+// Each label with the places where it may be, the best first: [x, y, anchor, whether it may cross the line that it avoids]. The first
 // labels have the first choice.
 export function labelsOf(info, g) {
-  const now = g.x(info.now), latest = info.latest && g.x(info.latest.at), half = widthOf(info.now_text, "strong") / 2, labels = [];
+  const now = g.x(info.now), latest = info.latest && g.x(info.latest.at), half = widthOf(info.nowText, "strong") / 2, labels = [];
   const add = (name, kind, text, spots, avoid) => labels.push({ name, kind, text, spots, avoid });
-  add("now", "strong", info.now_text, [[Math.min(Math.max(now, half), g.width - half), 12, "middle"]]);
+  add("now", "strong", info.nowText, [[Math.min(Math.max(now, half), g.width - half), 12, "middle"]]);
   for (const side of ["ask", "bid"]) if (info[side]) add(side, side, info[side].text, quoteSpots(info, side, g), latest);
   if (latest !== null) {
     add("latest", "strong", info.latest.text, latestSpots(latest, g), now);
@@ -69,7 +69,7 @@ function quoteHeights(info, g) {
 }
 
 // Behind the end of its line; there it may cross the dashed line where nothing else is free. At the day's end, where there is no room
-// behind it, above the ask's line and below the bid's.
+// after it, above the ask's line and below the bid's.
 function quoteSpots(info, side, g) {
   const now = g.x(info.now), y = quoteHeights(info, g)[side], way = side === "ask" ? -1 : 1, spots = [];
   const room = Math.max(...["ask", "bid"].map(each => info[each] ? widthOf(info[each].text, each) : 0)) <= g.width - now - 6;

@@ -46,9 +46,9 @@ function paintBar(bar) {
     say(figure(name), bar.labels[name][0]);
     say(figure(`${name}-time`), bar.labels[name][1]);
   }
-  say($("reach-said"), bar.out_of_reach ? "Part of the time is out of reach." : "");
+  say($("reach-said"), bar.outOfReach ? "Part of the time is out of reach." : "");
   const width = $("bar").clientWidth, ends = [bar.kept, bar.reach].map(end => Math.round(end * 500));
-  const laid = JSON.stringify([width, bar.required, bar.full, bar.labels, ends, bar.out_of_reach]);
+  const laid = JSON.stringify([width, bar.required, bar.full, bar.labels, ends, bar.outOfReach]);
   if ($("bar").laid === laid) return;   // labels are measured again only when one could touch another
   $("bar").laid = laid;
   layTopLabels(bar, width);
@@ -84,7 +84,7 @@ function overlap(a, b) {
 function layUnderLabels(bar, width) {
   const kept = $("u-kept"), may = $("u-may"), out = $("u-out");
   for (const label of [kept, may, out]) show(label, true);
-  const hasOut = bar.out_of_reach && bar.reach * width < width - out.offsetWidth + 3 * GAP;
+  const hasOut = bar.outOfReach && bar.reach * width < width - out.offsetWidth + 3 * GAP;
   const mayAt = Math.max(bar.kept * width, kept.offsetWidth + GAP), outAt = width - out.offsetWidth;
   const hasMay = bar.reach > bar.kept && mayAt + may.offsetWidth + GAP <= (hasOut ? outAt : width);
   show(out, hasOut);
@@ -163,7 +163,7 @@ function paintOrders(open) {
     tell(row, "order", order.id);
     [order.id, order.side, order.price, order.volume].forEach((text, at) => say(row.children[at], String(text)));
   });
-  say(figure("orders-note"), open.orders_note);
+  say(figure("orders-note"), open.ordersNote);
   stopIfScrolling($("orders-scroll"), "Live orders");
 }
 

@@ -31,7 +31,7 @@ use Rattle.order_side.proofs.Words.{words-length}
 use Rattle.book.specs.declared.Answer.{Answer}
 use Rattle.order_table.specs.Table.{ofSide, slotsIn, sideIn, tableOf, GoodOrders}
 use Rattle.book.specs.Events.{idOf, changedBy, sentTo}
-use Rattle.book.specs.Sending.{sumsBetween, SendsRead}
+use Rattle.book.specs.EventAnswered.{sumsBetween, FieldsAnswered}
 use Rattle.order_table.specs.Internal.{sideAt, other, joined}
 use Rattle.book.specs.Internal.{appliedTo, answer, noChange, Applied, AppliedRead, keepsBy}
 use Rattle.order_table.proofs.Table.{joined-part, joined-put}
@@ -198,7 +198,7 @@ refused-stays (suc n) live e h = refl
 
 pub refused-sends : (o : Outcome Event) (minimum widest keeping : ℕ) (entry mid : List ℕ) (r : Answer) → Told o minimum entry mid r
     → (live : List Order) → GoodOrders live → entry ≡ tableOf minimum live → 0 < r .refusal
-    → SendsRead o minimum widest keeping entry mid (record { refusal = r .refusal; keeps = keeping; sums = 0 })
+    → FieldsAnswered o minimum widest keeping entry mid (record { refusal = r .refusal; keeps = keeping; sums = 0 })
 refused-sends (accepted e) minimum widest keeping entry mid r told live good is h =
     record {
       sends =
@@ -220,7 +220,7 @@ pub taken-sends : (o : Outcome Event) (minimum widest keeping : ℕ) (entry mid 
     → (half : List ℕ) (q : Requoted)
     → ((m : StaleLevel (lent (r .s) mid) (r .change) minimum) → Requotes minimum (m .before) (m .after) (r .change) half q)
     → (keeps : ℕ) → keeps ≡ (if q .moves then keepsBy widest (putBack (r .s) mid half) else keeping)
-    → SendsRead o minimum widest keeping entry (putBack (r .s) mid half) (record { refusal = 0; keeps = keeps; sums = q .sums })
+    → FieldsAnswered o minimum widest keeping entry (putBack (r .s) mid half) (record { refusal = 0; keeps = keeps; sums = q .sums })
 taken-sends (accepted e) minimum widest keeping entry mid r told fifteen live good is none some half q moved keeps k =
     record {
       sends =

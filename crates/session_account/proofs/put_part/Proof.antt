@@ -3,8 +3,8 @@ use native.Mathlib.Omega.{arith}
 use lib.ListN.{length-set}
 use Rattle.session_account.proofs.Growing.{put-fits, put-not}
 use borrow.Author.Needs.{needs}
-use Rattle.session_account.proofs.put.Statement.{statement}
-use Rattle.session_account.proofs.put.Tie as tie
+use Rattle.session_account.proofs.put_part.Statement.{statement}
+use Rattle.session_account.proofs.put_part.Tie as tie
 
 slice-write-buffer-2 : tie.Need-slice-write-buffer-2
 slice-write-buffer-2 c = simp length-set (omega arith)
@@ -22,8 +22,8 @@ returns-2 c =
     let s = c .before in
     put-not (s .args .buffer .now) (s .args .n) (s .args .start) (s .args .length) (s .args .state) (omega arith)
 
-pub put-spec : {M : Type 1} → statement M
-put-spec =
+pub put-part-spec : {M : Type 1} → statement M
+put-part-spec =
     tie.close
     (tie.spec
     (λ c. search needs)

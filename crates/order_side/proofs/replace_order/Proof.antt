@@ -6,8 +6,8 @@ use Rattle.order_side.specs.Slots.{slotOf}
 use Rattle.order_side.specs.Internal.{change}
 use Rattle.order_side.proofs.Stores.{put-is, read-good, read-change}
 use borrow.Author.Needs.{needs}
-use Rattle.order_side.proofs.put.Statement.{statement}
-use Rattle.order_side.proofs.put.Tie as tie
+use Rattle.order_side.proofs.replace_order.Statement.{statement}
+use Rattle.order_side.proofs.replace_order.Tie as tie
 
 key-in-requires : tie.Need-key-in-requires
 key-in-requires c κs =
@@ -29,8 +29,8 @@ returns c =
           (keyIn (a .order .side) (a .order)) (a .order .volume .0) few is (c .before .key-in .ensures);
     }
 
-pub put-spec : {M : Type 1} → statement M
-put-spec =
+pub replace-order-spec : {M : Type 1} → statement M
+replace-order-spec =
     tie.close
     (tie.spec
     (λ c κs. search needs)

@@ -3,8 +3,8 @@ use native.Mathlib.Omega.{arith}
 use lib.ListN.{length-set}
 use Rattle.kept_pairs.proofs.Pairs.{put-fits, put-not}
 use borrow.Author.Needs.{needs}
-use Rattle.kept_pairs.proofs.put.Statement.{statement}
-use Rattle.kept_pairs.proofs.put.Tie as tie
+use Rattle.kept_pairs.proofs.put_pair.Statement.{statement}
+use Rattle.kept_pairs.proofs.put_pair.Tie as tie
 
 slice-write-buffer-2 : tie.Need-slice-write-buffer-2
 slice-write-buffer-2 c = simp length-set (omega arith)
@@ -19,8 +19,8 @@ returns-2 c =
     let s = c .before in
     put-not (s .args .buffer .now) (s .args .n) (s .args .start) (s .args .length) (omega arith)
 
-pub put-spec : {M : Type 1} → statement M
-put-spec =
+pub put-pair-spec : {M : Type 1} → statement M
+put-pair-spec =
     tie.close
     (tie.spec
     (λ c. search needs)
