@@ -16,14 +16,9 @@ test:  ## the gate: proofs, must-fail edits, programs and all tests; tests alone
 help:  ## this list
 	@sed -n 's/^\([a-z]*\):[^#]*## \(.*\)/make \1\t\2/p' $(MAKEFILE_LIST) | expand -t 16
 
-# The sheet of a shipped session, and a month of calls; then a month's statement, where its needs are there.
-demo:  ## a session's sheet, a month of calls and a month's statement
-	rt check sheet replay
-	@if command -v cc >/dev/null && $(PYTHON) -c 'import jinja2' 2>/dev/null; then $(MAKE) -s statement PYTHON=$(PYTHON); fi
-	PYTHON=$(PYTHON) ./quoting bytes examples/brent.session | target/bin/sheet
-	PYTHON=$(PYTHON) ./quoting bytes examples/month.calls | target/bin/replay
-	@if [ -s target/brent.html ]; then echo "a month's statement is target/brent.html"; \
-	else echo "for a month's statement: apt-get install gcc python3-jinja2, then make statement"; fi
+# Each result is shown as soon as what it rests on is proved (tools/demo.py).
+demo:  ## a session, a month and a month's statement, each as soon as it is proved
+	@$(PYTHON) tools/demo.py
 
 # The statement of a shipped month as a page that can be printed: target/brent.html. Two of its messages are refused, so the command ends with 1.
 statement: library  ## target/brent.html: the statement of a shipped month
@@ -41,7 +36,8 @@ client:  ## target/client: the C client of examples/client.c
 	rt staticlib session
 	cc -O2 -Iinclude -o target/client examples/client.c target/staticlib/libsession.a
 
-# Every proved call for C, with the refusals' sentences: target/library has both libraries, the header and what pkg-config reads.
+# Every proved call for C, with the refusals' sentences: target/library has both libraries, the header, what pkg-config reads, and the command's
+# manual page and completion, which are made from its argument parsers.
 library:  ## target/library: the library for C, with its header and what pkg-config reads
 	rt staticlib quoting
 	mkdir -p $(LIBRARY)
@@ -54,18 +50,23 @@ library:  ## target/library: the library for C, with its header and what pkg-con
 	ln -sf libquoting.so.$(VERSION) $(LIBRARY)/libquoting.so.$(MAJOR)
 	ln -sf libquoting.so.$(MAJOR) $(LIBRARY)/libquoting.so
 	cp include/quoting.h $(LIBRARY)/quoting.h
+	$(PYTHON) tools/manual.py page > $(LIBRARY)/quoting.1
+	$(PYTHON) tools/manual.py completion > $(LIBRARY)/quoting.bash
 	sed -e 's|@PREFIX@|$(PREFIX)|' -e 's|@VERSION@|$(VERSION)|' lib/quoting.pc.in > $(LIBRARY)/quoting.pc
 	{ echo "version $(VERSION)"; echo "commit $$(git describe --always --dirty --abbrev=40 --exclude '*')"; echo "kit $$(rt version)"; } > $(LIBRARY)/BUILT
 
 # Puts what `make library` has built where pkg-config finds it: make install PREFIX=/usr DESTDIR=/tmp/root
-install:  ## puts the library under PREFIX (/usr/local), below DESTDIR
+install:  ## puts the library and the manual page under PREFIX (/usr/local), below DESTDIR
 	[ -e $(LIBRARY)/libquoting.so ] || { echo "run make library first" >&2; exit 1; }
-	install -d $(DESTDIR)$(PREFIX)/include $(DESTDIR)$(PREFIX)/lib/pkgconfig
+	install -d $(DESTDIR)$(PREFIX)/include $(DESTDIR)$(PREFIX)/lib/pkgconfig $(DESTDIR)$(PREFIX)/share/man/man1 \
+		$(DESTDIR)$(PREFIX)/share/bash-completion/completions
 	install -m 644 $(LIBRARY)/quoting.h $(DESTDIR)$(PREFIX)/include/quoting.h
 	install -m 644 $(LIBRARY)/libquoting.a $(DESTDIR)$(PREFIX)/lib/libquoting.a
 	install -m 755 $(LIBRARY)/libquoting.so.$(VERSION) $(DESTDIR)$(PREFIX)/lib/libquoting.so.$(VERSION)
 	ln -sf libquoting.so.$(VERSION) $(DESTDIR)$(PREFIX)/lib/libquoting.so.$(MAJOR)
 	ln -sf libquoting.so.$(MAJOR) $(DESTDIR)$(PREFIX)/lib/libquoting.so
+	install -m 644 $(LIBRARY)/quoting.1 $(DESTDIR)$(PREFIX)/share/man/man1/quoting.1
+	install -m 644 $(LIBRARY)/quoting.bash $(DESTDIR)$(PREFIX)/share/bash-completion/completions/quoting
 	sed -e 's|@PREFIX@|$(PREFIX)|' -e 's|@VERSION@|$(VERSION)|' lib/quoting.pc.in > $(DESTDIR)$(PREFIX)/lib/pkgconfig/quoting.pc
 
 # The same as a tar file, for machines without the kit: target/quoting-VERSION.tar.gz. It may be unpacked anywhere; BUILT says from which
