@@ -1,4 +1,4 @@
-"""A maker's whole month: its calendar (plan), and its cells, fees and pages from prices, charges and logs (settle).
+"""A maker's whole month: its calendar (plan), its cells, fees and pages from prices, charges and logs (settle), and every contract live (watch).
 
 DESK.toml names everything else; docs/FORMATS.md, "A desk", has the files. All faults of the files are named at once, and nothing is
 settled then. What is missing or refused while settling is named on standard error, the figures are written all the same, and the status
@@ -7,6 +7,7 @@ is 1.
 examples:
   quoting desk plan examples/desk/desk.toml
   quoting desk settle examples/desk/desk.toml -o out
+  quoting desk watch desk.toml --alarm 5s --hook ./page-me
 """
 
 import argparse
@@ -17,6 +18,7 @@ from pathlib import Path
 from typing import Any, Callable, Iterator, Sequence
 
 from quoting import clusters, inputs, native, output
+from quoting.commands import wall
 from quoting.commands.settle import PATIENCE, seconds_of
 from quoting.desk import folders, many, outputs, plan_lines
 from quoting.desk.desks import Desk
@@ -29,9 +31,10 @@ from quoting.formats import counted, roubles
 
 
 def add(parser: argparse.ArgumentParser) -> None:
-    subs = parser.add_subparsers(metavar="plan|settle", dest="work", required=True)
+    subs = parser.add_subparsers(metavar="plan|settle|watch", dest="work", required=True)
     add_plan(subs.add_parser("plan", help="the calendar of the month", description=PLAN, formatter_class=argparse.RawDescriptionHelpFormatter))
     add_settle(subs.add_parser("settle", help="the cells, fees and pages of the month", description=SETTLE, formatter_class=argparse.RawDescriptionHelpFormatter))
+    wall.add(subs.add_parser("watch", help="every contract live on one page", description=wall.WATCH, formatter_class=argparse.RawDescriptionHelpFormatter))
 
 
 PLAN = """The calendar of a desk's month: for each day, contract and quantum the hours, the row, whether it is eased and why, SP and the
@@ -210,8 +213,9 @@ def counted_desks(total: int) -> Iterator[Callable[[], None]]:
 
 def run(args: argparse.Namespace) -> int:
     try:
-        return {"plan": plan, "settle": settle}[args.work](args)
-    except DeskError as error:  # of a plan
+        return {"plan": plan, "settle": settle, "watch": wall.run}[args.work](args)
+    except DeskError as error:  # of a plan or a wall
         complain_all([fault.text for fault in error.faults])
-        output.complain(f"{args.desk}: {counted(len(error.faults), 'fault')}, no plan was made")
+        done = "no plan was made" if args.work == "plan" else "nothing is watched"
+        output.complain(f"{args.desk}: {counted(len(error.faults), 'fault')}, {done}")
         return 1

@@ -76,12 +76,12 @@ class Follower:
         self.fills = self.duplicates = 0
 
     def is_late(self, moves: list[Move]) -> bool:
-        """Whether a message has an earlier time than one that was followed, or is the first copy of one."""
-        return bool(moves) and (min((move.time, move.read) for move in moves) < self.last or any(self.is_earlier_copy(move) for move in moves))
-
-    def is_earlier_copy(self, move: Move) -> bool:
-        known = self.seen.get((move.owner, move.execution))
-        return move.execution[0] != 0 and known is not None and move.read < known
+        """Whether a message has an earlier time than one that was followed, or is the first copy of one. A later copy changes nothing."""
+        for move in moves:
+            known = self.seen.get((move.owner, move.execution)) if move.execution[0] else None
+            if known is None and (move.time, move.read) < self.last or known is not None and move.read < known:
+                return True
+        return False
 
     def take(self, moves: list[Move]) -> list[Happened]:
         """New messages, none of them late, with equal times in the order in which the files are read."""

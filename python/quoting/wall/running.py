@@ -24,9 +24,11 @@ DEALT = 5  # the kind of a deal's record
 def zone_text(name: str) -> str:
     """A zone's name for people.
 
-    >>> zone_text("Europe/Moscow"), zone_text("America/New_York"), zone_text("UTC")
-    ('Moscow time', 'New York time', 'UTC')
+    >>> zone_text("Europe/Moscow"), zone_text("America/New_York"), zone_text("UTC"), zone_text("Etc/GMT+11")
+    ('Moscow time', 'New York time', 'UTC', 'UTC-11')
     """
+    if name.startswith("Etc/GMT"):  # whose signs are the other way round
+        return "UTC" + name[len("Etc/GMT") :].translate(str.maketrans("+-", "-+"))
     last = name.rpartition("/")[2].replace("_", " ")
     return last if last.isupper() else f"{last} time"
 

@@ -6,6 +6,7 @@ code of `quoting desk settle`, so after the month's end the wall has the same ce
 """
 
 import datetime as dt
+import re
 import time
 from dataclasses import dataclass
 from pathlib import Path
@@ -27,9 +28,11 @@ from quoting.wall.files import LogFiles
 from quoting.wall.orders import Followed, Orderly
 from quoting.wall.running import Running, zone_text
 from quoting.wall.tiles import Tile
+from quoting.watch.sentences import due, had
 
 SECOND = 1_000
 AHEAD = 2 * SECOND  # by which the logs' times may be after the machine's clock
+UNSAFE = re.compile(r"[^A-Za-z0-9._+-]")
 BEHIND = 10 * SECOND  # by which messages that have just come may be before it
 
 
@@ -121,9 +124,9 @@ class Wall:
         if newest is None or self.clock == "feed":
             return
         if newest > wall + AHEAD:
-            self.disagreement = f"The logs' time is {t.due(newest - wall)} ahead of this machine's clock: the wall goes by the logs"
+            self.disagreement = f"The logs' time is {due(newest - wall)} ahead of this machine's clock: the wall goes by the logs"
         elif not self.is_reading and newest < wall - BEHIND:
-            self.disagreement = f"Messages come with times {t.had(wall - newest)} behind this machine's clock: --clock feed goes by the logs"
+            self.disagreement = f"Messages come with times {had(wall - newest)} behind this machine's clock: --clock feed goes by the logs"
 
     # ------------------------------------------------------------ messages
 
@@ -259,10 +262,16 @@ class Wall:
         found = [tile for contract in self.by_contract if (tile := self.tile(contract)) is not None]
         return sorted(found, key=lambda tile: tile.turn)
 
+    def contract_of(self, key: str) -> Contract:
+        """The contract of that name that is due today, else the first one."""
+        own = [contract for contract, name in self.keys.items() if name == key]
+        due = [contract for contract in own if self.due(self.by_contract[contract]) is not None]
+        return (due or own)[0]
+
     def next_start(self) -> Optional[Planned]:
         """The next quantum of the plan."""
         later = [each for plan in self.by_contract.values() for each in plan if each.start_ms > self.now]
-        return min(later, key=lambda each: each.start_ms, default=None)
+        return min(later, key=lambda each: each.start_ms) if later else None
 
     @property
     def fee(self) -> int:
@@ -293,12 +302,11 @@ def place_of(planned: Planned) -> tuple[Contract, dt.date, int]:
 
 
 def keys_of(contracts: list[Contract]) -> dict[Contract, str]:
-    """A name for each contract: its symbol, with more where several have one symbol."""
+    """A name for each contract that can be part of an address: its symbol, and its accounts where others have the same symbol on a day. A
+    contract that rolls from one expiry to another keeps its name."""
     found: dict[Contract, str] = {}
     for each in contracts:
-        twins = [other for other in contracts if other.symbol == each.symbol]
-        more = "" if len(twins) == 1 else f"-{each.instrument}-{each.expiry}" if len({(one.instrument, one.expiry) for one in twins}) == len(twins) else f"-{contracts.index(each)}"
-        found[each] = f"{each.symbol}{more}"
+        others = [other for other in contracts if other != each and other.symbol == each.symbol and each.first <= other.last and other.first <= each.last]
+        name = "-".join([each.symbol, *(each.accounts or ())]) if others else each.symbol
+        found[each] = UNSAFE.sub("_", name)
     return found
-
-

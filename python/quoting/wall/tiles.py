@@ -5,7 +5,7 @@ Every figure is the library's. What is left is rounded down, what is needed is r
 
 from dataclasses import dataclass, field
 from datetime import datetime, timedelta
-from typing import Any, NamedTuple, Optional
+from typing import Callable, NamedTuple, Optional
 
 from quoting.answers import OVER, Cell
 from quoting.desk.plan import Planned
@@ -268,6 +268,6 @@ def capital(text: str) -> str:
     return text[:1].upper() + text[1:]
 
 
-SAY: dict[str, Any] = {
+SAY: dict[str, Callable[[Tile, Now], Said]] = {
     "alarm": said_of_alarm, "risk": said_of_risk, "lost": said_of_lost, "unknown": said_of_unknown, "hold": said_of_hold, "kept": said_of_kept,
     "rest": said_of_rest, "over": said_of_over}
