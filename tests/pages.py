@@ -134,4 +134,5 @@ def stopped(command: Command, folder: Path) -> tuple[int, str]:
         started.communicate(timeout=LONGEST)
     finally:
         started.kill()
-    return command.status, PORT.sub("8470", "".join(lines)) + "^C\n"
+    shown = PORT.search(command.printed)
+    return command.status, PORT.sub(shown[0] if shown else "PORT", "".join(lines)) + "^C\n"
