@@ -26,6 +26,12 @@ def test_the_page_has_everything() -> None:
     assert options > 100
 
 
+@pytest.mark.parametrize("name", sorted(manual.subparsers(cli.parser())))
+def test_each_subcommand_has_examples(name: str) -> None:
+    """As the command's own help says."""
+    assert "\nexamples:\n" in (manual.subparsers(cli.parser())[name].description or "")
+
+
 def test_the_page_is_read_without_a_warning() -> None:
     done = subprocess.run(["groff", "-man", "-Kutf8", "-Tutf8", "-ww", "-P-cbou"], input=made("page"), capture_output=True, text=True)
     assert done.returncode == 0 and not done.stderr and "standard output" in done.stdout, done.stderr
