@@ -18,7 +18,6 @@ from pathlib import Path
 from typing import Any, Callable, Iterator, Sequence
 
 from quoting import clusters, inputs, native, output
-from quoting.commands import wall
 from quoting.commands.settle import PATIENCE, seconds_of
 from quoting.desk import folders, many, outputs, plan_lines
 from quoting.desk.desks import Desk
@@ -28,6 +27,7 @@ from quoting.desk.index import money
 from quoting.desk.many import Task
 from quoting.desk.outputs import Manner, Watcher
 from quoting.formats import counted, roubles
+from quoting.wall import command as wall
 
 
 def add(parser: argparse.ArgumentParser) -> None:

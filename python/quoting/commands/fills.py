@@ -12,6 +12,7 @@ examples:
 """
 
 import argparse
+from typing import Iterable
 
 from quoting import inputs, output, values
 from quoting.commands import fix
@@ -42,6 +43,15 @@ def row_of(fill: Fill) -> list[object]:
     return [values.clock(fill.t), fill.order, fill.volume, *cells(fill.before), *cells(fill.after), values.clock(fill.lost)]
 
 
+def lost_together(fills: Iterable[Fill]) -> int:
+    """The time lost after any of the fills: what follows several of them counts once."""
+    total = end = 0
+    for fill in fills:
+        total += max(0, fill.t + fill.lost - max(fill.t, end))
+        end = max(end, fill.t + fill.lost)
+    return total
+
+
 def run(args: argparse.Namespace) -> int:
     rule = fix.rule_of(args)
     options = choice.LogOptions("reports", args.step or choice.LogOptions.step, {}, args.symbol, args.account)
@@ -53,9 +63,8 @@ def run(args: argparse.Namespace) -> int:
         if args.json:
             output.write(args.output, output.json_text({"fills": found}))
         else:
-            lost = sum(fill.lost for fill in found)
-            after = f"{choice.plural(len(found), 'fill')}, {values.clock(lost)} of kept time lost\n"
-            output.table(args.output, HEADS, [row_of(fill) for fill in found], after)
+            lost = values.clock(lost_together(found))
+            output.table(args.output, HEADS, [row_of(fill) for fill in found], f"{choice.plural(len(found), 'fill')}, {lost} of kept time lost\n")
     for each in fix.complaints(reader, made, refused):
         output.complain(each if each.startswith(tuple(args.files)) else f"{args.files[0]}: {each}")
     return int(refused is not None or not choice.is_whole(reader))
