@@ -12,6 +12,16 @@ Each call is a method: it answers what the month shows, or raises `Refused`, and
 ...     month.look(1, 1, 1).weight, month.report().fee
 (20000, 20000)
 
+Event records are taken in bulk, until one is refused.
+
+>>> from quoting.events import records
+>>> with Month() as live:
+...     live.open(Row(1, 1, "8:45:00", 1000, 150, 3, "60%"), day=2, sp=8452)
+...     live.apply(records([Add(0, 1, "buy", 8446, 1000), Cancel(5, 7), Tick(9)]))
+...     live.apply(records([Cancel(5, 7), Tick(9)]), skip=True)
+Applied(taken=1, refusal=Refused(11, 2, 'no order with this id is live'))
+Skipped(taken=1, refusals=[Refused(11, 1, 'no order with this id is live')])
+
 A month can be copied, pickled and compared. Its words can be stored, and read again with a check.
 
 >>> again = Month.from_words(month.words())
@@ -19,17 +29,20 @@ A month can be copied, pickled and compared. Its words can be stored, and read a
 (True, <Month: 5 calls accepted, 1 quantum closed, none open>)
 """
 
+import ctypes
+import struct
 import sys
 from array import array
 from functools import lru_cache
 from types import TracebackType
-from typing import Any, Iterable, Iterator, NamedTuple, NoReturn, Optional, Sequence, Union
+from typing import Any, Iterable, Iterator, Literal, NamedTuple, NoReturn, Optional, Sequence, Union, overload
 
 from quoting import calls as c
-from quoting import month_words, native, ranges
+from quoting import events, month_words, native, ranges, sessions
 from quoting.answers import WORDS, Answer, Asked, Cell, MonthReport, Outlook, answer_of, quote
-from quoting.events import Add, Amend, Cancel, Deal, Side, Tick
+from quoting.events import SIDES, Add, Amend, Cancel, Deal, Event, Side, Tick
 from quoting.formats import counted
+from quoting.lending import BLOCK_BYTES, HINT_BYTES, MADE, AnswerWords, Form, Lent
 from quoting.native import Refused
 from quoting.rows import Row
 from quoting.states import State
@@ -37,12 +50,16 @@ from quoting.values import Time, clock
 from quoting.views import MOST_WORDS as VIEW_WORDS
 from quoting.views import View, view_of
 
-HINT_BYTES = 2_048
 NO_CALL = 3  # the library's refusal of bytes that are not one block, and, at place 1, of words that are not a month's
 STATE_WORD = 15  # of a view
 REPORT_BLOCK = c.block(c.Report())
 
-MonthWords, AnswerWords, ViewWords = (native.WORD * count for count in (month_words.COUNT, WORDS, VIEW_WORDS))
+MonthWords, ViewWords = native.WORD * month_words.COUNT, native.WORD * VIEW_WORDS
+
+# Blocks of numbers alone; a price is signed.
+ADD, AMEND, CANCEL, DEAL, TICK = (
+    Form(c.Kind.ADD, "IIIiI"), Form(c.Kind.AMEND, "IIiI"), Form(c.Kind.CANCEL, "II"), Form(c.Kind.DEAL, "III"), Form(c.Kind.TICK, "I"),
+)
 
 
 class Glance(NamedTuple):
@@ -52,6 +69,20 @@ class Glance(NamedTuple):
     state: State
     bid: Optional[int]
     ask: Optional[int]
+
+
+class Applied(NamedTuple):
+    """How many records were taken, and what refuses the next one (its place is the record, counted from 1); None where all were taken."""
+
+    taken: int
+    refusal: Optional[Refused]
+
+
+class Skipped(NamedTuple):
+    """How many records were taken, and what refuses each of the others (its place is the record, counted from 1)."""
+
+    taken: int
+    refusals: list[Refused]
 
 
 @lru_cache(maxsize=None)
@@ -77,6 +108,9 @@ class Month:
     Threads may use one month at the same time: each call is made as a whole, and gets its own answer. (The calls keep the interpreter's
     lock. On a build of Python without one, guard each month by a lock of your own.) A message, a report or an open takes up to 150 KB of
     its thread's stack.
+
+    A call that the month refuses raises `Refused` and leaves the month as it was. Times are milliseconds from the quantum's start, or texts
+    h:mm:ss; prices are whole steps, and charges kopecks.
     """
 
     def __init__(self) -> None:
@@ -85,6 +119,7 @@ class Month:
     def _hold(self, words: Any) -> None:
         self._words = MonthWords.from_buffer_copy(words)
         self._hints = native.bytes_of(HINT_BYTES)
+        self._lent: list[Lent] = []  # those that no call is using
         self._ended = False
 
     def _check_open(self) -> None:
@@ -204,10 +239,49 @@ class Month:
     def __exit__(self, kind: Optional[type[BaseException]], error: Optional[BaseException], trace: Optional[TracebackType]) -> None:
         self._ended = True
 
+    def _take(self) -> Lent:
+        """Buffers that no other call uses, to be given back."""
+        try:
+            return self._lent.pop()
+        except IndexError:
+            return Lent(self._words, self._hints)
+
+    def _sends(self, form: Form, *numbers: Any) -> bool:
+        """Makes an event's call of whole numbers, on buffers that were lent before; False where one of them is outside its range or no number,
+        and no call is made."""
+        self._check_open()
+        lent = self._take()
+        try:
+            form.pack_into(lent.block, 0, form.kind, *numbers)
+            if lent.make(form.size) != MADE:
+                return False
+            kind, refusal = lent.answer[0], lent.answer[1]
+        except struct.error:
+            return False
+        finally:
+            self._lent.append(lent)
+        if kind:
+            raise Refused.of(refusal)
+        return True
+
     def block(self, data: bytes) -> Answer:
-        """The month's answer to a call's block, a refusal as a value."""
+        """The month's answer to a call's block (docs/FORMATS.md, "A list of calls"), a refusal as a value."""
         self._check_open()
         given = ranges.data(data, "data")
+        if len(given) > BLOCK_BYTES:
+            return self._long_block(given)
+        lent = self._take()
+        try:
+            lent.block[: len(given)] = given
+            made = lent.make(len(given))
+            words = lent.answer[:]
+        finally:
+            self._lent.append(lent)
+        if made != MADE:
+            raise_for(Refused.of(made >> 32, made & 0xFFFFFFFF))
+        return answer_of(words)
+
+    def _long_block(self, given: bytes) -> Answer:
         answer = AnswerWords()  # of this call alone: another thread may call before it is read
         try:
             native.call("quoting_month_call", self._words, month_words.COUNT, self._hints, HINT_BYTES, given, len(given), answer, WORDS)
@@ -216,30 +290,96 @@ class Month:
         return answer_of(answer)  # type: ignore[arg-type]  # an array of words is a sequence of numbers, without saying so
 
     def call(self, call: c.Call) -> Answer:
-        """The month's answer to a call; a refusal is raised."""
+        """The month's answer to a call of `quoting.calls`, or to an event; a refusal is raised."""
         answer = self.block(c.block(call))
         if isinstance(answer, Refused):
             raise answer
         return answer
 
+    # ------------------------------------------------------------ records
+
+    @overload
+    def apply(self, records: Union[Iterable[Event], bytes, Any], *, skip: Literal[False] = False) -> Applied: ...
+
+    @overload
+    def apply(self, records: Union[Iterable[Event], bytes, Any], *, skip: Literal[True]) -> Skipped: ...
+
+    def apply(self, records: Union[Iterable[Event], bytes, Any], *, skip: bool = False) -> Union[Applied, Skipped]:
+        """Takes event records in bulk: bytes of 20 a record, a numpy array of `events.dtype()` (whose memory is read without a copy) or a list
+        of events. It stops at the first record that is refused, and answers how many were taken and what refuses that one; with `skip` the
+        refused ones are left out, and it answers how many were taken and what refuses each of the others. Nothing is raised for a refused
+        record. Other threads wait while records are taken.
+
+        `Missing` is raised where the library is older than 1.4.0.
+        """
+        self._check_open()
+        if isinstance(records, str):
+            raise ranges.type_error(records, "records", "bytes of records, an array or a list of events")
+        data, size, _alive = sessions.lent(records, b"")
+        start = data if isinstance(data, int) else ctypes.cast(ctypes.c_char_p(data), ctypes.c_void_p).value or 0
+        taken, number = self._records(start, size)
+        if not skip:
+            return Applied(taken, Refused.of(number, taken + 1) if number else None)
+        return self._skip_on(start, size, taken, number)
+
+    def _records(self, start: int, size: int) -> tuple[int, int]:
+        """How many records from an address on are taken, and the number that refuses the next one, or 0."""
+        answer = AnswerWords()
+        try:
+            taken = native.call("quoting_month_records", self._words, month_words.COUNT, self._hints, HINT_BYTES, start, size, answer, WORDS)
+        except Refused as refused:
+            raise_for(refused)
+        return taken, answer[1]
+
+    def _skip_on(self, start: int, size: int, taken: int, number: int) -> Skipped:
+        """Goes on after a refused record, until none is left."""
+        at, refusals = taken, []
+        while number:
+            at += 1
+            refusals.append(Refused.of(number, at))
+            left = max(size - events.SIZE * at, 0)
+            more, number = self._records(start + events.SIZE * at, left)
+            at, taken = at + more, taken + more
+        return Skipped(taken, refusals)
+
+    # ------------------------------------------------------------ each call
+
     def open(self, row: Union[Row, Sequence[int]], day: int, sp: Union[int, c.Strike], lapses: Optional[int] = None) -> None:
-        """Opens a quantum by a row, or by a list of words; a strike may be given in place of SP."""
+        """Opens a quantum by a row, or by a list of words; a strike may be given in place of SP. `lapses` is the lapse limit, None for none."""
         words = row.words if isinstance(row, Row) else list(row)
         self.call(c.Open(words, day, sp, c.NO_LIMIT if lapses is None else lapses))
 
+    # An event of plain numbers goes by `_sends`; any other goes by `call`, which reads times and names the number that is wrong.
+
     def add(self, t: Time, id: int, side: Side, price: int, volume: int) -> None:
+        """Adds an order, `buy` or `sell`."""
+        if type(t) is type(id) is type(price) is type(volume) is int and type(side) is str:
+            if self._sends(ADD, t, id, SIDES.get(side), price, volume):
+                return
         self.call(Add(t, id, side, price, volume))
 
     def amend(self, t: Time, id: int, price: int, volume: int) -> None:
+        """Gives a live order another price and volume."""
+        if type(t) is type(id) is type(price) is type(volume) is int and self._sends(AMEND, t, id, price, volume):
+            return
         self.call(Amend(t, id, price, volume))
 
     def cancel(self, t: Time, id: int) -> None:
+        """Takes a live order away."""
+        if type(t) is type(id) is int and self._sends(CANCEL, t, id):
+            return
         self.call(Cancel(t, id))
 
     def deal(self, t: Time, id: int, volume: int) -> None:
+        """Takes a traded volume off a live order, which ends where nothing of it is left."""
+        if type(t) is type(id) is type(volume) is int and self._sends(DEAL, t, id, volume):
+            return
         self.call(Deal(t, id, volume))
 
     def tick(self, t: Time) -> None:
+        """Says that time has passed."""
+        if type(t) is int and self._sends(TICK, t):
+            return
         self.call(Tick(t))
 
     def close(self, active: int, passive: int) -> None:
@@ -259,11 +399,13 @@ class Month:
         self.call(c.Withdraw(day, expiry, quantum))
 
     def look(self, day: int, expiry: int, quantum: int) -> Cell:
+        """A closed quantum: time kept, lapses, charges, verdict and weight."""
         answer = self.call(c.Look(day, expiry, quantum))
         assert isinstance(answer, Cell)
         return answer
 
     def report(self) -> MonthReport:
+        """The open quantum, the failure counts of the six series and the fee."""
         answer = self.call(c.Report())
         assert isinstance(answer, MonthReport)
         return answer

@@ -52,7 +52,7 @@ CALLS: dict[str, list[Any]] = {
 # Calls of some microseconds that keep the interpreter's lock (ctypes.PyDLL), so that no other thread of Python runs during one. Two threads
 # may then use one month. Measured against a lock in the month and a call that releases the interpreter's: a call takes 1.9 µs instead of
 # 2.0, and 1.6 times as many calls are made beside a thread that works in Python.
-KEEPS_LOCK = ("quoting_month_fresh", "quoting_month_call", "quoting_month_view")
+KEEPS_LOCK = ("quoting_month_fresh", "quoting_month_call", "quoting_month_records", "quoting_month_view")
 
 
 class Missing(Exception):
