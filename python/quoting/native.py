@@ -108,13 +108,7 @@ def typed(found: ctypes.CDLL) -> ctypes.CDLL:
 
 def has(name: str) -> bool:
     """Whether the library has that call."""
-    return hasattr(holder(name), name)
-
-
-def holder(name: str) -> ctypes.CDLL:
-    """The library that has a call. While the scan is not in it, QUOTING_SCAN names the one that has it."""
-    named = os.environ.get("QUOTING_SCAN") if name == "quoting_fix_scan" else None
-    return ctypes.CDLL(named) if named else library()
+    return hasattr(library(), name)
 
 
 @lru_cache(maxsize=None)
@@ -122,7 +116,7 @@ def function(name: str) -> Any:
     """A call of the library, with its types set."""
     if not has(name):
         raise Missing(f"the library ({version()}) has no {name}: run make library for a newer one")
-    found = getattr(ctypes.PyDLL(library()._name, handle=library()._handle) if name in KEEPS_LOCK else holder(name), name)
+    found = getattr(ctypes.PyDLL(library()._name, handle=library()._handle) if name in KEEPS_LOCK else library(), name)
     found.argtypes, found.restype = CALLS[name], ctypes.c_uint64
     return found
 
