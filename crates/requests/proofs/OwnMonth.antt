@@ -1,0 +1,322 @@
+-- The theorem: a quantum's cell in any month in which its place is blank is the one that it leaves in a fresh month. Its open is checked
+-- against its own cell and the open quantum, the calls inside and its close against the open quantum alone, and only its close writes a
+-- cell: its own.
+use Prim.Native.Nat.{ℕ, zero, suc, _<_}
+use native.Mathlib.Omega.{arith}
+use mathlib.Core.Path.{_≡_, refl, sym, ap, _∙_, subst}
+use mathlib.Core.Logic.{_≢_, ⊎-elim}
+use mathlib.Core.List.{List, [], _∷_, _++_, List·Memᴰ}
+use mathlib.Core.Bool.{Bool, true, false, true≢false, not, _&&_}
+use lib.Dec.{ltb}
+use lib.ListN.{length, getD, set, List·getD-eq-default}
+use lib.Seq.{getD-set-same, getD-set-other}
+use borrow.Author.Tests.{ltb-true, ltb-false}
+use Rattle.rules.specs.declared.Opening.{Opening}
+use Rattle.rules.specs.declared.Kopecks.{Kopecks}
+use Rattle.rules.specs.declared.Cell.{Cell}
+use Rattle.rules.specs.declared.Event.{Event}
+use Rattle.lists.specs.Lists.{within, All}
+use Rattle.rules.specs.Terms.{Terms}
+use Rattle.rules.specs.Rows.{rowOf}
+use Rattle.rules.specs.Cells.{blankCell, placeOf, cellAt}
+use Rattle.rules.specs.Lapses.{goodLapseLimit}
+use Rattle.rules.specs.MessageCalls as M
+use Rattle.rules.specs.Calls.{Call, Open, Send, Message, Ask, Commit, Close, Drop, Charge, Withdraw, Look, Report, Outlook, Running, Idle, Quoting, Book, freshBook, isOpen, amendOf}
+use Rattle.rules.specs.Causes.{cause, firstNumber, goodSettlement, goodSpreadRule, rowCauses, causes, refusalOf}
+use Rattle.rules.specs.Changes.{notedAll, closedCell, closed, charged, changed}
+use Rattle.rules.specs.Book.{stepBy, step, run, after}
+use Rattle.rules.specs.Histories.{refusalsFrom}
+use Rattle.lists.proofs.Members.{getD-in, in-set, in-replicate}
+use Rattle.rules.proofs.Histories.{run-append}
+use Rattle.rules.proofs.Refusals.{within-parts, CallPasses, call-passes}
+use Rattle.rules.proofs.Bounds.{bounds, read-bounds, place-small}
+use Rattle.requests.specs.DayOrder.{Inside, event, message, ask, commit, look, report, outlook, callOf, Whole, callsIn, placeIn, anywhere, Anywhere}
+use Rattle.requests.specs.OwnMonth.{CellAsAlone}
+use Rattle.requests.proofs.DayOrder.{toEnd, one-same, left-same, closed-same, fresh-length, fresh-idle, fresh-cell}
+
+-- ---- a cell that is not filled is the blank one
+
+abbrev Blank : Cell → Type 0
+Blank c = c .filled ≡ false → c ≡ blankCell
+
+abbrev Blanks : List Cell → Type 0
+Blanks cells = (c : Cell) → List·Memᴰ c cells → Blank c
+
+blanks-set : (cells : List Cell) (i : ℕ) (x : Cell) → Blanks cells → Blank x → Blanks (set cells i x)
+blanks-set cells i x old new c m = ⊎-elim (λ e. subst Blank (sym e) new) (old c) (in-set cells i x m)
+
+blanks-closed : (r : Running) (active passive : Kopecks) (cells : List Cell) → Blanks cells → Blanks (closed r active passive cells)
+blanks-closed Idle active passive cells old = old
+blanks-closed (Quoting place row opening events) active passive cells old =
+    blanks-set cells place (closedCell row opening events active passive) old (λ h. absurd (true≢false h))
+
+module _ (terms : Terms) where
+  blanks-changed : (b : Book) (c : Call) → CallPasses terms b c → Blanks (b .cells) → Blanks (changed b c .cells)
+  unfolding changed
+  blanks-changed b (Open words day opening) p old = old
+  blanks-changed b (Send e) p old = old
+  blanks-changed b (Message start bytes) p old = old
+  blanks-changed b (Ask a) p old = old
+  blanks-changed b (Commit a ticket) p old = old
+  blanks-changed b (Close active passive) p old = blanks-closed (b .running) active passive (b .cells) old
+  blanks-changed b Drop p old = old
+  blanks-changed b (Charge day expiry quantum active passive) p old =
+      let place = placeOf day expiry quantum in
+      blanks-set (b .cells) place (charged active passive (cellAt (b .cells) place)) old (λ h. absurd (true≢false (sym (p .filled) ∙ h)))
+  blanks-changed b (Withdraw day expiry quantum) p old = blanks-set (b .cells) (placeOf day expiry quantum) blankCell old (λ h. refl)
+  blanks-changed b (Look day expiry quantum) p old = old
+  blanks-changed b Report p old = old
+  blanks-changed b Outlook p old = old
+
+  blanks-step : (b : Book) (c : Call) → Blanks (b .cells) → Blanks (step terms b c .cells)
+  unfolding step
+  blanks-step b c old = go (refusalOf terms b c) refl
+    where
+      go : (n : ℕ) → refusalOf terms b c ≡ n → Blanks (stepBy terms n b c .cells)
+      go zero h = blanks-changed b c (call-passes terms b c h) old
+      go (suc n) h = old
+
+  blanks-run : (b : Book) (calls : List Call) → Blanks (b .cells) → Blanks (run terms b calls .cells)
+  unfolding run
+  blanks-run b [] old = old
+  blanks-run b (c ∷ cs) old = blanks-run (step terms b c) cs (blanks-step b c old)
+
+blanks-fresh : Blanks (freshBook .cells)
+unfolding freshBook
+blanks-fresh c m h = in-replicate 186 blankCell m
+
+blank-at : (cells : List Cell) (i : ℕ) → Blanks cells → Blank (cellAt cells i)
+blank-at cells i all h = go (ltb i (length cells)) refl
+  where
+    go : (t : Bool) → ltb i (length cells) ≡ t → cellAt cells i ≡ blankCell
+    go true e = all (cellAt cells i) (getD-in cells i blankCell (ltb-true i (length cells) e)) h
+    go false e = List·getD-eq-default cells blankCell {n = i} (ltb-false i (length cells) e)
+
+blank-after : (terms : Terms) (calls : List Call) (i : ℕ) → Blank (cellAt (after terms calls .cells) i)
+unfolding after
+blank-after terms calls i = blank-at (run terms freshBook calls .cells) i (blanks-run terms freshBook calls blanks-fresh)
+
+-- ---- the open quantum's place
+
+-- where a quantum is open, it is the one of this place
+abbrev At : ℕ → Running → Type 0
+At place Idle = Unit {0}
+At place (Quoting p row opening events) = (p ≡ place) × (place < 186)
+
+noted-at : (place : ℕ) (r : Running) (es : List Event) → At place r → At place (notedAll r es)
+noted-at place Idle es h = tt
+noted-at place (Quoting p row opening events) es h = h
+
+inside-at : (place : ℕ) (b : Book) (c : Inside) → At place (b .running) → At place (changed b (callOf c) .running)
+unfolding changed
+inside-at place b (event e) h = noted-at place (b .running) (e ∷ []) h
+inside-at place b (message start bytes) h = noted-at place (b .running) (M.eventsOf start bytes) h
+inside-at place b (ask a) h = h
+inside-at place b (commit a ticket) h = noted-at place (b .running) (amendOf a ∷ []) h
+inside-at place b (look day expiry quantum) h = h
+inside-at place b report h = h
+inside-at place b outlook h = h
+
+inside-cells : (b : Book) (c : Inside) → changed b (callOf c) .cells ≡ b .cells
+unfolding changed
+inside-cells b (event e) = refl
+inside-cells b (message start bytes) = refl
+inside-cells b (ask a) = refl
+inside-cells b (commit a ticket) = refl
+inside-cells b (look day expiry quantum) = refl
+inside-cells b report = refl
+inside-cells b outlook = refl
+
+module _ (place : ℕ) (active passive : Kopecks) where
+  -- a close writes the cell of that place
+  closed-here : (r : Running) (cells alone : List Cell) → At place r → length cells ≡ 186 → length alone ≡ 186
+      → cellAt cells place ≡ cellAt alone place → cellAt (closed r active passive cells) place ≡ cellAt (closed r active passive alone) place
+  closed-here Idle cells alone h l k same = same
+  closed-here (Quoting p row opening events) cells alone h l k same = put cells l ∙ sym (put alone k)
+    where
+      put : (cs : List Cell) → length cs ≡ 186 → cellAt (set cs p (closedCell row opening events active passive)) place ≡ closedCell row opening events active passive
+      put cs m =
+          ap (λ (i : ℕ). cellAt (set cs i (closedCell row opening events active passive)) place) (h .0)
+          ∙ getD-set-same cs place (closedCell row opening events active passive) blankCell (omega (arith, h .1, m))
+
+  -- and no other
+  closed-elsewhere : (r : Running) (cells : List Cell) (i : ℕ) → At place r → place ≢ i → cellAt (closed r active passive cells) i ≡ cellAt cells i
+  closed-elsewhere Idle cells i h n = refl
+  closed-elsewhere (Quoting p row opening events) cells i h n =
+      getD-set-other cells p i (closedCell row opening events active passive) blankCell (λ e. n (sym (h .0) ∙ sym e))
+
+-- ---- the same calls on two books
+
+module _ (terms : Terms) where
+  -- a call that leaves the cells as they are when it is accepted
+  cells-stay : (b : Book) (c : Call) → changed b c .cells ≡ b .cells → step terms b c .cells ≡ b .cells
+  unfolding step
+  cells-stay b c h = go (refusalOf terms b c)
+    where
+      go : (n : ℕ) → stepBy terms n b c .cells ≡ b .cells
+      go zero = h
+      go (suc n) = refl
+
+  -- a call that both books refuse by the same number
+  module _ (b d : Book) (c : Call) (same : refusalOf terms b c ≡ refusalOf terms d c) where
+    running-same : b .running ≡ d .running → changed b c .running ≡ changed d c .running → step terms b c .running ≡ step terms d c .running
+    unfolding step
+    running-same r k = ap (λ (n : ℕ). stepBy terms n b c .running) same ∙ go (refusalOf terms d c)
+      where
+        go : (n : ℕ) → stepBy terms n b c .running ≡ stepBy terms n d c .running
+        go zero = k
+        go (suc n) = r
+
+    cell-same : (i : ℕ) → cellAt (b .cells) i ≡ cellAt (d .cells) i → cellAt (changed b c .cells) i ≡ cellAt (changed d c .cells) i
+        → cellAt (step terms b c .cells) i ≡ cellAt (step terms d c .cells) i
+    unfolding step
+    cell-same i r k = ap (λ (n : ℕ). cellAt (stepBy terms n b c .cells) i) same ∙ go (refusalOf terms d c)
+      where
+        go : (n : ℕ) → cellAt (stepBy terms n b c .cells) i ≡ cellAt (stepBy terms n d c .cells) i
+        go zero = k
+        go (suc n) = r
+
+  cell-stays : (b : Book) (c : Call) (i : ℕ) → cellAt (changed b c .cells) i ≡ cellAt (b .cells) i → cellAt (step terms b c .cells) i ≡ cellAt (b .cells) i
+  unfolding step
+  cell-stays b c i h = go (refusalOf terms b c)
+    where
+      go : (n : ℕ) → cellAt (stepBy terms n b c .cells) i ≡ cellAt (b .cells) i
+      go zero = h
+      go (suc n) = refl
+
+  at-stays : (place : ℕ) (b : Book) (c : Call) → At place (b .running) → (refusalOf terms b c ≡ 0 → At place (changed b c .running))
+      → At place (step terms b c .running)
+  unfolding step
+  at-stays place b c h k = go (refusalOf terms b c) refl
+    where
+      go : (n : ℕ) → refusalOf terms b c ≡ n → At place (stepBy terms n b c .running)
+      go zero e = k e
+      go (suc n) e = h
+
+  module _ (place : ℕ) where
+    -- the same quantum open, of that place, and the same cell there
+    record Alike (b d : Book) : Type 0 where
+      running : b .running ≡ d .running
+      here : At place (b .running)
+      cell : cellAt (b .cells) place ≡ cellAt (d .cells) place
+      long : length (b .cells) ≡ 186
+      alone : length (d .cells) ≡ 186
+
+    -- what the calls then do
+    record Ends (b d : Book) (calls : List Call) : Type 0 where
+      refusals : refusalsFrom terms b calls ≡ refusalsFrom terms d calls
+      running : run terms b calls .running ≡ run terms d calls .running
+      cell : cellAt (run terms b calls .cells) place ≡ cellAt (run terms d calls .cells) place
+      others : (i : ℕ) → place ≢ i → cellAt (run terms b calls .cells) i ≡ cellAt (b .cells) i
+
+    -- a call that writes no cell, and then the others
+    alike-more : (b d : Book) (c : Call) → Alike b d → refusalOf terms b c ≡ refusalOf terms d c → changed b c .running ≡ changed d c .running
+        → changed b c .cells ≡ b .cells → changed d c .cells ≡ d .cells → (refusalOf terms b c ≡ 0 → At place (changed b c .running))
+        → Alike (step terms b c) (step terms d c)
+    alike-more b d c a same left kept kept-alone at =
+        let cells = cells-stay b c kept in
+        let alone = cells-stay d c kept-alone in
+        record {
+          running = running-same b d c same (a .running) left;
+          here = at-stays place b c (a .here) at;
+          cell = ap (λ (l : List Cell). cellAt l place) cells ∙ a .cell ∙ ap (λ (l : List Cell). cellAt l place) (sym alone);
+          long = ap length cells ∙ a .long;
+          alone = ap length alone ∙ a .alone;
+        }
+
+    ends-more : (b d : Book) (c : Call) (cs : List Call) → refusalOf terms b c ≡ refusalOf terms d c → changed b c .cells ≡ b .cells
+        → Ends (step terms b c) (step terms d c) cs → Ends b d (c ∷ cs)
+    unfolding run refusalsFrom
+    ends-more b d c cs same kept e =
+        let rest = e .refusals in
+        record {
+          refusals = λ j. same j ∷ rest j;
+          running = e .running;
+          cell = e .cell;
+          others = λ i n. e .others i n ∙ ap (λ (l : List Cell). cellAt l i) (cells-stay b c kept);
+        }
+
+    ends-close : (b d : Book) (active passive : Kopecks) → Alike b d → Ends b d (Close active passive ∷ [])
+    unfolding run refusalsFrom changed
+    ends-close b d active passive a =
+        let c = Close active passive in
+        let same = closed-same terms b d (a .running) active passive in
+        let here = closed-here place active passive (b .running) (b .cells) (d .cells) (a .here) (a .long) (a .alone) (a .cell) in
+        record {
+          refusals = λ j. same j ∷ [];
+          running = running-same b d c same (a .running) refl;
+          cell = cell-same b d c same place (a .cell) (here ∙ ap (λ (r : Running). cellAt (closed r active passive (d .cells)) place) (a .running));
+          others = λ i n. cell-stays b c i (closed-elsewhere place active passive (b .running) (b .cells) i (a .here) n);
+        }
+
+    ends-inside : (b d : Book) (active passive : Kopecks) (inside : List Inside) → Alike b d → All (λ (c : Inside). anywhere c ≡ true) inside
+        → Ends b d (toEnd inside active passive)
+    ends-inside b d active passive [] a free = ends-close b d active passive a
+    ends-inside b d active passive (c ∷ cs) a free =
+        let same = one-same terms b d (a .running) c (free .0) in
+        let next =
+            alike-more b d (callOf c) a same (left-same terms b d (a .running) c) (inside-cells b c) (inside-cells d c)
+            (λ h. inside-at place b c (a .here)) in
+        ends-more b d (callOf c) (toEnd cs active passive) same (inside-cells b c)
+        (ends-inside (step terms b (callOf c)) (step terms d (callOf c)) active passive cs next (free .1))
+
+  -- ---- the whole quantum
+
+  -- its open is checked against its own cell and whether a quantum is open
+  open-same : (b d : Book) (words : List ℕ) (day : ℕ) (opening : Opening) → b .running ≡ d .running
+      → cellAt (b .cells) (placeOf day (rowOf words .expiry) (rowOf words .quantum)) ≡ cellAt (d .cells) (placeOf day (rowOf words .expiry) (rowOf words .quantum))
+      → refusalOf terms b (Open words day opening) ≡ refusalOf terms d (Open words day opening)
+  unfolding refusalOf causes
+  open-same b d words day opening running cell = λ j.
+      firstNumber
+      (rowCauses terms (opening .spread) words
+      ++ (cause 3 (not (within 1 31 day && goodSettlement (opening .spread)))
+      ∷ cause 4 (cell j .filled)
+      ∷ cause 6 (isOpen (running j))
+      ∷ cause 17 (not (goodLapseLimit (opening .allowed)))
+      ∷ cause 18 (not (goodSpreadRule (opening .spread)))
+      ∷ []))
+
+  open-at : (b : Book) (q : Whole) → refusalOf terms b (Open (q .words) (q .day) (q .opening)) ≡ 0
+      → At (placeIn q) (changed b (Open (q .words) (q .day) (q .opening)) .running)
+  unfolding changed
+  open-at b q h =
+      let p = call-passes terms b (Open (q .words) (q .day) (q .opening)) h in
+      let row = rowOf (q .words) in
+      let r = read-bounds terms (q .opening .spread) row (p .row-good) in
+      (refl, place-small (q .day) (row .expiry) (row .quantum) (within-parts 1 31 (q .day) (p .day-good) .1) (r .expiry-most) (r .quantum-most))
+
+  ends-whole : (b d : Book) (q : Whole) → Alike (placeIn q) b d → Anywhere q → Ends (placeIn q) b d (callsIn q)
+  unfolding changed
+  ends-whole b d q a free =
+      let c = Open (q .words) (q .day) (q .opening) in
+      let same = open-same b d (q .words) (q .day) (q .opening) (a .running) (a .cell) in
+      let next = alike-more (placeIn q) b d c a same refl refl refl (open-at b q) in
+      ends-more (placeIn q) b d c (toEnd (q .inside) (q .active) (q .passive)) same refl
+      (ends-inside (placeIn q) (step terms b c) (step terms d c) (q .active) (q .passive) (q .inside) next free)
+
+  refusals-append : (b : Book) (cs ds : List Call) → refusalsFrom terms b (cs ++ ds) ≡ refusalsFrom terms b cs ++ refusalsFrom terms (run terms b cs) ds
+  unfolding refusalsFrom run
+  refusals-append b [] ds = refl
+  refusals-append b (c ∷ cs) ds = ap (λ (l : List ℕ). refusalOf terms b c ∷ l) (refusals-append (step terms b c) cs ds)
+
+  pub cell-as-alone : CellAsAlone terms
+  unfolding after
+  cell-as-alone before q free idle blank =
+      let b = run terms freshBook before in
+      let joined = run-append terms freshBook before (callsIn q) in
+      let alike : Alike (placeIn q) b freshBook =
+          record {
+            running = idle ∙ sym fresh-idle;
+            here = subst (At (placeIn q)) (sym idle) tt;
+            cell = blank-after terms before (placeIn q) blank ∙ sym (fresh-cell (placeIn q));
+            long = bounds terms before .all-cells;
+            alone = fresh-length;
+          } in
+      let e = ends-whole b freshBook q alike free in
+      record {
+        cell = ap (λ (s : Book). cellAt (s .cells) (placeIn q)) joined ∙ e .cell;
+        others = λ i n. ap (λ (s : Book). cellAt (s .cells) i) joined ∙ e .others i n;
+        refusals = refusals-append freshBook before (callsIn q) ∙ ap (λ (l : List ℕ). refusalsFrom terms freshBook before ++ l) (e .refusals);
+        running = ap (λ (s : Book). s .running) joined ∙ e .running;
+      }
