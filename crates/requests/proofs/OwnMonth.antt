@@ -5,8 +5,8 @@ use Prim.Native.Nat.{ℕ, zero, suc, _<_}
 use native.Mathlib.Omega.{arith}
 use mathlib.Core.Path.{_≡_, refl, sym, ap, _∙_, subst}
 use mathlib.Core.Logic.{_≢_, ⊎-elim}
-use mathlib.Core.List.{List, [], _∷_, _++_, List·Memᴰ}
-use mathlib.Core.Bool.{Bool, true, false, true≢false, not, _&&_}
+use mathlib.Core.List.{List, [], _∷_, _++_, append-assoc, append-nil, List·Memᴰ, List·Memᴰ·head, List·Memᴰ·tail, List·Memᴰ·not-nil}
+use mathlib.Core.Bool.{Bool, true, false, true≢false, false≢true, not, _&&_}
 use lib.Dec.{ltb}
 use lib.ListN.{length, getD, set, List·getD-eq-default}
 use lib.Seq.{getD-set-same, getD-set-other}
@@ -22,7 +22,7 @@ use Rattle.rules.specs.Cells.{blankCell, placeOf, cellAt}
 use Rattle.rules.specs.Lapses.{goodLapseLimit}
 use Rattle.rules.specs.MessageCalls as M
 use Rattle.rules.specs.Calls.{Call, Open, Send, Message, Ask, Commit, Close, Drop, Charge, Withdraw, Look, Report, Outlook, Running, Idle, Quoting, Book, freshBook, isOpen, amendOf}
-use Rattle.rules.specs.Causes.{cause, firstNumber, goodSettlement, goodSpreadRule, rowCauses, causes, refusalOf}
+use Rattle.rules.specs.Causes.{cause, firstNumber, goodSettlement, goodSpreadRule, goodCharges, rowCauses, causes, refusalOf}
 use Rattle.rules.specs.Changes.{notedAll, closedCell, closed, charged, changed}
 use Rattle.rules.specs.Book.{stepBy, step, run, after}
 use Rattle.rules.specs.Histories.{refusalsFrom}
@@ -30,8 +30,8 @@ use Rattle.lists.proofs.Members.{getD-in, in-set, in-replicate}
 use Rattle.rules.proofs.Histories.{run-append}
 use Rattle.rules.proofs.Refusals.{within-parts, CallPasses, call-passes}
 use Rattle.rules.proofs.Bounds.{bounds, read-bounds, place-small}
-use Rattle.requests.specs.DayOrder.{Inside, event, message, ask, commit, look, report, outlook, callOf, Whole, callsIn, placeIn, anywhere, Anywhere}
-use Rattle.requests.specs.OwnMonth.{CellAsAlone}
+use Rattle.requests.specs.DayOrder.{Inside, event, message, ask, commit, look, report, outlook, callOf, Whole, callsIn, joined, placeIn, anywhere, Anywhere}
+use Rattle.requests.specs.OwnMonth.{SameAlone, CellAsAlone, Apart, Chargeable, refusalsAlone, EachAsAlone}
 use Rattle.requests.proofs.DayOrder.{toEnd, one-same, left-same, closed-same, fresh-length, fresh-idle, fresh-cell}
 
 -- ---- a cell that is not filled is the blank one
@@ -319,4 +319,111 @@ module _ (terms : Terms) where
         others = λ i n. ap (λ (s : Book). cellAt (s .cells) i) joined ∙ e .others i n;
         refusals = refusals-append freshBook before (callsIn q) ∙ ap (λ (l : List ℕ). refusalsFrom terms freshBook before ++ l) (e .refusals);
         running = ap (λ (s : Book). s .running) joined ∙ e .running;
+      }
+
+-- ---- a month of quanta
+
+module _ {A : Type 0} where
+  all-both : {P Q R : A → Type 0} (xs : List A) → ((x : A) → P x → Q x → R x) → All P xs → All Q xs → All R xs
+  all-both [] f p q = tt
+  all-both (x ∷ xs) f p q = (f x (p .0) (q .0), all-both xs f (p .1) (q .1))
+
+  all-of : {P : A → Type 0} (xs : List A) → ((x : A) → P x) → All P xs
+  all-of [] f = tt
+  all-of (x ∷ xs) f = (f x, all-of xs f)
+
+-- with good charges a close is refused only where no quantum is open
+close-refused : (good : Bool) (r : Running) (n : ℕ) → good ≡ true → firstNumber (cause 3 (not good) ∷ cause 7 (not (isOpen r)) ∷ []) ≡ suc n → r ≡ Idle
+unfolding firstNumber
+close-refused true Idle n e h = refl
+close-refused true (Quoting place row opening events) n e h = absurd (omega (arith, h))
+close-refused false r n e h = absurd (false≢true e)
+
+module _ (terms : Terms) where
+  close-idle : (b : Book) (active passive : Kopecks) → goodCharges terms active passive ≡ true → step terms b (Close active passive) .running ≡ Idle
+  unfolding step refusalOf causes changed
+  close-idle b active passive good = go (refusalOf terms b (Close active passive)) refl
+    where
+      go : (n : ℕ) → refusalOf terms b (Close active passive) ≡ n → stepBy terms n b (Close active passive) .running ≡ Idle
+      go zero h = refl
+      go (suc n) h = close-refused (goodCharges terms active passive) (b .running) n good h
+
+  idle-end : (b : Book) (inside : List Inside) (active passive : Kopecks) → goodCharges terms active passive ≡ true
+      → run terms b (toEnd inside active passive) .running ≡ Idle
+  unfolding run
+  idle-end b [] active passive good = close-idle b active passive good
+  idle-end b (c ∷ cs) active passive good = idle-end (step terms b (callOf c)) cs active passive good
+
+  idle-after : (before : List Call) (q : Whole) → Chargeable terms q → after terms (before ++ callsIn q) .running ≡ Idle
+  unfolding after run
+  idle-after before q good =
+      ap (λ (s : Book). s .running) (run-append terms freshBook before (callsIn q))
+      ∙ idle-end (step terms (run terms freshBook before) (Open (q .words) (q .day) (q .opening))) (q .inside) (q .active) (q .passive) good
+
+  -- quanta after any calls that leave none open
+  record Month (before : List Call) (qs : List Whole) : Type 0 where
+    cells : {p : Whole} → List·Memᴰ p qs
+        → cellAt (after terms (before ++ joined qs) .cells) (placeIn p) ≡ cellAt (after terms (callsIn p) .cells) (placeIn p)
+    others : (i : ℕ) → All (λ (q : Whole). placeIn q ≢ i) qs → cellAt (after terms (before ++ joined qs) .cells) i ≡ cellAt (after terms before .cells) i
+    refusals : refusalsFrom terms freshBook (before ++ joined qs) ≡ refusalsFrom terms freshBook before ++ refusalsAlone terms qs
+    idle : after terms (before ++ joined qs) .running ≡ Idle
+
+  abbrev BlankAfter : List Call → Whole → Type 0
+  BlankAfter before q = cellAt (after terms before .cells) (placeIn q) .filled ≡ false
+
+  month-none : (before : List Call) → after terms before .running ≡ Idle → Month before []
+  unfolding joined refusalsAlone
+  month-none before idle =
+      record {
+        cells = λ {p} m. absurd (List·Memᴰ·not-nil m);
+        others = λ i n. ap (λ (l : List Call). cellAt (after terms l .cells) i) (append-nil before);
+        refusals = ap (refusalsFrom terms freshBook) (append-nil before) ∙ sym (append-nil (refusalsFrom terms freshBook before));
+        idle = ap (λ (l : List Call). after terms l .running) (append-nil before) ∙ idle;
+      }
+
+  month-more : (before : List Call) (q : Whole) (qs : List Whole) → Apart (q ∷ qs) → SameAlone terms before q → Month (before ++ callsIn q) qs
+      → Month before (q ∷ qs)
+  unfolding joined refusalsAlone
+  month-more before q qs apart first rest =
+      let longer = sym (append-assoc before (callsIn q) (joined qs)) in
+      let alone = refusalsFrom terms freshBook (callsIn q) in
+      record {
+        cells = λ {p} m. ap (λ (l : List Call). cellAt (after terms l .cells) (placeIn p)) longer ∙ found m;
+        others = λ i n. ap (λ (l : List Call). cellAt (after terms l .cells) i) longer ∙ rest .others i (n .1) ∙ first .others i (n .0);
+        refusals =
+            ap (refusalsFrom terms freshBook) longer
+            ∙ rest .refusals
+            ∙ ap (λ (l : List ℕ). l ++ refusalsAlone terms qs) (first .refusals)
+            ∙ append-assoc (refusalsFrom terms freshBook before) alone (refusalsAlone terms qs);
+        idle = ap (λ (l : List Call). after terms l .running) longer ∙ rest .idle;
+      }
+    where
+      elsewhere : All (λ (p : Whole). placeIn p ≢ placeIn q) qs
+      elsewhere = all-both qs (λ p n m e. n (sym e)) (apart .0) (apart .0)
+
+      found : {p : Whole} → List·Memᴰ p (q ∷ qs)
+          → cellAt (after terms ((before ++ callsIn q) ++ joined qs) .cells) (placeIn p) ≡ cellAt (after terms (callsIn p) .cells) (placeIn p)
+      found (List·Memᴰ·head e) =
+          subst (λ (x : Whole). cellAt (after terms ((before ++ callsIn q) ++ joined qs) .cells) (placeIn x) ≡ cellAt (after terms (callsIn x) .cells) (placeIn x))
+          (sym e) (rest .others (placeIn q) elsewhere ∙ first .cell)
+      found (List·Memᴰ·tail m) = rest .cells m
+
+  month : (before : List Call) (qs : List Whole) → after terms before .running ≡ Idle → All (BlankAfter before) qs → All Anywhere qs
+      → All (Chargeable terms) qs → Apart qs → Month before qs
+  month before [] idle blank free good apart = month-none before idle
+  month before (q ∷ qs) idle blank free good apart =
+      let first = cell-as-alone terms before q (free .0) idle (blank .0) in
+      let still = all-both qs (λ p n h. ap (λ (c : Cell). c .filled) (first .others (placeIn p) n) ∙ h) (apart .0) (blank .1) in
+      month-more before q qs apart first
+      (month (before ++ callsIn q) qs (idle-after before q (good .0)) still (free .1) (good .1) (apart .1))
+
+  pub each-as-alone : EachAsAlone terms
+  unfolding after run refusalsFrom
+  each-as-alone qs free good apart =
+      let m = month [] qs fresh-idle (all-of qs (λ q. ap (λ (c : Cell). c .filled) (fresh-cell (placeIn q)))) free good apart in
+      record {
+        cells = λ q h. m .cells h;
+        others = λ i n. m .others i n ∙ fresh-cell i;
+        refusals = m .refusals;
+        idle = m .idle;
       }

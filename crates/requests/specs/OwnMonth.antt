@@ -4,14 +4,16 @@
 use Prim.Native.Nat.{ℕ}
 use mathlib.Core.Path.{_≡_}
 use mathlib.Core.Logic.{_≢_}
-use mathlib.Core.List.{List, _++_}
-use mathlib.Core.Bool.{false}
+use mathlib.Core.List.{List, [], _∷_, _++_, List·Memᴰ}
+use mathlib.Core.Bool.{true, false}
+use Rattle.lists.specs.Lists.{All}
 use Rattle.rules.specs.Terms.{Terms}
-use Rattle.rules.specs.Cells.{cellAt}
+use Rattle.rules.specs.Cells.{blankCell, cellAt}
 use Rattle.rules.specs.Calls.{Call, Idle, freshBook}
+use Rattle.rules.specs.Causes.{goodCharges}
 use Rattle.rules.specs.Book.{after}
 use Rattle.rules.specs.Histories.{refusalsFrom}
-use Rattle.requests.specs.DayOrder.{Whole, callsIn, placeIn, Anywhere}
+use Rattle.requests.specs.DayOrder.{Whole, callsIn, joined, placeIn, Anywhere}
 
 -- the calls of one quantum after any others, and alone in a fresh month
 pub record SameAlone (terms : Terms) (before : List Call) (q : Whole) : Type 0 where
@@ -29,3 +31,31 @@ pub record SameAlone (terms : Terms) (before : List Call) (q : Whole) : Type 0 w
 abbrev pub CellAsAlone : Terms → Type 0
 CellAsAlone terms = (before : List Call) (q : Whole) → Anywhere q → after terms before .running ≡ Idle
     → cellAt (after terms before .cells) (placeIn q) .filled ≡ false → SameAlone terms before q
+
+-- ---- a month of quanta, one after the other
+
+-- no two of them name the same place
+abbrev pub Apart : List Whole → Type 0
+Apart [] = Unit {0}
+Apart (q ∷ qs) = All (λ (p : Whole). placeIn q ≢ placeIn p) qs × Apart qs
+
+-- A and P of its close are in their range
+abbrev pub Chargeable : Terms → Whole → Type 0
+Chargeable terms q = goodCharges terms (q .active) (q .passive) ≡ true
+
+-- what refuses the calls of each in a fresh month of its own, one quantum after the other
+unfoldable pub refusalsAlone : Terms → List Whole → List ℕ
+refusalsAlone terms [] = []
+refusalsAlone terms (q ∷ qs) = refusalsFrom terms freshBook (callsIn q) ++ refusalsAlone terms qs
+
+pub record MonthAsAlone (terms : Terms) (qs : List Whole) : Type 0 where
+  -- each quantum's cell is the one that it leaves in a fresh month
+  pub cells : (q : Whole) → List·Memᴰ q qs
+      → cellAt (after terms (joined qs) .cells) (placeIn q) ≡ cellAt (after terms (callsIn q) .cells) (placeIn q)
+  -- a place that none of them names is blank
+  pub others : (i : ℕ) → All (λ (q : Whole). placeIn q ≢ i) qs → cellAt (after terms (joined qs) .cells) i ≡ blankCell
+  pub refusals : refusalsFrom terms freshBook (joined qs) ≡ refusalsAlone terms qs
+  pub idle : after terms (joined qs) .running ≡ Idle
+
+abbrev pub EachAsAlone : Terms → Type 0
+EachAsAlone terms = (qs : List Whole) → All Anywhere qs → All (Chargeable terms) qs → Apart qs → MonthAsAlone terms qs
