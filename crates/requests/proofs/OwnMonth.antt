@@ -8,7 +8,7 @@ use mathlib.Core.Logic.{_≢_, ⊎-elim}
 use mathlib.Core.List.{List, [], _∷_, _++_, append-assoc, append-nil, List·Memᴰ, List·Memᴰ·head, List·Memᴰ·tail, List·Memᴰ·not-nil}
 use mathlib.Core.Bool.{Bool, true, false, true≢false, false≢true, not, _&&_}
 use lib.Dec.{ltb}
-use lib.ListN.{length, getD, set, List·getD-eq-default}
+use lib.ListN.{length, set, List·getD-eq-default}
 use lib.Seq.{getD-set-same, getD-set-other}
 use borrow.Author.Tests.{ltb-true, ltb-false}
 use Rattle.rules.specs.declared.Opening.{Opening}
@@ -255,8 +255,8 @@ module _ (terms : Terms) where
     ends-inside b d active passive (c ∷ cs) a free =
         let same = one-same terms b d (a .running) c (free .0) in
         let next =
-            alike-more b d (callOf c) a same (left-same terms b d (a .running) c) (inside-cells b c) (inside-cells d c)
-            (λ h. inside-at place b c (a .here)) in
+        alike-more b d (callOf c) a same (left-same terms b d (a .running) c) (inside-cells b c) (inside-cells d c)
+        (λ h. inside-at place b c (a .here)) in
         ends-more b d (callOf c) (toEnd cs active passive) same (inside-cells b c)
         (ends-inside (step terms b (callOf c)) (step terms d (callOf c)) active passive cs next (free .1))
 
@@ -306,13 +306,13 @@ module _ (terms : Terms) where
       let b = run terms freshBook before in
       let joined = run-append terms freshBook before (callsIn q) in
       let alike : Alike (placeIn q) b freshBook =
-          record {
-            running = idle ∙ sym fresh-idle;
-            here = subst (At (placeIn q)) (sym idle) tt;
-            cell = blank-after terms before (placeIn q) blank ∙ sym (fresh-cell (placeIn q));
-            long = bounds terms before .all-cells;
-            alone = fresh-length;
-          } in
+      record {
+        running = idle ∙ sym fresh-idle;
+        here = subst (At (placeIn q)) (sym idle) tt;
+        cell = blank-after terms before (placeIn q) blank ∙ sym (fresh-cell (placeIn q));
+        long = bounds terms before .all-cells;
+        alone = fresh-length;
+      } in
       let e = ends-whole b freshBook q alike free in
       record {
         cell = ap (λ (s : Book). cellAt (s .cells) (placeIn q)) joined ∙ e .cell;
