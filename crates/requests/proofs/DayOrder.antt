@@ -215,7 +215,7 @@ untouched b [] i none = refl
 untouched b (q ∷ qs) i none =
     untouched (filedBy b q) qs i (λ p m. none p (List·Memᴰ·tail m)) ∙ elsewhere b q i (none q (List·Memᴰ·head refl))
 
-named : (qs : List Whole) (i : ℕ)
+pub named : (qs : List Whole) (i : ℕ)
     → ((q : Whole) × List·Memᴰ q qs × (placeIn q ≡ i)) ⊎ ((q : Whole) → List·Memᴰ q qs → placeIn q ≢ i)
 named [] i = inr (λ q m. absurd (List·Memᴰ·not-nil m))
 named (p ∷ qs) i = go (eqb (placeIn p) i) refl (named qs i)
@@ -233,7 +233,7 @@ named (p ∷ qs) i = go (eqb (placeIn p) i) refl (named qs i)
 -- ---- permutations
 
 module _ {A : Type 0} where
-  perm-in : {x : A} {xs ys : List A} → List·Permᴰ xs ys → List·Memᴰ x xs → List·Memᴰ x ys
+  pub perm-in : {x : A} {xs ys : List A} → List·Permᴰ xs ys → List·Memᴰ x xs → List·Memᴰ x ys
   perm-in List·Permᴰ·nil m = m
   perm-in (List·Permᴰ·cons e p) (List·Memᴰ·head q) = List·Memᴰ·head (q ∙ e)
   perm-in (List·Permᴰ·cons e p) (List·Memᴰ·tail m) = List·Memᴰ·tail (perm-in p m)
@@ -251,7 +251,7 @@ module _ {A : Type 0} where
   perm-sum f (List·Permᴰ·trans p q) = perm-sum f p ∙ perm-sum f q
 
   -- two lists with the same elements at the same places
-  lists-same : (xs ys : List A) (d : A) → length xs ≡ length ys → ((i : ℕ) → getD xs i d ≡ getD ys i d) → xs ≡ ys
+  pub lists-same : (xs ys : List A) (d : A) → length xs ≡ length ys → ((i : ℕ) → getD xs i d ≡ getD ys i d) → xs ≡ ys
   lists-same [] [] d l h = refl
   lists-same [] (y ∷ ys) d l h = absurd (omega (arith, l))
   lists-same (x ∷ xs) [] d l h = absurd (omega (arith, l))

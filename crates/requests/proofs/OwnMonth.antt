@@ -4,8 +4,8 @@
 use Prim.Native.Nat.{ℕ, zero, suc, _<_}
 use native.Mathlib.Omega.{arith}
 use mathlib.Core.Path.{_≡_, refl, sym, ap, _∙_, subst}
-use mathlib.Core.Logic.{_≢_, ⊎-elim}
-use mathlib.Core.List.{List, [], _∷_, _++_, append-assoc, append-nil, List·Memᴰ, List·Memᴰ·head, List·Memᴰ·tail, List·Memᴰ·not-nil}
+use mathlib.Core.Logic.{_≢_, _⊎_, inl, inr, ⊎-elim}
+use mathlib.Core.List.{List, [], _∷_, _++_, append-assoc, append-nil, List·Memᴰ, List·Memᴰ·head, List·Memᴰ·tail, List·Memᴰ·not-nil, List·Permᴰ, List·Permᴰ·nil, List·Permᴰ·cons, List·Permᴰ·swap, List·Permᴰ·trans, Permᴰ·symm}
 use mathlib.Core.Bool.{Bool, true, false, true≢false, false≢true, not, _&&_}
 use lib.Dec.{ltb}
 use lib.ListN.{length, set, List·getD-eq-default}
@@ -20,6 +20,7 @@ use Rattle.rules.specs.Terms.{Terms}
 use Rattle.rules.specs.Rows.{rowOf}
 use Rattle.rules.specs.Cells.{blankCell, placeOf, cellAt}
 use Rattle.rules.specs.Lapses.{goodLapseLimit}
+use Rattle.rules.specs.Pay.{allFailures, fee}
 use Rattle.rules.specs.MessageCalls as M
 use Rattle.rules.specs.Calls.{Call, Open, Send, Message, Ask, Commit, Close, Drop, Charge, Withdraw, Look, Report, Outlook, Running, Idle, Quoting, Book, freshBook, isOpen, amendOf}
 use Rattle.rules.specs.Causes.{cause, firstNumber, goodSettlement, goodSpreadRule, goodCharges, rowCauses, causes, refusalOf}
@@ -31,8 +32,8 @@ use Rattle.rules.proofs.Histories.{run-append}
 use Rattle.rules.proofs.Refusals.{within-parts, CallPasses, call-passes}
 use Rattle.rules.proofs.Bounds.{bounds, read-bounds, place-small}
 use Rattle.requests.specs.DayOrder.{Inside, event, message, ask, commit, look, report, outlook, callOf, Whole, callsIn, joined, placeIn, anywhere, Anywhere}
-use Rattle.requests.specs.OwnMonth.{SameAlone, CellAsAlone, Apart, Chargeable, refusalsAlone, EachAsAlone}
-use Rattle.requests.proofs.DayOrder.{toEnd, one-same, left-same, closed-same, fresh-length, fresh-idle, fresh-cell}
+use Rattle.requests.specs.OwnMonth.{SameAlone, CellAsAlone, Apart, Chargeable, refusalsAlone, EachAsAlone, MonthAsAlone, AnyOrder}
+use Rattle.requests.proofs.DayOrder.{toEnd, one-same, left-same, closed-same, fresh-length, fresh-idle, fresh-cell, named, perm-in, lists-same}
 
 -- ---- a cell that is not filled is the blank one
 
@@ -427,3 +428,53 @@ module _ (terms : Terms) where
         refusals = m .refusals;
         idle = m .idle;
       }
+
+-- ---- in any order
+
+module _ {A : Type 0} where
+  all-in : (P : A → Type 0) {x : A} {xs : List A} → All P xs → List·Memᴰ x xs → P x
+  all-in P h (List·Memᴰ·head e) = subst P (sym e) (h .0)
+  all-in P h (List·Memᴰ·tail m) = all-in P (h .1) m
+
+  in-all : {P : A → Type 0} (xs : List A) → ((x : A) → List·Memᴰ x xs → P x) → All P xs
+  in-all [] h = tt
+  in-all (x ∷ xs) h = (h x (List·Memᴰ·head refl), in-all xs (λ y m. h y (List·Memᴰ·tail m)))
+
+  all-perm : (P : A → Type 0) {xs ys : List A} → List·Permᴰ xs ys → All P xs → All P ys
+  all-perm P {xs} {ys} p h = in-all ys (λ x m. all-in P h (perm-in (Permᴰ·symm p) m))
+
+-- none of them names the place of this one
+abbrev Off : Whole → List Whole → Type 0
+Off q qs = All (λ (p : Whole). placeIn q ≢ placeIn p) qs
+
+off-perm : {q r : Whole} {xs ys : List Whole} → q ≡ r → List·Permᴰ xs ys → Off q xs → Off r ys
+off-perm {q} {r} {xs} {ys} e p h = subst (λ (w : Whole). Off w ys) e (all-perm (λ (x : Whole). placeIn q ≢ placeIn x) p h)
+
+apart-perm : {xs ys : List Whole} → List·Permᴰ xs ys → Apart xs → Apart ys
+apart-perm List·Permᴰ·nil a = a
+apart-perm (List·Permᴰ·cons e p) a = (off-perm e p (a .0), apart-perm p (a .1))
+apart-perm (List·Permᴰ·swap {l} e f) a = (
+  (λ h. a .0 .0 (ap placeIn e ∙ sym h ∙ sym (ap placeIn f)), subst (λ (z : Whole). Off z l) f (a .1 .0)),
+  (subst (λ (z : Whole). Off z l) e (a .0 .1), a .1 .1),
+)
+apart-perm (List·Permᴰ·trans p q) a = apart-perm q (apart-perm p a)
+
+module _ (terms : Terms) where
+  same-at : (first second : List Whole) → List·Permᴰ first second → MonthAsAlone terms first → MonthAsAlone terms second
+      → (i : ℕ) → cellAt (after terms (joined first) .cells) i ≡ cellAt (after terms (joined second) .cells) i
+  same-at first second p f s i = go (named first i)
+    where
+      go : ((q : Whole) × List·Memᴰ q first × (placeIn q ≡ i)) ⊎ ((q : Whole) → List·Memᴰ q first → placeIn q ≢ i)
+          → cellAt (after terms (joined first) .cells) i ≡ cellAt (after terms (joined second) .cells) i
+      go (inl (q, m, e)) =
+          subst (λ (k : ℕ). cellAt (after terms (joined first) .cells) k ≡ cellAt (after terms (joined second) .cells) k) e
+          (f .cells q m ∙ sym (s .cells q (perm-in p m)))
+      go (inr none) = f .others i (in-all first none) ∙ sym (s .others i (in-all second (λ q m. none q (perm-in (Permᴰ·symm p) m))))
+
+  pub any-order : AnyOrder terms
+  any-order first second p free good apart =
+      let f = each-as-alone terms first free good apart in
+      let s = each-as-alone terms second (all-perm Anywhere p free) (all-perm (Chargeable terms) p good) (apart-perm p apart) in
+      let long = bounds terms (joined first) .all-cells ∙ sym (bounds terms (joined second) .all-cells) in
+      let same = lists-same (after terms (joined first) .cells) (after terms (joined second) .cells) blankCell long (same-at first second p f s) in
+      record { cells = same; failures = ap (allFailures terms) same; fee = ap (fee terms) same }

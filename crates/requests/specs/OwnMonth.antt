@@ -1,15 +1,16 @@
 -- A quantum's cell in any month in which its place is blank is the one that it leaves in a fresh month: what else the month holds makes no
--- difference to it, and it makes none to the other cells. W9 of document 02 rests on the same, for quanta of which no call is refused
--- (DayOrder); here any call may be refused. proofs/OwnMonth shows it.
+-- difference to it, and the quantum makes none to the other cells. So quanta with different places leave the same cells in any order. W9 of
+-- document 02 says this of quanta of which no call is refused (DayOrder); here any call may be refused. proofs/OwnMonth shows it.
 use Prim.Native.Nat.{ℕ}
 use mathlib.Core.Path.{_≡_}
 use mathlib.Core.Logic.{_≢_}
-use mathlib.Core.List.{List, [], _∷_, _++_, List·Memᴰ}
+use mathlib.Core.List.{List, [], _∷_, _++_, List·Memᴰ, List·Permᴰ}
 use mathlib.Core.Bool.{true, false}
 use Rattle.lists.specs.Lists.{All}
 use Rattle.rules.specs.Terms.{Terms}
 use Rattle.rules.specs.Cells.{blankCell, cellAt}
-use Rattle.rules.specs.Calls.{Call, Idle, freshBook}
+use Rattle.rules.specs.Pay.{allFailures, fee}
+use Rattle.rules.specs.Calls.{Call, Idle, Book, freshBook}
 use Rattle.rules.specs.Causes.{goodCharges}
 use Rattle.rules.specs.Book.{after}
 use Rattle.rules.specs.Histories.{refusalsFrom}
@@ -59,3 +60,14 @@ pub record MonthAsAlone (terms : Terms) (qs : List Whole) : Type 0 where
 
 abbrev pub EachAsAlone : Terms → Type 0
 EachAsAlone terms = (qs : List Whole) → All Anywhere qs → All (Chargeable terms) qs → Apart qs → MonthAsAlone terms qs
+
+-- "Fee, failure counts and all cells must be equal" (W9), with refused calls too
+pub record SameCells (terms : Terms) (first second : Book) : Type 0 where
+  pub cells : first .cells ≡ second .cells
+  pub failures : allFailures terms (first .cells) ≡ allFailures terms (second .cells)
+  pub fee : fee terms (first .cells) ≡ fee terms (second .cells)
+
+-- such a month of quanta in any other order
+abbrev pub AnyOrder : Terms → Type 0
+AnyOrder terms = (first second : List Whole) → List·Permᴰ first second → All Anywhere first → All (Chargeable terms) first → Apart first
+    → SameCells terms (after terms (joined first)) (after terms (joined second))
