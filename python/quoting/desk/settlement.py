@@ -1,9 +1,9 @@
 """A desk settled: the cells of each instrument's month, its failures and its fee, and everything that was missing or refused.
 
 An instrument's month is one list of calls on a fresh month of the proved library: quantum by quantum, each from its open to its close, in
-the order of cells.csv. Two expiries run at the same time, and the list has one after the other: a quantum's cell is the one that it leaves
-in a month of its own, and by W9 any other order of the quanta gives the same cells, failure counts and fee (`filed` in
-crates/requests/specs/DayOrder.antt).
+the order of cells.csv. Two expiries run at the same time, and the list has one after the other: a quantum's cell and refusals are those
+that it has in a fresh month of its own, and any other order of the quanta gives the same cells, failure counts and fee (`each-as-alone` and
+`any-order` in crates/requests/proofs/OwnMonth.antt; W9 says the latter where no call is refused).
 """
 
 from collections import Counter
