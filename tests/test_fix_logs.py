@@ -9,11 +9,10 @@ import time
 
 import pytest
 
-from quoting import fix, month_sources, scanning
+from quoting import fix, month_sources
 from quoting.exchange import LogReader, choice
 from quoting.exchange.choice import LogOptions
 from quoting.reading import PLAIN, TextError
-from quoting.scanning import Found, Rejected, Scanner
 from quoting.watch import frames
 from quoting.watch.clocks import FeedClock
 from quoting.watch.feeds import Trouble
@@ -307,24 +306,46 @@ def test_item_3_what_is_no_message_is_reported(damaged, why):
     assert last.status == 1 and last.printed == alone.printed and "line 3: refused 20: " in last.complaint and why in last.complaint, last.complaint
 
 
+class Noted(LogReader):
+    """Notes each message: its line, and its fields, or why it is none."""
+
+    def __init__(self) -> None:
+        super().__init__({}, is_fast=False)
+        self.noted: list = []
+
+    def message(self, fields):
+        self.noted.append((self.line, fields))
+
+    def damaged(self, why):
+        self.noted.append((self.line, why))
+
+
+def noted(*pieces: bytes) -> list:
+    reader = Noted()
+    for at, piece in enumerate(pieces, start=1):
+        reader.feed("log", piece, at == len(pieces))
+    return reader.noted
+
+
+def is_message(each) -> bool:
+    return not isinstance(each[1], str)
+
+
 def test_item_3_a_message_within_a_message():
     """What a message that was read has in a text is no message."""
     inner = "8=FIX.4.4 58=FIX.4.4"
-    found = list(scanning.messages(framed(f"35=D|58={inner}|") + framed("35=0|")))
-    assert [each.kind for each in found] == [b"D", b"0"]
-    broken = list(scanning.messages(framed(f"35=D|58={inner}|")[:-2] + b"x\x01" + framed("35=0|")))
-    assert [type(each) for each in broken] == [Rejected, Rejected, Rejected, Found]
+    found = noted(framed(f"35=D|58={inner}|") + framed("35=0|"))
+    assert [fields[0][1] for _, fields in found] == [b"D", b"0"]
+    broken = noted(framed(f"35=D|58={inner}|")[:-2] + b"x\x01" + framed("35=0|"))
+    assert [is_message(each) for each in broken] == [False, False, False, True]
 
 
-def test_item_3_places():
-    """Lines end at LF, CR or CRLF; the second message of a line has its byte."""
+def test_item_3_lines():
+    """Lines end at LF, CR or CRLF, in any pieces."""
     beat = framed("35=0|")
     log = b"a\r\n" + beat + beat + b"\r" + beat[:-1] + b"\n\n" + beat.replace(b"\x01", b"|")
-    due = ["line 2", "line 2, byte 27", "line 3", "line 5"]
-    assert [each.place for each in scanning.messages(log)] == due
     for size in range(1, len(log)):
-        scanner = Scanner()
-        assert [each.place for each in [*scanner.take(log[:size]), *scanner.take(log[size:]), *scanner.end()]] == due, size
+        assert [line for line, _ in noted(log[:size], log[size:])] == [2, 2, 3, 5], size
 
 
 def plain_scan(data: bytes) -> list:
@@ -370,15 +391,14 @@ def test_item_3_any_log_in_any_pieces(note):
     rng, messages, rejected = random.Random(3), 0, 0
     for _ in range(1_500):
         log = random_log(rng)
-        due = list(scanning.messages(log))
-        assert [(isinstance(each, Found)) for each in due] == [is_message for _, is_message in plain_scan(log)], log
-        scanner, found, at = Scanner(), [], 0
+        due = noted(log)
+        assert [is_message(each) for each in due] == [is_whole for _, is_whole in plain_scan(log)], log
+        pieces, at = [], 0
         while at < len(log):
-            size = rng.choice([1, 2, 7, 26, 90, 300])
-            found += scanner.take(log[at : at + size])
-            at += size
-        assert [*found, *scanner.end()] == due, log
-        messages, rejected = messages + sum(isinstance(each, Found) for each in due), rejected + sum(isinstance(each, Rejected) for each in due)
+            pieces.append(log[at : at + rng.choice([1, 2, 7, 26, 90, 300])])
+            at += len(pieces[-1])
+        assert noted(*pieces) == due, log
+        messages, rejected = messages + sum(map(is_message, due)), rejected + sum(not is_message(each) for each in due)
     assert messages > 3_000 and rejected > 2_000, (messages, rejected)
     note(f"fix logs: {messages} messages and {rejected} that are none, in any pieces")
 
@@ -393,7 +413,7 @@ def test_item_3_time_grows_with_the_log(what):
         "tens": (nested + b"|10=1") * (size // 28), "one end": one_end(60_000) * 3,
     }[what]
     began = time.process_time()
-    count = sum(1 for _ in scanning.messages(log))
+    count = len(noted(log))
     taken = time.process_time() - began
     assert count > 1_000 and taken < len(log) * 10e-6, (count, taken, len(log))
 
@@ -433,10 +453,10 @@ def test_random_logs_end_well(tmp_path):
     for _ in range(40):
         log = random_log(rng)
         done = run(log)
-        rejected = [each for each in scanning.messages(log) if isinstance(each, Rejected)]
+        rejected = [each for each in noted(log) if not is_message(each)]
         assert done.status in (0, 1) and "Traceback" not in done.complaint and (done.status or not rejected), log
         given = files(tmp_path, month_of("BR"), log)
         made = command.run("statement", *given)
         assert made.printed and "Traceback" not in made.complaint and made.status >= bool(rejected), made.complaint
         listed = month_sources.from_list(given[0], PLAIN, given[2:], LogOptions("requests"))
-        assert len(listed.calls) >= 2 and bool(listed.reports) == any(b"35=8" in each.data for each in scanning.messages(log) if isinstance(each, Found)), log
+        assert len(listed.calls) >= 2 and bool(listed.reports) == any(each[1][0] == (b"35", b"8") for each in noted(log) if is_message(each)), log

@@ -268,6 +268,19 @@ def test_a_log_saved_again_is_read_again(watched, tmp_path):
     assert "it ends at 0:00:02 of a quantum that was read up to 0:00:04" in doubted(feed.read())["why"]
 
 
+def test_a_late_message_runs_the_quantum_again(watched, tmp_path):
+    """Nothing was lost: a fresh month and a fresh recount take all calls again, and the figures stay reliable."""
+    log, calls = tmp_path / "log", tmp_path / "list"
+    calls.write_text(quantum("10:00:00.000").rsplit("close", 1)[0])
+    log.write_bytes(log_of(message(1, "10:00:01.000"), message(2, "10:00:05.000")))
+    feed = watched("", feed=LogFeed(str(log), str(calls), PLAIN, None, FeedClock(), True))
+    made = NoRecount.made
+    append(log, log_of(message(3, "10:00:03.000")))
+    reliable(feed.read())
+    assert NoRecount.made == made + 1 and feed.watch.recount.taken == 4 and feed.watch.meter.last == 5_000 and sorted(feed.orders) == [1, 2, 3]
+    assert feed.problems == [logged.LATE], feed.problems
+
+
 # ---------------------------------------------------------------- the page
 
 
