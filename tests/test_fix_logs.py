@@ -9,15 +9,14 @@ import time
 
 import pytest
 
-from quoting import fix, logs, month_sources, scanning
+from quoting import fix, month_sources
+from quoting.exchange import LogReader, choice
 from quoting.exchange.choice import LogOptions
 from quoting.reading import PLAIN, TextError
-from quoting.scanning import Found, Rejected, Scanner
-from quoting.selection import Owner
 from quoting.watch import frames
 from quoting.watch.clocks import FeedClock
 from quoting.watch.feeds import Trouble
-from quoting.watch.messages import MessagesFeed
+from quoting.watch.logged import LogFeed
 from quoting.watch.meter import Meter
 from tests import command
 
@@ -41,10 +40,6 @@ def log_of(*bodies: str) -> bytes:
     return b"".join(b"10:00:00 > " + framed(body).replace(b"\x01", b"|") + b"\n" for body in bodies)
 
 
-def read(*bodies: str, **chosen) -> logs.Log:
-    return logs.read(log_of(*bodies), START, **chosen)
-
-
 def run(data: bytes, *options):
     return command.run("fix", "-", *HEAD, *options, given=data)
 
@@ -57,24 +52,20 @@ def report(execution: str, status: str, more: str = "", at: str = "10:00:06.000"
 
 
 ANSWERS = [
-    (report("F", "2", "32=1000|151=0|"), "1 fill"), (report("F", "1", "32=10|151=990|"), "1 fill"), (report("2", "2"), "1 fill"),
-    (report("1", "1"), "1 fill"), (report("5", "1"), "1 fill"), (report("I", "2"), "1 fill"), (report("H", "0"), "1 fill"),
-    (report("8", "8"), "1 reject"), (report("4", "4"), "1 cancel"), (report("C", "C"), "1 expiry"), (report("3", "3"), "1 expiry"),
-    (report("D", "0"), "1 change by the exchange"), ("35=9|37=9001|11=7|41=1|39=0|434=1|102=0|", "1 rejected cancel or replace"),
-    ("35=3|45=2|372=D|373=5|", "1 rejected message"), ("35=j|45=2|372=G|380=3|", "1 rejected message"),
-    ("35=3|45=2|", "1 rejected message"), ("35=j|379=1|380=3|", "1 rejected message"),
+    report("F", "2", "32=1000|151=0|"), report("F", "1", "32=10|151=990|"), report("2", "2"), report("1", "1"), report("5", "1"), report("I", "2"),
+    report("H", "0"), report("8", "8"), report("4", "4"), report("C", "C"), report("3", "3"), report("D", "0"),
+    "35=9|37=9001|11=7|41=1|39=0|434=1|102=0|", "35=3|45=2|372=D|373=5|", "35=j|45=2|372=G|380=3|", "35=3|45=2|", "35=j|379=1|380=3|",
 ]
 BY_REQUESTS = ("--from", "requests")
 
 
-@pytest.mark.parametrize("answer, said", ANSWERS)
-def test_item_1_answers_are_counted(answer, said):
+@pytest.mark.parametrize("answer", ANSWERS)
+def test_item_1_answers_are_counted(answer):
     """Requests that are read where there are answers of the exchange: status 1 and a sentence; the output is written all the same."""
     alone, done = run(log_of(*QUOTES)), run(log_of(*QUOTES, answer), *BY_REQUESTS)
     assert alone.status == 0 and done.status == 1 and done.printed == alone.printed
     assert "NOT IN THE FIGURES: 1 answer of the exchange (35=8, 9, 3, j), since the log is read by its requests." in done.complaint
     assert "quotes may be overstated" in done.complaint and "Read it by its reports" in done.complaint
-    assert sum(read(*QUOTES, answer).reports.counts.values()) == 1 and read(*QUOTES, answer).reports.head() == said, "as the live page says it"
 
 
 def test_item_1_reports_count_where_there_are_some():
@@ -86,27 +77,30 @@ def test_item_1_reports_count_where_there_are_some():
 
 
 def test_item_1_many_in_one_sentence():
-    given = log_of(*QUOTES, *(answer for answer, _ in ANSWERS))
+    given = log_of(*QUOTES, *ANSWERS)
     done = run(given, *BY_REQUESTS)
     assert f"NOT IN THE FIGURES: {len(ANSWERS)} answers of the exchange" in done.complaint and done.complaint.count("FIGURES") == 1
-    assert json.loads(run(given, *BY_REQUESTS, "--json").printed)["counts"]["reports"] == sum("35=8" in answer for answer, _ in ANSWERS)
+    assert json.loads(run(given, *BY_REQUESTS, "--json").printed)["counts"]["reports"] == sum("35=8" in answer for answer in ANSWERS)
 
 
-def test_item_1_rejects_by_number():
-    """A reject that names no type answers a request where its number (45) is that of one, and the maker has not sent it."""
-    sent = [body.replace("35=D|", f"35=D|49=MAKER|34={number}|") for number, body in enumerate(QUOTES, start=5)]
-    for reject, count in (("35=3|49=EXCH|45=5|", 1), ("35=3|49=EXCH|45=4|", 0), ("35=3|49=MAKER|45=5|", 0), ("35=3|49=EXCH|", 1)):
-        assert sum(read(*sent, reject).reports.counts.values()) == count, reject
-
-
-def test_item_1_reports_of_other_symbols():
-    """A fill of another symbol or account than the chosen one is no fault; one that does not say it counts."""
-    both = [*QUOTES, QUOTES[0].replace("55=BR", "55=GD").replace("11=1|", "11=5|")]
-    fill = report("F", "2").replace("11=1|", "11=5|")
-    assert not read(*both, fill.replace("55=BR", "55=GD"), symbol="BR").reports
-    assert not read(*both, fill.replace("55=BR|", ""), symbol="BR").reports, "it is of order 5, which is GD's"
-    assert read(*both, fill.replace("55=BR|", "").replace("11=5", "11=6"), symbol="BR").reports
-    assert read(*both, "35=9|11=8|41=1|", symbol="BR").reports and not read(*both, "35=9|11=8|41=5|", symbol="BR").reports
+@pytest.mark.parametrize("is_fast", [True, False])
+def test_item_1_answers_of_other_symbols(is_fast):
+    """Answers of another symbol or account than the chosen ones are no fault; those that do not say it count."""
+    both = [QUOTES[0].replace("35=D|", "35=D|1=A7|"), QUOTES[0].replace("55=BR", "55=GD").replace("11=1|", "11=5|1=B2|")]
+    fill = report("F", "2")
+    counted = {
+        fill: 1, fill.replace("55=BR", "55=GD"): 0, fill.replace("55=BR|", ""): 1, fill.replace("55=BR|", "55=BR|1=A7|"): 1,
+        fill.replace("55=BR|", "55=BR|1=B2|"): 0, fill.replace("55=BR|", "55=GD|1=A7|"): 0, fill.replace("55=BR|", "55=BR|55=GD|"): 1,
+        "35=9|11=8|41=1|": 1, "35=9|11=8|41=1|55=BR|": 1, "35=9|11=8|41=5|55=GD|": 0, "35=9|11=8|41=5|1=B2|": 0, "35=3|45=2|": 1,
+    }
+    for answer, count in counted.items():
+        reader = LogReader({"BR": "1"}, ["A7"], "requests", is_fast=None if is_fast else False)
+        reader.feed("log", log_of(*both, answer), True)
+        assert len(reader.timelines) == 1 and choice.unread(reader).answers == count and reader.counts.moves == 1, answer
+    many = run(log_of(*both, *counted), "--symbol", "BR", "--account", "A7", *BY_REQUESTS)
+    assert many.status == 1 and f"NOT IN THE FIGURES: {sum(counted.values())} answers" in many.complaint, many
+    none = run(log_of(*both, fill.replace("55=BR", "55=GD")), "--symbol", "BR", "--account", "A7", *BY_REQUESTS)
+    assert none.status == 0 and "NOT IN THE FIGURES" not in none.complaint, none
 
 
 @pytest.mark.parametrize("tag", ["59=3", "59=4"])
@@ -160,7 +154,7 @@ def test_item_1_a_statement_by_reports(tmp_path):
 def watched(folder, month: str, log: bytes, **chosen):
     """The meter of a log and its list, with the problems of the feed, when all is read but the close."""
     files(folder, month, log)
-    feed = MessagesFeed(str(folder / "log"), str(folder / "month"), PLAIN, None, FeedClock(), False, Owner.named(chosen.get("symbol"), chosen.get("account")))
+    feed = LogFeed(str(folder / "log"), str(folder / "month"), PLAIN, None, FeedClock(), False, LogOptions(**chosen))
     meter, troubles = Meter("log"), []
     while feed.ended is None or feed.behind:
         for item in feed.read():
@@ -178,16 +172,23 @@ def test_item_1_the_live_page_says_it(tmp_path):
     status = frames.Status(wall=1_000.0)
     sure, _ = watched(tmp_path, opened, log_of(*QUOTES))
     assert frames.sections(sure, 0, status)["omitted"] is None
-    meter, _ = watched(tmp_path, opened, log_of(*QUOTES, report("F", "2"), report("8", "8")))
+    meter, _ = watched(tmp_path, opened, log_of(*QUOTES, report("F", "2"), report("8", "8")), source="requests")
     shown = frames.sections(meter, 0, status)
-    assert shown["omitted"]["head"] == "Not in the figures: 1 fill and 1 reject." and "overstated" in shown["omitted"]["text"]
+    assert shown["omitted"]["head"] == "Not in the figures: 2 answers of the exchange (35=8, 9, 3, j)." and "overstated" in shown["omitted"]["text"]
     assert shown["band"]["head"] == "Do not rely on these figures" and shown["band"]["kind"] == "hold", shown["band"]
     assert shown["state"]["key"] == "unknown", shown["state"]
     assert shown["problems"]["count"] == 0, "hundreds of fills would hide the problems"
-    closed, _ = watched(tmp_path, month_of() + month_of(at=f"{DATE}-19:00:00.000").replace("row 1 1", "row 1 2").rsplit("close", 1)[0],
-                        log_of(*QUOTES, report("F", "2"), QUOTES[0].replace("10:00:05", "19:00:05")))
-    later = frames.sections(closed, 0, status)
-    assert later["omitted"] is not None and later["band"]["head"] != "Do not rely on these figures", "the fill is of the quantum before"
+
+
+def test_item_1_the_live_page_by_reports(tmp_path):
+    """By default reports count: the page says what was read, and answers."""
+    new = [report("0", "0", f"44={price}|151=1000|", at=at).replace("17=E1", f"17=N{side}").replace("37=9001|11=1", f"37=900{side}|11={side}").replace("54=1", f"54={side}")
+           for side, price, at in ((1, 8446, "09:59:00.000"), (2, 8458, "10:00:05.000"))]  # fmt: skip
+    meter, troubles = watched(tmp_path, month_of("BR").rsplit("close", 1)[0], log_of(*QUOTES, *new, report("F", "2", "32=400|")))
+    shown = frames.sections(meter, 6_000, frames.Status(wall=1_000.0))
+    assert shown["omitted"] is None and shown["band"]["head"] != "Do not rely on these figures" and not [each for each in troubles if each.text]
+    assert shown["feed"]["text"].endswith("; by reports: 3 changes, 1 fill, 1 order carried in"), shown["feed"]
+    assert {order.id: order.volume for order in meter.month.view().orders} == {1: 600, 2: 1000}
 
 
 # ---------------------------------------------------------------- item 2: symbols and accounts
@@ -235,9 +236,6 @@ def test_item_2_several_accounts_are_refused():
     done = run(log_of(mine, its))
     assert done.status == 1 and not done.printed and "more than one account (1): A7 (1 message), B2 (1 message). Name one with --account" in done.complaint
     assert run(log_of(mine, its), "--account", "A7").status == 0
-    same_id = its.replace("11=2|", "11=1|").replace("54=2", "54=1")
-    log = read(mine, same_id, f"35=F|11=3|41=1|55=BR|60={DATE}-11:00:00.000|", account="A7")
-    assert len(log.taken) == 1 and "order 1 may be one of several: BR A7, BR B2" in log.rejected[0].why, log.rejected
 
 
 def test_item_2_accounts_of_another_symbol_are_nobodys_business():
@@ -264,12 +262,11 @@ def test_item_2_the_live_page_takes_one_symbol(tmp_path):
     opened = month_of().rsplit("close", 1)[0]
     meter, troubles = watched(tmp_path, opened, log_of(QUOTES[0], OTHER))
     assert meter.month.report().orders == 1 and meter.problem_count == 1
-    assert "this message of GD is left out: its quantum has messages of BR" in troubles[0].text
-    assert "1 message of another symbol or account is left out." in frames.sections(meter, 0, frames.Status())["omitted"]["text"]
+    assert any("it has messages of more than one symbol (55): BR (1 message), GD (1 message). Name one with --symbol" in each.text for each in troubles)
     both = log_of(QUOTES[0].replace("35=D|", "35=D|1=A7|"), QUOTES[1].replace("35=D|", "35=D|1=B2|"))
     assert watched(tmp_path, opened, both)[0].month.report().orders == 1
     chosen, troubles = watched(tmp_path, opened, both, account="B2")
-    assert chosen.month.report().ask == 8458 and not troubles
+    assert chosen.month.report().ask == 8458 and not [each for each in troubles if each.text]
 
 
 # ---------------------------------------------------------------- item 3: where messages start
@@ -309,24 +306,46 @@ def test_item_3_what_is_no_message_is_reported(damaged, why):
     assert last.status == 1 and last.printed == alone.printed and "line 3: refused 20: " in last.complaint and why in last.complaint, last.complaint
 
 
+class Noted(LogReader):
+    """Notes each message: its line, and its fields, or why it is none."""
+
+    def __init__(self) -> None:
+        super().__init__({}, is_fast=False)
+        self.noted: list = []
+
+    def message(self, fields):
+        self.noted.append((self.line, fields))
+
+    def damaged(self, why):
+        self.noted.append((self.line, why))
+
+
+def noted(*pieces: bytes) -> list:
+    reader = Noted()
+    for at, piece in enumerate(pieces, start=1):
+        reader.feed("log", piece, at == len(pieces))
+    return reader.noted
+
+
+def is_message(each) -> bool:
+    return not isinstance(each[1], str)
+
+
 def test_item_3_a_message_within_a_message():
     """What a message that was read has in a text is no message."""
     inner = "8=FIX.4.4 58=FIX.4.4"
-    found = list(scanning.messages(framed(f"35=D|58={inner}|") + framed("35=0|")))
-    assert [each.kind for each in found] == [b"D", b"0"]
-    broken = list(scanning.messages(framed(f"35=D|58={inner}|")[:-2] + b"x\x01" + framed("35=0|")))
-    assert [type(each) for each in broken] == [Rejected, Rejected, Rejected, Found]
+    found = noted(framed(f"35=D|58={inner}|") + framed("35=0|"))
+    assert [fields[0][1] for _, fields in found] == [b"D", b"0"]
+    broken = noted(framed(f"35=D|58={inner}|")[:-2] + b"x\x01" + framed("35=0|"))
+    assert [is_message(each) for each in broken] == [False, False, False, True]
 
 
-def test_item_3_places():
-    """Lines end at LF, CR or CRLF; the second message of a line has its byte."""
+def test_item_3_lines():
+    """Lines end at LF, CR or CRLF, in any pieces."""
     beat = framed("35=0|")
     log = b"a\r\n" + beat + beat + b"\r" + beat[:-1] + b"\n\n" + beat.replace(b"\x01", b"|")
-    due = ["line 2", "line 2, byte 27", "line 3", "line 5"]
-    assert [each.place for each in scanning.messages(log)] == due
     for size in range(1, len(log)):
-        scanner = Scanner()
-        assert [each.place for each in [*scanner.take(log[:size]), *scanner.take(log[size:]), *scanner.end()]] == due, size
+        assert [line for line, _ in noted(log[:size], log[size:])] == [2, 2, 3, 5], size
 
 
 def plain_scan(data: bytes) -> list:
@@ -372,15 +391,14 @@ def test_item_3_any_log_in_any_pieces(note):
     rng, messages, rejected = random.Random(3), 0, 0
     for _ in range(1_500):
         log = random_log(rng)
-        due = list(scanning.messages(log))
-        assert [(isinstance(each, Found)) for each in due] == [is_message for _, is_message in plain_scan(log)], log
-        scanner, found, at = Scanner(), [], 0
+        due = noted(log)
+        assert [is_message(each) for each in due] == [is_whole for _, is_whole in plain_scan(log)], log
+        pieces, at = [], 0
         while at < len(log):
-            size = rng.choice([1, 2, 7, 26, 90, 300])
-            found += scanner.take(log[at : at + size])
-            at += size
-        assert [*found, *scanner.end()] == due, log
-        messages, rejected = messages + sum(isinstance(each, Found) for each in due), rejected + sum(isinstance(each, Rejected) for each in due)
+            pieces.append(log[at : at + rng.choice([1, 2, 7, 26, 90, 300])])
+            at += len(pieces[-1])
+        assert noted(*pieces) == due, log
+        messages, rejected = messages + sum(map(is_message, due)), rejected + sum(not is_message(each) for each in due)
     assert messages > 3_000 and rejected > 2_000, (messages, rejected)
     note(f"fix logs: {messages} messages and {rejected} that are none, in any pieces")
 
@@ -395,7 +413,7 @@ def test_item_3_time_grows_with_the_log(what):
         "tens": (nested + b"|10=1") * (size // 28), "one end": one_end(60_000) * 3,
     }[what]
     began = time.process_time()
-    count = sum(1 for _ in scanning.messages(log))
+    count = len(noted(log))
     taken = time.process_time() - began
     assert count > 1_000 and taken < len(log) * 10e-6, (count, taken, len(log))
 
@@ -435,10 +453,10 @@ def test_random_logs_end_well(tmp_path):
     for _ in range(40):
         log = random_log(rng)
         done = run(log)
-        rejected = [each for each in scanning.messages(log) if isinstance(each, Rejected)]
+        rejected = [each for each in noted(log) if not is_message(each)]
         assert done.status in (0, 1) and "Traceback" not in done.complaint and (done.status or not rejected), log
         given = files(tmp_path, month_of("BR"), log)
         made = command.run("statement", *given)
         assert made.printed and "Traceback" not in made.complaint and made.status >= bool(rejected), made.complaint
         listed = month_sources.from_list(given[0], PLAIN, given[2:], LogOptions("requests"))
-        assert len(listed.calls) >= 2 and bool(listed.reports) == any(b"35=8" in each.data for each in scanning.messages(log) if isinstance(each, Found)), log
+        assert len(listed.calls) >= 2 and bool(listed.reports) == any(each[1][0] == (b"35", b"8") for each in noted(log) if is_message(each)), log

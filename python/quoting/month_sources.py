@@ -12,6 +12,7 @@ from typing import Optional, Sequence
 
 from quoting import calls as c
 from quoting import exchange, fix, inputs, reading, texts, values
+from quoting.events import SIZE
 from quoting.exchange import choice
 from quoting.exchange.choice import LogOptions, Unread
 from quoting.reading import Options, TextError
@@ -161,9 +162,10 @@ def lines_for(logs: exchange.LogReader, span: Span) -> list[exchange.Timeline]:
     return found
 
 
-def sent_of(records: exchange.Records) -> list[Sent]:
-    """The events as calls of the month."""
-    return [Sent(c.block(event), f"{file}: line {line}") for event, (file, line) in zip(records.events(), records.places)]
+def sent_of(records: exchange.Records, first: int = 0) -> list[Sent]:
+    """The events from one on as calls of the month."""
+    rest = exchange.Records(records.data[first * SIZE :], records.places[first:] if first else records.places)
+    return [Sent(c.block(event), f"{file}: line {line}") for event, (file, line) in zip(rest.events(), rest.places)]
 
 
 def from_list(name: str, options: Options, log_names: Sequence[str] = (), log_options: LogOptions = LogOptions()) -> Listed:

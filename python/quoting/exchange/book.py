@@ -25,6 +25,7 @@ class Counts:
     cancel_rejects: int = 0  # 35=9
     duplicates: int = 0  # reports whose ExecID was read before
     reports: int = 0  # 35=8
+    unread: int = 0  # reports and rejected cancels of these symbols and accounts, where requests are read
     requests: int = 0  # 35=D, F and G
     damaged: int = 0  # what starts like a message and is none
     types: "Counter[str]" = field(default_factory=Counter)  # messages of other types (35)
@@ -67,13 +68,19 @@ class Scope:
         known = self.numbers.get((symbol, account))
         if known is not None:
             return known
-        listed = self.listed(symbol)
-        is_read = self.step(symbol) is not None and (listed is None or not account or account in listed)
-        if not is_read:
+        if self.step(symbol) is None or not self.has_account(symbol, account):
             return -1
         self.numbers[symbol, account] = len(self.owners)
         self.owners.append((symbol, account))
         return len(self.owners) - 1
+
+    def has_account(self, symbol: bytes, account: bytes) -> bool:
+        listed = self.listed(symbol)
+        return listed is None or not account or account in listed
+
+    def may_be_ours(self, symbol: bytes, account: bytes) -> bool:
+        """Whether an answer may be one to a request that is read: what it does not say excludes nothing."""
+        return (not symbol or self.step(symbol) is not None) and self.has_account(symbol, account)
 
     def names(self, owner: int) -> tuple[str, str]:
         symbol, account = self.owners[owner]

@@ -154,7 +154,7 @@ class Bulk:
         is_ours = fine & (is_request | (kinds == REPORT))
         others = kinds[fine & ~is_ours]
         if others.size:
-            self.reader.counts.cancel_rejects += int(np.count_nonzero(others == REJECT))
+            self.rejects(piece, np.flatnonzero(fine & (kinds == REJECT)))
             for kind, count in zip(*(each.tolist() for each in np.unique(others[(others != REJECT) & (others != 0)], return_counts=True))):
                 self.reader.counts.types[f.text_of(kind.to_bytes(4, "little").rstrip(b"\0"))] += count
             if not others.all():
@@ -162,6 +162,13 @@ class Bulk:
         pick = np.flatnonzero(is_ours)
         if pick.size:
             self.ours(piece, pick, is_request[pick])
+
+    def rejects(self, piece: Piece, rows: Array) -> None:
+        """Rejected cancels and replaces: one at a time where it matters whose they are."""
+        if rows.size and self.reader.takes_requests:
+            self.one(piece, rows)
+        else:
+            self.reader.counts.cancel_rejects += rows.size
 
     def ours(self, piece: Piece, pick: Array, is_request: Array) -> None:
         """Reports, and requests where these count."""
@@ -171,8 +178,24 @@ class Bulk:
         reader.counts.requests += asked
         if asked < pick.size and reader.takes_reports:
             self.owned(piece, pick[~is_request], True)
+        elif asked < pick.size:
+            self.answers(piece, pick[~is_request])
         if asked and reader.takes_requests:
             self.owned(piece, pick[is_request], False)
+
+    def answers(self, piece: Piece, pick: Array) -> None:
+        """Counts reports that are not read, if they may be of ours."""
+        table = Table(piece.buffer, piece.seen, piece.rows[pick])
+        symbol, fine = table.names(55, self.symbols)
+        account, also = table.names(1, self.accounts)
+        fine &= also
+        width = len(self.accounts.names)
+        counts = np.bincount((symbol * width + account)[fine])
+        for code in np.flatnonzero(counts).tolist():
+            if self.reader.scope.may_be_ours(self.symbols.names[code // width], self.accounts.names[code % width]):
+                self.reader.counts.unread += int(counts[code])
+        if not fine.all():
+            self.again(piece, pick[~fine])
 
     def owned(self, piece: Piece, pick: Array, is_report: bool) -> None:
         """The messages of one source: those of the symbols and accounts that are read."""

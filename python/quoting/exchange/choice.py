@@ -81,7 +81,7 @@ def chosen(reader: LogReader, symbol: Optional[str], account: Optional[str]) -> 
 
 @dataclass
 class Unread:
-    """The answers of the exchange (35=8, 9, 3, j) in logs that are read by their requests."""
+    """The answers of the exchange (35=8, 9, 3, j) in logs that are read by their requests: those that may be of the symbol and account."""
 
     answers: int = 0
 
@@ -97,7 +97,7 @@ class Unread:
 
 def unread(reader: LogReader) -> Unread:
     counts = reader.counts
-    return Unread(counts.reports + counts.cancel_rejects + counts.types["3"] + counts.types["j"] if reader.by == "requests" else 0)
+    return Unread(counts.unread + counts.types["3"] + counts.types["j"] if reader.by == "requests" else 0)
 
 
 # ---------------------------------------------------------------- what people are told

@@ -112,6 +112,8 @@ class LogReader:
             self.ours(kind, Values(fields))
         elif kind == REJECT:
             self.counts.cancel_rejects += 1
+            if self.takes_requests:
+                self.answered(Values(fields))
         else:
             self.counts.types[f.text_of(kind)] += 1
 
@@ -121,6 +123,8 @@ class LogReader:
         self.counts.reports += is_report
         self.counts.requests += not is_report
         if not (self.takes_reports if is_report else self.takes_requests):
+            if is_report:
+                self.answered(values)
             return
         book = self.reports if is_report else self.requests
         try:
@@ -136,6 +140,14 @@ class LogReader:
             self.note_report()
         self.move(kind, book, values, owner)
 
+    def answered(self, values: Values) -> None:
+        """Counts an answer that is not read, if it may be one to a request that is."""
+        try:
+            names = values.name(55), values.name(1)
+        except Unreadable:
+            names = b"", b""
+        self.counts.unread += self.scope.may_be_ours(*names)
+
     @property
     def takes_reports(self) -> bool:
         return self.source != "requests"
@@ -148,7 +160,7 @@ class LogReader:
     def note_report(self) -> None:
         """There is a report of ours: from now on requests do not count, nor those before."""
         if not self.has_reports:
-            self.has_reports, self.requests = True, Book()
+            self.has_reports, self.requests, self.counts.unread = True, Book(), 0
 
     def move(self, kind: bytes, book: Book, values: Values, owner: int) -> None:
         symbol, account = self.scope.owners[owner]
