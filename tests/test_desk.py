@@ -12,7 +12,6 @@ from types import SimpleNamespace
 import pytest
 
 from quoting import calls as c
-from quoting import reading
 from quoting.desk import fields, programme, quanta, second_reading
 from quoting.desk.desks import Desk
 from quoting.desk.faults import DeskError, Faults
@@ -20,7 +19,7 @@ from quoting.desk.outputs import Manner, settle
 from quoting.desk.quanta import blocks_of, deals_of, without_deals
 from quoting.events import Add, Amend, Cancel, Deal, Tick, records
 from quoting.native import Missing
-from tests import command, desk_months, plain_desk
+from tests import command, desk_months, plain_desk, plain_programmes
 from tests.paths import EXAMPLES, PROGRAMMES, QUOTING
 
 pytestmark = pytest.mark.usefixtures("library")
@@ -431,8 +430,7 @@ def test_desks_on_a_cluster_give_the_same_tables(tmp_path):
 
 
 @pytest.mark.parametrize("path", sorted(PROGRAMMES.glob("*.toml")), ids=lambda path: path.stem)
-def test_a_shipped_programme_has_the_rows_of_its_table(path, note):
-    """The same rows as the table of the source document (.rows), in its order."""
+def test_a_shipped_programme_has_the_rows_of_a_plain_reading(path, note):
     faults = Faults()
     made = programme.read(faults, path.name, fields.read_toml(faults, path.name, path.read_bytes()))
     faults.raise_any()
@@ -442,12 +440,10 @@ def test_a_shipped_programme_has_the_rows_of_its_table(path, note):
             for strike in instrument.strikes or [""]:
                 found.setdefault(f"{instrument.name}-{strike}" if strike else instrument.name, []).append(row.words)
     listed = {}
-    for line in path.with_suffix(".rows").read_text().splitlines():
-        if line and not line.startswith("#"):
-            name, *words = line.split()
-            listed.setdefault(name, []).append(reading.row_words(words))
-    assert {name: sorted(rows) for name, rows in found.items()} == {name: sorted(rows) for name, rows in listed.items()}
-    note(f"desk: {sum(map(len, found.values()))} rows of {path.name} are those of its table")
+    for name, words in plain_programmes.rows_of(path.stem):
+        listed.setdefault(name, []).append(words)
+    assert {name: list(map(list, rows)) for name, rows in found.items()} == listed
+    note(f"desk: {sum(map(len, found.values()))} rows of {path.name} as by the plain reading")
 
 
 # ---------------------------------------------------------------- damaged files, and Python

@@ -4,9 +4,10 @@
 //     peer parse      messages in hex digits, what QuickFIX reads of each, its checks of length and checksum on
 //     peer session    orders, sent by its initiator to its acceptor over 127.0.0.1; all that came, in hex digits
 //     peer exchange   the same, and the acceptor answers as an exchange does: lines `wire HEX` of both directions as its log has them,
-//                     and lines `truth EVENT TIME ..` of what it did to its orders
+//                     and lines `truth SYMBOL ACCOUNT EVENT TIME ..` of what it did to its orders
 //
-// An order is a line `KIND HEADER ID ORIG SIDE VOLUME PRICE TIME`, numbers that its kind does not take 0.
+// An order is a line `KIND HEADER ID ORIG SIDE VOLUME PRICE TIME`, numbers that its kind does not take 0, and at most ` SYMBOL ACCOUNT`
+// after it. A line of kind X ends the session at its time; the maker then logs on again for the lines that follow.
 
 #include <quickfix/Message.h>
 #include <quickfix/Session.h>
@@ -41,13 +42,23 @@ struct Order
   char side;
   std::uint32_t volume;
   std::int32_t price;
-  std::string time;
+  std::string time, symbol, account;
 };
 
 static bool readOrder(std::istream& in, Order& order)
 {
-  return static_cast<bool>(in >> order.kind >> order.header >> order.id >> order.orig >> order.side
-                              >> order.volume >> order.price >> order.time);
+  std::string line;
+  if (!std::getline(in, line))
+    return false;
+  std::istringstream words(line);
+  const bool isRead = static_cast<bool>(words >> order.kind >> order.header >> order.id >> order.orig >> order.side
+                                              >> order.volume >> order.price >> order.time);
+  if (!(words >> order.symbol >> order.account))
+  {
+    order.symbol = "BR-12.26";
+    order.account = "A-1001";
+  }
+  return isRead;
 }
 
 // ---------------------------------------------------------------- making
@@ -65,9 +76,9 @@ template <typename Message> static void quote(Message& message, const Order& ord
   if (!order.header)
     return;
   message.set(FIX::HandlInst('1'));
-  message.set(FIX::Symbol("BR-12.26"));
+  message.set(FIX::Symbol(order.symbol));
   message.set(FIX::TimeInForce('0'));
-  message.set(FIX::Account("A-1001"));
+  message.set(FIX::Account(order.account));
 }
 
 static FIX::Message newOrder(const Order& order)
@@ -81,7 +92,10 @@ static FIX::Message cancelOrder(const Order& order)
 {
   FIX44::OrderCancelRequest message(FIX::OrigClOrdID(order.orig), FIX::ClOrdID(order.id), FIX::Side('1'), timeOf(order));
   if (order.header)
-    message.set(FIX::Symbol("BR-12.26"));
+  {
+    message.set(FIX::Symbol(order.symbol));
+    message.set(FIX::Account(order.account));
+  }
   else
     message.removeField(54); // nothing but what is used
   return message;
@@ -211,6 +225,7 @@ struct Party : FIX::Application
   std::atomic<bool> isOn{false};
   std::atomic<std::size_t> taken{0}; // application messages
 
+  virtual void disconnect(const std::string&) {}
   void onCreate(const FIX::SessionID&) override {}
   void onLogon(const FIX::SessionID&) override { isOn = true; }
   void onLogout(const FIX::SessionID&) override { isOn = false; }
@@ -266,33 +281,54 @@ template <typename Test> static bool await(Test test)
   return test();
 }
 
-static bool sendAll(const std::vector<Order>& orders, const Party& maker, const Party& exchange)
+// The session ends, the exchange acts while nobody listens, and the maker logs on again. It is then sent what it missed.
+static bool breakOff(const FIX::SessionID& session, const std::string& time, const Party& maker, Party& exchange)
+{
+  FIX::Session* const line = FIX::Session::lookupSession(session);
+  line->logout();
+  if (!await([&] { return !maker.isOn && !exchange.isOn; }))
+    return false;
+  exchange.disconnect(time);
+  line->logon();
+  return await([&] { return maker.isOn.load(); });
+}
+
+static bool sendAll(const std::vector<Order>& orders, const Party& maker, Party& exchange)
 {
   const FIX::SessionID session("FIX.4.4", "MAKER01", "EXCHANGE");
-  if (!await([&] { return maker.isOn.load(); }))
-    return false;
+  bool isFine = await([&] { return maker.isOn.load(); });
+  std::size_t sent = 0;
   for (const Order& order : orders)
   {
+    const bool isEnd = order.kind == 'X';
+    if (isEnd)
+      isFine = isFine && await([&] { return exchange.taken == sent; }) && breakOff(session, order.time, maker, exchange);
+    if (!isFine)
+      return false;
+    if (isEnd)
+      continue;
     FIX::Message message = messageOf(order);
     FIX::Session::sendToTarget(message, session);
+    sent++;
   }
-  return await([&] { return exchange.taken == orders.size(); });
+  return await([&] { return exchange.taken == sent; });
 }
 
 // ---------------------------------------------------------------- an exchange
 
 struct Live
 {
-  std::string oid, side;
+  std::string cl, oid, side;
   long price, volume;
+  std::string symbol, account;
 };
 
 // Acknowledges, rejects, fills in part and in full, replaces, refuses replaces, sends reports twice, and cancels when the maker goes.
 struct Exchange : Party
 {
-  std::map<std::string, Live> live; // by ClOrdID
+  std::map<std::string, Live> live; // by symbol, account and ClOrdID
   std::vector<std::string> truth;
-  std::string symbol, time;
+  std::string symbol, account, time;
   FIX::SessionID line;
   int asked = 0, orders = 0, executions = 0, replaces = 0;
 
@@ -300,7 +336,8 @@ struct Exchange : Party
     throw(FIX::FieldNotFound, FIX::IncorrectDataFormat, FIX::IncorrectTagValue, FIX::UnsupportedMessageType) override
   {
     line = session;
-    symbol = message.isSetField(55) ? message.getField(55) : "";
+    symbol = message.getField(55);
+    account = message.getField(1);
     time = message.getField(60);
     const std::string kind = message.getHeader().getField(35);
     asked++;
@@ -313,21 +350,26 @@ struct Exchange : Party
     taken++;
   }
 
-  void happened(const std::string& event, const std::string& rest) { truth.push_back(event + " " + time + " " + rest); }
+  std::string key(const std::string& cl) const { return symbol + " " + account + " " + cl; }
+
+  void happened(const std::string& event, const std::string& rest)
+  {
+    truth.push_back(symbol + " " + account + " " + event + " " + time + " " + rest);
+  }
 
   void report(const std::string& kind, const std::string& oid, const std::string& cl, const std::string& orig, const Live& order, long dealt)
   {
     FIX::Message message;
     message.getHeader().setField(35, "8");
     message.setField(37, oid);
+    message.setField(1, order.account);
     message.setField(11, cl);
     if (!orig.empty())
       message.setField(41, orig);
     message.setField(17, "E" + std::to_string(++executions));
     message.setField(150, kind);
     message.setField(39, kind == "F" ? (order.volume ? "1" : "2") : kind);
-    if (!symbol.empty())
-      message.setField(55, symbol);
+    message.setField(55, order.symbol);
     message.setField(54, order.side);
     message.setField(44, std::to_string(order.price));
     message.setField(151, std::to_string(kind == "4" || kind == "8" ? 0 : order.volume));
@@ -357,7 +399,8 @@ struct Exchange : Party
   void enter(const FIX::Message& message)
   {
     const std::string cl = message.getField(11);
-    Live order = {std::to_string(900000 + ++orders), message.getField(54), std::stol(message.getField(44)), std::stol(message.getField(38))};
+    Live order = {cl, std::to_string(900000 + ++orders), message.getField(54), std::stol(message.getField(44)),
+                  std::stol(message.getField(38)), symbol, account};
     if (asked % 7 == 0)
     {
       report("8", "NONE", cl, "", order, 0);
@@ -365,34 +408,35 @@ struct Exchange : Party
     }
     report("0", order.oid, cl, "", order, 0);
     happened("add", order.oid + " " + (order.side == "1" ? "buy" : "sell") + " " + terms(order));
-    live[cl] = order;
+    live[key(cl)] = order;
     if (asked % 4 == 0)
       fill(cl, asked % 8 == 0 ? order.volume : (order.volume + 1) / 2);
   }
 
   void fill(const std::string& cl, long dealt)
   {
-    Live& order = live[cl];
+    Live& order = live[key(cl)];
     order.volume -= dealt;
     report("F", order.oid, cl, "", order, dealt);
     happened("deal", order.oid + " " + std::to_string(dealt));
     if (!order.volume)
-      live.erase(cl);
+      live.erase(key(cl));
   }
 
   void replace(const FIX::Message& message)
   {
     const std::string cl = message.getField(11), orig = message.getField(41);
-    if (!live.count(orig) || ++replaces % 5 == 0)
+    if (!live.count(key(orig)) || ++replaces % 5 == 0)
     {
       reject(message);
       return;
     }
-    Live order = live[orig];
-    live.erase(orig);
+    Live order = live[key(orig)];
+    live.erase(key(orig));
+    order.cl = cl;
     order.price = std::stol(message.getField(44));
     order.volume = std::stol(message.getField(38));
-    live[cl] = order;
+    live[key(cl)] = order;
     report("5", order.oid, cl, orig, order, 0);
     happened("amend", order.oid + " " + terms(order));
   }
@@ -400,27 +444,30 @@ struct Exchange : Party
   void cancel(const FIX::Message& message)
   {
     const std::string orig = message.getField(41);
-    if (!live.count(orig))
+    if (!live.count(key(orig)))
     {
       reject(message);
       return;
     }
-    const Live order = live[orig];
-    live.erase(orig);
+    const Live order = live[key(orig)];
+    live.erase(key(orig));
     report("4", order.oid, message.getField(11), orig, order, 0);
     happened("cancel", order.oid);
   }
 
   // The maker is gone: half of the orders are cancelled, and nobody asked for it.
-  void disconnect()
+  void disconnect(const std::string& when) override
   {
     const std::map<std::string, Live> before = live;
     bool turn = false;
+    time = when;
     for (const auto& pair : before)
       if ((turn = !turn))
       {
+        symbol = pair.second.symbol;
+        account = pair.second.account;
         live.erase(pair.first);
-        report("4", pair.second.oid, pair.first, "", pair.second, 0);
+        report("4", pair.second.oid, pair.second.cl, "", pair.second, 0);
         happened("cancel", pair.second.oid);
       }
   }
@@ -450,8 +497,7 @@ static int session(Party& exchange, bool isExchange)
                                           "SocketConnectHost=127.0.0.1\nSocketConnectPort=" + port + "\n"), makersWire);
   initiator.start();
   const bool came = sendAll(orders, maker, exchange);
-  if (isExchange)
-    static_cast<Exchange&>(exchange).disconnect();
+  exchange.disconnect(orders.empty() ? "" : orders.back().time);
   initiator.stop();
   acceptor.stop();
   for (const std::string& data : exchangesWire.came)
