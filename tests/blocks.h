@@ -11,6 +11,7 @@ struct call {
     const char *name;
     uint8_t bytes[BLOCK_BYTES];
     size_t length;
+    int is_records; /* they are event records, not one call's block */
 };
 
 static void put(uint8_t *at, uint32_t n) {

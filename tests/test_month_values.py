@@ -11,7 +11,7 @@ from typing import Callable, Iterator
 
 import pytest
 
-from quoting import Add, Month, Refused, Row, Standing, Strike, calls, month_words, months, native
+from quoting import Add, Month, Row, Standing, Strike, calls, month_words, months
 from tests import calls_text, message_lists
 from tests import months as month_lists
 from tests.conftest import Note
@@ -287,14 +287,10 @@ def test_a_damaged_pickle_of_a_month_is_refused() -> None:
         pickle.loads(data)
 
 
-def test_damaged_words_that_the_library_refuses_are_said_to_be_damaged(monkeypatch: pytest.MonkeyPatch) -> None:
-    """A library that refuses words by 3 at place 1."""
+def test_damaged_words_that_the_library_refuses_are_said_to_be_damaged() -> None:
+    """Words that the library refuses by 3 at place 1."""
     month = quoted()
-
-    def refuse(name: str, *given: object) -> int:
-        raise Refused(3, 1, "an argument is outside its range")
-
-    monkeypatch.setattr(native, "call", refuse)
+    month._words[1] = 186  # the place of the open cell
     for call in (month.report, month.view, month.glance, lambda: month.call(Add(0, 1, "buy", 1, 1))):
         with pytest.raises(ValueError, match="^the words of this month are damaged: they are not a month's$"):
             call()

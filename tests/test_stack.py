@@ -31,6 +31,13 @@ def header_figure(group: str) -> int:
     return int(found[1])
 
 
+def test_one_figure_is_for_every_call(measured: dict[str, int]) -> None:
+    """QUOTING_STACK_BYTES is the greatest of the three."""
+    found = re.search(r"^#define QUOTING_STACK_BYTES QUOTING_STACK_(\w+)$", (INCLUDE / "quoting.h").read_text(), re.M)
+    assert found and header_figure(found[1]) == max(map(header_figure, ("MONTH", "STANDING", "OTHERS")))
+    assert max(measured.values()) <= header_figure(found[1])
+
+
 def test_every_call_of_the_header_is_measured(measured: dict[str, int]) -> None:
     declared = set(re.findall(r"^uint64_t (quoting_\w+)\(", (INCLUDE / "quoting.h").read_text(), re.M))
     found = {name for name in measured if name.startswith("quoting_")}

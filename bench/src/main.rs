@@ -197,7 +197,7 @@ fn main() {
         }
     }
     check(sessions, seed);
-    fix_reader::check(sessions, seed);
+    fix::check(sessions, seed);
     months::check(sessions / 10, seed);
 
     let cores = std::thread::available_parallelism().map_or(0, usize::from);
@@ -277,7 +277,7 @@ fn main() {
         );
     }
     if !only.as_ref().is_some_and(|o| o != "fix") {
-        fix_reader::table(seed);
+        fix::table(seed);
     }
     if !only.as_ref().is_some_and(|o| o != "month") {
         months::table(seed);

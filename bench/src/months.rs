@@ -22,8 +22,13 @@ mod proved {
             words: *mut u32, words_len: usize, hints: *mut u8, hints_len: usize,
             call: *const u8, call_len: usize, answer: *mut u32, answer_len: usize,
         ) -> u64;
+        fn quoting_month_records(
+            words: *mut u32, words_len: usize, hints: *mut u8, hints_len: usize,
+            records: *const u8, records_len: usize, answer: *mut u32, answer_len: usize,
+        ) -> u64;
         fn quoting_calls(calls: *const u8, calls_len: usize, answers: *mut u32, answers_len: usize) -> u64;
-        // `quoting_session` as the library has it; `make bench` gives it this name, beside that of the session's own archive.
+        // `quoting_session` as an archive with every call has it; `make bench` gives it this name, beside that of the session's own archive,
+        // which the library has.
         fn library_session(head: *const u8, head_len: usize, records: *const u8, records_len: usize) -> u64;
     }
 
@@ -66,7 +71,29 @@ mod proved {
         space[0] = u32::try_from(kept).unwrap();
     }
 
-    /// The same by the library's code.
+    /// The events as records on a live month, a thousand at a time, between its open and its close: K, and no answers.
+    pub fn records(list: &List, space: &mut [u32], _: usize) {
+        const BATCH: usize = 1_000 * RECORD;
+        let (mut month, mut answer) = (Lent::fresh(), [0; ANSWER]);
+        month.call(&list.calls[..list.ends[0]], &mut answer);
+        for batch in list.session.records.chunks(BATCH) {
+            let Lent(words, hints) = &mut month;
+            let (words, hints) = (words.as_mut_ptr(), hints.as_mut_ptr());
+            let (bytes, length) = (batch.as_ptr(), batch.len());
+            // SAFETY: the lent parts do not overlap, the words are those that the calls before left, and nothing is kept.
+            let taken = unsafe {
+                let answer = answer.as_mut_ptr();
+                quoting_month_records(words, WORDS, hints, HINTS, bytes, length, answer, ANSWER)
+            };
+            assert_eq!(taken, (length / RECORD) as u64);
+        }
+        for ends in list.ends[list.ends.len() - 3..].windows(2) {
+            month.call(&list.calls[ends[0]..ends[1]], &mut answer);
+        }
+        space[0] = answer[3];
+    }
+
+    /// The same by the code of an archive with every call.
     pub fn session_in_library(list: &List, space: &mut [u32], _: usize) {
         let Session { head, records } = &list.session;
         let (from, length) = (records.as_ptr(), records.len());
@@ -96,11 +123,14 @@ const RUNS: &[(&str, Run)] = &[
     #[cfg(feature = "proved")]
     ("session", proved::session),
     #[cfg(feature = "proved")]
-    ("session in library", proved::session_in_library),
+    ("session in one archive", proved::session_in_library),
+    #[cfg(feature = "proved")]
+    ("records", proved::records),
 ];
 
+/// Whether a run answers K alone.
 fn is_session(name: &str) -> bool {
-    name.starts_with("session")
+    name.starts_with("session") || name == "records"
 }
 
 fn run<M: Month>(list: &List, space: &mut [u32], step: usize) {

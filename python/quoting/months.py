@@ -60,6 +60,7 @@ MonthWords, ViewWords = native.WORD * month_words.COUNT, native.WORD * VIEW_WORD
 ADD, AMEND, CANCEL, DEAL, TICK = (
     Form(c.Kind.ADD, "IIIiI"), Form(c.Kind.AMEND, "IIiI"), Form(c.Kind.CANCEL, "II"), Form(c.Kind.DEAL, "III"), Form(c.Kind.TICK, "I"),
 )
+LOOK, REPORT, OUTLOOK, ASK = Form(c.Kind.LOOK, "III"), Form(c.Kind.REPORT, ""), Form(c.Kind.OUTLOOK, ""), Form(c.Kind.ASK, "IIiI")
 
 
 class Glance(NamedTuple):
@@ -246,23 +247,31 @@ class Month:
         except IndexError:
             return Lent(self._words, self._hints)
 
-    def _sends(self, form: Form, *numbers: Any) -> bool:
-        """Makes an event's call of whole numbers, on buffers that were lent before; False where one of them is outside its range or no number,
-        and no call is made."""
-        self._check_open()
+    def _words_of(self, form: Form, count: int, numbers: tuple[Any, ...]) -> Optional[list[int]]:
+        """The first words of the answer to a call of whole numbers, on buffers that were lent before; a refusal is raised. None where a number
+        is outside its range or is none, or the words are damaged: no call is made then."""
+        if self._ended:
+            self._check_open()
         lent = self._take()
         try:
             form.pack_into(lent.block, 0, form.kind, *numbers)
-            if lent.make(form.size) != MADE:
-                return False
-            kind, refusal = lent.answer[0], lent.answer[1]
+            words: list[int] = lent.answer[:count] if lent.make(form.size) == MADE else []
         except struct.error:
-            return False
+            return None
         finally:
             self._lent.append(lent)
-        if kind:
-            raise Refused.of(refusal)
-        return True
+        if words and words[0] == 1:
+            raise Refused.of(words[1])
+        return words or None
+
+    def _sends(self, form: Form, *numbers: Any) -> bool:
+        """Makes an event's call; False where none is made."""
+        return self._words_of(form, 2, numbers) is not None
+
+    def _shows(self, form: Form, *numbers: Any) -> Optional[Answer]:
+        """The answer to a call that shows something; None where none is made."""
+        words = self._words_of(form, WORDS, numbers)
+        return answer_of(words) if words else None
 
     def block(self, data: bytes) -> Answer:
         """The month's answer to a call's block (docs/FORMATS.md, "A list of calls"), a refusal as a value."""
@@ -349,7 +358,7 @@ class Month:
         words = row.words if isinstance(row, Row) else list(row)
         self.call(c.Open(words, day, sp, c.NO_LIMIT if lapses is None else lapses))
 
-    # An event of plain numbers goes by `_sends`; any other goes by `call`, which reads times and names the number that is wrong.
+    # A call of plain numbers goes by `_sends` or `_shows`; any other goes by `call`, which reads times and names the number that is wrong.
 
     def add(self, t: Time, id: int, side: Side, price: int, volume: int) -> None:
         """Adds an order, `buy` or `sell`."""
@@ -400,19 +409,20 @@ class Month:
 
     def look(self, day: int, expiry: int, quantum: int) -> Cell:
         """A closed quantum: time kept, lapses, charges, verdict and weight."""
-        answer = self.call(c.Look(day, expiry, quantum))
+        answer = self._shows(LOOK, day, expiry, quantum) if type(day) is type(expiry) is type(quantum) is int else None
+        answer = answer or self.call(c.Look(day, expiry, quantum))
         assert isinstance(answer, Cell)
         return answer
 
     def report(self) -> MonthReport:
         """The open quantum, the failure counts of the six series and the fee."""
-        answer = self.call(c.Report())
+        answer = self._shows(REPORT) or self.call(c.Report())
         assert isinstance(answer, MonthReport)
         return answer
 
     def outlook(self) -> Outlook:
         """What the open quantum still needs, and whether the maker may stop quoting."""
-        answer = self.call(c.Outlook())
+        answer = self._shows(OUTLOOK) or self.call(c.Outlook())
         assert isinstance(answer, Outlook)
         return answer
 
@@ -450,7 +460,8 @@ class Month:
 
     def ask(self, t: Time, id: int, price: int, volume: int) -> Asked:
         """The quotes after an amendment, and a ticket for it; the month stays as it is."""
-        answer = self.call(c.Ask(t, id, price, volume))
+        is_plain = type(t) is type(id) is type(price) is type(volume) is int
+        answer = (self._shows(ASK, t, id, price, volume) if is_plain else None) or self.call(c.Ask(t, id, price, volume))
         assert isinstance(answer, Asked)
         return answer
 
