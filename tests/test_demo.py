@@ -47,3 +47,8 @@ def test_what_is_not_proved_is_not_shown(tmp_path: Path, rt: str, make: str, sho
     done = run_demo(tmp_path, rt, make)
     assert done.returncode == 1 and "rt: rules NOT PROVED" in done.stderr and "has failed" in done.stderr, done
     assert ("74.12%" in done.stdout) is shown and "the fee" not in done.stdout
+
+
+def test_without_the_kit_it_says_so(tmp_path: Path) -> None:
+    done = subprocess.run([sys.executable, str(ROOT / "tools" / "demo.py")], env={**os.environ, "PATH": str(tmp_path)}, capture_output=True, text=True)
+    assert done.returncode == 1 and done.stderr.startswith("make demo needs rt") and not done.stdout, done
