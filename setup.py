@@ -8,6 +8,7 @@ from setuptools.command.build_py import build_py
 from setuptools.dist import Distribution
 
 LIBRARY = Path(__file__).resolve().parent / "target" / "library" / "libquoting.so"
+BUILT = LIBRARY.with_name("BUILT")  # its version, its commit and the kit that proved it
 
 
 class BuildWithLibrary(build_py):
@@ -16,6 +17,8 @@ class BuildWithLibrary(build_py):
         if not LIBRARY.exists():
             raise SystemExit("target/library is not built: run make library first")
         shutil.copyfile(LIBRARY, Path(self.build_lib) / "quoting" / "libquoting.so")
+        if BUILT.exists():
+            shutil.copyfile(BUILT, Path(self.build_lib) / "quoting" / "BUILT")
 
 
 class OfOneMachine(Distribution):

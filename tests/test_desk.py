@@ -194,8 +194,8 @@ FAULTS = [  # the file that is changed, what is changed, the fault
     (PRICES, "2026-08-27", "2026-08-26", "line 3: GD-1.27 2026-08-26 is already in line 2"),
     (PRICES, "2026-08-27", "27.08.2026", "line 3: date: '27.08.2026' is not a date, expected YYYY-MM-DD"),
     (PRICES, "date,symbol,price", "day,symbol,price", "line 1: the columns are day,symbol,price, expected date,symbol,price"),
-    (CHARGES, ",1656935,", ",-1,", "line 2: active: -1 does not fit, it can be 0 to 100000000000"),
-    (CHARGES, "GD-1.27,1,1656935", "GD-1.27,3,1656935", "line 2: quantum: 3 does not fit, it can be 0 to 2"),
+    (CHARGES, ",1656935,", ",-1,", "line 2: active: '-1' does not fit, expected a whole number from 0 to 100,000,000,000"),
+    (CHARGES, "GD-1.27,1,1656935", "GD-1.27,3,1656935", "line 2: quantum: '3' does not fit, expected a whole number from 0 to 2"),
     (CHARGES, "2026-11-02,GD-1.27,2,", "2026-11-02,GD-1.27,1,", "line 3: 2026-11-02 GD-1.27 1 is already in line 2"),
 ]
 
@@ -354,6 +354,8 @@ def test_without_the_recount_there_is_no_statement(tmp_path):
     done = command.run("desk", "settle", SHIPPED / "desk.toml", "-o", tmp_path / "out", "--no-recount")
     assert "the recount was not run" in done.printed and not (tmp_path / "out" / "gold.html").exists()
     assert "By the proved meter alone" in (tmp_path / "out" / "index.html").read_text()
+    wrong = command.run("desk", "settle", SHIPPED / "desk.toml", "-o", tmp_path / "no", "--no-recount", "--statements")
+    assert wrong.status == 2 and "do not go together" in wrong.complaint and not (tmp_path / "no").exists()
 
 
 @pytest.mark.xdist_group("browser")

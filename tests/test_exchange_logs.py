@@ -282,3 +282,27 @@ def test_command() -> None:
 def test_nothing_to_read(data: bytes) -> None:
     done = command.run("fix", "-", *HEAD, given=data)
     assert (done.status, done.printed) == (1, "") and done.complaint, done
+
+
+def test_fills() -> None:
+    """Each fill with the quotes before and after it, and the kept time that it cost."""
+    report = Reports()
+    log = [report("0", "44=84.35|151=500|", time="20261116-07:00:00"), report("0", "44=84.36|151=500|", oid="10", cl="B", time="20261116-07:00:00", **{"54": "2"}),
+           report("F", "32=300|", time="20261116-07:00:10"), report("F", "32=150|", time="20261116-07:00:20"),
+           report("5", "41=A1|44=84.35|151=500|", time="20261116-07:00:25.500")]  # fmt: skip
+    done = command.run("fills", "-", *HEAD, given=b"\n".join(log))
+    rows = [line.split() for line in done.printed.splitlines() if line[:1].isdigit()]
+    assert done.status == 0 and rows[0] == "0:00:10 1 300 8435 500 8436 500 8435 200 8436 500 0:00:00".split(), done
+    assert rows[1] == "0:00:20 1 150 8435 200 8436 500 8435 50 8436 500 0:00:05.500".split() and "2 fills, 0:00:05.500 of kept time lost" in done.printed, done
+
+
+def test_statement_writes_its_calls(tmp_path: Any) -> None:
+    """The list with the events of the logs in it gives the same page's calls again."""
+    (tmp_path / "month").write_text("start 20261102-07:00:00.000 PM-12.26\nopen row 1 1 8:45:00 20 150 3 60% day 2 sp 3050\nclose 1 2\n")
+    logs = sorted((DESK / "logs").glob("20261102-*.log"))
+    given = ["--fix", *logs, "--step", "0.5", "--account", "C3", "--write", tmp_path / "calls", "-o", tmp_path / "page"]
+    done = command.run("statement", tmp_path / "month", *given)
+    assert done.status == 0 and "Both readings agree: on" in (tmp_path / "page").read_text(), done
+    lines = (tmp_path / "calls").read_text().splitlines()
+    assert lines[0].startswith("open row 1 1") and lines[-1] == "close 1 2" and len(lines) > 10
+    assert command.run("calls", tmp_path / "calls").status == 0

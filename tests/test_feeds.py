@@ -16,11 +16,13 @@ from quoting import fix, inputs, month_sources, reading
 from quoting.events import Tick
 from quoting.reading import PLAIN, Options, TextError
 from quoting.month_sources import Sent
+from quoting.watch import spans
 from quoting.watch import feeds, messages
 from quoting.watch.clocks import FeedClock, WallClock
 from quoting.watch.feeds import CallsFeed, Changed, Trouble
 from quoting.watch.messages import MessagesFeed
 from quoting.watch.playing import Playing
+from tests import placed_messages
 from tests import command
 from tests.paths import EXAMPLES, PROGRAMMES, ROOT
 
@@ -546,7 +548,7 @@ def test_months():
     """A finished month gives exactly the statement's calls."""
     for name in ("brent", "gold-mini"):
         calls, log = programme(name)
-        due = month_sources.from_list(calls, PLAIN, [log])
+        due = placed_messages.from_list(calls, PLAIN, [log])
         feed = MessagesFeed(log, calls, PLAIN, None, FeedClock(), False)
         found = drained(feed)
         assert sent_of(found) == due.calls and feed.ended == "end" and feed.skipped == 0, name
@@ -559,7 +561,7 @@ def test_growing_months(tmp_path):
     rng = random.Random(3)
     for name in ("brent", "gold-mini"):
         calls, log = programme(name)
-        due = month_sources.from_list(calls, PLAIN, [log]).calls
+        due = placed_messages.from_list(calls, PLAIN, [log]).calls
         month = Month(tmp_path, Path(calls).read_text())
         data, place, found = Path(log).read_bytes(), 0, []
         while place < len(data):
@@ -591,7 +593,7 @@ def test_any_months(tmp_path):
         sent = [message(id, time, rng.choice("AB")) for id, time in enumerate(times)]
         log = b"".join(each.replace(b"\x01", rng.choice([b"|", b"\x01"])) + rng.choice([b"\n", b"\r\n", b" "]) for each in sent)
         month = Month(tmp_path, calls, log + b"8=FIX.4.4|35=0|10=000|\n", follow=False)
-        due = month_sources.from_list(str(month.list), PLAIN, [str(month.log)])
+        due = placed_messages.from_list(str(month.list), PLAIN, [str(month.log)])
         found, in_no_quantum = drained(month.feed), len(due.left) - 1
         assert sent_of(found) == due.calls and due.left[-1].endswith("refused 20: 9, the length, does not follow 8"), due.left[-1]
         assert month.feed.skipped == in_no_quantum and month.feed.ended == "end"
@@ -613,7 +615,7 @@ def test_times():
         text = f"{day}-{rng.randrange(26):02}:{rng.randrange(62):02}:{rng.randrange(62):02}.{rng.randrange(1000):03}"
         text = text[: rng.choice([21, 21, 21, 17])] + rng.choice(["", "", "", "0", "\xb2"])
         data = f"35=D\x0160={text}\x0160=20261102-10:00:00.000\x01".encode("latin-1")
-        assert messages.time_of(data) == month_sources.time_of(data), data
+        assert messages.time_of(data) == spans.time_of(data), data
         read += messages.time_of(data) is not None
     assert 100 < read < 400, read
     assert messages.time_of(b"\x0135=D\x01") is None
@@ -856,7 +858,7 @@ def test_playing_clock(tmp_path):
 def test_played_months():
     """A month with messages comes whole and in order, each message at its time; the same at any steps."""
     calls, log = programme("brent")
-    due = [sent.place for sent in month_sources.from_list(calls, PLAIN, [log]).calls]
+    due = [sent.place for sent in placed_messages.from_list(calls, PLAIN, [log]).calls]
     for step in (0.25, 3.0):
         found, _ = played(MessagesFeed(log, calls, PLAIN, None, FeedClock(), False), 3_600, step)
         assert [place for _, items in found for place in items if isinstance(place, str)] == due, step

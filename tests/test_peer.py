@@ -2,7 +2,7 @@
 
 Messages that QuickFIX makes, bare and with the header and the tags that terminals send, are read by us; those that we write are read by
 it, and one with another length or checksum is not; a session between its initiator and its acceptor over loopback is read as it came, and
-a month takes its orders. Fields must be equal each time, by the recount, `probe` and `replay`. tests/peer/peer.cpp is QuickFIX's side.
+a month takes its orders; and its acceptor is an exchange whose own log gives what it did to its orders. Fields must be equal each time, by the recount, `probe` and `replay`. tests/peer/peer.cpp is QuickFIX's side.
 """
 
 import random
@@ -12,14 +12,16 @@ from random import Random
 
 import pytest
 
+import quoting
+from quoting.exchange import LogReader, milliseconds, quantum_of
 from recount import fix, programs
-from recount.book import BUY, SELL, Close, Look, Message, Open, Report
+from recount.book import BUY, SELL, Add, Amend, Cancel, Close, Deal, Look, Message, Open, Report, Row, kept_time, stretches
 from recount.fix import END, Order
 from tests import calls_text, messages
 from tests.paths import TARGET, TESTS
 from tests.running import run_program, words
 
-pytestmark = [pytest.mark.usefixtures("programs", "peer_built"), pytest.mark.xdist_group("peer")]
+pytestmark = [pytest.mark.usefixtures("programs", "library", "peer_built"), pytest.mark.xdist_group("peer")]
 
 PEER = TARGET / "peer" / "peer"
 SECONDS = 90
@@ -151,3 +153,41 @@ def test_quickfix_session() -> None:
     lines = ours("replay", calls_text.calls_bytes(calls)).splitlines()
     due = ["refused 20" if data in admin else "accepted" for data in came]
     assert lines[1 : 1 + len(came)] == due and lines[-3].startswith("report open yes time 60000 "), lines
+
+
+# ---------------------------------------------------------------- an exchange
+
+EVENTS = {"add": Add, "amend": Amend, "cancel": Cancel, "deal": Deal}
+SIDES = {"buy": BUY, "sell": SELL}
+
+
+def truth_of(line: str, start: int) -> Add | Amend | Cancel | Deal:
+    """What the exchange says that it did, as an event of the recount."""
+    name, time, *rest = line.split()
+    return EVENTS[name](milliseconds(time) - start, *(SIDES[word] if word in SIDES else int(word) for word in rest))
+
+
+@pytest.mark.parametrize("seed", [4, 5])
+def test_quickfix_exchange(seed: int) -> None:
+    """QuickFIX's acceptor answers as an exchange does; from its own log of both directions comes the K of what it did."""
+    orders = morning(random.Random(seed), 120)
+    for order in orders:
+        if 44 in order.numbers:  # so that bids are below asks
+            order.numbers[44] = (8_400 if order.numbers[54] == BUY else 8_460) + order.numbers[44] % 50
+    lines = peer("exchange", [order_line(order, True) for order in orders])
+    log = b"\n".join(b"10:00:00 " + bytes.fromhex(line[5:]) for line in lines if line.startswith("wire "))
+    start = milliseconds(START.decode())
+    truth = [truth_of(line[6:], start) for line in lines if line.startswith("truth ")]
+    assert {type(event) for event in truth} == set(EVENTS.values()), "not everything happened"
+    reader = LogReader({}, usual="1")
+    for at in range(0, len(log), 1_000):
+        reader.feed("exchange.log", log[at : at + 1_000], at + 1_000 >= len(log))
+    counts = reader.counts
+    assert not reader.reasons and reader.by == "reports" and counts.requests == len(orders)
+    assert min(counts.rejects, counts.cancel_rejects, counts.duplicates, counts.fills) > 0, counts
+    carried, found = quantum_of(reader.timelines.values(), start, start + 31_500_000)
+    assert not len(carried) and len(found) == len(truth)
+    row = Row(1, 1, 31_500_000, 300, 5_000, 30, 600)
+    due = kept_time(stretches(row, 8_452, truth, row.length))
+    rule = quoting.Rule(quoting.Row(*row._replace(share="60%")), sp=8_452)
+    assert quoting.session(rule, found.data).kept == due > 0

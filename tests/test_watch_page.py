@@ -16,10 +16,11 @@ import time
 import pytest
 
 from quoting import calls as c
-from quoting import month_sources, reading
+from quoting import reading
 from quoting.cells import CELLS
 from quoting.recounted import cell_of, report_of
 from quoting.states import State
+from tests import placed_messages
 from tests import browser
 from tests.browser import Browser, Served, children
 from tests.paths import BIN, LIBRARY, PROGRAMMES, ROOT
@@ -429,6 +430,6 @@ def test_restarted(page):
             page.leave()
             served.stop(number_)
     assert found[0] == found[1], found
-    calls = month_sources.from_list(str(month), reading.PLAIN, [str(log)]).calls
+    calls = placed_messages.from_list(str(month), reading.PLAIN, [str(log)]).calls
     assert calls_read(seen) == len(calls), (seen["feed"], len(calls))
     hold(seen, [sent.block for sent in calls])

@@ -13,6 +13,7 @@ import websockets
 
 from quoting import calls as c
 from quoting.reading import PLAIN
+from quoting.watch.recounting import Recounting
 from quoting.watch import connections, doubts, frames, loop, messages
 from quoting.watch.clocks import FeedClock
 from quoting.watch.feeds import CallsFeed
@@ -403,3 +404,14 @@ def test_a_name_that_is_not_utf_8_is_shown_escaped(tmp_path):
 def test_a_port_that_is_none_gives_a_sentence(port):
     done = command.run("watch", "--calls", EXAMPLES / "watch.calls", f"--port={port}")
     assert done.status == 2 and "argument --port: " in done.complaint and port in done.complaint and "Traceback" not in done.complaint, done
+
+
+def test_no_agreement_while_the_recount_lags():
+    """The page says on how many of how many calls both agree, and no longer that they do when that was seconds ago."""
+    recounting = Recounting()
+    recounting.kind, recounting.agreed, recounting.sent, recounting.agreed_at = "agree", 5, 9, 1_000.0
+    soon, late = recounting.readings(1_002.0), recounting.readings(1_006.0)
+    assert soon["kind"] == "agree" and soon["text"].startswith("on 5 of 9 calls, "), soon
+    assert late["kind"] == "waiting" and late["head"] == "The recount lags" and "on 5 of 9 calls" in late["text"], late
+    recounting.agreed = 9
+    assert recounting.readings(1_060.0)["kind"] == "agree" and "on all 9 calls" in recounting.readings(1_060.0)["text"]

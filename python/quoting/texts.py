@@ -279,35 +279,41 @@ def csv_bytes(text: str, options: Options = PLAIN, head: Optional[bytes] = None)
     52
     """
     reader = CsvReader(options, Head(options, head))
-    for at, (line, end) in enumerate(reading.lines_with_ends(text), start=1):
-        cells = csv_cells(line, csv_separator(options))
-        if any(cells):
-            with reading.at_line(at):
-                reader.take(cells)
-        if reader.names is not None:
-            whole = csv_columns.records(text[end:], reader.names, options)
-            return reader.head.data() + (b"".join(map(record, csv_items(reader, text[end:], at))) if whole is None else whole)
-    raise TextError(f"there is no line with the columns {','.join(CSV_COLUMNS)}")
+    at, end = csv_front(reader, text)
+    whole = csv_columns.records(text[end:], reader.names or [], options)
+    return reader.head.data() + (b"".join(map(record, csv_rest(reader, text[end:], at))) if whole is None else whole)
 
 
 def csv_events(text: str, options: Options = PLAIN) -> tuple[bytes, list[Event]]:
     """The leading bytes and the events of a session in CSV."""
     reader = CsvReader(options, Head(options))
-    events = list(csv_items(reader, text, 0))
-    if reader.names is None:
-        raise TextError(f"there is no line with the columns {','.join(CSV_COLUMNS)}")
+    at, end = csv_front(reader, text)
+    events = list(csv_rest(reader, text[end:], at))
     return reader.head.data(), events
 
 
-def csv_items(reader: CsvReader, text: str, before: int) -> Iterator[Event]:
-    """The events of the lines after the first `before`, one at a time."""
+def csv_front(reader: CsvReader, text: str) -> tuple[int, int]:
+    """Reads up to the line with the columns' names: its number, and where the next one starts."""
+    for at, (line, end) in enumerate(reading.lines_with_ends(text), start=1):
+        cells = csv_cells(line, csv_separator(reader.options))
+        if any(cells):
+            with reading.at_line(at):
+                reader.take(cells)
+        if reader.names is not None:
+            return at, end
+    raise TextError(f"there is no line with the columns {','.join(CSV_COLUMNS)}")
+
+
+def csv_rest(reader: CsvReader, text: str, before: int) -> Iterator[Event]:
+    """The events after the line with the columns' names, one at a time."""
     separator = csv_separator(reader.options)
     for at, line in enumerate(reading.split_lines(text), start=before + 1):
         cells = csv_cells(line, separator)
-        with reading.at_line(at):
-            found = reader.take(cells) if any(cells) else None
-        if found is not None:
-            yield found
+        if any(cells):
+            with reading.at_line(at):
+                found = reader.take(cells)
+            if found is not None:
+                yield found
 
 
 def csv_separator(options: Options) -> str:

@@ -15,15 +15,21 @@ sys.path.insert(0, str(ROOT))
 from recount import card
 
 COLUMNS = dict(zip(card.SHARES, zip(*(card.line(f) for f in range(card.LAST + 1)))))
+# the parts of a share's line, each with its first f: below every p, the curve, and the full weight
+PARTS = {"low": range(600), "curve": range(600, 800), "full": range(800, card.LAST + 1)}
 A_LINE = 10  # numbers of a list
 
 
 def code():
-    """A constant for each share, one number a line."""
-    text = "// The constants of the weight card, written by tools/dev/card_table.py: for each p the weights of f from 0 to 1,000.\n"
+    """A constant for each part of each share's line, one number a line."""
+    text = """\
+// The constants of the weight card, written by tools/dev/card_table.py: for each p the weights of f from 0 to 1,000, in three parts: below
+// every p, the curve from 600 on, and the full weight from 800 on.
+"""
     for share, weights in COLUMNS.items():
-        numbers = "".join(f"    {weight}, // p {share}, f {f}\n" for f, weight in enumerate(weights))
-        text += f"pub const CARD_{share}: [u16; {len(weights)}] = [\n{numbers}];\n\n"
+        for part, lines in PARTS.items():
+            numbers = "".join(f"    {weights[f]}, // p {share}, f {f}\n" for f in lines)
+            text += f"pub const CARD_{share}_{part.upper()}: [u16; {len(lines)}] = [\n{numbers}];\n\n"
     return text[:-1]
 
 
@@ -35,9 +41,10 @@ use Prim.Native.Nat.{ℕ}
 use mathlib.Core.List.{List, [], _∷_}
 """
     for share, weights in COLUMNS.items():
-        lines = [weights[at : at + A_LINE] for at in range(0, len(weights), A_LINE)]
-        numbers = "".join(f"    {' ∷ '.join(map(str, line))} ∷\n" for line in lines)
-        text += f"\nabbrev pub card{share} : List ℕ\ncard{share} =\n{numbers}    []\n"
+        for part, fs in PARTS.items():
+            lines = [[weights[f] for f in fs[at : at + A_LINE]] for at in range(0, len(fs), A_LINE)]
+            numbers = "".join(f"    {' ∷ '.join(map(str, line))} ∷\n" for line in lines)
+            text += f"\nabbrev pub {part}{share} : List ℕ\n{part}{share} =\n{numbers}    []\n"
     return text
 
 

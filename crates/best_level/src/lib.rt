@@ -271,7 +271,13 @@ fn at_change(keys: &[u32], volumes: &[u32], guess: Guess, key: u32, minimum: Con
 
 // The level by the search, from the best price found to qualify, or from none. Where it finds nothing better, that is from none, and all
 // the contracts of the side are before no quote.
-fn by_search(side: Side, keys: &[u32], volumes: &[u32], guess: Guess, minimum: Contracts) -> LevelFound
+fn by_search(
+    side: Side,
+    keys: &[u32],
+    volumes: &[u32],
+    guess: Guess,
+    minimum: Contracts,
+) -> LevelFound
     requires { ⌜ Searchable (now keys) (now volumes) (guess .start) × Open (minimum .0) (now keys) (now volumes) (guess .start) × (1 ≤ minimum .0) × (guess .sums ≤ 8) ⌝ }
     ensures { λ r. ⌜ Searches (minimum .0) (now (keys .entry)) (now (volumes .entry)) (guess .start) (guess .sums) r ⌝ }
 {

@@ -3,9 +3,7 @@ use Prim.Native.Nat.{ℕ, _<_}
 use mathlib.Core.Path.{_≡_}
 use mathlib.Core.List.{List}
 use mathlib.Core.Bool.{false}
-use lib.Dec.{eqb}
 use lib.ListN.{getD}
-use Rattle.rules.specs.declared.Side.the-variants.{Buy, Sell}
 use Rattle.rules.specs.declared.Millis.{Millis}
 use Rattle.rules.specs.declared.Steps.{Steps}
 use Rattle.rules.specs.declared.Contracts.{Contracts}
@@ -16,6 +14,7 @@ use Rattle.rules.specs.Orders.{apply}
 use Rattle.rules.specs.Causes.{firstNumber, traderCauses}
 use Rattle.lists.specs.Lists.{if_then_else_, within}
 use Rattle.rules.specs.Answers.{Outcome, accepted, refused}
+use Rattle.words.specs.Sides.{sideBy}
 use Rattle.record.specs.declared.Fields.{Fields}
 use Rattle.price_keys.specs.Widest.{keysKeep}
 use Rattle.order_side.specs.Slots.{sideOf, keptIn, GoodSlots}
@@ -35,7 +34,7 @@ orderWith o price volume = record { id = o .id; side = o .side; price = price; v
 
 -- the order that the fields of an add say
 abbrev pub orderBy : Fields → Order
-orderBy f = record { id = f .id; side = if eqb (f .kind) 1 then Buy else Sell; price = f .price; volume = f .volume }
+orderBy f = record { id = f .id; side = sideBy (f .kind); price = f .price; volume = f .volume }
 
 -- fields of another kind than an add's, an amendment's and a tick's
 pub record Lessens (f : Fields) : Type 0 where

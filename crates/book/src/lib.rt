@@ -4,12 +4,10 @@ ghost use mathlib.Core.Path.{_≡_};
 ghost use mathlib.Core.List.{List};
 ghost use mathlib.Core.Bool.{_&&_};
 ghost use Prim.Native.Nat.{ℕ, _<_};
-ghost use lib.Dec.{eqb};
 ghost use lib.ListN.{length};
 ghost use Rattle.rules.specs.declared.Order.{Order};
 ghost use Rattle.rules.specs.declared.Millis.{Millis};
 ghost use Rattle.rules.specs.declared.Event.the-variants.{Amend, Cancel, Deal};
-ghost use Rattle.rules.specs.declared.Side.the-variants.{Buy, Sell};
 ghost use Rattle.lists.specs.Lists.{if_then_else_, within};
 ghost use Rattle.rules.specs.Units.{goodPrice, goodVolume};
 ghost use Rattle.order_table.specs.Table.{slotIn, Held, Holding};
@@ -25,7 +23,6 @@ use order_side::WORDS;
 use record::Fields;
 use rules::Contracts;
 use rules::Order;
-use rules::Side;
 use rules::Steps;
 
 // The answer to an event: the refusal's number; or 0, and what changes on which side, buys 0 and sells 1.
@@ -200,16 +197,6 @@ fn is_add(kind: u32) -> bool
     (1 <= kind) & (kind <= 2)
 }
 
-// The side of a kind that adds an order.
-fn side_of(kind: u32) -> Side
-    ensures { λ r. ⌜ r ≡ (if eqb kind 1 then Buy else Sell) ⌝ }
-{
-    if kind == 1 {
-        return Side::Buy;
-    }
-    Side::Sell
-}
-
 // The order that the fields of an add say.
 fn order_of(f: Fields) -> Order
     ensures { λ r. ⌜ r ≡ orderBy f ⌝ }
@@ -218,7 +205,7 @@ fn order_of(f: Fields) -> Order
     let volume = f.volume;
     Order {
         id: f.id,
-        side: side_of(f.kind),
+        side: words::to_side(f.kind),
         price,
         volume,
     }

@@ -42,18 +42,18 @@ unfolding accountFilled
 short-fills (Account.accepted t ps) b r h e = record { number = e; buffer = rw (lt-ltb (length b) (7 + 3 * length ps) (omega arith)) refl }
 short-fills (Account.refused m p) b r h e = record { number = e; buffer = refl }
 
-pub account-stopped : (r : AccountAnswer) (f : Refusal) (place n : ℕ) → r ≡ Refused f place → n ≡ numberOf f → 4294967296 * n + place ≡ shortAccount (shownAccount r)
-account-stopped r f place n e is = ap (λ (m : ℕ). 4294967296 * m + place) is ∙ sym (ap (λ (x : AccountAnswer). shortAccount (shownAccount x)) e)
+pub account-stopped : (r : AccountAnswer) (f : Refusal) (place n : ℕ) → r ≡ Refused f place → n ≡ refusedNumber (numberOf f) + place → n ≡ shortAccount (shownAccount r)
+account-stopped r f place n e is = is ∙ sym (ap (λ (x : AccountAnswer). shortAccount (shownAccount x)) e)
 
 -- ---- room for them
 
 pub account-finished : (r : AccountAnswer) (t : Times) (n : ℕ) (b : List ℕ) → r ≡ Finished t n → (7 + 3 * n ≡ ranAccount (shownAccount r)) × (headedBy b t n ≡ headedAccount b r)
 account-finished r t n b e = (sym (ap (λ (x : AccountAnswer). ranAccount (shownAccount x)) e), sym (ap (headedAccount b) e))
 
-pub account-refused : (r : AccountAnswer) (f : Refusal) (place n : ℕ) (b : List ℕ) → r ≡ Refused f place → n ≡ numberOf f
-    → (4294967296 * n + place ≡ ranAccount (shownAccount r)) × (b ≡ headedAccount b r)
+pub account-refused : (r : AccountAnswer) (f : Refusal) (place n : ℕ) (b : List ℕ) → r ≡ Refused f place → n ≡ refusedNumber (numberOf f) + place
+    → (n ≡ ranAccount (shownAccount r)) × (b ≡ headedAccount b r)
 account-refused r f place n b e is =
-    (ap (λ (m : ℕ). 4294967296 * m + place) is ∙ sym (ap (λ (x : AccountAnswer). ranAccount (shownAccount x)) e), sym (ap (headedAccount b) e))
+    (is ∙ sym (ap (λ (x : AccountAnswer). ranAccount (shownAccount x)) e), sym (ap (headedAccount b) e))
 
 -- a buffer of seven words and more
 module _ (x0 x1 x2 x3 x4 x5 x6 : ℕ) (t : List ℕ) where

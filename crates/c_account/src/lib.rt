@@ -22,9 +22,7 @@ fn short_account(answer: AccountAnswer) -> u64
             times: _,
             stretches: _,
         } => c_answers::refused(16),
-        AccountAnswer::Refused { refusal, place } => {
-            4294967296 * (rules::number(refusal) as u64) + (place as u64)
-        }
+        AccountAnswer::Refused { refusal, place } => c_answers::refused_at(refusal, place),
     }
 }
 
@@ -53,9 +51,7 @@ fn head_account(answer: AccountAnswer, buffer: &mut [u32]) -> u64
             buffer[6] = stretches;
             7 + 3 * (stretches as u64)
         }
-        AccountAnswer::Refused { refusal, place } => {
-            4294967296 * (rules::number(refusal) as u64) + (place as u64)
-        }
+        AccountAnswer::Refused { refusal, place } => c_answers::refused_at(refusal, place),
     }
 }
 

@@ -5,7 +5,7 @@ use native.Mathlib.Omega.{arith}
 use mathlib.Core.Path.{_≡_, refl, sym, ap, subst, _∙_}
 use mathlib.Core.List.{List, _++_}
 use lib.ListN.{length, getD, take, drop, set, length-append, length-drop}
-use lib.Seq.{take-length, length-take-le, take-suc, drop-cons, append-snoc, set-at}
+use lib.Seq.{length-take-le, take-suc, drop-cons, append-snoc, set-at}
 use borrow.Author.Tests.{lt-ltb, le-ltb}
 use Rattle.rules.specs.Answers.{Outcome, accepted, refused}
 use Rattle.c_answers.specs.Answers.{refusedNumber, fitted, lengthNumber, Fills}
@@ -28,11 +28,6 @@ one-put v d e i h l q =
     ∙ sym (append-snoc (take i v) (getD v i 0) (drop (suc i) d))
     ∙ ap (λ (x : List ℕ). x ++ drop (suc i) d) (sym (take-suc v i 0 h))
     ∙ ap (put v d) (sym (add-one i))
-
-pub all-put : (v d e : List ℕ) (i : ℕ) → i ≤ length v → length v ≤ i → e ≡ put v d i → e ≡ v ++ drop (length v) d
-all-put v d e i a b q =
-    let same : i ≡ length v = omega arith in
-    q ∙ ap (put v d) same ∙ ap (λ (x : List ℕ). x ++ drop (length v) d) (take-length v)
 
 pub front-put : (v d e : List ℕ) (i n : ℕ) → i ≤ n → n ≤ i → e ≡ put v d i → e ≡ put v d n
 front-put v d e i n a b q = let same : i ≡ n = omega arith in q ∙ ap (put v d) same

@@ -1,10 +1,11 @@
 // What a call for C answers: one number, and the words or bytes that it puts at the front of a lent buffer.
 ghost use mathlib.Core.Path.{_≡_};
 ghost use mathlib.Core.List.{_++_};
-ghost use Prim.Native.Nat.{_≤_};
+ghost use Prim.Native.Nat.{_+_, _≤_};
 ghost use lib.ListN.{length, take, drop};
-ghost use Rattle.rules.specs.Answers.{accepted};
+ghost use Rattle.rules.specs.Answers.{numberOf, accepted};
 ghost use Rattle.c_answers.specs.Answers.{refusedNumber, Fills};
+use rules::Refusal;
 
 pub fn refused(n: u32) -> u64
     ensures { λ r. ⌜ r ≡ refusedNumber n ⌝ }
@@ -12,16 +13,11 @@ pub fn refused(n: u32) -> u64
     4294967296 * (n as u64)
 }
 
-// Puts words at the front of a buffer that has room for them.
-fn put_words(words: &[u32], buffer: &mut [u32])
-    requires { ⌜ length (now words) ≤ length (now buffer) ⌝ }
-    ensures { λ _. ⌜ now (buffer .exit) ≡ now (words .entry) ++ drop (length (now (words .entry))) (now (buffer .entry)) ⌝ }
+// A refusal and its place.
+pub fn refused_at(refusal: Refusal, place: u32) -> u64
+    ensures { λ r. ⌜ r ≡ refusedNumber (numberOf refusal) + place ⌝ }
 {
-    let mut i = 0;
-    while i < words.len() {
-        buffer[i] = words[i];
-        i += 1;
-    }
+    refused(rules::number(refusal)) + (place as u64)
 }
 
 // Puts the first n bytes at the front of a text that has room for them.
@@ -43,7 +39,7 @@ pub fn fill_words(words: &[u32], buffer: &mut [u32]) -> u64
     if buffer.len() < n {
         return refused(16);
     }
-    put_words(words, buffer);
+    lent::copy(words, &mut buffer[..n]);
     n as u64
 }
 

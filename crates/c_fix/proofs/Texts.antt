@@ -12,7 +12,7 @@ use Rattle.rules.specs.Units.{steps, contracts}
 use Rattle.rules.specs.Answers.{accepted, refused}
 use Rattle.rules.specs.Records.{signedOf}
 use Rattle.rules.specs.Messages.{newOrder, cancelOrder, replaceOrder, writeMessage}
-use Rattle.call_blocks.specs.Kinds.{sideOf}
+use Rattle.words.specs.Sides.{sideBy}
 use Rattle.fix_reader.specs.declared.MessageRead.{MessageRead}
 use Rattle.fix_reader.specs.Answers.{shownMessage}
 use Rattle.fix_writer.specs.declared.MessageText.{MessageText}
@@ -43,7 +43,7 @@ module _ (ws sixty : List ℕ) where
       unfolding messageFor
       no-side h = rw (le-ltb (length ws) 6 long, ne-eqb (getD ws 0 0) 2 other, sym is ∙ not-true good h) refl
 
-      module _ (h : not good ≡ false) (price : Steps) (same : price ≡ steps (signedOf (getD ws 5 0))) (side : Side) (which : side ≡ sideOf (getD ws 3 0)) where
+      module _ (h : not good ≡ false) (price : Steps) (same : price ≡ steps (signedOf (getD ws 5 0))) (side : Side) (which : side ≡ sideBy (getD ws 3 0)) where
         pub a-new : getD ws 0 0 ≡ 1
             → writeMessage (newOrder (getD ws 1 0) side (contracts (getD ws 4 0)) price sixty) ≡ textFor (messageFor ws sixty)
         unfolding messageFor

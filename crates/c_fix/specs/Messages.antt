@@ -11,7 +11,7 @@ use Rattle.rules.specs.Units.{steps, contracts}
 use Rattle.rules.specs.Answers.{Outcome, accepted, refused}
 use Rattle.rules.specs.Records.{addKind, signedOf, unsignedOf}
 use Rattle.rules.specs.Messages.{Message, newOrder, cancelOrder, replaceOrder, writeMessage}
-use Rattle.call_blocks.specs.Kinds.{sideOf}
+use Rattle.words.specs.Sides.{sideBy}
 
 abbrev pub timeWords : Timestamp → List ℕ
 timeWords t = t .year ∷ t .month ∷ t .day ∷ t .hour ∷ t .minute ∷ t .second ∷ t .millis ∷ []
@@ -34,8 +34,8 @@ abbrev pub messageBy : ℕ → ℕ → ℕ → ℕ → Contracts → Steps → L
 messageBy kind id orig side volume price sixty =
     if eqb kind 2 then accepted (cancelOrder id orig sixty)
     else if within 1 2 side
-    then (if eqb kind 1 then accepted (newOrder id (sideOf side) volume price sixty)
-    else if eqb kind 3 then accepted (replaceOrder id orig (sideOf side) volume price sixty)
+    then (if eqb kind 1 then accepted (newOrder id (sideBy side) volume price sixty)
+    else if eqb kind 3 then accepted (replaceOrder id orig (sideBy side) volume price sixty)
     else refused 3)
     else refused 3
 

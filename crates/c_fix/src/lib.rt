@@ -14,7 +14,6 @@ ghost use Rattle.rules.specs.Records.{addKind, unsignedOf};
 ghost use Rattle.rules.specs.Messages.{readMessage};
 ghost use Rattle.fix_reader.specs.Answers.{shownMessage};
 ghost use Rattle.fix_writer.specs.Answers.{shownText};
-ghost use Rattle.call_blocks.specs.Kinds.{sideOf};
 ghost use Rattle.c_answers.specs.Answers.{Fills};
 ghost use Rattle.c_fix.specs.Messages.{timeWords, readWords, messageFor, textFor};
 
@@ -47,15 +46,6 @@ fn message(
     ]
 }
 
-fn side_word(side: Side) -> u32
-    ensures { λ r. ⌜ r ≡ addKind side ⌝ }
-{
-    match side {
-        Side::Buy => 1,
-        Side::Sell => 2,
-    }
-}
-
 // A new order or a replace as words in a lent buffer.
 fn fill_order(
     kind: u32,
@@ -70,7 +60,15 @@ fn fill_order(
     ensures { λ r. ⌜ Fills (accepted (kind ∷ id ∷ orig ∷ addKind side ∷ volume .0 ∷ unsignedOf (price .0) ∷ timeWords time)) (now (buffer .entry)) (now (buffer .exit)) r ⌝ }
 {
     let number = words::from_steps(price);
-    let words = message(kind, id, orig, side_word(side), volume.0, number, time);
+    let words = message(
+        kind,
+        id,
+        orig,
+        words::from_side(side),
+        volume.0,
+        number,
+        time,
+    );
     c_answers::fill_words(&words, buffer)
 }
 
@@ -114,15 +112,6 @@ pub fn read_words(bytes: &[u8], buffer: &mut [u32]) -> u64
     fill_message(fix_reader::read(bytes), buffer)
 }
 
-fn side_of(n: u32) -> Side
-    ensures { λ r. ⌜ r ≡ sideOf n ⌝ }
-{
-    if n == 1 {
-        return Side::Buy;
-    }
-    Side::Sell
-}
-
 fn fill_front(bytes: [u8; 114], n: usize, text: &mut [u8]) -> u64
     requires { ⌜ n ≤ 114 ⌝ }
     ensures { λ r. ⌜ Fills (accepted (take n bytes)) (now (text .entry)) (now (text .exit)) r ⌝ }
@@ -161,7 +150,7 @@ pub fn write_text(fields: &[u32], sixty: &[u8], text: &mut [u8]) -> u64
     if !ranges::between(1, 2, side) {
         return c_answers::refused(3);
     }
-    let side = side_of(side);
+    let side = words::to_side(side);
     if kind == 1 {
         return fill_text(fix_writer::write_new(id, side, volume, price, sixty), text);
     }

@@ -36,9 +36,9 @@ short (Session.refused m p) n h = refl
 pub short-is : (s : Session) (shown : Ran) (r n : ℕ) → shown ≡ ran 0 s → r ≡ shortNumber shown → n < 3 → r ≡ pairsNumber n s
 short-is s shown r n e f h = f ∙ ap shortNumber e ∙ short s n h
 
-pub short-stopped : (r : SessionAnswer) (f : Refusal) (place n : ℕ) → r ≡ S.Refused f place → n ≡ numberOf f
-    → 4294967296 * n + place ≡ shortNumber (shownSession r)
-short-stopped r f place n e is = ap (λ (m : ℕ). 4294967296 * m + place) is ∙ sym (ap (λ (x : SessionAnswer). shortNumber (shownSession x)) e)
+pub short-stopped : (r : SessionAnswer) (f : Refusal) (place n : ℕ) → r ≡ S.Refused f place → n ≡ refusedNumber (numberOf f) + place
+    → n ≡ shortNumber (shownSession r)
+short-stopped r f place n e is = is ∙ sym (ap (λ (x : SessionAnswer). shortNumber (shownSession x)) e)
 
 -- ---- room for them
 pub head-finished : (r : SessionAnswer) (k : Millis) (w n : ℕ) (b : List ℕ) → r ≡ S.Finished k w n
@@ -46,10 +46,10 @@ pub head-finished : (r : SessionAnswer) (k : Millis) (w n : ℕ) (b : List ℕ) 
 head-finished r k w n b e =
     (sym (ap (λ (x : SessionAnswer). ranNumber (shownSession x)) e), sym (ap (λ (x : SessionAnswer). headed b (shownSession x)) e))
 
-pub head-stopped : (r : SessionAnswer) (f : Refusal) (place n : ℕ) (b : List ℕ) → r ≡ S.Refused f place → n ≡ numberOf f
-    → (4294967296 * n + place ≡ ranNumber (shownSession r)) × (b ≡ headed b (shownSession r))
+pub head-stopped : (r : SessionAnswer) (f : Refusal) (place n : ℕ) (b : List ℕ) → r ≡ S.Refused f place → n ≡ refusedNumber (numberOf f) + place
+    → (n ≡ ranNumber (shownSession r)) × (b ≡ headed b (shownSession r))
 head-stopped r f place n b e is = (
-  ap (λ (m : ℕ). 4294967296 * m + place) is ∙ sym (ap (λ (x : SessionAnswer). ranNumber (shownSession x)) e),
+  is ∙ sym (ap (λ (x : SessionAnswer). ranNumber (shownSession x)) e),
   sym (ap (λ (x : SessionAnswer). headed b (shownSession x)) e),
 )
 

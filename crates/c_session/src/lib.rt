@@ -18,9 +18,7 @@ fn short_number(answer: SessionAnswer) -> u64
             weight: _,
             pairs: _,
         } => c_answers::refused(16),
-        SessionAnswer::Refused { refusal, place } => {
-            4294967296 * (rules::number(refusal) as u64) + (place as u64)
-        }
+        SessionAnswer::Refused { refusal, place } => c_answers::refused_at(refusal, place),
     }
 }
 
@@ -49,9 +47,7 @@ fn put_head(answer: SessionAnswer, buffer: &mut [u32]) -> u64
             buffer[2] = pairs;
             3 + 2 * (pairs as u64)
         }
-        SessionAnswer::Refused { refusal, place } => {
-            4294967296 * (rules::number(refusal) as u64) + (place as u64)
-        }
+        SessionAnswer::Refused { refusal, place } => c_answers::refused_at(refusal, place),
     }
 }
 

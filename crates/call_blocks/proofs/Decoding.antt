@@ -6,7 +6,6 @@ use mathlib.Core.List.{List, [], _∷_}
 use borrow.Author.Tests.{ne-eqb}
 use lib.ListN.{length, getD, take, drop, length-take, length-drop}
 use lib.Seq.{length-take-le, getD-take, getD-drop, ext-getD}
-use Rattle.rules.specs.declared.Side.the-variants.{Buy, Sell}
 use Rattle.rules.specs.declared.Opening.{Opening}
 use Rattle.rules.specs.Widths.{Bytes}
 use Rattle.rules.specs.Calls.{Report}
@@ -16,17 +15,11 @@ use Rattle.words.proofs.Bytes.{words-behind}
 use Rattle.words.proofs.Back.{bytes-back}
 use Rattle.call_blocks.specs.declared.Decoded.{Decoded}
 use Rattle.call_blocks.specs.declared.Decoded.the-variants as D
-use Rattle.call_blocks.specs.Kinds.{wideAt, sideOf, rowAt, openingAt, strikeOpeningAt, callBy, callOf}
+use Rattle.call_blocks.specs.Kinds.{wideAt, rowAt, openingAt, strikeOpeningAt, callBy, callOf}
 use Rattle.call_blocks.specs.Decoded.{callWith}
 use Rattle.call_blocks.proofs.Sizes.{NoneOf}
 
 -- ---- arguments
-
-pub is-buy : (w : ℕ) → w ≡ 1 → Buy ≡ sideOf w
-is-buy w e = rw e refl
-
-pub is-sell : (w : ℕ) → (w ≡ 1 → ⊥) → Sell ≡ sideOf w
-is-sell w h = rw (ne-eqb w 1 h) refl
 
 pub wide-is : (ws : List ℕ) (i : ℕ) {a b low high : ℕ} → a ≡ getD ws i 0 → b ≡ getD ws (i + 1) 0 → low ≡ a → high ≡ b
     → low + 4294967296 * high ≡ wideAt ws i

@@ -15,7 +15,7 @@ use Rattle.rules.specs.declared.Kopecks.{Kopecks}
 use Rattle.rules.specs.declared.Event.{Event}
 use Rattle.rules.specs.declared.Event.the-variants.{Add, Amend, Cancel, Deal, Tick}
 use Rattle.rules.specs.Units.{steps, kopecks}
-use Rattle.rules.specs.Records.{signedOf, unsignedOf}
+use Rattle.rules.specs.Records.{addKind, signedOf, unsignedOf}
 use Rattle.rules.specs.Widths.{Word, SignedWord, Fits, Bytes}
 use Rattle.rules.specs.Calls.{Call, Open, Send, Message, Ask, Commit, Close, Drop, Charge, Withdraw, Look, Report, Outlook}
 use Rattle.rules.proofs.Records.{signed-unsigned, unsigned-fits}
@@ -26,7 +26,7 @@ use Rattle.call_blocks.specs.Kinds.{addDue, due, dueAt, blockSize, callO
 use Rattle.call_blocks.specs.Reading.{callsOf, wordsRead}
 use Rattle.lent.specs.Words.{low, high}
 use Rattle.lent.proofs.Back.{wide-back}
-use Rattle.call_blocks.specs.Writing.{sideWord, eventWords, openKind, openingWords, filled, wordsOf, scriptOf, Words, Wide, SpreadRuleFits, AmendmentFits, CallFits, AllFit}
+use Rattle.call_blocks.specs.Writing.{eventWords, openKind, openingWords, filled, wordsOf, scriptOf, Words, Wide, SpreadRuleFits, AmendmentFits, CallFits, AllFit}
 use Rattle.call_blocks.proofs.Reading.{whole, short, calls-none, calls-more, words-none, words-more}
 
 -- ---- the size
@@ -288,7 +288,7 @@ put {w} {ws} h k = record { all = at-each w ws h (k .all) }
 joined : (xs ys : List ℕ) → Words xs → Fine ys → Fine (xs ++ ys)
 joined xs ys h k = record { all = each-of Word xs ys h (k .all) }
 
-side-fits : (side : Side) → Word (sideWord side)
+side-fits : (side : Side) → Word (addKind side)
 side-fits Buy = omega arith
 side-fits Sell = omega arith
 

@@ -5,8 +5,6 @@ use mathlib.Core.List.{List}
 use mathlib.Core.Bool.{_||_}
 use lib.Dec.{leb, eqb}
 use lib.ListN.{length, getD, take, drop}
-use Rattle.rules.specs.declared.Side.{Side}
-use Rattle.rules.specs.declared.Side.the-variants.{Buy, Sell}
 use Rattle.rules.specs.declared.Steps.{Steps}
 use Rattle.rules.specs.declared.Strike.{Strike}
 use Rattle.rules.specs.declared.SpreadRule.the-variants.{Settled, OfStrike}
@@ -20,6 +18,7 @@ use Rattle.rules.specs.Units.{millis, steps, contracts, kopecks}
 use Rattle.rules.specs.Records.{signedOf}
 use Rattle.rules.specs.Calls.{Call, Open, Send, Message, Ask, Commit, Close, Drop, Charge, Withdraw, Look, Report, Outlook}
 use Rattle.words.specs.Bytes.{bytesOf}
+use Rattle.words.specs.Sides.{sideBy}
 
 -- the word at a place of a block; past the end of the words it is 0, which is no kind and no side
 abbrev pub word : List ℕ → ℕ → ℕ
@@ -111,9 +110,6 @@ startAt ws = take (word ws 1) (bytesOf (drop 3 ws))
 abbrev pub messageAt : List ℕ → List ℕ
 messageAt ws = take (word ws 2) (drop (word ws 1) (bytesOf (drop 3 ws)))
 
-abbrev pub sideOf : ℕ → Side
-sideOf s = if eqb s 1 then Buy else Sell
-
 -- ---- the call that a block says
 
 -- The call of a block of some kind, with these words.
@@ -123,7 +119,7 @@ callBy kind ws =
     let t = millis n in
     let id = word ws 2 in
     if eqb kind 1 then Open (rowAt ws) (word ws (2 + n)) (openingAt ws (3 + n))
-    else if eqb kind 2 then Send (Add t id (sideOf (word ws 3)) (stepsAt ws 4) (contracts (word ws 5)))
+    else if eqb kind 2 then Send (Add t id (sideBy (word ws 3)) (stepsAt ws 4) (contracts (word ws 5)))
     else if eqb kind 3 then Send (Amend t id (stepsAt ws 3) (contracts (word ws 4)))
     else if eqb kind 4 then Send (Cancel t id)
     else if eqb kind 5 then Send (Deal t id (contracts (word ws 3)))

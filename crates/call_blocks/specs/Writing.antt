@@ -3,27 +3,20 @@
 use Prim.Native.Nat.{ℕ, _<_}
 use mathlib.Core.List.{List, [], _∷_, _++_}
 use lib.ListN.{length, getD}
-use Rattle.rules.specs.declared.Side.{Side}
-use Rattle.rules.specs.declared.Side.the-variants.{Buy, Sell}
 use Rattle.rules.specs.declared.SpreadRule.{SpreadRule}
 use Rattle.rules.specs.declared.SpreadRule.the-variants.{Settled, OfStrike}
 use Rattle.rules.specs.declared.Amendment.{Amendment}
 use Rattle.rules.specs.declared.Event.{Event}
 use Rattle.rules.specs.declared.Event.the-variants.{Add, Amend, Cancel, Deal, Tick}
-use Rattle.rules.specs.Records.{unsignedOf}
+use Rattle.rules.specs.Records.{addKind, unsignedOf}
 use Rattle.rules.specs.Widths.{Word, SignedWord, Fits, Bytes}
 use Rattle.rules.specs.Calls.{Call, Open, Send, Message, Ask, Commit, Close, Drop, Charge, Withdraw, Look, Report, Outlook}
 use Rattle.words.specs.Bytes.{wordsIn}
 use Rattle.lent.specs.Words.{low, high}
 
--- a side's word
-abbrev pub sideWord : Side → ℕ
-sideWord Buy = 1
-sideWord Sell = 2
-
 -- an event's block
 unfoldable pub eventWords : Event → List ℕ
-eventWords (Add t id side price volume) = 2 ∷ t .0 ∷ id ∷ sideWord side ∷ unsignedOf (price .0) ∷ volume .0 ∷ []
+eventWords (Add t id side price volume) = 2 ∷ t .0 ∷ id ∷ addKind side ∷ unsignedOf (price .0) ∷ volume .0 ∷ []
 eventWords (Amend t id price volume) = 3 ∷ t .0 ∷ id ∷ unsignedOf (price .0) ∷ volume .0 ∷ []
 eventWords (Cancel t id) = 4 ∷ t .0 ∷ id ∷ []
 eventWords (Deal t id volume) = 5 ∷ t .0 ∷ id ∷ volume .0 ∷ []

@@ -9,7 +9,8 @@ ghost use Prim.Native.Nat.{_+_, _*_, _/_, _≤_, _<_};
 ghost use lib.ListN.{length, getD, take, drop};
 ghost use Rattle.rules.specs.Units.{millis, contracts};
 ghost use Rattle.words.specs.Bytes.{wordsIn, bytesOf};
-ghost use Rattle.call_blocks.specs.Kinds.{addDue, dueAt, blockSize, rowAt, startAt, messageAt, stepsAt, openingAt, strikeAt, strikeOpeningAt, wideAt, chargeAt, amendmentAt, ticketAt, sideOf, callBy, callOf};
+ghost use Rattle.call_blocks.specs.Kinds.{addDue, dueAt, blockSize, rowAt, startAt, messageAt, stepsAt, openingAt, strikeAt, strikeOpeningAt, wideAt, chargeAt, amendmentAt, ticketAt, callBy, callOf};
+ghost use Rattle.words.specs.Sides.{sideBy};
 ghost use Rattle.call_blocks.specs.Pieces.{telling, isTold};
 ghost use Rattle.call_blocks.specs.Measures.{Measures};
 ghost use Rattle.call_blocks.specs.Decoded.{callWith};
@@ -353,12 +354,9 @@ fn ticket_at(bytes: &[u8], i: usize) -> Ticket
 }
 
 fn side_at(bytes: &[u8], i: usize) -> Side
-    ensures { λ r. ⌜ r ≡ sideOf (getD (wordsIn (now (bytes .entry))) i 0) ⌝ }
+    ensures { λ r. ⌜ r ≡ sideBy (getD (wordsIn (now (bytes .entry))) i 0) ⌝ }
 {
-    if word(bytes, i) == 1 {
-        return Side::Buy;
-    }
-    Side::Sell
+    words::to_side(word(bytes, i))
 }
 
 // ---- the call that a block says, by its kind

@@ -111,23 +111,23 @@ ask-handed m c r a e h =
 
 module _ (a : Amendment) (ticket : Ticket) (b : Book) where
   -- amend's own refusals come first
-  commit-stops : (j : ℕ) → refusalOf paper b (Send (amendOf a)) ≡ suc j → refusalOf paper b (Commit a ticket) ≡ suc j
+  pub commit-stops : (j : ℕ) → refusalOf paper b (Send (amendOf a)) ≡ suc j → refusalOf paper b (Commit a ticket) ≡ suc j
   unfolding refusalOf causes
   commit-stops j h = first-stops (sendCauses (b .running) (amendOf a)) _ j h
 
   module _ (h : refusalOf paper b (Send (amendOf a)) ≡ 0) where
-    commit-wrong : goodTicket ticket a (b .count) ≡ false → refusalOf paper b (Commit a ticket) ≡ 19
+    pub commit-wrong : goodTicket ticket a (b .count) ≡ false → refusalOf paper b (Commit a ticket) ≡ 19
     unfolding refusalOf causes
     commit-wrong t =
         first-passes (sendCauses (b .running) (amendOf a)) _ h (send-numbered (b .running) (amendOf a)) ∙ stop _ _ (ap not t)
 
-    commit-passes : goodTicket ticket a (b .count) ≡ true → refusalOf paper b (Commit a ticket) ≡ 0
+    pub commit-passes : goodTicket ticket a (b .count) ≡ true → refusalOf paper b (Commit a ticket) ≡ 0
     unfolding refusalOf causes
     commit-passes t =
         first-passes (sendCauses (b .running) (amendOf a)) _ h (send-numbered (b .running) (amendOf a)) ∙ skip _ _ (ap not t) clear
 
     -- it does exactly that amend
-    commit-step : goodTicket ticket a (b .count) ≡ true → step paper b (Send (amendOf a)) ≡ step paper b (Commit a ticket)
+    pub commit-step : goodTicket ticket a (b .count) ≡ true → step paper b (Send (amendOf a)) ≡ step paper b (Commit a ticket)
     unfolding changed
     commit-step t = step-accepted paper b (Send (amendOf a)) h ∙ sym (step-accepted paper b (Commit a ticket) (commit-passes t))
 

@@ -45,6 +45,13 @@ use rules::Steps;
 use rules::Strike;
 use rules::Ticket;
 
+// Where the parts of a month's words start (specs/Words), the open quantum and the cells, and how many words it has.
+pub const QUANTUM_AT: usize = 6;
+
+pub const CELLS_AT: usize = 604;
+
+pub const MONTH_WORDS: usize = 2464;
+
 // A month, which only these calls make: whether a quantum is open, and then its cell's place, p and lapse limit; the count of accepted
 // calls (W5); the open quantum, or an idle one in its place; the cells.
 pub struct Month {
@@ -569,8 +576,8 @@ impl Month {
             lent::high(count),
         ];
         lent::copy(&six, &mut words[0..6]);
-        quantum.to_words(&mut words[6..604]);
-        lent::put_cells(cells, &mut words[604..2464]);
+        quantum.to_words(&mut words[QUANTUM_AT..CELLS_AT]);
+        lent::put_cells(cells, &mut words[CELLS_AT..MONTH_WORDS]);
     }
 
     // The month whose words these are.
@@ -581,8 +588,8 @@ impl Month {
         let running = lent::is_set(words[0]);
         let place = numbers::length(words[1]);
         let count = lent::wide(words[4], words[5]);
-        let quantum = Quantum::of_words(&words[6..604]);
-        let cells = lent::cells_in(&words[604..2464]);
+        let quantum = Quantum::of_words(&words[QUANTUM_AT..CELLS_AT]);
+        let cells = lent::cells_in(&words[CELLS_AT..MONTH_WORDS]);
         Month {
             running,
             place,

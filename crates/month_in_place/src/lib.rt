@@ -21,6 +21,11 @@ ghost use Rattle.month.specs.Words.{HoldsMonth};
 ghost use Rattle.quantum_in_place.specs.Events.{HoldsQuantum, SaysEvent};
 ghost use Rattle.month_in_place.specs.Entry.{mayBeMonth};
 ghost use Rattle.month_in_place.specs.Events.{ChangesMonth, ShowsMonth};
+use month::CELLS_AT;
+use month::MONTH_WORDS;
+use month::QUANTUM_AT;
+use quantum::NOTES_AT;
+use quantum::TABLE_AT;
 use record::Fields;
 use rules::Amendment;
 use rules::Asked;
@@ -57,7 +62,7 @@ pub fn may_be_month(words: &[u32]) -> bool
 // ---- the calls
 
 // One more accepted call, in the count's two words.
-fn count_on(words: &mut [u32])
+pub fn count_on(words: &mut [u32])
     requires { ⌜ length (now words) ≡ 2 ⌝ }
     ensures { λ _. ⌜ now (words .exit) ≡ low (following (getD (now (words .entry)) 0 0 + 4294967296 * getD (now (words .entry)) 1 0)) ∷ high (following (getD (now (words .entry)) 0 0 + 4294967296 * getD (now (words .entry)) 1 0)) ∷ [] ⌝ }
 {
@@ -74,7 +79,7 @@ pub fn send(words: &mut [u32], hints: &mut [u8], f: Fields) -> u32
     if words[0] == 0 {
         return 7;
     }
-    let n = quantum_in_place::step(&mut words[6..604], hints, f);
+    let n = quantum_in_place::step(&mut words[QUANTUM_AT..CELLS_AT], hints, f);
     if 0 < n {
         return n;
     }
@@ -82,20 +87,12 @@ pub fn send(words: &mut [u32], hints: &mut [u8], f: Fields) -> u32
     0
 }
 
-// Where the words of a named cell start, among those of the cells.
-fn cell_start(day: u32, expiry: u32, quantum: u32) -> usize
-    requires { ⌜ goodCell day expiry quantum ≡ true ⌝ }
-    ensures { λ r. ⌜ r ≡ 10 * placeOf day expiry quantum ⌝ }
-{
-    10 * (((day - 1) * 6 + ((expiry - 1) * 3 + quantum)) as usize)
-}
-
 // The named cell, from the words of the cells.
 fn cell_named(words: &[u32], day: u32, expiry: u32, quantum: u32) -> Cell
     requires { ⌜ (length (now words) ≡ 1860) × (goodCell day expiry quantum ≡ true) ⌝ }
     ensures { λ r. ⌜ ((cells : List Cell) → now (words .entry) ≡ cellsWords cells → r ≡ cellAt cells (placeOf day expiry quantum)) ⌝ }
 {
-    let from = cell_start(day, expiry, quantum);
+    let from = 10 * cells::place_of(day, expiry, quantum);
     let to = from + 10;
     lent::cell_in(&words[from..to])
 }
@@ -108,7 +105,7 @@ pub fn look(words: &[u32], day: u32, expiry: u32, quantum: u32) -> Looked
     if !ranges::cell(day, expiry, quantum) {
         return Looked::Refused(Refusal::ArgumentOutOfRange);
     }
-    let cell = cell_named(&words[604..2464], day, expiry, quantum);
+    let cell = cell_named(&words[CELLS_AT..MONTH_WORDS], day, expiry, quantum);
     if verdict::is_filled(cell) {
         return Looked::Found(verdict::view(cell));
     }
@@ -136,8 +133,8 @@ fn preview(words: &[u32], a: Amendment, count: u64) -> Preview
     requires { ⌜ HoldsQuantum (now words) × (length (now words) ≡ 598) ⌝ }
     ensures { λ r. ⌜ ((q : Quantum) → Sized q → now (words .entry) ≡ quantumWords q → Previewed q a count r) ⌝ }
 {
-    let bid = order_table::best(&words[10..522], Side::Buy);
-    let ask = order_table::best(&words[10..522], Side::Sell);
+    let bid = order_table::best(&words[TABLE_AT..NOTES_AT], Side::Buy);
+    let ask = order_table::best(&words[TABLE_AT..NOTES_AT], Side::Sell);
     Preview {
         bid,
         ask,
@@ -159,7 +156,7 @@ pub fn ask(words: &[u32], hints: &mut [u8], a: Amendment) -> Asked
     }
     let count = lent::wide(words[4], words[5]);
     let mut copy = [0u32; 598];
-    lent::copy(&words[6..604], &mut copy);
+    lent::copy(&words[QUANTUM_AT..CELLS_AT], &mut copy);
     let n = quantum_in_place::amend(&mut copy, hints, amend_fields(a));
     if 0 < n {
         return Asked::Refused(rules::refusal_of(n));

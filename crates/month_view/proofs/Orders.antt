@@ -1,16 +1,23 @@
 -- The words of orders, four each, written one behind the other.
-use Prim.Native.Nat.{ℕ, _+_, _*_, _≤_, _<_}
+use Prim.Native.Nat.{ℕ, _+_, _-_, _*_, _≤_, _<_}
 use native.Mathlib.Numerals.{add-one}
 use native.Mathlib.Omega.{arith}
 use mathlib.Core.Path.{_≡_, refl, sym, ap, _∙_}
+use mathlib.Core.Bool.{Bool, true, false}
 use mathlib.Core.List.{List, [], _∷_, _++_, append-assoc, append-nil}
 use lib.ListN.{length, getD, take, drop, length-append, length-drop, length-map, drop-of-length-le, List·getD-map}
 use lib.Seq.{take-suc, take-all, length-take-le, drop-drop}
 use Rattle.rules.specs.declared.Order.{Order}
 use Rattle.lent.proofs.Parts.{next-part}
+use Rattle.rules.specs.declared.Side.the-variants.{Buy}
+use Rattle.rules.specs.Quotes.{same}
+use Rattle.lists.specs.Lists.{if_then_else_, filter}
+use Rattle.lists.proofs.Lists.{filter-append}
+use Rattle.order_table.specs.Table.{ofSide}
 use Rattle.order_table.specs.Internal.{blankOrder}
+use Rattle.order_table.proofs.Sides.{length-sides}
 use Rattle.month_view.specs.Views.{orderWords, ordersWords}
-use Rattle.month_view.specs.Internal.{Placed, Listed}
+use Rattle.month_view.specs.Internal.{Placed, NextIn, Listed}
 
 order-length : (o : Order) → length (orderWords o) ≡ 4
 unfolding orderWords
@@ -87,3 +94,36 @@ module _ (table ids : List ℕ) (l : Listed table ids) where
         inside = omega (arith, h, as-many);
         has = sym (ap (λ (xs : List ℕ). getD xs i 0) (l .are) ∙ List·getD-map (λ (o : Order). o .id) (l .live) i blankOrder);
       }
+
+  -- with so many buys before it, and the others sells
+  abbrev pub next-in : (i buys : ℕ) → i < length ids → buys ≡ length (ofSide Buy (take i (l .live))) → NextIn table (getD ids i 0) buys (i - buys)
+  next-in i buys h e =
+      record {
+        placed = placed i h;
+        buys-are = e;
+        sells-are = omega (arith, e, length-sides (take i (l .live)), length-take-le i (l .live) (omega (arith, h, as-many)));
+      }
+
+-- ---- the buys among them
+
+pub at-most-one : (b : Bool) → (if b then 1 else 0) ≤ 1
+at-most-one true = omega arith
+at-most-one false = omega arith
+
+one-kept : (o : Order) → length (filter (λ (x : Order). same Buy (x .side)) (o ∷ [])) ≡ (if same Buy (o .side) then 1 else 0)
+unfolding filter
+one-kept o = go (same Buy (o .side))
+  where
+    go : (b : Bool) → length (if b then o ∷ [] else []) ≡ (if b then 1 else 0)
+    go true = refl
+    go false = refl
+
+pub buys-more : (os : List Order) (i : ℕ) → i < length os
+    → length (ofSide Buy (take (i + 1) os)) ≡ length (ofSide Buy (take i os)) + (if same Buy (getD os i blankOrder .side) then 1 else 0)
+buys-more os i h =
+    let o = getD os i blankOrder in
+    ap (λ (n : ℕ). length (ofSide Buy (take n os))) (add-one i)
+    ∙ ap (λ (l : List Order). length (ofSide Buy l)) (take-suc os i blankOrder h)
+    ∙ ap length (filter-append (λ (x : Order). same Buy (x .side)) (take i os) (o ∷ []))
+    ∙ length-append (ofSide Buy (take i os)) (filter (λ (x : Order). same Buy (x .side)) (o ∷ []))
+    ∙ ap (λ (n : ℕ). length (ofSide Buy (take i os)) + n) (one-kept o)

@@ -17,7 +17,7 @@ ghost use Rattle.rules.specs.declared.Order.{Order};
 ghost use Rattle.rules.specs.declared.Row.{Row};
 ghost use Rattle.rules.specs.declared.SpreadRule.{SpreadRule};
 ghost use Rattle.lists.specs.Lists.{any};
-ghost use Rattle.rules.specs.Orders.{hasId};
+ghost use Rattle.rules.specs.Orders.{hasId, isLive};
 ghost use Rattle.rules.specs.Quotes.{same, best as bestQuote};
 ghost use Rattle.rules.specs.States.{stateWord, ordersState};
 ghost use Rattle.price_keys.specs.Widest.{WidestFor};
@@ -85,6 +85,18 @@ fn slot_of(buys: u32, sells: u32) -> usize
         return 63 + (sells as usize);
     }
     128
+}
+
+// Whether a live order has the id, by scans of both sides: no hint is read.
+pub fn has(table: &[u32], id: u32) -> bool
+    requires { ⌜ Held (now table) ⌝ }
+    ensures { λ r. ⌜ ((minimum : ℕ) (live : List Order) → GoodOrders live → now (table .entry) ≡ tableOf minimum live → r ≡ isLive id live) ⌝ }
+{
+    let slot = slot_of(
+        order_side::located(&table[0..WORDS], id),
+        order_side::located(&table[WORDS..TABLE], id),
+    );
+    slot < 128
 }
 
 // Whether a word of the table is the id of an order; a blank's is 0.

@@ -2,7 +2,7 @@
 ghost use mathlib.Core.Path.{_≡_};
 ghost use mathlib.Core.Bool.{true};
 ghost use mathlib.Core.List.{List·Memᴰ, map};
-ghost use Prim.Native.Nat.{ℕ, _≤_, min};
+ghost use Prim.Native.Nat.{ℕ, _/_, _≤_, min};
 ghost use lib.Dec.{ltb};
 ghost use Rattle.rules.specs.declared.Cell.{Cell};
 ghost use Rattle.lists.specs.Lists.{if_then_else_, sum, any};
@@ -15,7 +15,7 @@ use rules::Cell;
 use rules::Kopecks;
 
 // 1 for a filled cell that is failed.
-fn tally(cell: Cell) -> u32
+pub fn tally(cell: Cell) -> u32
     ensures { λ r. ⌜ (r ≡ (if cellFailed paper cell then 1 else 0)) × (r ≤ 1) ⌝ }
 {
     let filled = cell.filled;
@@ -54,7 +54,7 @@ pub fn failures(cells: [Cell; 186]) -> [u32; 6]
 }
 
 // Whether a series has more than 15 failed cells.
-fn too_many(counts: [u32; 6]) -> bool
+pub fn too_many(counts: [u32; 6]) -> bool
     ensures { λ r. ⌜ r ≡ any (λ (n : ℕ). ltb 15 n) counts ⌝ }
 {
     let mut i: usize = 0;
@@ -76,7 +76,7 @@ fn charge(k: Kopecks) -> u64
 }
 
 // (2A + 3P) × w of a filled cell, 0 of a blank one.
-fn earned(cell: Cell) -> u64
+pub fn earned(cell: Cell) -> u64
     requires { ⌜ (cell .filled ≡ true → CellBounds paper cell) ⌝ }
     ensures { λ r. ⌜ (r ≡ P.earned paper cell) × (r ≤ 10000000000000000) ⌝ }
 {
@@ -110,6 +110,13 @@ fn capped(x: u64, most: u64) -> u64
     if x <= most { x } else { most }
 }
 
+// The fee by what all cells earn together, rounded down once and capped.
+pub fn fee_of(sum: u64) -> Kopecks
+    ensures { λ r. ⌜ r ≡ kopecks (min (sum / 80000) 120000000) ⌝ }
+{
+    Kopecks(capped(sum / 80000, 120000000))
+}
+
 // The month's fee: rounded down once, for all cells together.
 pub fn fee(cells: [Cell; 186]) -> Kopecks
     requires { ⌜ ((c : Cell) → List·Memᴰ c cells → c .filled ≡ true → CellBounds paper c) ⌝ }
@@ -118,6 +125,5 @@ pub fn fee(cells: [Cell; 186]) -> Kopecks
     if too_many(failures(cells)) {
         return Kopecks(0);
     }
-    let sum = earned_in(cells);
-    Kopecks(capped(sum / 80000, 120000000))
+    fee_of(earned_in(cells))
 }

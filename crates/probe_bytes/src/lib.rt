@@ -13,7 +13,6 @@ use rules::Contracts;
 use rules::Event;
 use rules::Millis;
 use rules::RecordRead;
-use rules::Side;
 use rules::Steps;
 
 fn fields(kind: u32, t: Millis, id: u32, p: Steps, volume: Contracts) {
@@ -25,13 +24,6 @@ fn fields(kind: u32, t: Millis, id: u32, p: Steps, volume: Contracts) {
     field_line(b" ", volume.0);
 }
 
-fn add_kind(side: Side) -> u32 {
-    match side {
-        Side::Buy => 1,
-        Side::Sell => 2,
-    }
-}
-
 // Read off the event and not off the written bytes, so that a writer's fault shows against it.
 fn event_line(event: Event) {
     match event {
@@ -41,7 +33,7 @@ fn event_line(event: Event) {
             side,
             price,
             volume,
-        } => fields(add_kind(side), t, id, price, volume),
+        } => fields(words::from_side(side), t, id, price, volume),
         Event::Amend {
             t,
             id,

@@ -44,15 +44,8 @@ fn time_line(t: Timestamp) {
     text(b"\n");
 }
 
-fn side_word(side: Side) -> u32 {
-    match side {
-        Side::Buy => 1,
-        Side::Sell => 2,
-    }
-}
-
 fn terms(side: Side, volume: Contracts, price: Steps) {
-    field(b" 54 ", side_word(side));
+    field(b" 54 ", words::from_side(side));
     field(b" 38 ", volume.0);
     text(b" 44 ");
     console::price(price);
@@ -115,20 +108,13 @@ fn is_message(kind: u32, orig: u32, side: u32, volume: u32, price: u32) -> bool 
     (kind == 3) & is_side(side)
 }
 
-fn side_of(side: u32) -> Side {
-    if side == 1 {
-        return Side::Buy;
-    }
-    Side::Sell
-}
-
 fn written(input: &[u8], kind: u32) -> MessageText
     requires { ⌜ 28 ≤ length (now input) ⌝ }
     ensures { λ r. ⌜ (r .length ≤ 114) × (length (r .bytes) ≡ 114) ⌝ }
 {
     let id = words::word_at(input, 8);
     let orig = words::word_at(input, 12);
-    let side = side_of(words::word_at(input, 16));
+    let side = words::to_side(words::word_at(input, 16));
     let volume = Contracts(words::word_at(input, 20));
     let price = words::to_steps(words::word_at(input, 24));
     if kind == 1 {

@@ -35,6 +35,16 @@ use rules::Side;
 use rules::SpreadRule;
 use rules::Steps;
 
+// Where the parts of an open quantum's words start (specs/Words): the table, the notes and, last among these, the row and what the spread
+// limit goes by; and how many words it has.
+pub const TABLE_AT: usize = 10;
+
+pub const NOTES_AT: usize = 522;
+
+pub const OPENING_AT: usize = 586;
+
+pub const QUANTUM_WORDS: usize = 598;
+
 // The notes are what a view of the quantum shows and the others do not hold (crate `arrivals`).
 pub struct Quantum {
     duty: Duty,
@@ -249,8 +259,8 @@ impl Quantum {
         lent::copy(&three, &mut words[0..3]);
         clock::put_clock(clock, &mut words[3..8]);
         lent::copy(&zeros, &mut words[8..10]);
-        lent::copy(&table, &mut words[10..522]);
-        lent::copy(&notes, &mut words[522..598]);
+        lent::copy(&table, &mut words[TABLE_AT..NOTES_AT]);
+        lent::copy(&notes, &mut words[NOTES_AT..QUANTUM_WORDS]);
     }
 
     // The quantum whose words these are.
@@ -262,8 +272,8 @@ impl Quantum {
         let clock = clock::clock_in(&words[3..8]);
         let mut table = [0u32; 512];
         let mut notes = [0u32; 76];
-        lent::copy(&words[10..522], &mut table);
-        lent::copy(&words[522..598], &mut notes);
+        lent::copy(&words[TABLE_AT..NOTES_AT], &mut table);
+        lent::copy(&words[NOTES_AT..QUANTUM_WORDS], &mut notes);
         Quantum {
             duty,
             clock,

@@ -3,3 +3,4 @@ pub mod Quanta
 pub mod Ticks
 pub mod Amends
 pub mod Whole
+pub mod AnyFields

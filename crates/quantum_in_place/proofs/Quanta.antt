@@ -1,13 +1,14 @@
 -- An event on the words of an open quantum: the table in place, then the clock.
 use Prim.Native.Nat.{ℕ, _+_, _≤_}
 use native.Mathlib.Omega.{arith}
-use mathlib.Core.Path.{_≡_, refl, ap, _∙_}
+use mathlib.Core.Path.{_≡_, refl, sym, ap, _∙_}
 use mathlib.Core.List.{List, [], _∷_, _++_, append-nil}
 use lib.ListN.{length, take, drop, length-append, length-drop, drop-of-length-le}
 use lib.Seq.{take-all, length-take-le}
 use Rattle.rules.specs.declared.Row.{Row}
 use Rattle.rules.specs.declared.SpreadRule.{SpreadRule}
 use Rattle.rules.specs.declared.Event.{Event}
+use Rattle.rules.specs.Answers.{Outcome, accepted, refused}
 use Rattle.rules.specs.Causes.{eventRefusal}
 use Rattle.rules.specs.Bounds.{EventBounds}
 use Rattle.clock.specs.declared.Duty.{Duty}
@@ -16,10 +17,10 @@ use Rattle.events.specs.declared.ClockAfter.{ClockAfter}
 use Rattle.quantum.specs.declared.Quantum.{Quantum}
 use Rattle.clock.specs.Clocks.{dutyOf}
 use Rattle.quantum.specs.Represents.{quantumOf}
-use Rattle.events.specs.Represents.{tableAfter, taken, ReachedParts, Represents, EventStepped}
+use Rattle.events.specs.Represents.{tableAfter, taken, ReachedParts, Represents, EventStepped, FieldsStepped}
 use Rattle.clock.specs.Words.{dutyWords, clockWords}
 use Rattle.quantum.proofs.Answers.{represents-all}
-use Rattle.quantum_in_place.specs.Events.{frontWords, HoldsFront, StepsFront}
+use Rattle.quantum_in_place.specs.Events.{frontWords, HoldsFront, StepsFront, StepsFrontRead}
 
 -- ---- where the parts of a quantum stand before its notes
 
@@ -80,28 +81,43 @@ module _ (ws : List ℕ) (duty : Duty) (clock : Clock) (size : length ws ≡ 522
         hinted = n;
       }
 
-  module _ (e : Event) (table clock′ : List ℕ) (r : ClockAfter) (stepped : EventStepped duty clock e (take 512 (drop 10 ws)) table r) (put : clock′ ≡ clockWords (r .clock)) where
-    laid : (q : Quantum) → ws ≡ frontWords q → clocked (tabled ws table) clock′ ≡ dutyWords (q .duty) ++ (clock′ ++ (0 ∷ 0 ∷ table))
-    laid q is =
-        let short : length (q .table) ≤ 512 = omega (arith, ap length is, front-length q) in
-        let none : drop 512 (q .table) ≡ [] = drop-of-length-le (q .table) short in
-        ap (λ (l : List ℕ). clocked (tabled l table) clock′) is
-        ∙ ap (λ (l : List ℕ). dutyWords (q .duty) ++ (clock′ ++ (0 ∷ 0 ∷ (table ++ l)))) none
-        ∙ ap (λ (l : List ℕ). dutyWords (q .duty) ++ (clock′ ++ (0 ∷ 0 ∷ l))) (append-nil table)
+  -- the table and the clock written, whatever they are
+  laid : (table clock′ : List ℕ) (q : Quantum) → ws ≡ frontWords q → clocked (tabled ws table) clock′ ≡ dutyWords (q .duty) ++ (clock′ ++ (0 ∷ 0 ∷ table))
+  laid table clock′ q is =
+      let short : length (q .table) ≤ 512 = omega (arith, ap length is, front-length q) in
+      let none : drop 512 (q .table) ≡ [] = drop-of-length-le (q .table) short in
+      ap (λ (l : List ℕ). clocked (tabled l table) clock′) is
+      ∙ ap (λ (l : List ℕ). dutyWords (q .duty) ++ (clock′ ++ (0 ∷ 0 ∷ (table ++ l)))) none
+      ∙ ap (λ (l : List ℕ). dutyWords (q .duty) ++ (clock′ ++ (0 ∷ 0 ∷ l))) (append-nil table)
 
+  module _ (e : Event) (table clock′ : List ℕ) (r : ClockAfter) (stepped : EventStepped duty clock e (take 512 (drop 10 ws)) table r) (put : clock′ ≡ clockWords (r .clock)) where
     after-is : (row : Row) (sp : SpreadRule) (es : List Event) → EventBounds row es → ws ≡ frontWords (quantumOf row sp es)
         → clocked (tabled ws table) clock′ ≡ frontWords (quantumOf row sp (taken (eventRefusal row es e) es e))
     unfolding quantumOf
     after-is row sp es g is =
         let s = parts-of row sp es g (quantumOf row sp es) is refl in
-        laid (quantumOf row sp es) is
+        laid table clock′ (quantumOf row sp es) is
         ∙ (λ i. dutyWords (dutyOf row sp) ++ (put i ++ (0 ∷ 0 ∷ stepped .table-after row sp es s i)))
         ∙ ap (λ (k : Clock). dutyWords (dutyOf row sp) ++ (clockWords k ++ (0 ∷ 0 ∷ tableAfter row (taken (eventRefusal row es e) es e))))
         (stepped .clock-after row sp es s)
 
-    pub steps-front : StepsFront ws e (clocked (tabled ws table) clock′) (r .refusal)
+    steps-front : StepsFront ws e (clocked (tabled ws table) clock′) (r .refusal)
     steps-front =
         record {
           number = λ row sp es g is. stepped .number row sp es (parts-of row sp es g (quantumOf row sp es) is refl);
           words-after = after-is;
         }
+
+  -- fields that say no event leave the words
+  stays : (table clock′ : List ℕ) (r : ClockAfter) (k : ℕ) → HoldsFront ws → (r .clock ≡ clock) × (r .refusal ≡ k) × (table ≡ take 512 (drop 10 ws)) → clock′ ≡ clockWords (r .clock)
+      → (r .refusal ≡ k) × (clocked (tabled ws table) clock′ ≡ ws)
+  stays table clock′ r k h s put =
+      let q = h .quantum in
+      let same : clock′ ≡ clockWords (q .clock) = put ∙ ap clockWords (s .0 ∙ read-clock (q .clock) (clock-part ws q (h .is))) in
+      let held : table ≡ q .table = s .2 ∙ table-part ws q (h .is) size in
+      (s .1, laid table clock′ q (h .is) ∙ (λ i. dutyWords (q .duty) ++ (same i ++ (0 ∷ 0 ∷ held i))) ∙ sym (h .is))
+
+  pub front-read : (o : Outcome Event) (table clock′ : List ℕ) (r : ClockAfter) → HoldsFront ws → FieldsStepped duty clock o (take 512 (drop 10 ws)) table r → clock′ ≡ clockWords (r .clock)
+      → StepsFrontRead ws o (clocked (tabled ws table) clock′) (r .refusal)
+  front-read (accepted e) table clock′ r h s put = steps-front e table clock′ r s put
+  front-read (refused k) table clock′ r h s put = stays table clock′ r k h s put

@@ -8,16 +8,13 @@ use Rattle.rules.specs.declared.Millis.{Millis}
 use Rattle.rules.specs.declared.Row.{Row}
 use Rattle.rules.specs.declared.SpreadRule.{SpreadRule}
 use Rattle.rules.specs.declared.Order.{Order}
-use Rattle.rules.specs.declared.Side.the-variants.{Buy, Sell}
 use Rattle.rules.specs.declared.Event.{Event}
-use Rattle.rules.specs.declared.Event.the-variants.{Add, Amend, Cancel, Deal, Tick}
+use Rattle.rules.specs.declared.Event.the-variants.{Tick}
 use Rattle.rules.specs.Orders.{live, apply}
 use Rattle.rules.specs.Kept.{ordersKeep}
 use Rattle.rules.specs.Causes.{firstNumber, traderCauses, eventRefusal}
 use Rattle.rules.specs.Bounds.{EventBounds}
 use Rattle.rules.proofs.Orders.{live-snoc}
-use Rattle.record.specs.declared.Fields.{Fields}
-use Rattle.record.specs.Fields.{fieldsFor}
 use Rattle.order_table.specs.Table.{tableOf}
 use Rattle.order_arrivals.specs.Notes.{notesOf}
 use Rattle.clock.specs.declared.Duty.{Duty}
@@ -34,16 +31,7 @@ use Rattle.quantum.proofs.Words.{duty-part, clock-part}
 use Rattle.quantum_in_place.specs.Events.{HoldsQuantum, StepsWords}
 use Rattle.quantum_in_place.proofs.Quanta.{clocked}
 
--- the event that a tick's fields say
-pub says-tick : (e : Event) (f : Fields) → f ≡ fieldsFor e → f .kind ≡ 6 → Tick (f .t) ≡ e
-says-tick (Add t id Buy price volume) f h k = absurd (omega (arith, k, ap (λ (x : Fields). x .kind) h))
-says-tick (Add t id Sell price volume) f h k = absurd (omega (arith, k, ap (λ (x : Fields). x .kind) h))
-says-tick (Amend t id price volume) f h k = absurd (omega (arith, k, ap (λ (x : Fields). x .kind) h))
-says-tick (Cancel t id) f h k = absurd (omega (arith, k, ap (λ (x : Fields). x .kind) h))
-says-tick (Deal t id volume) f h k = absurd (omega (arith, k, ap (λ (x : Fields). x .kind) h))
-says-tick (Tick t) f h k = ap (λ (x : Fields). Tick (x .t)) h
-
--- it has no cause of the trader's, and leaves the orders
+-- a tick has no cause of the trader's, and leaves the orders
 tick-causes : (orders : List Order) (t : Millis) → firstNumber (traderCauses orders (Tick t)) ≡ 0
 unfolding firstNumber
 tick-causes orders t = refl

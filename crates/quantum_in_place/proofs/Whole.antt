@@ -12,7 +12,6 @@ use Rattle.rules.specs.declared.Order.{Order}
 use Rattle.rules.specs.Orders.{live}
 use Rattle.rules.specs.Causes.{eventRefusal}
 use Rattle.rules.specs.Bounds.{EventBounds}
-use Rattle.record.specs.declared.Fields.{Fields}
 use Rattle.record.specs.Fields.{fieldsFor}
 use Rattle.order_table.specs.Table.{tableOf, Held, GoodOrders}
 use Rattle.order_arrivals.specs.Arrivals.{arrivalsOf, Follows}
@@ -142,15 +141,16 @@ module _ (ws front : List ℕ) (e : Event) (n : ℕ) (s : StepsFront (take 522 w
       new-held = held-new row sp events e _ _ _ accepts
 
       -- by the numbers of live orders, as the tables have them
-      pub follows-on : (had has : ℕ) (f : Fields) → f ≡ fieldsFor e
+      pub follows-on : (had has id : ℕ) → fieldsFor e .id ≡ id
           → ((m : ℕ) (l : List Order) → GoodOrders l → take 512 (drop 10 ws) ≡ tableOf m l → had ≡ length l)
           → ((m : ℕ) (l : List Order) → GoodOrders l → take 512 (drop 10 fronted) ≡ tableOf m l → has ≡ length l)
-          → Follows row events e (take 64 (drop 522 fronted)) had has (f .id)
-      follows-on had has f i a b =
-          subst (λ (l : List ℕ). Follows row events e (take 64 l) had has (f .id)) (sym behind)
-          (follows row sp events e _ _ _ accepts had has f
+          → Follows row events e (take 64 (drop 522 fronted)) had has id
+      follows-on had has id i a b =
+          subst (λ (k : ℕ). Follows row events e (take 64 (drop 522 fronted)) had has k) i
+          (subst (λ (l : List ℕ). Follows row events e (take 64 l) had has (fieldsFor e .id)) (sym behind)
+          (follows row sp events e _ _ _ accepts had has (fieldsFor e)
           (a (row .minimum .0) (live events) (good-orders row events g) (accepts .before-is))
-          (b (row .minimum .0) (live (events ++ (e ∷ []))) (good-orders row (events ++ (e ∷ [])) (next-bounds row sp events e _ _ _ accepts)) (accepts .after-is)) i)
+          (b (row .minimum .0) (live (events ++ (e ∷ []))) (good-orders row (events ++ (e ∷ [])) (next-bounds row sp events e _ _ _ accepts)) (accepts .after-is)) refl))
 
       pub accepted-words : (ids : List ℕ) → ids ≡ arrivalsOf (live (events ++ (e ∷ [])))
           → take 522 fronted ++ (ids ++ drop 64 (drop 522 fronted)) ≡ quantumWords next

@@ -5,6 +5,7 @@ use mathlib.Core.List.{List, _∷_, _++_}
 use Rattle.rules.specs.declared.Row.{Row}
 use Rattle.rules.specs.declared.SpreadRule.{SpreadRule}
 use Rattle.rules.specs.declared.Event.{Event}
+use Rattle.rules.specs.Answers.{Outcome, accepted, refused}
 use Rattle.rules.specs.Causes.{eventRefusal}
 use Rattle.rules.specs.Bounds.{EventBounds}
 use Rattle.record.specs.declared.Fields.{Fields}
@@ -42,6 +43,11 @@ pub record StepsFront (words : List ℕ) (e : Event) (words′ : List ℕ) (n : 
   pub words-after : (row : Row) (sp : SpreadRule) (events : List Event) → EventBounds row events → words ≡ frontWords (quantumOf row sp events)
       → words′ ≡ frontWords (quantumOf row sp (taken (eventRefusal row events e) events e))
 
+-- .. what fields promise of them: those that say an event what it promises; others their refusal, with the words as they were; ..
+abbrev pub StepsFrontRead : List ℕ → Outcome Event → List ℕ → ℕ → Type 0
+StepsFrontRead words (accepted e) words′ n = StepsFront words e words′ n
+StepsFrontRead words (refused k) words′ n = (n ≡ k) × (words′ ≡ words)
+
 -- .. and of all of them: for all accepted events that led to them, the book's number, and the words with this
 -- event taken or refused.
 pub record StepsWords (words : List ℕ) (e : Event) (words′ : List ℕ) (n : ℕ) : Type 0 where
@@ -49,3 +55,8 @@ pub record StepsWords (words : List ℕ) (e : Event) (words′ : List ℕ) (n : 
       → n ≡ eventRefusal row events e
   pub words-after : (row : Row) (sp : SpreadRule) (events : List Event) → EventBounds row events → words ≡ quantumWords (quantumOf row sp events)
       → words′ ≡ quantumWords (quantumOf row sp (taken (eventRefusal row events e) events e))
+
+-- what fields promise of all of them
+abbrev pub StepsRead : List ℕ → Outcome Event → List ℕ → ℕ → Type 0
+StepsRead words (accepted e) words′ n = StepsWords words e words′ n
+StepsRead words (refused k) words′ n = (n ≡ k) × (words′ ≡ words)

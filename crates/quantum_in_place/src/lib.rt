@@ -1,5 +1,5 @@
 // An event on the words of an open quantum, in place (quantum/specs/Words has their layout): the table is changed where it is, and the
-// clock's words are put back. A tick reads no order, and an amendment leaves the notes.
+// clock's words are put back. A tick reads no order, and an amendment that is only asked about leaves the notes.
 //
 // The clock is put back whether an event is taken or not, a tick aside: a refused one leaves the clock and the table as they were, so the
 // five words are written without a test. A tick has a way of its own: it reads neither table nor notes.
@@ -8,20 +8,23 @@ ghost use Prim.Native.Nat.{_<_};
 ghost use lib.ListN.{length};
 ghost use Rattle.rules.specs.declared.Event.{Event};
 ghost use Rattle.rules.specs.declared.Event.the-variants.{Tick};
-ghost use Rattle.record.specs.Fields.{fieldsFor};
-ghost use Rattle.quantum_in_place.specs.Events.{HoldsFront, HoldsQuantum, SaysEvent, StepsFront, StepsWords};
+ghost use Rattle.record.specs.Fields.{fieldsFor, readFields};
+ghost use Rattle.quantum_in_place.specs.Events.{HoldsFront, HoldsQuantum, SaysEvent, StepsFrontRead, StepsWords, StepsRead};
+use quantum::NOTES_AT;
+use quantum::OPENING_AT;
+use quantum::TABLE_AT;
 use record::Fields;
 use rules::Millis;
 
 // An event, by its fields, on the 522 words of an open quantum that stand before its notes: the clock's are put back, whether it is taken
 // or not. Answers the refusal's number, or 0.
 fn step_front(words: &mut [u32], hints: &mut [u8], f: Fields) -> u32
-    requires { ⌜ HoldsFront (now words) × (length (now words) ≡ 522) × (length (now hints) ≡ 2048) × SaysEvent f ⌝ }
-    ensures { λ r. ⌜ ((e : Event) → f ≡ fieldsFor e → StepsFront (now (words .entry)) e (now (words .exit)) r) × (0 < r → now (hints .exit) ≡ now (hints .entry)) ⌝ }
+    requires { ⌜ HoldsFront (now words) × (length (now words) ≡ 522) × (length (now hints) ≡ 2048) ⌝ }
+    ensures { λ r. ⌜ StepsFrontRead (now (words .entry)) (readFields f) (now (words .exit)) r × (0 < r → now (hints .exit) ≡ now (hints .entry)) ⌝ }
 {
     let duty = clock::duty_in(&words[0..3]);
     let clock = clock::clock_in(&words[3..8]);
-    let stepped = events::step_fields(duty, clock, &mut words[10..522], hints, f);
+    let stepped = events::step_fields(duty, clock, &mut words[TABLE_AT..NOTES_AT], hints, f);
     let after = stepped.clock;
     let refusal = stepped.refusal;
     clock::put_clock(after, &mut words[3..8]);
@@ -48,41 +51,42 @@ fn tick(words: &mut [u32], t: Millis) -> u32
     0
 }
 
-// An amendment, on all 598 words: no order comes or goes, so the notes stay.
+// An amendment, on all 598 words, for an ask: no order comes or goes, so the notes stay.
 pub fn amend(words: &mut [u32], hints: &mut [u8], f: Fields) -> u32
     requires { ⌜ HoldsQuantum (now words) × (length (now words) ≡ 598) × (length (now hints) ≡ 2048) × SaysEvent f × (f .kind ≡ 3) ⌝ }
     ensures { λ r. ⌜ ((e : Event) → f ≡ fieldsFor e → StepsWords (now (words .entry)) e (now (words .exit)) r) × (0 < r → now (hints .exit) ≡ now (hints .entry)) ⌝ }
 {
-    step_front(&mut words[0..522], hints, f)
+    step_front(&mut words[0..NOTES_AT], hints, f)
 }
 
 // Any event, on all 598 words: the notes follow one that is taken.
 fn step_noted(words: &mut [u32], hints: &mut [u8], f: Fields) -> u32
-    requires { ⌜ HoldsQuantum (now words) × (length (now words) ≡ 598) × (length (now hints) ≡ 2048) × SaysEvent f ⌝ }
-    ensures { λ r. ⌜ ((e : Event) → f ≡ fieldsFor e → StepsWords (now (words .entry)) e (now (words .exit)) r) × (0 < r → now (hints .exit) ≡ now (hints .entry)) ⌝ }
+    requires { ⌜ HoldsQuantum (now words) × (length (now words) ≡ 598) × (length (now hints) ≡ 2048) ⌝ }
+    ensures { λ r. ⌜ StepsRead (now (words .entry)) (readFields f) (now (words .exit)) r × (0 < r → now (hints .exit) ≡ now (hints .entry)) ⌝ }
 {
-    let had = order_table::count(&words[10..522]);
-    let refusal = step_front(&mut words[0..522], hints, f);
+    let had = order_table::count(&words[TABLE_AT..NOTES_AT]);
+    let refusal = step_front(&mut words[0..NOTES_AT], hints, f);
     if 0 < refusal {
         return refusal;
     }
-    let has = order_table::count(&words[10..522]);
-    order_arrivals::note(&mut words[522..586], had, has, f.id);
+    let has = order_table::count(&words[TABLE_AT..NOTES_AT]);
+    order_arrivals::note(&mut words[NOTES_AT..OPENING_AT], had, has, f.id);
     0
 }
 
-// An event, by its kind: ticks and amendments need not look at the notes.
+// An event, by its kind: a tick need not look at the notes. Fields that say no event are refused by 15. An amendment goes the same way as
+// the others, so that `step_front` has one caller here and the compiler inlines it.
 pub fn step(words: &mut [u32], hints: &mut [u8], f: Fields) -> u32
-    requires { ⌜ HoldsQuantum (now words) × (length (now words) ≡ 598) × (length (now hints) ≡ 2048) × SaysEvent f ⌝ }
-    ensures { λ r. ⌜ ((e : Event) → f ≡ fieldsFor e → StepsWords (now (words .entry)) e (now (words .exit)) r) × (0 < r → now (hints .exit) ≡ now (hints .entry)) ⌝ }
+    requires { ⌜ HoldsQuantum (now words) × (length (now words) ≡ 598) × (length (now hints) ≡ 2048) ⌝ }
+    ensures { λ r. ⌜ StepsRead (now (words .entry)) (readFields f) (now (words .exit)) r × (0 < r → now (hints .exit) ≡ now (hints .entry)) ⌝ }
 {
     let kind = f.kind;
     let t = f.t;
     if kind == 6 {
-        return tick(words, t);
-    }
-    if kind == 3 {
-        return amend(words, hints, f);
+        if record::is_good(f) {
+            return tick(words, t);
+        }
+        return 15;
     }
     step_noted(words, hints, f)
 }

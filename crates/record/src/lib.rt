@@ -13,7 +13,7 @@ ghost use lib.ListN.{length};
 ghost use Rattle.rules.specs.declared.Event.the-variants.{Add};
 ghost use Rattle.lists.specs.Lists.{within};
 ghost use Rattle.rules.specs.Answers.{shownRecord};
-ghost use Rattle.rules.specs.Records.{unsignedOf, addKind, fieldBytes, recordOf, readRecord};
+ghost use Rattle.rules.specs.Records.{unsignedOf, fieldBytes, recordOf, readRecord};
 ghost use Rattle.record.specs.Fields.{fieldsIn, fieldsFor, goodFields, eventBy, readFields};
 ghost use Rattle.record.specs.Internal.{lowKind};
 
@@ -152,15 +152,6 @@ pub fn read(bytes: &[u8]) -> RecordRead
 
 // ---- writing
 
-fn add_kind(side: Side) -> u32
-    ensures { λ r. ⌜ r ≡ addKind side ⌝ }
-{
-    match side {
-        Side::Buy => 1,
-        Side::Sell => 2,
-    }
-}
-
 fn made(kind: u32, t: Millis, id: u32, price: Steps, volume: Contracts) -> Fields
     ensures { λ r. ⌜ r ≡ record { kind = kind; t = t; id = id; price = price; volume = volume } ⌝ }
 {
@@ -184,7 +175,7 @@ pub fn event_fields(event: Event) -> Fields
             side,
             price,
             volume,
-        } => made(add_kind(side), t, id, price, volume),
+        } => made(words::from_side(side), t, id, price, volume),
         Event::Amend {
             t,
             id,

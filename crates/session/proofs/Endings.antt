@@ -20,6 +20,7 @@ use Rattle.rules.specs.Stretches.{Stretch, pairWords}
 use Rattle.rules.specs.Answers.{numberOf}
 use Rattle.rules.specs.Session.{shownSession, Ran, Session, session, sessionBytes, leadingWords, leadingPrice, ran, front, bufferAfter, oneNumber}
 use Rattle.rules.proofs.Stretches.{pairWords-length}
+use Rattle.c_answers.specs.Answers.{refusedNumber}
 use Rattle.session_pass.specs.Internal.{counted, Passed}
 use Rattle.session.specs.Internal.{filledBy, numberBy}
 
@@ -113,9 +114,9 @@ number-counted (Session.refused n place) = refl
 pub number-is : (s : Session) (entry exit : List ℕ) (r : SessionAnswer) → Passed s entry exit r → numberBy (shownSession r) ≡ oneNumber s
 number-is s entry exit r p = ap numberBy (p .answer) ∙ number-counted s
 
-pub bytes-short : (most : ℕ) (head bytes : List ℕ) → (length head ≡ 32 → ⊥) → 4294967296 ≡ oneNumber (sessionBytes paper most head bytes)
+pub bytes-short : (most : ℕ) (head bytes : List ℕ) (n : ℕ) → (length head ≡ 32 → ⊥) → n ≡ refusedNumber 1 → n ≡ oneNumber (sessionBytes paper most head bytes)
 unfolding sessionBytes oneNumber
-bytes-short most head bytes h = rw (ne-eqb (length head) 32 h) refl
+bytes-short most head bytes n h e = rw (ne-eqb (length head) 32 h) (e ∙ omega arith)
 
 pub by-head : (most : ℕ) (head bytes : List ℕ) → length head ≡ 32 → {row : List ℕ} {sp : Steps} → row ≡ leadingWords head → sp ≡ leadingPrice head
     → session paper most row sp bytes ≡ sessionBytes paper most head bytes
@@ -127,8 +128,8 @@ by-head most head bytes h e f = (λ i. session paper most (e i) (f i) bytes) ∙
 pub filled-is : (r : SessionAnswer) (k : Millis) (w n : ℕ) → r ≡ S.Finished k w n → 2 * n ≡ filledBy r
 filled-is r k w n e = sym (ap filledBy e)
 
-pub refused-is : (r : SessionAnswer) (f : Refusal) (place n : ℕ) → r ≡ S.Refused f place → n ≡ numberOf f → 4294967296 * n + place ≡ numberBy (shownSession r)
-refused-is r f place n e is = ap (λ (m : ℕ). 4294967296 * m + place) is ∙ sym (ap (λ (x : SessionAnswer). numberBy (shownSession x)) e)
+pub refused-is : (r : SessionAnswer) (f : Refusal) (place n : ℕ) → r ≡ S.Refused f place → n ≡ refusedNumber (numberOf f) + place → n ≡ numberBy (shownSession r)
+refused-is r f place n e is = is ∙ sym (ap (λ (x : SessionAnswer). numberBy (shownSession x)) e)
 
 pub bytes-number : (most : ℕ) (head bytes : List ℕ) → length head ≡ 32 → {row : List ℕ} {sp : Steps} → row ≡ leadingWords head → sp ≡ leadingPrice head
     → (n : ℕ) (r : SessionAnswer) (none none′ : List ℕ) → n ≡ numberBy (shownSession r) → Passed (session paper most row sp bytes) none none′ r

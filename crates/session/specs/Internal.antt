@@ -4,6 +4,7 @@ use Rattle.rules.specs.declared.SessionAnswer.{SessionAnswer}
 use Rattle.rules.specs.declared.SessionAnswer.the-variants as S
 use Rattle.rules.specs.Pay.{weight}
 use Rattle.rules.specs.Session.{Ran}
+use Rattle.c_answers.specs.Answers.{refusedNumber}
 
 -- the words that a run has filled
 abbrev pub filledBy : SessionAnswer → ℕ
@@ -13,4 +14,4 @@ filledBy (S.Refused refusal place) = 0
 -- the C call's number of an answer
 abbrev pub numberBy : Ran → ℕ
 numberBy (Ran.accepted kept weight pairs) = kept
-numberBy (Ran.refused number place) = 4294967296 * number + place
+numberBy (Ran.refused number place) = refusedNumber number + place

@@ -121,9 +121,7 @@ fn one_number(answer: SessionAnswer) -> u64
             weight: _,
             pairs: _,
         } => kept.0 as u64,
-        SessionAnswer::Refused { refusal, place } => {
-            4294967296 * (rules::number(refusal) as u64) + (place as u64)
-        }
+        SessionAnswer::Refused { refusal, place } => c_answers::refused_at(refusal, place),
     }
 }
 
@@ -133,7 +131,7 @@ pub extern "C" fn quoting_session(head: &[u8], records: &[u8]) -> u64
     ensures { λ r. ⌜ r ≡ oneNumber (sessionBytes paper mostRecords (now (head .entry)) (now (records .entry))) ⌝ }
 {
     if head.len() != 32 {
-        return 4294967296;
+        return c_answers::refused(1);
     }
     let row = row::leading_words(head);
     let sp = row::leading_price(head);

@@ -15,7 +15,7 @@ module _ (due : ℕ → ℕ) where
   every i [] = true
   every i (x ∷ xs) = eqb x (due i) && every (suc i) xs
 
-  from : (xs : List ℕ) (i : ℕ) → every i xs ≡ true → (k : ℕ) → k < length xs → getD xs k 0 ≡ due (i + k)
+  pub from : (xs : List ℕ) (i : ℕ) → every i xs ≡ true → (k : ℕ) → k < length xs → getD xs k 0 ≡ due (i + k)
   from [] i e k h = absurd (not-suc-le-zero h)
   from (x ∷ xs) i e zero h = eqb-true x (due i) (both (eqb x (due i)) (every (suc i) xs) e .0) ∙ ap due (sym (add-zero i))
   from (x ∷ xs) i e (suc k) h =

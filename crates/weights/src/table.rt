@@ -1,5 +1,6 @@
-// The constants of the weight card, written by tools/dev/card_table.py: for each p the weights of f from 0 to 1,000.
-pub const CARD_600: [u16; 1001] = [
+// The constants of the weight card, written by tools/dev/card_table.py: for each p the weights of f from 0 to 1,000, in three parts: below
+// every p, the curve from 600 on, and the full weight from 800 on.
+pub const CARD_600_LOW: [u16; 600] = [
     0, // p 600, f 0
     0, // p 600, f 1
     0, // p 600, f 2
@@ -600,6 +601,9 @@ pub const CARD_600: [u16; 1001] = [
     0, // p 600, f 597
     0, // p 600, f 598
     0, // p 600, f 599
+];
+
+pub const CARD_600_CURVE: [u16; 200] = [
     10000, // p 600, f 600
     10000, // p 600, f 601
     10000, // p 600, f 602
@@ -800,6 +804,9 @@ pub const CARD_600: [u16; 1001] = [
     19272, // p 600, f 797
     19509, // p 600, f 798
     19752, // p 600, f 799
+];
+
+pub const CARD_600_FULL: [u16; 201] = [
     20000, // p 600, f 800
     20000, // p 600, f 801
     20000, // p 600, f 802
@@ -1003,7 +1010,7 @@ pub const CARD_600: [u16; 1001] = [
     20000, // p 600, f 1000
 ];
 
-pub const CARD_700: [u16; 1001] = [
+pub const CARD_700_LOW: [u16; 600] = [
     0, // p 700, f 0
     0, // p 700, f 1
     0, // p 700, f 2
@@ -1604,6 +1611,9 @@ pub const CARD_700: [u16; 1001] = [
     0, // p 700, f 597
     0, // p 700, f 598
     0, // p 700, f 599
+];
+
+pub const CARD_700_CURVE: [u16; 200] = [
     0, // p 700, f 600
     0, // p 700, f 601
     0, // p 700, f 602
@@ -1804,6 +1814,9 @@ pub const CARD_700: [u16; 1001] = [
     18587, // p 700, f 797
     19039, // p 700, f 798
     19509, // p 700, f 799
+];
+
+pub const CARD_700_FULL: [u16; 201] = [
     20000, // p 700, f 800
     20000, // p 700, f 801
     20000, // p 700, f 802
@@ -2007,7 +2020,7 @@ pub const CARD_700: [u16; 1001] = [
     20000, // p 700, f 1000
 ];
 
-pub const CARD_750: [u16; 1001] = [
+pub const CARD_750_LOW: [u16; 600] = [
     0, // p 750, f 0
     0, // p 750, f 1
     0, // p 750, f 2
@@ -2608,6 +2621,9 @@ pub const CARD_750: [u16; 1001] = [
     0, // p 750, f 597
     0, // p 750, f 598
     0, // p 750, f 599
+];
+
+pub const CARD_750_CURVE: [u16; 200] = [
     0, // p 750, f 600
     0, // p 750, f 601
     0, // p 750, f 602
@@ -2808,6 +2824,9 @@ pub const CARD_750: [u16; 1001] = [
     17339, // p 750, f 797
     18153, // p 750, f 798
     19039, // p 750, f 799
+];
+
+pub const CARD_750_FULL: [u16; 201] = [
     20000, // p 750, f 800
     20000, // p 750, f 801
     20000, // p 750, f 802

@@ -1,10 +1,12 @@
-// Numbers in 32-bit words and bytes: two's complement, and a word from its four bytes.
+// Numbers in 32-bit words and bytes: two's complement, a word from its four bytes, and a side as 1 or 2.
+use rules::Side;
 use rules::Steps;
 ghost use mathlib.Core.Path.{_≡_};
 ghost use Prim.Native.Nat.{_+_, _≤_, _<_};
 ghost use lib.ListN.{length};
 ghost use Rattle.rules.specs.Units.{steps};
-ghost use Rattle.rules.specs.Records.{signedOf, unsignedOf, wordAt};
+ghost use Rattle.rules.specs.Records.{signedOf, unsignedOf, wordAt, addKind};
+ghost use Rattle.words.specs.Sides.{sideBy};
 
 // The price that a word stands for, in two's complement.
 pub fn to_steps(w: u32) -> Steps
@@ -45,4 +47,24 @@ pub fn word_at(bytes: &[u8], at: usize) -> u32
         + 256 * of_byte(bytes[at + 1])
         + 65536 * of_byte(bytes[at + 2])
         + 16777216 * of_byte(bytes[at + 3])
+}
+
+// A side as a number: 1 for a buy, 2 for a sell.
+pub fn from_side(side: Side) -> u32
+    ensures { λ r. ⌜ r ≡ addKind side ⌝ }
+{
+    match side {
+        Side::Buy => 1,
+        Side::Sell => 2,
+    }
+}
+
+// The side of such a number.
+pub fn to_side(n: u32) -> Side
+    ensures { λ r. ⌜ r ≡ sideBy n ⌝ }
+{
+    if n == 1 {
+        return Side::Buy;
+    }
+    Side::Sell
 }

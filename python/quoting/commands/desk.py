@@ -103,7 +103,9 @@ def plan(args: argparse.Namespace) -> int:
 
 
 def settle(args: argparse.Namespace) -> int:
-    manner, out = Manner(args.recount, args.statements, args.pdf), Path(args.output)
+    if args.statements and args.recount is False:
+        raise inputs.WrongUse("a statement compares both readings: --statements and --no-recount do not go together")
+    manner, out = Manner(args.statements or args.recount, args.statements, args.pdf), Path(args.output)
     native.library()  # a missing library is said once
     tasks = many.tasks(args.desks, out)
     found = many.left_to_do(tasks, manner, args.resume)

@@ -7,7 +7,8 @@ from it until the quote was kept again, or until the quantum's end. The logs are
 The status is 1 where `quoting fix` would end with 1.
 
 examples:
-  quoting fills examples/desk/logs/20261102-north.log --start 20261102-07:00:00 --step 0.1 --symbol GD-1.27 --account A7 --row "2 1 8:45:00 100 150 3 60%" --sp 3996.0
+  quoting fills examples/desk/logs/20261102-north.log --start 20261102-07:00:00 --row "2 1 8:45:00 100 150 3 60%" --sp 3996.0 \\
+      --step 0.1 --symbol GD-1.27 --account A7
 """
 
 import argparse
@@ -63,7 +64,8 @@ def run(args: argparse.Namespace) -> int:
             output.write(args.output, output.json_text({"fills": found}))
         else:
             lost = values.clock(lost_together(found))
-            output.table(args.output, HEADS, [row_of(fill) for fill in found], f"{choice.plural(len(found), 'fill')}, {lost} of kept time lost\n")
+            after = f"{choice.plural(len(found), 'fill')}, {lost} of kept time lost\n"
+            output.table(args.output, HEADS, [row_of(fill) for fill in found], after)
     for each in fix.complaints(reader, made, refused):
         output.complain(each if each.startswith(tuple(args.files)) else f"{args.files[0]}: {each}")
     return int(refused is not None or not choice.is_whole(reader))

@@ -24,7 +24,7 @@ import argparse
 from pathlib import Path
 from typing import Iterator
 
-from quoting import inputs, month_sources, output
+from quoting import inputs, month_sources, output, texts
 from quoting.exchange import choice
 from quoting.exchange.choice import LogOptions
 from quoting.reading import STANDARD
@@ -37,6 +37,7 @@ def add(parser: argparse.ArgumentParser) -> None:
     choice.add_source(parser, "with --fix, ")
     parser.add_argument("--symbol", metavar="SYMBOL", help="with --fix, the symbol (55) of each quantum whose start names none")
     parser.add_argument("--account", metavar="ACCOUNT", help="with --fix, read the messages of this account (1)")
+    parser.add_argument("--write", metavar="FILE", help="write the list of calls that was metered, with the events of the logs in it, to FILE")
     parser.add_argument("--sessions", metavar="FOLDER", help="a folder of sessions in place of a list")
     parser.add_argument("--charges", metavar="CSV", help="the file of charges (FOLDER/charges.csv)")
     parser.add_argument("--title", help="the page's title (the file's name)")
@@ -75,6 +76,8 @@ def run(args: argparse.Namespace) -> int:
     name = args.sessions or args.file
     made = page.statement(args.title or ("input" if name == STANDARD else Path(name).stem), listed)
     output.write(args.output, page.html(made).encode("utf-8", "backslashreplace"))  # the page says that it is UTF-8, whatever a terminal is
+    if args.write is not None:
+        output.write(args.write, texts.calls_text(b"".join(sent.block for sent in listed.calls)))
     for each in complaints(made):
         output.complain(each)
     return int(not made.is_whole)

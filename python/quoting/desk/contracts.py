@@ -35,8 +35,8 @@ class Contract:
 
 
 def read_contract(given: Fields, programme: Optional[Programme], last: int) -> Optional[Contract]:
-    """One `[[contract]]`; `last` is the month's last day."""
-    before, day = len(given.faults.found), fields.whole(1, last)
+    """One `[[contract]]`; `last` is the month's last day, and `to` may be any day up to 31."""
+    before, day = len(given.faults.found), fields.whole(1, 31)
     instrument = given.take("instrument", fields.text)
     expiry = given.take("expiry", fields.whole(1, 2))
     symbol = given.take("symbol", fields.text)

@@ -1,7 +1,7 @@
 """index.html: the client's page, with all instruments, their fees and the sum, put into the template index.html (Jinja2)."""
 
 import datetime as dt
-from dataclasses import dataclass, replace
+from dataclasses import dataclass
 from importlib import import_module
 from pathlib import Path
 from typing import Any, Iterator, Optional, Sequence
@@ -187,8 +187,3 @@ def html(made: Result, statements: Sequence[str] = ()) -> str:
 def hashes(made: Result) -> str:
     """inputs.sha256: each input file with its SHA-256, as sha256sum prints and checks it."""
     return "".join(f"{each.sha256}  {each.name}\n" for each in office_of(made.settlement.desk, made.logs).files)
-
-
-def with_notes(made: Result, remarks: Sequence[Remark]) -> Result:
-    """The result with further remarks, such as a page that could not be printed."""
-    return replace(made, settlement=replace(made.settlement, remarks=[*made.settlement.remarks, *remarks]))

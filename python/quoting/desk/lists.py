@@ -150,8 +150,8 @@ def read_charges(faults: Faults, file: str, data: bytes) -> dict[tuple[date, str
 def whole(word: str, most: int, name: str) -> int:
     try:
         return values.whole(word, (0, most))
-    except ValueError as error:
-        raise ValueError(f"{name}: {error}") from None
+    except ValueError:
+        raise ValueError(f"{name}: {values.brief(word)!r} does not fit, expected a whole number from 0 to {most:,}") from None
 
 
 def take(found: dict, key: tuple, made: object) -> None:  # type: ignore[type-arg]

@@ -384,9 +384,12 @@ class Columns:
     def whole(self, name: str) -> Array:
         return np.concatenate([part[name] for part in self.parts])
 
+    def word(self, name: str, at: int) -> Array:
+        """A word of a column of keys."""
+        return np.concatenate([part[name][:, at] for part in self.parts])[self.pick]
+
     def words(self, name: str, width: int = WORDS) -> list[Array]:
-        """The words of a column of keys, an array each."""
-        return [np.concatenate([part[name][:, word] for part in self.parts])[self.pick] for word in range(width)]
+        return [self.word(name, at) for at in range(width)]
 
     def of(self, name: str) -> Array:
         """A column of the moves that count."""
@@ -423,8 +426,10 @@ class Columns:
     def numbered(self, owners: int) -> list[Array]:
         """The ids as numbers by owner: ClOrdID, OrigClOrdID, and OrderID, or the day of a request."""
         owner, size = self.of("owner").astype(np.int64), self.pick.size
-        names = [np.concatenate(pair) for pair in zip(self.words("cl"), self.words("orig"))]
-        first, absent = first_of(names), names[0] == 0
+        names = [np.concatenate([self.word("cl", at), self.word("orig", at)]) for at in range(WORDS)]
+        absent = names[0] == 0
+        names = [word for at, word in enumerate(names) if not at or word.any()]
+        first = first_of(names)
         del names
         made = [np.where(absent[part], ABSENT, first[part] * owners + owner) for part in (slice(size), slice(size, None))]
         if size and self.what[0] >= f.ASK:

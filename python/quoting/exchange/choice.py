@@ -131,8 +131,8 @@ def remarks(reader: LogReader) -> Iterator[str]:
     """What else was in the logs, a line each."""
     counts = reader.counts
     if reader.by == "reports":
-        parts = [plural(counts.fills, "fill"), plural(counts.rejects, "reject"), plural(counts.cancel_rejects, "rejected cancel or replace", "rejected cancels or replaces"),
-                 plural(counts.duplicates, "repeated report")]  # fmt: skip
+        late = plural(counts.cancel_rejects, "rejected cancel or replace", "rejected cancels or replaces")
+        parts = [plural(counts.fills, "fill"), plural(counts.rejects, "reject"), late, plural(counts.duplicates, "repeated report")]
         yield f"read by reports: {plural(counts.moves, 'change')}, {', '.join(parts)}; {plural(counts.requests, 'request')} not read"
     for kind, count in sorted(counts.types.items()):
         yield f"{plural(count, 'message')} of type {values.brief(kind)!r} skipped"

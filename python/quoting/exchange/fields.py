@@ -136,7 +136,8 @@ class Values:
         value = self.maybe(40)
         if value in (None, MARKET, LIMIT):
             return None
-        return Unreadable(Why.ORDER_TYPE, 40, value or b"", f"40={text_of(value or b'')} is neither 1 (market) nor 2 (limit): the order counts as no quote")
+        sentence = f"40={text_of(value or b'')} is neither 1 (market) nor 2 (limit): the order counts as no quote"
+        return Unreadable(Why.ORDER_TYPE, 40, value or b"", sentence)
 
 
 @lru_cache(maxsize=4096)

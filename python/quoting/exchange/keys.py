@@ -58,13 +58,15 @@ def first_of(found: Array) -> Array:
     used = [part for part in found if part.any()] or [found[0]]
     hashed = hashes(used)
     order = np.argsort(hashed, kind="stable")
-    ordered = hashed[order]
+    hashed = hashed[order]
     fresh = np.ones(order.size, dtype=bool)
-    np.not_equal(ordered[1:], ordered[:-1], out=fresh[1:])
+    np.not_equal(hashed[1:], hashed[:-1], out=fresh[1:])
+    del hashed
     again = np.flatnonzero(~fresh)
     ours, before = order[again], order[again - 1]
     if any((part[ours] != part[before]).any() for part in used):
         return slow_first_of(found)  # two texts have one hash
+    del again, ours, before
     starts = order[fresh]
     out = np.empty(order.size, dtype=np.int64)
     out[order] = starts[np.cumsum(fresh) - 1]

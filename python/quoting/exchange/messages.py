@@ -1,7 +1,8 @@
 """The messages in a log's bytes, found one at a time by the rules of `quoting.scanning`, with their lines.
 
-A message starts at 8=FIX. wherever that is outside a message that was read; 8=FIXT., of version 5.0, is found and refused. Its frame must be right and each of its fields a tag and a
-value; the last separator may be absent. What starts like a message and is none is found too, with the reason.
+A message starts at 8=FIX. wherever that is outside a message that was read; 8=FIXT., of version 5.0, is found and refused. Its frame
+must be right and each of its fields a tag and a value; the last separator may be absent. What starts like a message and is none is
+found too, with the reason.
 """
 
 import re

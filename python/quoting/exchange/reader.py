@@ -298,7 +298,8 @@ def settle(reader: LogReader) -> Settled:
     reasons = Reasons()
     for at, why in orders.problems:
         move = moves[at]
-        reasons.add(reason_of(why, reader.scope.names(move.owner), reader.files[move.file], move.line, move.time, (move.cl, move.orig, move.oid), move.volume))
+        place = reader.files[move.file], move.line, move.time
+        reasons.add(reason_of(why, reader.scope.names(move.owner), *place, (move.cl, move.orig, move.oid), move.volume))
     others = Counter(reader.scope.names(moves[at].owner) for at in orders.strangers)
     return Settled(timelines_of(reader, moves, orders), reasons, others)
 

@@ -12,7 +12,7 @@ abbrev sided : Fields → Side → Order
 sided f side = record { id = f .id; side = side; price = f .price; volume = f .volume }
 
 returns : tie.Need-returns
-returns c = ap (sided (c .before .before .before .args .f)) (c .side-of .ensures)
+returns c = ap (sided (c .before .before .before .args .f)) (c .to-side .ensures)
 
 pub order-of-spec : {M : Type 1} → statement M
 order-of-spec = tie.close (tie.spec (λ c κs. search needs) returns)

@@ -28,7 +28,7 @@ returns : tie.Need-returns
 returns c = account-finished (c .before .before .before .before .args .answer) _ _ (c .before .before .before .before .args .buffer .now) (c .before .answer .given .1)
 
 returns-2 : tie.Need-returns-2
-returns-2 c = account-refused (c .before .before .before .before .before .args .answer) _ _ (c .number .result) (c .before .before .before .before .before .args .buffer .now) (c .before .before .answer2 .given .1) (c .number .ensures)
+returns-2 c = account-refused (c .before .before .before .before .before .args .answer) _ _ (c .refused-at .result) (c .before .before .before .before .before .args .buffer .now) (c .before .before .answer2 .given .1) (c .refused-at .ensures)
 
 pub head-account-spec : {M : Type 1} → statement M
 head-account-spec =
@@ -47,10 +47,6 @@ head-account-spec =
     (λ c. search needs)
     (λ c. search needs)
     (λ c κs. search needs)
-    (λ c. search needs)
-    (λ c. search needs)
-    (λ c. search needs)
-    (λ c. search needs)
     (λ c. search needs)
     returns
     returns-2)

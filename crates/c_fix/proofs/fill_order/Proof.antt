@@ -10,8 +10,8 @@ use Rattle.c_fix.proofs.fill_order.Tie as tie
 from-steps-requires : tie.Need-from-steps-requires
 from-steps-requires c κs = search needs
 
-side-word-requires : tie.Need-side-word-requires
-side-word-requires c κs = search needs
+from-side-requires : tie.Need-from-side-requires
+from-side-requires c κs = search needs
 
 message-requires : tie.Need-message-requires
 message-requires c κs = search needs
@@ -28,7 +28,7 @@ same-length c = search needs
 returns : tie.Need-returns
 returns c =
     fills-as
-    (ap accepted (order-words _ _ _ _ _ _ _ _ _ _ (c .before .before .before .before .before .message .ensures) (c .before .before .before .before .before .before .side-word .ensures) (c .before .before .before .before .before .before .before .from-steps .ensures)))
+    (ap accepted (order-words _ _ _ _ _ _ _ _ _ _ (c .before .before .before .before .before .message .ensures) (c .before .before .before .before .before .before .from-side .ensures) (c .before .before .before .before .before .before .before .from-steps .ensures)))
     (c .before .before .fill-words .ensures)
 
 pub fill-order-spec : {M : Type 1} → statement M
@@ -36,7 +36,7 @@ fill-order-spec =
     tie.close
     (tie.spec
     from-steps-requires
-    side-word-requires
+    from-side-requires
     message-requires
     slice-aggregate-fill-words
     fill-words-requires

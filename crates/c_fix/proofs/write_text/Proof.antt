@@ -62,8 +62,8 @@ returns-3 c =
     (no-side (a .fields .now) (a .sixty .now) (c .before .before .before .before .before .before .before .before .before .before .before .if1 .left) (c .before .before .before .if2 .left) (c .before .before .between .result) (c .before .before .between .ensures) (c .before .if3 .taken))
     (fills-refused 3 (a .text .now) (c .refused2 .result) (c .refused2 .ensures))
 
-side-of-requires : tie.Need-side-of-requires
-side-of-requires c κs = search needs
+to-side-requires : tie.Need-to-side-requires
+to-side-requires c κs = search needs
 
 write-new-requires : tie.Need-write-new-requires
 write-new-requires c κs = search needs
@@ -80,7 +80,7 @@ returns-4 c =
     fills-as
     ((c .before .before .before .before .write-new .ensures .shows)
     ∙ a-new (a .fields .now) (a .sixty .now) (c .before .before .before .before .before .before .before .before .before .before .before .before .before .before .before .before .before .if1 .left) (c .before .before .before .before .before .before .before .before .before .if2 .left) (c .before .before .before .before .before .before .before .before .between .result) (c .before .before .before .before .before .before .before .before .between .ensures) (c .before .before .before .before .before .before .before .if3 .left) (c .before .before .before .before .before .before .before .before .before .before .to-steps .result)
-    (c .before .before .before .before .before .before .before .before .before .before .to-steps .ensures) (c .before .before .before .before .before .before .side-of .result) (c .before .before .before .before .before .before .side-of .ensures) (c .before .before .before .before .before .if4 .taken))
+    (c .before .before .before .before .before .before .before .before .before .before .to-steps .ensures) (c .before .before .before .before .before .before .to-side .result) (c .before .before .before .before .before .before .to-side .ensures) (c .before .before .before .before .before .if4 .taken))
     (c .before .before .fill-text2 .ensures)
 
 write-replace-requires : tie.Need-write-replace-requires
@@ -98,7 +98,7 @@ returns-5 c =
     fills-as
     ((c .before .before .before .before .write-replace .ensures .shows)
     ∙ a-replace (a .fields .now) (a .sixty .now) (c .before .before .before .before .before .before .before .before .before .before .before .before .before .before .before .before .before .before .if1 .left) (c .before .before .before .before .before .before .before .before .before .before .if2 .left) (c .before .before .before .before .before .before .before .before .before .between .result) (c .before .before .before .before .before .before .before .before .before .between .ensures) (c .before .before .before .before .before .before .before .before .if3 .left) (c .before .before .before .before .before .before .before .before .before .before .before .to-steps .result)
-    (c .before .before .before .before .before .before .before .before .before .before .before .to-steps .ensures) (c .before .before .before .before .before .before .before .side-of .result) (c .before .before .before .before .before .before .before .side-of .ensures)
+    (c .before .before .before .before .before .before .before .before .before .before .before .to-steps .ensures) (c .before .before .before .before .before .before .before .to-side .result) (c .before .before .before .before .before .before .before .to-side .ensures)
     (c .before .before .before .before .before .before .if4 .left) (c .before .before .before .before .before .if5 .taken))
     (c .before .before .fill-text3 .ensures)
 
@@ -110,7 +110,7 @@ returns-6 c =
     let a = c .before .before .before .before .before .before .before .before .before .before .before .before .before .before .before .before .before .before .args in
     fills-as
     (no-kind (a .fields .now) (a .sixty .now) (c .before .before .before .before .before .before .before .before .before .before .before .before .before .before .if1 .left) (c .before .before .before .before .before .before .if2 .left) (c .before .before .before .before .before .between .result) (c .before .before .before .before .before .between .ensures) (c .before .before .before .before .if3 .left) (c .before .before .before .before .before .before .before .to-steps .result)
-    (c .before .before .before .before .before .before .before .to-steps .ensures) (c .before .before .before .side-of .result) (c .before .before .before .side-of .ensures)
+    (c .before .before .before .before .before .before .before .to-steps .ensures) (c .before .before .before .to-side .result) (c .before .before .before .to-side .ensures)
     (c .before .before .if4 .left) (c .before .if5 .left))
     (fills-refused 3 (a .text .now) (c .refused3 .result) (c .refused3 .ensures))
 
@@ -134,7 +134,7 @@ write-text-spec =
     between-requires
     refused-requires-2
     returns-3
-    side-of-requires
+    to-side-requires
     write-new-requires
     fill-text-requires-2
     same-length-2

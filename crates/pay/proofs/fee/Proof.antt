@@ -20,7 +20,7 @@ returns-2 c =
     let f = c .before .before .before .before .failures in
     let t = c .before .earned-in in
     let few : any over (f .result) ≡ false = sym (c .before .before .before .too-many .ensures) ∙ c .before .before .if1 .left in
-    ap kopecks (c .capped .ensures ∙ fee-some (a .cells) (f .result) (f .ensures) few (t .result) (t .ensures))
+    c .fee-of .ensures ∙ ap kopecks (fee-some (a .cells) (f .result) (f .ensures) few (t .result) (t .ensures))
 
 pub fee-spec : {M : Type 1} → statement M
 fee-spec =

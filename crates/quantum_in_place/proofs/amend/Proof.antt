@@ -2,6 +2,7 @@
 use mathlib.Core.Path.{ap, sym, _∙_}
 use Rattle.record.specs.declared.Fields.{Fields}
 use Rattle.quantum_in_place.proofs.Whole.{front-held, front-long, number-is, amended-words}
+use Rattle.quantum_in_place.proofs.AnyFields.{front-said}
 use borrow.Author.Needs.{needs}
 use Rattle.quantum_in_place.proofs.amend.Statement.{statement}
 use Rattle.quantum_in_place.proofs.amend.Tie as tie
@@ -10,7 +11,7 @@ step-front-requires : tie.Need-step-front-requires
 step-front-requires c κs =
     let s = c .before .before .before .before in
     let ws = s .args .words .now in
-    (front-held ws (s .pre .1) (s .pre .0), front-long ws (s .pre .1), s .pre .2, s .pre .3)
+    (front-held ws (s .pre .1) (s .pre .0), front-long ws (s .pre .1), s .pre .2)
 
 returns : tie.Need-returns
 returns c =
@@ -19,9 +20,9 @@ returns c =
     let x = c .before .before .before .before .step-front in (
       λ e f.
           record {
-            number = λ row sp es g is. number-is ws (x .last .0) e (x .result) (x .ensures .0 e f) row sp es g is;
+            number = λ row sp es g is. number-is ws (x .last .0) e (x .result) (front-said _ (x .last .0) (s .args .f) (x .result) e f (x .ensures .0)) row sp es g is;
             words-after = λ row sp es g is.
-                amended-words ws (x .last .0) e (x .result) (x .ensures .0 e f) row sp es g is (sym (ap (λ (y : Fields). y .kind) f) ∙ s .pre .4);
+                amended-words ws (x .last .0) e (x .result) (front-said _ (x .last .0) (s .args .f) (x .result) e f (x .ensures .0)) row sp es g is (sym (ap (λ (y : Fields). y .kind) f) ∙ s .pre .4);
           },
       x .ensures .1,
     )

@@ -1,6 +1,6 @@
 -- The duty and the clock are read, the event goes to the table in place, and the clock is put back.
-use Rattle.events.proofs.Steps.{by-fields}
-use Rattle.quantum_in_place.proofs.Quanta.{clock-room, parts-held, steps-front}
+use Rattle.record.specs.Fields.{readFields}
+use Rattle.quantum_in_place.proofs.Quanta.{clock-room, parts-held, front-read}
 use borrow.Author.Needs.{needs}
 use Rattle.quantum_in_place.proofs.step_front.Statement.{statement}
 use Rattle.quantum_in_place.proofs.step_front.Tie as tie
@@ -21,9 +21,8 @@ returns c =
     let d = c .before .before .before .before .before .before .before .before .before .before .before .before .before .before .before .duty-in in
     let k = c .before .before .before .before .before .before .before .before .before .before .before .before .clock-in in
     let x = c .before .before .before .before .before .before .before .before .before .step-fields in (
-      λ e f.
-          steps-front (s .args .words .now) (d .result) (k .result) (s .pre .1) (d .ensures) (k .ensures) e (x .last .1 .1 .0) (c .before .before .put-clock .last .1 .0) (x .result)
-          (by-fields (d .result) (k .result) e _ (x .last .1 .1 .0) (s .args .f) (x .result) f (x .ensures .0)) (c .before .before .put-clock .ensures),
+      front-read (s .args .words .now) (d .result) (k .result) (s .pre .1) (d .ensures) (k .ensures) (readFields (s .args .f)) (x .last .1 .1 .0) (c .before .before .put-clock .last .1 .0) (x .result)
+          (s .pre .0) (x .ensures .0) (c .before .before .put-clock .ensures),
       x .ensures .1,
     )
 

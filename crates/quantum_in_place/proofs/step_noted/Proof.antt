@@ -1,5 +1,7 @@
 -- The event on the words before the notes; where it is taken, the notes follow it by the numbers of live orders.
-use Rattle.quantum_in_place.proofs.Whole.{front-held, held-is, front-long, table-held, number-is, refused-words, new-held, follows-on, accepted-words}
+use Rattle.record.specs.Fields.{readFields}
+use Rattle.quantum_in_place.proofs.Whole.{front-held, held-is, front-long, table-held, number-is, new-held, follows-on, accepted-words}
+use Rattle.quantum_in_place.proofs.AnyFields.{stopped-read, took, steps-read}
 use native.Mathlib.Omega.{arith}
 use borrow.Author.Needs.{needs}
 use Rattle.quantum_in_place.proofs.step_noted.Statement.{statement}
@@ -14,18 +16,14 @@ step-front-requires : tie.Need-step-front-requires
 step-front-requires c κs =
     let s = c .before .before .before .before .before .before .before in
     let ws = s .args .words .now in
-    (front-held ws (s .pre .1) (s .pre .0), front-long ws (s .pre .1), s .pre .2, s .pre .3)
+    (front-held ws (s .pre .1) (s .pre .0), front-long ws (s .pre .1), s .pre .2)
 
 returns : tie.Need-returns
 returns c =
     let s = c .before .before .before .before .before .before .before .before .before .before .before .before .before in
     let ws = s .args .words .now in
     let x = c .before .before .before .before .before .step-front in (
-      λ e f.
-          record {
-            number = λ row sp es g is. number-is ws (x .last .0) e (x .result) (x .ensures .0 e f) row sp es g is;
-            words-after = λ row sp es g is. refused-words ws (x .last .0) e (x .result) (x .ensures .0 e f) row sp es g is (c .if1 .taken);
-          },
+      stopped-read ws (x .last .0) (x .result) (readFields (s .args .f)) (c .if1 .taken) (x .ensures .0),
       x .ensures .1,
     )
 
@@ -36,8 +34,8 @@ count-requires-2 c κs =
     let ws = s .args .words .now in
     let h = s .pre .0 in
     let r = h .reached in
-    let y = s .pre .3 in
-    new-held ws (x .last .0) (y .event) (x .result) (x .ensures .0 (y .event) (y .is)) (r .row) (r .sp) (r .events) (r .bounds) (held-is ws (s .pre .1) h) (c .before .before .if1 .left)
+    let y = took ws (x .last .0) (s .args .f) (x .result) (c .before .before .if1 .left) (x .ensures .0) in
+    new-held ws (x .last .0) (y .event) (x .result) (y .steps) (r .row) (r .sp) (r .events) (r .bounds) (held-is ws (s .pre .1) h) (c .before .before .if1 .left)
 
 note-requires : tie.Need-note-requires
 note-requires c κs =
@@ -46,13 +44,13 @@ note-requires c κs =
     let ws = s .args .words .now in
     let h = s .pre .0 in
     let r = h .reached in
-    let y = s .pre .3 in
+    let y = took ws (x .last .0) (s .args .f) (x .result) (c .before .before .before .before .if1 .left) (x .ensures .0) in
     record {
       row = r .row;
       events = r .events;
       event = y .event;
       follows =
-          follows-on ws (x .last .0) (y .event) (x .result) (x .ensures .0 (y .event) (y .is)) (r .row) (r .sp) (r .events) (r .bounds) (held-is ws (s .pre .1) h) (c .before .before .before .before .if1 .left) _ _ (s .args .f) (y .is)
+          follows-on ws (x .last .0) (y .event) (x .result) (y .steps) (r .row) (r .sp) (r .events) (r .bounds) (held-is ws (s .pre .1) h) (c .before .before .before .before .if1 .left) _ _ (s .args .f .id) (y .id)
           (c .before .before .before .before .before .before .before .before .before .before .before .before .count .ensures) (c .before .count2 .ensures);
     }
 
@@ -61,15 +59,17 @@ returns-2 c =
     let s = c .before .before .before .before .before .before .before .before .before .before .before .before .before .before .before .before .before .before .before .before in
     let ws = s .args .words .now in
     let x = c .before .before .before .before .before .before .before .before .before .before .before .before .step-front in
-    let left = c .before .before .before .before .before .before .before .if1 .left in (
-      λ e f.
-          record {
-            number = λ row sp es g is. omega (arith, left, number-is ws (x .last .0) e (x .result) (x .ensures .0 e f) row sp es g is);
+    let left = c .before .before .before .before .before .before .before .if1 .left in
+    let y = took ws (x .last .0) (s .args .f) (x .result) left (x .ensures .0) in
+    let e = y .event in (
+      steps-read ws _ (s .args .f) 0 e (y .is)
+          (record {
+            number = λ row sp es g is. omega (arith, left, number-is ws (x .last .0) e (x .result) (y .steps) row sp es g is);
             words-after = λ row sp es g is.
-                accepted-words ws (x .last .0) e (x .result) (x .ensures .0 e f) row sp es g is left (c .before .before .note .last .0)
+                accepted-words ws (x .last .0) e (x .result) (y .steps) row sp es g is left (c .before .before .note .last .0)
                 (c .before .before .note .ensures row es e
-                (follows-on ws (x .last .0) e (x .result) (x .ensures .0 e f) row sp es g is left _ _ (s .args .f) f (c .before .before .before .before .before .before .before .before .before .before .before .before .before .before .before .count .ensures) (c .before .before .before .before .count2 .ensures)));
-          },
+                (follows-on ws (x .last .0) e (x .result) (y .steps) row sp es g is left _ _ (s .args .f .id) (y .id) (c .before .before .before .before .before .before .before .before .before .before .before .before .before .before .before .count .ensures) (c .before .before .before .before .count2 .ensures)));
+          }),
       λ refused. absurd (omega (arith, refused)),
     )
 

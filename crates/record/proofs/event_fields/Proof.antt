@@ -7,7 +7,7 @@ use Rattle.record.proofs.event_fields.Statement.{statement}
 use Rattle.record.proofs.event_fields.Tie as tie
 
 returns : tie.Need-returns
-returns c = add-fields (c .before .before .before .event .given .1) (c .before .add-kind .ensures) (c .made .ensures)
+returns c = add-fields (c .before .before .before .event .given .1) (c .before .from-side .ensures) (c .made .ensures)
 
 returns-2 : tie.Need-returns-2
 returns-2 c = c .made2 .ensures ∙ sym (ap fieldsFor (c .before .before .event2 .given .1))

@@ -8,7 +8,7 @@ returns : tie.Need-returns
 returns c = search needs
 
 returns-2 : tie.Need-returns-2
-returns-2 c = refused-is (c .before .before .before .before .args .answer) _ _ (c .number .result) (c .before .before .answer2 .given .1) (c .number .ensures)
+returns-2 c = refused-is (c .before .before .before .before .args .answer) _ _ (c .refused-at .result) (c .before .before .answer2 .given .1) (c .refused-at .ensures)
 
 pub one-number-spec : {M : Type 1} → statement M
 one-number-spec =
@@ -18,9 +18,5 @@ one-number-spec =
     (λ c. search needs)
     (λ c. search needs)
     (λ c κs. search needs)
-    (λ c. search needs)
-    (λ c. search needs)
-    (λ c. search needs)
-    (λ c. search needs)
     returns
     returns-2)

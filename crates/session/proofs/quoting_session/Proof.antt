@@ -5,7 +5,9 @@ use Rattle.session.proofs.quoting_session.Statement.{statement}
 use Rattle.session.proofs.quoting_session.Tie as tie
 
 returns : tie.Need-returns
-returns c = bytes-short 4000000 (c .before .before .before .args .head .now) (c .before .before .before .args .records .now) (c .if1 .taken)
+returns c =
+    let a = c .before .before .before .before .args in
+    bytes-short 4000000 (a .head .now) (a .records .now) (c .refused .result) (c .before .if1 .taken) (c .refused .ensures)
 
 returns-2 : tie.Need-returns-2
 returns-2 c =
@@ -20,6 +22,7 @@ pub quoting-session-spec : {M : Type 1} → statement M
 quoting-session-spec =
     tie.close
     (tie.spec
+    (λ c κs. search needs)
     returns
     (λ c κs. search needs)
     (λ c κs. search needs)

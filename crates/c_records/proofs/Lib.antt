@@ -1,0 +1,2 @@
+-- The buffers on entry, and what the call answers.
+pub mod Records

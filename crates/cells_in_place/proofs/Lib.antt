@@ -1,0 +1,2 @@
+-- One cell among the words of all of them.
+pub mod Cells

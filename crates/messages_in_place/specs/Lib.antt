@@ -1,0 +1,2 @@
+-- What the functions of a message and of a commit promise to each other.
+pub mod Internal

@@ -1,0 +1,2 @@
+-- What the private functions promise to each other.
+pub mod Internal

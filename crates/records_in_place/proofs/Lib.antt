@@ -1,0 +1,5 @@
+-- Laws, by subject.
+pub mod Runs
+pub mod Counts
+pub mod Books
+pub mod Months
