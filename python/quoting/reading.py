@@ -116,7 +116,7 @@ def failed(what: str, file: Optional[str] = None, line: Optional[int] = None) ->
 
 
 def split_lines(text: str) -> list[str]:
-    return LINE_END.split(text)
+    return LINE_END.split(text) if "\r" in text else text.split("\n")
 
 
 def lines_with_ends(text: str) -> Iterator[tuple[str, int]]:
