@@ -304,3 +304,18 @@ def test_usual_lines(note):
         same, refused = same + isinstance(due, bytes), refused + isinstance(due, tuple)
     assert same > 500 and refused > 300, (same, refused)
     note(f"texts: {same} sessions and {refused} refusals are the same both ways")
+
+
+def test_usual_calls():
+    """The same of a list of calls: each event's block is that of the call."""
+    rng, plain = random.Random(9), 0
+    words = ["0", "7", "8446", "999999999", "1000000000", "4294967295", "-5", "1_0", "0:00:01", "x", "84.5", "\u0663", "\u00b2", "buy", "sell"]
+    for _ in range(5_000):
+        name = rng.choice(list(texts.EVENT_COLUMNS))
+        given = [rng.choice(words[:5] if rng.random() < 0.9 else words) for _ in texts.EVENT_COLUMNS[name].split()]
+        if name == "add" and rng.random() < 0.9:
+            given[2] = rng.choice(["buy", "sell"])
+        found = texts.plain_block(name, given)
+        assert found is None or found == package_calls.block(texts.call(name, given)), (name, given)
+        plain += found is not None
+    assert 500 < plain < 4_500, plain

@@ -31,6 +31,10 @@ PLAIN_KINDS = {"amend": 3, "cancel": 4, "deal": 5, "tick": 6}
 PLAIN_SIDES = {"buy": 1, "sell": 2}
 PLAIN_REST = {1: (0, 0, 0), 2: (0, 0), 4: ()}
 LONGEST_PLAIN = 60
+PLAIN_BLOCKS = {
+    "add": (c.Kind.ADD, c.ADD), "amend": (c.Kind.AMEND, c.AMEND), "cancel": (c.Kind.CANCEL, c.CANCEL), "deal": (c.Kind.DEAL, c.DEAL),
+    "tick": (c.Kind.TICK, c.TICK),
+}
 
 
 # ---------------------------------------------------------------- events
@@ -489,8 +493,31 @@ def call(name: str, words: list[str], options: Options = PLAIN) -> c.Call:
     return kind(**{column: reading.number(word, spans.get(column, values.WORD), column) for column, word in given.items()})
 
 
+def plain_block(name: str, words: list[str]) -> Optional[bytes]:
+    """The block of an event whose numbers have at most nine digits and no sign; None of any other line.
+
+    >>> plain_block("add", ["5", "7", "buy", "99", "500"]) == c.block(Add(5, 7, "buy", 99, 500))
+    True
+    """
+    if PLAIN_WORDS.get(name) != len(words) + 1:
+        return None
+    side = PLAIN_SIDES.get(words[2]) if name == "add" else 0
+    numbers = [*words[:2], *words[3:]] if side else words
+    joined = "".join(numbers)
+    if side is None or not (joined.isascii() and joined.isdigit()) or max(map(len, numbers)) > 9:
+        return None
+    given = list(map(int, numbers))
+    if side:
+        given.insert(2, side)
+    kind, layout = PLAIN_BLOCKS[name]
+    return layout.pack(kind, *given)
+
+
 def block_of(name: str, words: list[str], options: Options = PLAIN) -> bytes:
     """The bytes of one line of a list of calls."""
+    plain = plain_block(name, words) if options.step is None else None
+    if plain is not None:
+        return plain
     if name == "words":
         return c.pack([reading.number(word, values.WORD, "a word") for word in words])
     return hex_bytes(words) if name == "bytes" else c.block(call(name, words, options))
