@@ -3,6 +3,7 @@
 import random
 import re
 import zlib
+from decimal import Decimal
 from xml.etree import ElementTree
 
 import pytest
@@ -11,6 +12,7 @@ from hypothesis import strategies as st
 
 from quoting import calls as package_calls
 from quoting import picture, reading, texts
+from quoting.reading import PLAIN, Options, TextError
 from recount import fix, programs
 from recount.book import Accepted, Book, Message, Open, Row, row_fits
 from tests import calls_text as calls
@@ -273,3 +275,55 @@ def test_calls():
             assert calls.to_bytes(texts.block_line(block)) == block, call
             seen.add(type(call).__name__)
     assert len(seen) == 16, seen
+
+
+def slow_bytes(text: str, options: Options) -> bytes:
+    """A session's bytes, every line in the slow way."""
+    reader = texts.SessionReader(options)
+    reading.read_by_lines(text, reader.take)
+    return reader.data()
+
+
+def outcome(read, text: str, options: Options):
+    try:
+        return read(text, options)
+    except TextError as error:
+        return str(error), error.line
+
+
+def test_usual_lines(note):
+    """Lines in the usual form are read at once: random sessions, right and wrong, give the same bytes or the same error with its line."""
+    rng, same, refused = random.Random(8), 0, 0
+    words = ["add", "amend", "cancel", "deal", "tick", "row", "buy", "sell", "0", "7", "8446", "999999999", "4294967295", "4294967296", "-5", "1_0", "0:00:01", "x",
+             "84.5", "٣", "²", "", "#", "\t", "bytes 00"]  # fmt: skip
+    shapes = ["add {} {} buy {} {}", "add {} {} sell {} {}", "amend {} {} {} {}", "cancel {} {}", "deal {} {} {}", "tick {}"]
+    for _ in range(3_000):
+        lines = ["row 1 1 8:45:00 1000 150 3 60%", "sp 8452"]
+        for _ in range(rng.randrange(1, 8)):
+            line = rng.choice(shapes).format(*(rng.choice([rng.randrange(10_000), rng.randrange(1 << 32)]) for _ in range(4)))
+            if rng.random() < 0.15:
+                parts = line.split(" ")
+                parts[rng.randrange(len(parts))] = rng.choice(words)
+                line = " ".join(parts)
+            lines.append(line)
+        text, options = rng.choice(["\n", "\n", "\r\n"]).join(lines) + "\n", rng.choice([PLAIN, PLAIN, Options(start=1_000), Options(step=Decimal("0.5"))])
+        due = outcome(slow_bytes, text, options)
+        assert outcome(texts.session_bytes, text, options) == due, text
+        same, refused = same + isinstance(due, bytes), refused + isinstance(due, tuple)
+    assert same > 500 and refused > 300, (same, refused)
+    note(f"texts: {same} sessions and {refused} refusals are the same both ways")
+
+
+def test_usual_calls():
+    """The same of a list of calls: each event's block is that of the call."""
+    rng, plain = random.Random(9), 0
+    words = ["0", "7", "8446", "999999999", "1000000000", "4294967295", "-5", "1_0", "0:00:01", "x", "84.5", "\u0663", "\u00b2", "buy", "sell"]
+    for _ in range(5_000):
+        name = rng.choice(list(texts.EVENT_COLUMNS))
+        given = [rng.choice(words[:5] if rng.random() < 0.9 else words) for _ in texts.EVENT_COLUMNS[name].split()]
+        if name == "add" and rng.random() < 0.9:
+            given[2] = rng.choice(["buy", "sell"])
+        found = texts.plain_block(name, given)
+        assert found is None or found == package_calls.block(texts.call(name, given)), (name, given)
+        plain += found is not None
+    assert 500 < plain < 4_500, plain

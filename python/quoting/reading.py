@@ -22,7 +22,6 @@ from typing import Callable, Iterator, Optional
 from quoting import values
 
 LINE_END = re.compile(r"\r\n|\r|\n")
-BLANKS = re.compile(r"[ \t]+")
 STANDARD = "-"  # standard input
 
 
@@ -116,7 +115,7 @@ def failed(what: str, file: Optional[str] = None, line: Optional[int] = None) ->
 
 
 def split_lines(text: str) -> list[str]:
-    return LINE_END.split(text)
+    return LINE_END.split(text) if "\r" in text else text.split("\n")
 
 
 def lines_with_ends(text: str) -> Iterator[tuple[str, int]]:
@@ -140,7 +139,7 @@ def at_line(line: int) -> Iterator[None]:
 
 def words_of(line: str) -> list[str]:
     """The words of a line before its comment."""
-    return [word for word in BLANKS.split(line.split("#", 1)[0]) if word]
+    return [word for word in line.split("#", 1)[0].replace("\t", " ").split(" ") if word]
 
 
 def lines(text: str) -> Iterator[tuple[int, str, list[str]]]:

@@ -16,7 +16,7 @@ from typing import Any, Callable, Iterator, Optional, Sequence
 
 from quoting import calls as c
 from quoting import csv_columns, fix, reading, values
-from quoting.events import KINDS, SIDES, SIZE, Add, Amend, Cancel, Deal, Event, Tick, event_of, record, split
+from quoting.events import LAYOUT, KINDS, SIDES, SIZE, Add, Amend, Cancel, Deal, Event, Tick, event_of, record, split
 from quoting.reading import PLAIN, Options, TextError
 from quoting.rows import COLUMNS, HEAD
 
@@ -24,6 +24,17 @@ EVENT_COLUMNS = {
     "add": "t id side price volume", "amend": "t id price volume", "cancel": "t id", "deal": "t id volume", "tick": "t",
 }
 EVENTS = (Add, Amend, Cancel, Deal, Tick)
+
+# Of lines in the usual form: the number of words, the record's kind by the first word, of an add by its side, and what follows some numbers.
+PLAIN_WORDS = {"add": 6, "amend": 5, "cancel": 3, "deal": 4, "tick": 2}
+PLAIN_KINDS = {"amend": 3, "cancel": 4, "deal": 5, "tick": 6}
+PLAIN_SIDES = {"buy": 1, "sell": 2}
+PLAIN_REST = {1: (0, 0, 0), 2: (0, 0), 4: ()}
+LONGEST_PLAIN = 60
+PLAIN_BLOCKS = {
+    "add": (c.Kind.ADD, c.ADD), "amend": (c.Kind.AMEND, c.AMEND), "cancel": (c.Kind.CANCEL, c.CANCEL), "deal": (c.Kind.DEAL, c.DEAL),
+    "tick": (c.Kind.TICK, c.TICK),
+}
 
 
 # ---------------------------------------------------------------- events
@@ -145,10 +156,41 @@ class SessionReader:
         return self.head.data() + b"".join(self.rest)
 
 
+def plain_record(line: str) -> Optional[bytes]:
+    """The record of a line in the most usual form, which has one space between words and numbers of at most nine digits; None of any other.
+
+    >>> plain_record("amend 1000 7 8446 1200") == record(Amend(1000, 7, 8446, 1200))
+    True
+    >>> plain_record("amend 1000 7 -1 1200") is plain_record("amend 1_000 7 8446 1200") is plain_record("tick 0:00:01") is None
+    True
+    """
+    words = line.split(" ")
+    count = PLAIN_WORDS.get(words[0])
+    if count != len(words) or len(line) > LONGEST_PLAIN:
+        return None
+    kind = PLAIN_SIDES.get(words.pop(3), 0) if count == 6 else PLAIN_KINDS[words[0]]
+    numbers = words[1:]
+    if not kind or not "".join(numbers).isdigit() or max(map(len, numbers)) > 9 or not all(numbers):
+        return None
+    if count == 4:
+        numbers.insert(2, "0")  # a deal has no price
+    return LAYOUT.pack(kind, *map(int, numbers), *PLAIN_REST[len(numbers)])
+
+
 def session_bytes(text: str, options: Options = PLAIN, given: Optional[bytes] = None) -> bytes:
-    """The bytes of a session's text; `given` are its leading bytes where the text has no row and sp."""
+    """The bytes of a session's text; `given` are its leading bytes where the text has no row and sp. After the first event, which shows
+    that these are there, lines in the usual form are read at once."""
     reader = SessionReader(options, given)
-    reading.read_by_lines(text, reader.take)
+    rest, is_plain = reader.rest, options.step is None and text.isascii()
+    for at, line in enumerate(reading.split_lines(text), start=1):
+        found = plain_record(line) if is_plain and rest else None
+        if found is not None:
+            rest.append(found)
+            continue
+        words = reading.words_of(line)
+        if words:
+            with reading.at_line(at):
+                reader.take(words[0], words[1:])
     return reader.data()
 
 
@@ -451,8 +493,31 @@ def call(name: str, words: list[str], options: Options = PLAIN) -> c.Call:
     return kind(**{column: reading.number(word, spans.get(column, values.WORD), column) for column, word in given.items()})
 
 
+def plain_block(name: str, words: list[str]) -> Optional[bytes]:
+    """The block of an event whose numbers have at most nine digits and no sign; None of any other line.
+
+    >>> plain_block("add", ["5", "7", "buy", "99", "500"]) == c.block(Add(5, 7, "buy", 99, 500))
+    True
+    """
+    if PLAIN_WORDS.get(name) != len(words) + 1:
+        return None
+    side = PLAIN_SIDES.get(words[2]) if name == "add" else 0
+    numbers = [*words[:2], *words[3:]] if side else words
+    joined = "".join(numbers)
+    if side is None or not (joined.isascii() and joined.isdigit()) or max(map(len, numbers)) > 9:
+        return None
+    given = list(map(int, numbers))
+    if side:
+        given.insert(2, side)
+    kind, layout = PLAIN_BLOCKS[name]
+    return layout.pack(kind, *given)
+
+
 def block_of(name: str, words: list[str], options: Options = PLAIN) -> bytes:
     """The bytes of one line of a list of calls."""
+    plain = plain_block(name, words) if options.step is None else None
+    if plain is not None:
+        return plain
     if name == "words":
         return c.pack([reading.number(word, values.WORD, "a word") for word in words])
     return hex_bytes(words) if name == "bytes" else c.block(call(name, words, options))

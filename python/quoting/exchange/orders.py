@@ -95,11 +95,12 @@ class Orders:
                 by_cl[cl] = before
 
     def name_oid(self, order: int, oid: int) -> None:
-        old = self.oid[order]
+        old, by_oid = self.oid[order], self.by_oid
         if oid != old:
-            self.forget_oid(order, old)
+            if by_oid.get(old) == order:
+                del by_oid[old]
             if oid != ABSENT:
-                self.by_oid[oid] = order
+                by_oid[oid] = order
             self.oid[order] = oid
 
     def forget_oid(self, order: int, oid: int) -> None:

@@ -310,7 +310,8 @@ def log_text(reader: exchange.LogReader) -> str:
     parts = [choice.plural(counts.moves, "change")]
     if reader.by == "reports":
         late = ("rejected cancel or replace", "rejected cancels or replaces")
-        shown = [(counts.fills, "fill", ""), (counts.rejects, "reject", ""), (counts.cancel_rejects, *late), (counts.duplicates, "repeated report", "")]
+        shown = [(counts.fills, "fill", ""), (counts.rejects, "reject", ""), (counts.cancel_rejects, *late)]
+        shown.append((counts.duplicates, "repeated report", ""))
         parts += [choice.plural(*each) for each in shown if each[0]]
     parts += [f"{choice.plural(others, 'message')} of other symbols or accounts skipped"] if others else []
     return f"by {reader.by}: {', '.join(parts)}"
