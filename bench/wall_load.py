@@ -152,22 +152,30 @@ def measure(args, folder):
     print(f"contracts {args.contracts}, pages {args.pages}, {gone:.0f} s, {maker.count:,} messages written ({maker.count / gone:,.0f} a second)")
     good = [1_000 * each for each in delays if each is not None]
     print(f"from log to page: {len(good)} of {len(delays)} seen, median {statistics.median(good):.0f} ms, worst {max(good):.0f} ms")
-    print("each, in ms: " + " ".join(f"{each:.0f}" for each in good))
     print(f"the server: {100 * (after[0] - before[0]) / gone:.0f}% of a processor, {before[1]:.0f} MB before, {after[1]:.0f} MB after")
     print(f"the recount: {lags[-1]:,} calls behind at the end, {max(lags):,} at most; to all pages {watcher.sizes / gone / 1e6:.2f} MB a second")
+    time.sleep(1)  # until all of it is read
+    known = figures(status(link))
     process.kill()
     process.wait()
-    restart(desk, maker)
+    restart(desk, known)
+    assert len(good) == len(delays), "a loss was not seen"
 
 
-def restart(desk, maker):
-    """After kill -9: how long until the wall has read everything again."""
+def figures(found):
+    """What another start must show again: of each contract what does not run on with the clock."""
+    return found["counts"]["messages"], {each["key"]: [each[name] for name in ("state", "lapses", "last") if name in each] for each in found["contracts"]}
+
+
+def restart(desk, known):
+    """After kill -9: how long until the wall has read everything again, and that it shows the same."""
     began = time.monotonic()
     process, link = started(desk)
     try:
         while status(link)["reading"]:
             time.sleep(0.05)
         found, took = status(link), time.monotonic() - began
+        assert figures(found) == known, "another start shows other figures"
         print(f"started again: {found['counts']['messages']:,} messages read in {took:.1f} s, {200_000 * took / found['counts']['messages']:.2f} s for each 200,000")
     finally:
         process.kill()

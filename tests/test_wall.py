@@ -4,6 +4,8 @@ import json
 import os
 import random
 import re
+import subprocess
+import sys
 import threading
 import time
 from http.server import BaseHTTPRequestHandler, HTTPServer
@@ -25,7 +27,7 @@ from quoting.wall.running import Call
 from quoting.wall.state import Wall
 from tests import desk_months
 from tests.live_desk import LiveDesk
-from tests.paths import EXAMPLES
+from tests.paths import EXAMPLES, ROOT
 from tests.walls import SHIPPED, Feed, cells, moment, month_at, settled
 
 pytestmark = pytest.mark.usefixtures("library")
@@ -479,3 +481,16 @@ def test_the_dashboard_has_figures_that_the_wall_has(feed):
             used |= set(re.findall(r"quoting_[a-z_]+", target["expr"]))
     assert used and used <= names, used - names
     assert {"quoting_state", "quoting_kept_seconds", "quoting_required_seconds", "quoting_lapses", "quoting_spread_steps", "quoting_feed_age_seconds", "quoting_recount_lag_calls"} <= used
+
+
+# ---------------------------------------------------------------- load
+
+
+@pytest.mark.long
+@pytest.mark.xdist_group("watch")
+def test_twenty_seconds_of_load(note):
+    """60 contracts, 5,000 messages a second and 20 pages: every loss is seen, and after kill -9 the figures are the same."""
+    words = [sys.executable, ROOT / "bench" / "wall_load.py", "--seconds", "20"]
+    done = subprocess.run(words, capture_output=True, text=True, timeout=300, check=False)
+    assert done.returncode == 0, done.stderr
+    note("wall: " + "; ".join(done.stdout.splitlines()))

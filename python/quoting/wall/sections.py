@@ -38,7 +38,13 @@ def tile_section(tile: Tile, alarms: Alarms, wall: Wall) -> Section:
         "state": t.SIGNS[tile.now.state] if tile.now is not None else "", "sign": said.sign, "word": said.word, "number": said.number,
         "what": said.what, "sentence": said.sentence, "more": said.more, "is_failed": tile.cell is not None and not tile.cell.met,
         "is_small": tile.kind in ("kept", "rest", "over", "ended", "due"), "share": share_of(tile), "figures": figures_of(tile),
-        "last": last_of(tile), "muted": "" if until is None else t.of_day(wall.local(int(1_000 * until)))}
+        "last": last_of(tile), "muted": "" if until is None else mute_text(wall, until)}
+
+
+def mute_text(wall: Wall, until: float) -> str:
+    """The minute in which a mute ends, by the wall's clock."""
+    end = wall.local(wall.now + int(1_000 * (until - time.time())) + 500)
+    return f"{end.hour}:{end.minute:02}"
 
 
 def share_of(tile: Tile) -> Section:

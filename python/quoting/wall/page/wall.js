@@ -51,19 +51,23 @@ function say(node, text) {
 
 // ---------------------------------------------------------------- tiles
 
-function bar(share) {
-  const have = element("i", { class: "have" }), may = element("i", { class: "may" }), need = element("i", { class: "need" });
+function bar() {
+  return element("div", { class: "bar", role: "img" }, element("i", { class: "have" }), element("i", { class: "may" }), element("i", { class: "need" }));
+}
+
+function drawBar(node, share) {
+  const [have, may, need] = node.children;
+  node.setAttribute("aria-label", `kept ${share.kept}, required ${share.required}`);
   have.style.width = `${share.have}%`;
   may.style.left = `${share.have}%`;
   may.style.width = `${share.may}%`;
   need.style.left = `${share.need}%`;
-  return element("div", { class: "bar", role: "img", "aria-label": `kept ${share.kept}, required ${share.required}` }, have, may, need);
 }
 
 function muteButton(tile) {
   if (["ended", "due"].includes(tile.kind)) return null;
   const made = tile.muted
-    ? element("button", { "aria-pressed": "true", "data-mute": "0" }, sign("muted"), ` muted to ${tile.muted.replace(/:\d\d$/, "")}`)
+    ? element("button", { "aria-pressed": "true", "data-mute": "0" }, sign("muted"), ` muted to ${tile.muted}`)
     : element("button", { "aria-pressed": "false", "aria-label": `Mute ${tile.symbol} for ${MUTE_MINUTES} minutes`, "data-mute": String(MUTE_MINUTES) }, sign("bell"));
   made.addEventListener("click", () => send({ mute: { key: tile.key, minutes: Number(made.dataset.mute) } }));
   return made;
@@ -83,24 +87,48 @@ const PARTS = { "lapses": "lapses", "D": "D", "missing at best": "missing" };
 
 function figures(tile) {
   return tile.figures.map(each => element("div", {}, element("dt", {}, each.name),
-    element("dd", { class: each.bad ? "bad" : null, "data-part": PARTS[each.name] }, each.value, ...(each.unit ? [" ", element("small", {}, each.unit)] : []))));
+    element("dd", { class: each.bad ? "bad" : null, "data-part": PARTS[each.name] }, element("span", { class: "value" }, each.value), ...(each.unit ? [" ", element("small", {}, each.unit)] : []))));
 }
 
 function contents(tile) {
   const link = element("a", { href: `contract/${encodeURIComponent(tile.key)}/${location.search}` }, tile.symbol);
   const word = element("p", { class: `word${tile.word.length > 11 ? " long" : ""}` },
     element("span", { class: "brief", "aria-hidden": "true" }, BRIEF[tile.word] ?? tile.word.toLowerCase()), element("span", { "data-part": "word" }, tile.word));
-  const number = element("p", { class: "n" }, element("span", { "data-part": "number" }, tile.number), ...(tile.what ? [element("small", { "data-part": "what" }, tile.what)] : []));
-  const share = element("div", { class: "share" }, element("span", {}, "kept"), " ", element("b", { "data-part": "share" }, tile.share.kept), bar(tile.share),
+  const number = element("p", { class: "n" }, element("span", { "data-part": "number" }), ...(tile.what ? [element("small", { "data-part": "what" }, tile.what)] : []));
+  const share = element("div", { class: "share" }, element("span", {}, "kept"), " ", element("b", { "data-part": "share" }), bar(),
     element("span", {}, "of ", element("b", {}, tile.share.required)));
   return element("div", { class: "in" },
     element("div", { class: "who" }, element("h3", {}, link), element("span", { class: "soft" }, tile.who), muteButton(tile)),
     element("div", { class: "say" }, sign(tile.sign, "mark"), element("div", {}, word, number)),
-    element("p", { class: "do" }, element("i", { "data-part": "sentence" }, ...bold(tile.sentence)), " ", element("span", { "data-part": "more" }, tile.more)),
-    element("div", { class: "foot" }, share, element("dl", {}, ...figures(tile)), element("p", { class: "last", "data-part": "last" }, tile.last)));
+    element("p", { class: "do" }, element("i", { "data-part": "sentence" }), " ", element("span", { "data-part": "more" })),
+    element("div", { class: "foot" }, share, element("dl", {}, ...figures(tile)), element("p", { class: "last", "data-part": "last" })));
+}
+
+// What a tile is made of. As long as it stays, only texts change, so that a click or the focus is not lost on the way.
+function shapeOf(tile) {
+  const figures = tile.figures.map(each => [each.name, each.unit, each.bad]);
+  return JSON.stringify([tile.kind, tile.state, tile.sign, tile.word, tile.what, tile.who, tile.muted, tile.is_small, tile.is_failed, tile.share.required, figures]);
+}
+
+function fillTile(node, tile) {
+  const part = name => node.querySelector(`[data-part="${name}"]`);
+  for (const name of ["number", "more", "last"]) say(part(name), tile[name]);
+  say(part("share"), tile.share.kept);
+  const sentence = part("sentence");
+  if (sentence.dataset.text !== tile.sentence) put(sentence, ...bold(tile.sentence));
+  sentence.dataset.text = tile.sentence;
+  tile.figures.forEach(each => say(part(PARTS[each.name]).querySelector(".value"), each.value));
+  drawBar(node.querySelector(".bar"), tile.share);
 }
 
 function drawTile(node, tile) {
+  const shape = shapeOf(tile);
+  if (node.dataset.shape !== shape) buildTile(node, tile);
+  node.dataset.shape = shape;
+  fillTile(node, tile);
+}
+
+function buildTile(node, tile) {
   const focused = node.contains(document.activeElement) ? document.activeElement.tagName : "";
   node.className = classesOf(tile);
   node.dataset.key = tile.key;
