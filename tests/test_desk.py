@@ -333,6 +333,13 @@ def test_names_in_the_files_do_not_break_the_pages(desk, tmp_path):
         assert "<script>" not in page and "&lt;script&gt;&amp;&#39;" in page
 
 
+def test_a_file_in_the_place_of_the_folder_is_refused_and_kept(desk, tmp_path):
+    (tmp_path / "out").write_text("mine")
+    done = command.run("desk", "settle", desk / "desk.toml", "-o", tmp_path / "out")
+    assert done.status == 1 and done.complaint == f"quoting: {tmp_path / 'out'} is a file, expected a folder to write into: choose another -o\n", done
+    assert (tmp_path / "out").read_text() == "mine"
+
+
 def test_differing_readings_settle_nothing(desk, tmp_path, monkeypatch):
     """A recount that answers otherwise to one call."""
     wrong = tmp_path / "main.py"

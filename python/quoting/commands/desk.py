@@ -114,6 +114,8 @@ def settle(args: argparse.Namespace) -> int:
     if args.statements and args.recount is False:
         raise inputs.WrongUse("a statement compares both readings: --statements and --no-recount do not go together")
     manner, out = Manner(args.statements or args.recount, args.statements, args.pdf), Path(args.output)
+    if out.exists() and not out.is_dir():
+        raise ValueError(f"{out} is a file, expected a folder to write into: choose another -o")
     native.library()  # a missing library is said once
     tasks = many.tasks(args.desks, out)
     found = many.left_to_do(tasks, manner, args.resume)
