@@ -162,7 +162,7 @@ FAULTS = [  # the file that is changed, what is changed, the fault
     (PROGRAMME, '"2%"', '"2"', "[instruments.gold] threshold: '2' is not a percentage, expected one such as \"2%\""),
     (PROGRAMME, "lapses = 2", "lapses = 1001", "[instruments.platinum-mini] lapses: 1001 does not fit, expected a whole number from 0 to 1,000"),
     (PROGRAMME, 'b = "0.8"', 'b = "0.85"', "[instruments.gold.rows, entry 1] b: 0.85 is between two steps of 0.1"),
-    (PROGRAMME, 'a = "0.1%"', 'a = "0.1005%"', "[instruments.gold.rows, entry 1] a: 0.1005% is no whole number of hundred-thousandths"),
+    (PROGRAMME, 'a = "0.1%"', 'a = "0.1005%"', "[instruments.gold.rows, entry 1] a: 0.1005% is not a whole number of hundred-thousandths"),
     (PROGRAMME, "minimum = 500", "minimum = 0", "[instruments.gold.rows, entry 1] quantum 1: refused 2: a word of the row is outside its range (minimum is 0, expected 1 to 100,000)"),
     (PROGRAMME, '"60%"', '"80%"', "[instruments.gold.rows, entry 1] quantum 1: refused 2: a word of the row is outside its range (share is 800, expected 1 to 799)"),
     (PROGRAMME, '"60%"', "60", "[instruments.gold.rows, entry 1] share: 60 is not a percentage, expected one such as \"60%\""),
@@ -173,12 +173,12 @@ FAULTS = [  # the file that is changed, what is changed, the fault
     (PROGRAMME, "10:00-18:45", "10-18", "[quanta] 1: '10-18' is not a start and an end, expected \"10:00-18:45\""),
     (PROGRAMME, "2 = ", "3 = ", "[quanta] 3: unknown key, expected 0, 1 or 2"),
     (PROGRAMME, "Europe/Moscow", "Europe/Moskva", "timezone: 'Europe/Moskva' is no time zone that this machine knows, expected an IANA name such as \"Europe/Moscow\""),
-    (PROGRAMME, "[quanta]", "[quanta", "line 4: Expected ']' at the end of a table declaration: this is no TOML"),
+    (PROGRAMME, "[quanta]", "[quanta", "line 4: Expected ']' at the end of a table declaration: this is not TOML"),
     (DESK, "2026-11", "2026-13", "month: '2026-13' is not a month, expected one such as \"2026-11\""),
     (DESK, "holidays = [4]", "holidays = [7]", "holidays: 7 is not one of the trading days"),
-    (DESK, "days = [2, 3", "days = [2, 2", "days: 2 is there twice"),
+    (DESK, "days = [2, 3", "days = [2, 2", "days: 2 is listed twice"),
     (DESK, "days = [2, 3", "days = [2, 31", "days: 31 does not fit, expected a whole number from 1 to 30"),
-    (DESK, "logs/*.log", "log/*.log", "logs: no file fits 'log/*.log'"),
+    (DESK, "logs/*.log", "log/*.log", "logs: no file matches 'log/*.log'"),
     (DESK, 'instrument = "gold"', 'instrument = "silver"', "[contract, entry 1] instrument: the programme has no 'silver', expected gold or platinum-mini"),
     (DESK, "to = 4", "to = 5", "[contract, entry 2]: gold, expiry 1, on day 5 belongs to entry 1 too, expected one contract"),
     (DESK, 'symbol = "GD-2.27"', 'symbol = "GD-1.27"', "[contract, entry 4]: GD-1.27, account A7, on day 5 belongs to entry 2 too, expected one contract"),
@@ -311,7 +311,7 @@ def test_the_client_page_has_what_an_office_signs(settled):
 def test_each_instrument_has_a_statement(settled):
     page = (settled[0] / "gold.html").read_text()
     assert "112,556 <small>roubles</small> 33 <small>kopecks</small>" in page and "Both readings agree" in page and "Signatures" in page
-    assert "10:00:00 to 18:45:00" in page and "2026-11-06 GD-1.27, quantum 2: charges.csv has no line; charged 0 and 0." in page
+    assert "10:00:00 to 18:45:00" in page and "2026-11-06 GD-1.27, quantum 2: charges.csv has no line for this quantum; both charges are taken as 0." in page
     assert "PM-12.26" not in page
 
 
@@ -331,6 +331,13 @@ def test_names_in_the_files_do_not_break_the_pages(desk, tmp_path):
     for name in ("index.html", "gold.html"):
         page = (tmp_path / "out" / name).read_text()
         assert "<script>" not in page and "&lt;script&gt;&amp;&#39;" in page
+
+
+def test_a_file_in_the_place_of_the_folder_is_refused_and_kept(desk, tmp_path):
+    (tmp_path / "out").write_text("mine")
+    done = command.run("desk", "settle", desk / "desk.toml", "-o", tmp_path / "out")
+    assert done.status == 1 and done.complaint == f"quoting: {tmp_path / 'out'} is a file, expected a folder to write into: choose another -o\n", done
+    assert (tmp_path / "out").read_text() == "mine"
 
 
 def test_differing_readings_settle_nothing(desk, tmp_path, monkeypatch):

@@ -1,8 +1,8 @@
 """A maker's whole month: its calendar (plan), its cells, fees and pages from prices, charges and logs (settle), and every contract live (watch).
 
-DESK.toml names everything else; docs/FORMATS.md, "A desk", has the files. All faults of the files are named at once, and nothing is
-settled then. What is missing or refused while settling is named on standard error, the figures are written all the same, and the status
-is 1.
+DESK.toml names the other files; docs/FORMATS.md, "A desk", describes them all. If a file has faults, every fault is listed with its place,
+and nothing is settled. If a charge is missing, or the papers refuse something while settling, the figures are written all the same, the
+reasons go to standard error, and the status is 1.
 
 examples:
   quoting desk plan examples/desk/desk.toml
@@ -37,46 +37,57 @@ def add(parser: argparse.ArgumentParser) -> None:
     wall.add(subs.add_parser("watch", help="every contract live on one page", description=wall.WATCH, formatter_class=argparse.RawDescriptionHelpFormatter))
 
 
-PLAN = """The calendar of a desk's month: for each day, contract and quantum the hours, the row, whether it is eased and why, SP and the
-lapse limit. The logs and the file of charges need not be there yet."""
+PLAN = """The calendar of a desk's month. Each day, contract and quantum has a line:
+
+  e, q             the expiry and the quantum
+  local, UTC       its start and end
+  table            the table that its row is from: usual or holiday
+  M, a, b, share   the row, eased if the day is inside a volatile period
+  eased            whether it is, with the last day's sigma and the threshold
+  SP, of           the settlement price that it is measured with, in price steps, and that price's date
+  lapses           the lapse limit
+
+The logs and the file of charges need not be there yet. The status is 1 if it can't be decided whether a day is volatile (refusal 22)."""
 
 
 def add_plan(parser: argparse.ArgumentParser) -> None:
     parser.add_argument("desk", metavar="DESK.toml", help="the desk")
     form = parser.add_mutually_exclusive_group()
-    form.add_argument("--csv", action="store_true", help="a line a quantum, comma separated")
-    form.add_argument("--json", action="store_true", help="an object, with each day's sigma")
+    form.add_argument("--csv", action="store_true", help="comma-separated values, one line for each quantum")
+    form.add_argument("--json", action="store_true", help="JSON, with the sigma of each day too")
     parser.add_argument("-o", "--output", metavar="FILE", help="write to this file instead of standard output")
 
 
 SETTLE = f"""Settles all instruments of a desk from its logs, prices and charges, and writes into OUT:
 
-  cells.csv       each quantum's cell
-  months.csv      each instrument's largest failure count and fee
-  NAME.calls      the list of calls of each instrument's month, for `quoting calls` and the recount
-  NAME.html       each instrument's statement
+  cells.csv       one line for each quantum: time kept, verdict, weight and charges
+  months.csv      one line for each instrument: its largest failure count and its fee
+  boards.csv      one line for each board of option strikes, if the desk has any
   index.html      the client's page, with all instruments and the sum of their fees
-  inputs.sha256   the SHA-256 of each input file, as sha256sum checks it
+  NAME.html       the statement of each instrument
+  NAME.calls      the calls of each instrument's month, for `quoting calls` and the recount
+  inputs.sha256   the SHA-256 of each input file, for sha256sum -c
+  settled.json    what --resume needs
 
-The recount reads the same calls, in processes of its own, and statements are made, where a desk has at most {outputs.SMALL:,} calls. A statement
-compares both readings, so there is none without the recount.
+By default a desk with at most {outputs.SMALL:,} calls is recounted, and has statements. A statement compares both readings, so it needs the
+recount.
 
-Several desks are settled into folders of OUT, named after their files (or the folders of desk.toml), and OUT/desks.csv has a line for each.
-After a break --resume settles those that are missing or whose files have changed. With --scheduler the desks go to a Dask cluster, whose workers
-see the same files."""
+Several desks are settled at once, each into a folder of OUT that is named after its file (after its folder, if the file is desk.toml), and
+OUT/desks.csv has one line for each. After a break, --resume settles only the desks that are missing or whose files have changed. With
+--scheduler the desks go to a Dask cluster, whose workers must see the same files."""
 
 
 def add_settle(parser: argparse.ArgumentParser) -> None:
-    parser.add_argument("desks", metavar="DESK.toml", nargs="+", help="the desks")
-    parser.add_argument("-o", "--output", metavar="OUT", required=True, help="the folder that the files are written into")
-    parser.add_argument("--recount", action=argparse.BooleanOptionalAction, help="whether the recount reads the calls too")
-    parser.add_argument("--statements", action=argparse.BooleanOptionalAction, help="whether there is a statement for each instrument")
-    parser.add_argument("--pdf", action="store_true", help="print the pages as PDF too, by Chromium")
+    parser.add_argument("desks", metavar="DESK.toml", nargs="+", help="a desk; several may be given")
+    parser.add_argument("-o", "--output", metavar="OUT", required=True, help="the folder to write into")
+    parser.add_argument("--recount", action=argparse.BooleanOptionalAction, help="whether the calls are also recounted")
+    parser.add_argument("--statements", action=argparse.BooleanOptionalAction, help="whether each instrument has a statement")
+    parser.add_argument("--pdf", action="store_true", help="also print each page as a PDF, with Chromium")
     most = os.cpu_count() or 1
-    parser.add_argument("--processes", type=inputs.whole_in(1, 1_024), default=most, metavar="N", help=f"desks at a time ({most}, this machine's processors)")
-    parser.add_argument("--resume", action="store_true", help="leave desks as they are that an earlier run settled from the same files")
-    parser.add_argument("--scheduler", metavar="ADDRESS", help="the scheduler of a Dask cluster, as tcp://10.0.0.5:8786")
-    parser.add_argument("--patience", type=seconds_of, default=PATIENCE, metavar="SECONDS", help=f"how long the cluster may go without settling anything ({PATIENCE:g})")
+    parser.add_argument("--processes", type=inputs.whole_in(1, 1_024), default=most, metavar="N", help=f"desks settled at a time (default: {most}, this machine's processors)")
+    parser.add_argument("--resume", action="store_true", help="skip the desks that an earlier run settled from the same files")
+    parser.add_argument("--scheduler", metavar="ADDRESS", help="the scheduler of a Dask cluster, such as tcp://10.0.0.5:8786")
+    parser.add_argument("--patience", type=seconds_of, default=PATIENCE, metavar="SECONDS", help=f"end the run if the cluster settles nothing for so long (default: {PATIENCE:g})")
 
 
 def complain_all(lines: Sequence[str]) -> None:
@@ -92,7 +103,7 @@ def plan(args: argparse.Namespace) -> int:
     elif args.csv:
         output.write(args.output, plan_lines.csv_text(found))
     else:
-        after = f"a in hundred-thousandths, b and SP in price steps; local time of {desk.programme.timezone}\n"
+        after = f"e is the expiry, q the quantum; a is in hundred-thousandths, b and SP are in price steps; local time is that of {desk.programme.timezone}\n"
         output.table(args.output, plan_lines.HEADS, plan_lines.table_rows(found), after)
     reasons = plan_lines.reasons(found)
     complain_all(reasons)
@@ -106,6 +117,8 @@ def settle(args: argparse.Namespace) -> int:
     if args.statements and args.recount is False:
         raise inputs.WrongUse("a statement compares both readings: --statements and --no-recount do not go together")
     manner, out = Manner(args.statements or args.recount, args.statements, args.pdf), Path(args.output)
+    if out.exists() and not out.is_dir():
+        raise ValueError(f"{out} is a file, expected a folder to write into: choose another -o")
     native.library()  # a missing library is said once
     tasks = many.tasks(args.desks, out)
     found = many.left_to_do(tasks, manner, args.resume)
@@ -154,7 +167,7 @@ def show(done: Sequence[Summary]) -> None:
     for each in done:
         for instrument, quanta, met, failed, fee in each.months:
             rows.append([*([each.maker] if several else []), instrument, quanta, met, quanta - met, failed, money(fee)])
-    heads = [*(["maker"] if several else []), "instrument", "quanta", "met", "failed", "most failed", "fee, roubles"]
+    heads = [*(["maker"] if several else []), "instrument", "quanta", "met", "failed", "most in a series", "fee, roubles"]
     said = "".join(f"{line}\n" for line in dict.fromkeys(each.second for each in done if each.second))
     if rows:
         output.table(None, heads, rows, f"sum of the fees: {roubles(sum(each.fee for each in done))}\n{said}")

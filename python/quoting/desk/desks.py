@@ -232,7 +232,7 @@ class Loader:
             fitting = sorted(glob.glob(os.path.join(glob.escape(str(self.path.parent)), pattern), recursive=True))
             files = [Path(name) for name in fitting if os.path.isfile(name)]
             if not files and self.with_logs:
-                given.add("logs", f"no file fits {pattern!r}")
+                given.add("logs", f"no file matches {pattern!r}")
             for file in files:
                 found.setdefault(file, os.path.relpath(file, self.path.parent))
         self.inputs += [Input(name, file) for file, name in found.items()]

@@ -78,7 +78,7 @@ def percent(units: int, name: str) -> Callable[[Any], int]:
             raise ValueError(f'{shown(value)} is not a percentage, expected one such as "2%"')
         count = Decimal(value[:-1]) * units
         if count != count.to_integral_value():
-            raise ValueError(f"{value} is no whole number of {name}")
+            raise ValueError(f"{value} is not a whole number of {name}")
         return int(count)
 
     return read
@@ -93,7 +93,7 @@ def list_of(reader: Callable[[Any], T], least: int = 0) -> Callable[[Any], list[
         found = [reader(each) for each in value]
         twice = [each for at, each in enumerate(found) if each in found[:at]]
         if twice:
-            raise ValueError(f"{shown(twice[0])} is there twice")
+            raise ValueError(f"{shown(twice[0])} is listed twice")
         return found
 
     return read
@@ -157,9 +157,9 @@ def read_toml(faults: Faults, name: str, data: bytes) -> Optional[dict[str, Any]
     try:
         return tomllib.loads(data.decode("utf-8-sig"), parse_float=Decimal)
     except UnicodeDecodeError:
-        faults.add(name, "", "this is no text (not UTF-8)")
+        faults.add(name, "", "this is not a text in UTF-8")
     except tomllib.TOMLDecodeError as error:
         found = AT_LINE.fullmatch(str(error))
         place = f"line {found[2]}" if found and found[2] else "its end" if found else ""
-        faults.add(name, place, f"{found[1] if found else error}: this is no TOML")
+        faults.add(name, place, f"{found[1] if found else error}: this is not TOML")
     return None

@@ -62,7 +62,7 @@ def day_of(word: str) -> date:
 
 def symbol_of(word: str) -> str:
     if not word:
-        raise ValueError("symbol: there is none")
+        raise ValueError("symbol: is empty, expected one such as BR-12.26")
     return word
 
 

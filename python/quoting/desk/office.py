@@ -57,7 +57,7 @@ def files_of(desk: Desk, read: LogsRead) -> list[InputFile]:
 
 def versions() -> str:
     built = native.built()
-    kit = f", proved with {built['kit']}" if "kit" in built else "; the kit that it was proved with is not noted beside it"
+    kit = f", proved with {built['kit']}" if "kit" in built else "; the kit that it was proved with is not recorded beside it"
     commit = f", commit {built['commit'][:12]}" if "commit" in built else ""
     return f"libquoting {native.version()}{commit}{kit}"
 

@@ -1,6 +1,7 @@
 """The plan as a table, as CSV and as JSON."""
 
 from datetime import timezone
+from decimal import Decimal
 from typing import Any, Sequence
 
 from quoting.desk.desks import Desk
@@ -79,10 +80,20 @@ def why(each: Planned) -> str:
         return f"strike: a {each.strike.a / 10:g}, difference {each.strike.difference}, {each.strike.days} days, b {each.strike.b}"
     if volatile is None:
         return "no threshold"
-    last = "no sigma" if volatile.sigma is None else f"sigma {volatile.sigma}"
+    last = "no sigma" if volatile.sigma is None else f"sigma {millionths_text(volatile.sigma)}"
+    figures = f"{last}, threshold {millionths_text(volatile.threshold)}"
     if volatile.refused is not None:
-        return f"refused 22 ({last})"
-    return f"yes, since {volatile.since} ({last})" if volatile.is_inside else f"no ({last} before)"
+        return f"no: refused 22 ({figures})"
+    return f"yes, since {volatile.since} ({figures})" if volatile.is_inside else f"no ({figures})"
+
+
+def millionths_text(value: int) -> str:
+    """Millionths as a percentage.
+
+    >>> millionths_text(20_000), millionths_text(1_521)
+    ('2%', '0.1521%')
+    """
+    return f"{(Decimal(value) / 10_000).normalize():f}%"
 
 
 def reasons(plan: Sequence[Planned]) -> list[str]:

@@ -198,7 +198,7 @@ def remarks_of(work: Work, refused: list[tuple[int, int]]) -> Iterator[Remark]:
 def missing_charges(desk: Desk, plan: Sequence[Planned]) -> Iterator[Remark]:
     for each in plan:
         if desk.charges_of(each) is None:
-            yield Remark("missing", str(each.date), name_of(each), f"{desk.charge_file} has no line", "charged 0 and 0")
+            yield Remark("missing", str(each.date), name_of(each), f"{desk.charge_file} has no line for this quantum", "both charges are taken as 0")
 
 
 def refused_days(plan: Sequence[Planned]) -> Iterator[Remark]:
