@@ -12,7 +12,7 @@ LIBRARY := target/library
 ARCHIVES := target/staticlib
 # The archives of which the library is made: crate `quoting` with every call, then those with one call each that must be fast. In an archive of
 # its own the compiler inlines all that a call runs; with two callers in one archive it inlines that into neither.
-HOT := session c_records $(if $(wildcard crates/c_scan),c_scan)
+HOT := session c_call c_records $(if $(wildcard crates/c_scan),c_scan)
 HEADERS := quoting.h quoting_typed.h quoting.hpp
 # The values of this build in a file of lib/: $(call filled,NAME,PREFIX)
 filled = sed -e 's|@PREFIX@|$(2)|' -e 's|@LIBDIR@|$(patsubst $(PREFIX)/%,$${prefix}/%,$(LIBDIR))|' -e 's|@VERSION@|$(VERSION)|' -e 's|@MAJOR@|$(MAJOR)|' lib/$(1).in
@@ -24,14 +24,9 @@ test:  ## the gate: proofs, must-fail edits, programs and all tests; tests alone
 help:  ## this list
 	@sed -n 's/^\([a-z]*\):[^#]*## \(.*\)/make \1\t\2/p' $(MAKEFILE_LIST) | expand -t 16
 
-# The sheet of a shipped session, and a month of calls; then a month's statement, where its needs are there.
-demo:  ## a session's sheet, a month of calls and a month's statement
-	rt check sheet replay
-	@if command -v cc >/dev/null && $(PYTHON) -c 'import jinja2' 2>/dev/null; then $(MAKE) -s statement PYTHON=$(PYTHON); fi
-	PYTHON=$(PYTHON) ./quoting bytes examples/brent.session | target/bin/sheet
-	PYTHON=$(PYTHON) ./quoting bytes examples/month.calls | target/bin/replay
-	@if [ -s target/brent.html ]; then echo "a month's statement is target/brent.html"; \
-	else echo "for a month's statement: apt-get install gcc python3-jinja2, then make statement"; fi
+# Each result is shown as soon as what it rests on is proved (tools/demo.py).
+demo:  ## a session, a month and a month's statement, each as soon as it is proved
+	@$(PYTHON) tools/demo.py
 
 # The statement of a shipped month as a page that can be printed: target/brent.html. Two of its messages are refused, so the command ends with 1.
 statement: library  ## target/brent.html: the statement of a shipped month
@@ -70,12 +65,14 @@ link:
 	ln -sf libquoting.so.$(MAJOR) $(LIBRARY)/libquoting.so
 	cp $(addprefix include/,$(HEADERS)) $(LIBRARY)
 	$(call filled,quoting.pc,$(PREFIX)) > $(LIBRARY)/quoting.pc
+	$(PYTHON) tools/manual.py page > $(LIBRARY)/quoting.1
+	$(PYTHON) tools/manual.py completion > $(LIBRARY)/quoting.bash
 
 built:
 	@[ -e $(LIBRARY)/libquoting.so ] || { echo "run make library first" >&2; exit 1; }
 
 # Puts what `make library` has built where pkg-config and CMake find it: make install PREFIX=/usr LIBDIR=/usr/lib64 DESTDIR=/tmp/root
-install: built  ## puts the library under PREFIX (/usr/local), below DESTDIR
+install: built  ## puts the library and the manual page under PREFIX (/usr/local), below DESTDIR
 	install -d $(DESTDIR)$(PREFIX)/include $(DESTDIR)$(LIBDIR)/pkgconfig $(DESTDIR)$(LIBDIR)/cmake/quoting
 	for header in $(HEADERS); do install -m 644 $(LIBRARY)/$$header $(DESTDIR)$(PREFIX)/include/$$header || exit 1; done
 	install -m 644 $(LIBRARY)/libquoting.a $(DESTDIR)$(LIBDIR)/libquoting.a
@@ -83,6 +80,9 @@ install: built  ## puts the library under PREFIX (/usr/local), below DESTDIR
 	ln -sf libquoting.so.$(VERSION) $(DESTDIR)$(LIBDIR)/libquoting.so.$(MAJOR)
 	ln -sf libquoting.so.$(MAJOR) $(DESTDIR)$(LIBDIR)/libquoting.so
 	$(call filled,quoting.pc,$(PREFIX)) > $(DESTDIR)$(LIBDIR)/pkgconfig/quoting.pc
+	install -d $(DESTDIR)$(PREFIX)/share/man/man1 $(DESTDIR)$(PREFIX)/share/bash-completion/completions
+	install -m 644 $(LIBRARY)/quoting.1 $(DESTDIR)$(PREFIX)/share/man/man1/quoting.1
+	install -m 644 $(LIBRARY)/quoting.bash $(DESTDIR)$(PREFIX)/share/bash-completion/completions/quoting
 	for name in quoting-config quoting-config-version; do \
 		sed -e 's|@VERSION@|$(VERSION)|' -e 's|@MAJOR@|$(MAJOR)|' lib/$$name.cmake.in > $(DESTDIR)$(LIBDIR)/cmake/quoting/$$name.cmake || exit 1; done
 

@@ -13,6 +13,7 @@ except ImportError:  # before setuptools 70
     from wheel.bdist_wheel import bdist_wheel
 
 LIBRARY = Path(__file__).resolve().parent / "target" / "library" / "libquoting.so"
+BUILT = LIBRARY.with_name("BUILT")  # its version, its commit and the kit that proved it
 
 
 class BuildWithLibrary(build_py):
@@ -21,6 +22,8 @@ class BuildWithLibrary(build_py):
         if not LIBRARY.exists():
             raise SystemExit("target/library is not built: run make library first")
         shutil.copyfile(LIBRARY, Path(self.build_lib) / "quoting" / "libquoting.so")
+        if BUILT.exists():
+            shutil.copyfile(BUILT, Path(self.build_lib) / "quoting" / "BUILT")
 
 
 class OfOneMachine(Distribution):

@@ -384,13 +384,21 @@ class Book:
             events = self.events_of(message)
         except fix.Unread as unread:
             return Refused(unread.number)
-        quoting, count = self.quoting and self.quoting.copy(), self.count
-        for event in events:
+        before = self.quoting and (len(self.quoting.events), dict(self.quoting.live)) if len(events) > 1 else None
+        for taken, event in enumerate(events):
             answer = self.call(event)
             if isinstance(answer, Refused):
-                self.quoting, self.count = quoting, count
+                if taken:
+                    self.take_back(before, taken)
                 return answer
         return Accepted()
+
+    def take_back(self, before, taken):
+        """Undoes the calls of a message before the refused one: the events and orders are again those before it."""
+        count, live = before
+        del self.quoting.events[count:]
+        self.quoting.live = live
+        self.count = (self.count - taken) % COUNTS
 
     def events_of(self, message: Message) -> list[Add | Cancel]:
         """The calls that a message is. One before the start has a t below 0, which is before every

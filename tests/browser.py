@@ -32,9 +32,9 @@ def children(pid):
 class Served:
     """The command, until the `with` block ends: then by Ctrl-C, with the status and the sentence of every command."""
 
-    def __init__(self, *words, tree=ROOT):
+    def __init__(self, *words, tree=ROOT, command=("watch",)):
         pipes = {"stdin": subprocess.PIPE, "stdout": subprocess.PIPE, "stderr": subprocess.PIPE}
-        self.process = subprocess.Popen([tree / "quoting", "watch", *map(str, words), "--port", "0"], cwd=ROOT, preexec_fn=restore_sigint, **pipes)
+        self.process = subprocess.Popen([tree / "quoting", *command, *map(str, words), "--port", "0"], cwd=ROOT, preexec_fn=restore_sigint, **pipes)
         line = self.process.stdout.readline().decode() if select.select([self.process.stdout], [], [], PATIENCE)[0] else "nothing"
         found = LINK.fullmatch(line)
         if found is None:

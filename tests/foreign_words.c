@@ -19,6 +19,7 @@
 #include <sys/wait.h>
 #include <unistd.h>
 
+#include "blocks.h"
 #include "quoting.h"
 
 enum { MONTH = QUOTING_MONTH_WORDS, HINTS = QUOTING_HINT_BYTES, ANSWER = QUOTING_ANSWER_WORDS, VIEW = QUOTING_VIEW_WORDS };
@@ -64,27 +65,8 @@ static struct lent said[BYTES + 1];
 
 /* ---- calls */
 
-struct call {
-    const char *name;
-    uint8_t bytes[BYTES];
-    size_t length;
-    int is_records;
-};
-
 static struct call calls[CALLS];
 static size_t made;
-
-static void put(uint8_t *at, uint32_t n) {
-    for (int i = 0; i < 4; i++) at[i] = (uint8_t) (n >> 8 * i);
-}
-
-static struct call block(const char *name, size_t count, const uint32_t *numbers) {
-    struct call c = {.name = name, .length = 4 * count};
-    for (size_t i = 0; i < count; i++) put(c.bytes + 4 * i, numbers[i]);
-    return c;
-}
-
-#define BLOCK(name, ...) block(name, sizeof((uint32_t[]){__VA_ARGS__}) / 4, (uint32_t[]){__VA_ARGS__})
 
 static const char *const start = "20261102-10:00:00.000";
 

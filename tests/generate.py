@@ -5,24 +5,19 @@ along, so that most of them are accepted and quotes appear, break and come back;
 mixed in on purpose.
 """
 
-from pathlib import Path
-
 from recount import records
 from recount.book import (
     BUY, LIVE_LIMIT, MOST_LAPSES, NO_LIMIT, PRICE_LIMIT, SELL, VOLUME_LIMIT, Add, Amend, Book,
     Cancel, Deal, Open, Row, Strike, Tick, best_ask, best_bid, keeps, pass_event, widest,
 )
 from recount.session import HEAD
-from tests import session_text
+from tests import plain_programmes
 
 LONGEST = 86_400_000
 WORD_END = 2**32
 
-ROWS = Path(__file__).resolve().parent.parent / "examples" / "programmes"
 FUTURES = ("003-brent-gold-silver", "004-mini-metals", "001-stock-futures-on-holidays")  # of options the rows have no spread
-PROGRAMMES = [
-    session_text.row_words(words) for name in FUTURES for _, _, words in session_text.lines((ROWS / f"{name}.rows").read_text())
-]
+PROGRAMMES = [words for name in FUTURES for _, words in plain_programmes.rows_of(name)]
 
 
 def clamp(value, low, high):

@@ -12,6 +12,7 @@
 #include <string.h>
 #include <sys/mman.h>
 
+#include "blocks.h"
 #include "quoting.h"
 
 enum {
@@ -79,27 +80,9 @@ static uint64_t measure(const char *name, uint64_t (*call)(const void *), const 
 
 /* ---- a month's calls */
 
-struct call {
-    const char *name;
-    uint8_t bytes[256];
-    size_t length;
-};
-
 static uint32_t words[MONTH], answer[ANSWER], view[QUOTING_VIEW_WORDS];
 static uint8_t hints[HINTS], list[1 << 16];
 static size_t listed;
-
-static void put(uint8_t *at, uint32_t n) {
-    for (int i = 0; i < 4; i++) at[i] = (uint8_t) (n >> 8 * i);
-}
-
-static struct call block(const char *name, size_t count, const uint32_t *numbers) {
-    struct call c = {.name = name, .length = 4 * count};
-    for (size_t i = 0; i < count; i++) put(c.bytes + 4 * i, numbers[i]);
-    return c;
-}
-
-#define BLOCK(name, ...) block(name, sizeof((uint32_t[]){__VA_ARGS__}) / 4, (uint32_t[]){__VA_ARGS__})
 
 static struct call message(uint32_t kind, uint32_t id, uint32_t of, const char *sixty) {
     uint32_t fields[6] = {kind, id, of, 1, 5, 4990};

@@ -140,7 +140,7 @@ def test_fix_log():
     assert command.run("calls", "-", given=calls).status == 0, calls
     wrong = b"\n".join([barred[0], barred[1].replace(b"8458", b"8459"), fix.write(fix.Order("G", 9, 1, "sell", 1, 1, times[3]))])
     done = command.run("fix", "-", *START, *ROW, given=wrong)
-    assert done.status == 1 and "line 2: refused 20: " in done.complaint and "line 3: refused 21: order 1 is a buy" in done.complaint, done
+    assert done.status == 1 and "line 2: refused 20: " in done.complaint and "line 3: refused 21: the order 41=1 is of the other side" in done.complaint, done
 
 
 # ---------------------------------------------------------------- odd streams and files

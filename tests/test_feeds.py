@@ -12,14 +12,16 @@ from pathlib import Path
 import pytest
 
 from quoting import calls as c
-from quoting import fix, inputs, month_sources, reading
+from quoting import exchange, fix, inputs, month_sources, reading
 from quoting.events import Tick
+from quoting.exchange.choice import LogOptions
+from quoting.formats import call_text
 from quoting.reading import PLAIN, Options, TextError
 from quoting.month_sources import Sent
-from quoting.watch import feeds, messages
+from quoting.watch import feeds, lists, logged
 from quoting.watch.clocks import FeedClock, WallClock
-from quoting.watch.feeds import CallsFeed, Changed, Trouble
-from quoting.watch.messages import MessagesFeed
+from quoting.watch.feeds import Again, CallsFeed, Changed, Trouble
+from quoting.watch.logged import LogFeed
 from quoting.watch.playing import Playing
 from tests import command
 from tests.paths import EXAMPLES, PROGRAMMES, ROOT
@@ -49,8 +51,8 @@ def drained(feed):
 
 
 def shown(items):
-    """Places of calls, and of troubles with their texts."""
-    return [item.place if isinstance(item, Sent) else (item.place, item.text) for item in items]
+    """Places of calls, and of troubles with their texts; not what was read of a log."""
+    return [item.place if isinstance(item, Sent) else (item.place, item.text) for item in items if isinstance(item, Sent) or item.logged is None]
 
 
 class Steps:
@@ -361,7 +363,7 @@ def test_missing_log_or_list(tmp_path):
         (ValueError, "is not a time", (log, log), "10:00"),
     ]:
         with pytest.raises(kind, match=said):
-            MessagesFeed(*names, PLAIN, start, FeedClock(), True)
+            LogFeed(*names, PLAIN, start, FeedClock(), True)
 
 
 def test_time_of_writing(tmp_path):
@@ -517,7 +519,7 @@ class Month:
         self.list.write_text(calls)
         self.log.write_bytes(log)
         self.clock = Still(moment)
-        self.feed = MessagesFeed(str(self.log), str(self.list), PLAIN, start, self.clock, follow)
+        self.feed = LogFeed(str(self.log), str(self.list), PLAIN, start, self.clock, follow)
 
     def read(self):
         """What comes now, log and list by their plain names."""
@@ -547,10 +549,11 @@ def test_months():
     for name in ("brent", "gold-mini"):
         calls, log = programme(name)
         due = month_sources.from_list(calls, PLAIN, [log])
-        feed = MessagesFeed(log, calls, PLAIN, None, FeedClock(), False)
+        feed = LogFeed(log, calls, PLAIN, None, FeedClock(), False)
         found = drained(feed)
-        assert sent_of(found) == due.calls and feed.ended == "end" and feed.skipped == 0, name
-        assert [f"{item.place}: {item.text}" for item in found if isinstance(item, Trouble)] == due.left and len(due.left) == 1, due.left
+        assert sent_of(found) == due.calls and feed.ended == "end", name
+        said = [f"{item.place}: {item.text}" for item in found if isinstance(item, Trouble) and item.logged is None]
+        assert said == due.left and len(due.left) == 2, due.left
         assert feed.count == sum(os.path.getsize(file) for file in (calls, log)) and feed.name == log
 
 
@@ -567,7 +570,7 @@ def test_growing_months(tmp_path):
             append(month.log, data[place : place + size])
             place += size
             found += sent_of(month.feed.read())
-            check_opened(found, month.feed.seen)
+            check_opened(found, month.feed.seen())
         assert 600 < len(found) < len(due), (name, len(found))
         month.clock.time = datetime(2026, 12, 1)
         found += sent_of(drained(month.feed))
@@ -577,13 +580,13 @@ def test_growing_months(tmp_path):
 
 def check_opened(found, seen):
     for item in found[-5:]:
-        assert item.start is None or fix.moment(item.start) <= seen, (item, seen)
+        assert item.start is None or exchange.milliseconds(item.start) <= seen, (item, seen)
 
 
 def test_any_months(tmp_path):
     """Finished logs whose messages come in any order, some without a time or in no quantum, are the statement's too."""
     rng = random.Random(4)
-    left = 0
+    untimed = events = 0
     for _ in range(60):
         calls = "".join(quantum(f"10:00:{rng.randrange(60):02}.000", rng.choice("AB"), day) for day in range(1, rng.randrange(2, 6)))
         calls = "report\n" + calls.replace("close", rng.choice(["close", "look 1 1 1\nclose"]))
@@ -592,31 +595,13 @@ def test_any_months(tmp_path):
         log = b"".join(each.replace(b"\x01", rng.choice([b"|", b"\x01"])) + rng.choice([b"\n", b"\r\n", b" "]) for each in sent)
         month = Month(tmp_path, calls, log + b"8=FIX.4.4|35=0|10=000|\n", follow=False)
         due = month_sources.from_list(str(month.list), PLAIN, [str(month.log)])
-        found, in_no_quantum = drained(month.feed), len(due.left) - 1
+        found = drained(month.feed)
         assert sent_of(found) == due.calls and due.left[-1].endswith("refused 20: 9, the length, does not follow 8"), due.left[-1]
-        assert month.feed.skipped == in_no_quantum and month.feed.ended == "end"
-        assert len(found) - len(due.calls) == 1 + min(1, in_no_quantum), "one trouble for all messages in no quantum"
-        left += in_no_quantum
-    assert left > 100, left
-
-
-def in_none(line):
-    return (f"log: line {line}", "this message is in no quantum of the list; others like it are counted and not shown")
-
-
-def test_times():
-    """Times of messages are those that the statement reads."""
-    rng = random.Random(5)
-    read = 0
-    for _ in range(500):
-        day = f"{rng.choice([0, 1, 1900, 2024, 2026, 9999]):04}{rng.randrange(14):02}{rng.randrange(33):02}"
-        text = f"{day}-{rng.randrange(26):02}:{rng.randrange(62):02}:{rng.randrange(62):02}.{rng.randrange(1000):03}"
-        text = text[: rng.choice([21, 21, 21, 17])] + rng.choice(["", "", "", "0", "\xb2"])
-        data = f"35=D\x0160={text}\x0160=20261102-10:00:00.000\x01".encode("latin-1")
-        assert messages.time_of(data) == month_sources.time_of(data), data
-        read += messages.time_of(data) is not None
-    assert 100 < read < 400, read
-    assert messages.time_of(b"\x0135=D\x01") is None
+        said = [f"{item.place}: {item.text}" for item in found if isinstance(item, Trouble) and item.logged is None]
+        assert said == due.left and month.feed.ended == "end"
+        untimed += sum("60 is absent" in each for each in due.left)
+        events += len(due.calls) - calls.count("\n") + calls.count("start")
+    assert untimed >= 60 and events > 150, (untimed, events)
 
 
 def test_time(tmp_path):
@@ -626,27 +611,27 @@ def test_time(tmp_path):
     assert month.more(message(1, "10:00:00.000")) == ["line 2", "log: line 1"]
     damaged = message(2, "10:00:30.000").replace(b"54=1", b"54=2")
     found = month.more(message(3, "10:00:10.000"), damaged)
-    assert found[0] == "log: line 2" and found[1][0] == "log: line 3" and found[1][1].startswith("refused 20: the checksum (10) is "), found
-    assert month.more(message(4, "10:00:10.001")) == [in_none(4), "line 3"]
-    late = ("log: line 5", "this message came when its quantum was past and the list had gone on; it is not counted")
-    assert month.more(message(5, "10:00:09.000"), message(6, "10:00:15.000")) == [late] and month.feed.skipped == 3, month.feed.skipped
-    assert month.more(message(7, None)) == [(late[0].replace("5", "7"), late[1])], "it goes where the one before it went"
-    assert month.more(message(8, "10:00:20.000")) == ["line 5", "log: line 8"]
+    assert found[0][0] == "log: line 3" and found[0][1].startswith("refused 20: the checksum (10) is ") and found[1:] == ["log: line 2"], found
+    assert month.more(message(4, "10:00:10.001")) == ["line 3"]
+    assert month.more(message(6, "10:00:15.000")) == []
+    assert month.more(message(7, None)) == [("log: line 6", "refused 21: 60 is absent (A)")]
+    assert month.more(message(8, "10:00:20.000")) == ["line 5", "log: line 7"]
     month.clock.time = at("10:00:35")
     assert month.read() == []
-    assert month.more(message(9, "10:00:30.000"), message(10, None)) == ["log: line 9", "log: line 10"]
+    assert month.more(message(9, "10:00:30.000")) == ["log: line 8"]
     month.clock.time = at("10:00:35.001")
     assert month.read() == ["line 6", "line 7"] and month.feed.ended is None
 
 
-def test_untimed(tmp_path):
-    """A message whose time can't be read goes where the one before it went: to the quantum that is open, or to one that comes later."""
-    month = Month(tmp_path, quantum("10:00:00.000", "A") + quantum("10:00:00.000", "B", 2) + "report\n")
-    assert month.more(message(1, "10:00:01.000", "A"), message(2, "10:00:02.000", "B")) == ["line 2", "log: line 1"]
-    assert month.more(message(3, None, "A")) == []
-    assert month.more(message(4, "10:00:03.000", "A"), message(5, None, "B")) == ["log: line 4", "log: line 5"]
-    month.clock.time = at("10:01:00")
-    assert month.read() == ["line 3", "line 5", "log: line 2", "log: line 3", "line 6", "line 7"]
+def test_late(tmp_path):
+    """A message with an earlier time than others is given in its place: all calls come again. One in no quantum changes nothing."""
+    month = Month(tmp_path, quantum("10:00:00.000", "A") + quantum("10:00:20.000", "A", 2))
+    assert month.more(message(1, "10:00:01.000"), message(2, "10:00:05.000")) == ["line 2", "log: line 1", "log: line 2"]
+    assert month.more(message(3, "09:00:00.000"), message(4, "10:00:03.000")) == [("", logged.LATE), "line 2", "log: line 1", "log: line 4", "log: line 2"]
+    assert month.more(message(5, "10:00:20.000")) == ["line 3", "line 5", "log: line 5"]
+    assert month.more(message(6, "10:00:15.000")) == [("", logged.LATE), "line 2", "log: line 1", "log: line 4", "log: line 2", "line 3", "line 5", "log: line 5"]
+    again = month.more(message(7, "10:00:09.000"))
+    assert again[0] == ("", logged.LATE) and again[1:] == ["line 2", "log: line 1", "log: line 4", "log: line 2", "log: line 7", "line 3", "line 5", "log: line 5"]
 
 
 def test_midnight(tmp_path):
@@ -664,27 +649,124 @@ def test_clock(tmp_path):
     times = [f"10:00:0{second}.000" for second in range(10)] * 2_000
     month = Month(tmp_path, quantum("10:00:00.000"), log_of(*(message(id, time) for id, time in enumerate(times))), moment=at("23:00:00"))
     found = month.read()
-    assert len(found) == 20_002 and found[-1] == "line 3" and month.feed.skipped == 0, (len(found), found[-2:])
+    assert len(found) == 20_002 and found[-1] == "line 3", (len(found), found[-2:])
 
 
 def test_listed_later(tmp_path):
     """An open that is written after its messages gets them; an open without a start has the command's."""
     month = Month(tmp_path, "", log_of(message(1, "10:00:01.000"), message(2, "10:00:30.000"), message(3, None)))
-    assert month.read() == [in_none(1)]
-    assert month.feed.skipped == 3
+    assert month.read() == [("log: line 3", "refused 21: 60 is absent (A)")]
     assert month.listed("report\n" + quantum("10:00:00.000").rsplit("\n", 2)[0]) == ["line 1"], "the last line has no end so far"
-    assert month.listed("\n") == ["line 3", "log: line 1"] and month.feed.skipped == 2
+    assert month.listed("\n") == ["line 3", "log: line 1"]
     assert month.more(message(4, "10:00:09.000")) == ["log: line 4"], "it stays open while nothing is listed after it"
     assert month.listed("close 1 2\n") == ["line 4"]
     assert month.feed.count == month.list.stat().st_size + month.log.stat().st_size
     month = Month(tmp_path, f"{OPEN}\nclose 1 2\n", start="20261102-10:00:00.000")
-    assert month.more(message(1, "09:59:59.000"), message(2, "10:00:01.000", "B")) == [in_none(1), "line 1", "log: line 2"]
-    assert month.more(message(3, "10:00:11.000")) == ["line 2"]
+    assert month.more(message(1, "09:59:59.000", "B"), message(2, "10:00:01.000", "B")) == ["line 1", "log: line 2"]
+    assert month.more(message(3, "10:00:11.000", "B")) == ["line 2"]
     month = Month(tmp_path, f"{OPEN}\nclose 1 2\n")
     assert month.read() == ["line 1", "line 2"], "without any start it takes no messages"
-    month = Month(tmp_path, f"start 99991231-23:59:59.999\n{OPEN}\nreport\ntock\n")
+    month = Month(tmp_path, f"report\nstart 99991231-23:59:59.999\n{OPEN}\nreport\ntock\n")
     found = month.read()
-    assert [each if isinstance(each, str) else each[0] for each in found] == ["list: line 2", "list: line 4", "line 3"], found
+    assert [each if isinstance(each, str) else each[0] for each in found] == ["list: line 5", "line 1"], found
+
+
+def test_another_symbol_is_listed(tmp_path):
+    """The log is read again by the symbols that are listed by then, and goes on where it was."""
+    log = log_of(message(1, "10:00:01.000"), message(2, "10:00:02.000", "B"), message(3, "10:00:10.500", "A"))
+    month = Month(tmp_path, quantum("10:00:00.000", "A"), log)
+    assert month.read() == ["line 2", "log: line 1", "line 3"]
+    assert month.listed(quantum("10:00:00.000", "B", 2)) == ["line 5", "log: line 2", "line 6"]
+    month.log.rename(month.log.with_suffix(".1"))
+    assert month.more(message(4, "10:00:21.000", "B")) + month.read() == [("log", ROTATED[1])]
+    assert month.listed(quantum("10:00:20.000", "C", 3))[0] == ("list", logged.NOT_READ)
+
+
+def test_several_symbols(tmp_path):
+    """A quantum that names no symbol counts that of its first message, and says so."""
+    month = Month(tmp_path, quantum("10:00:00.000"), log_of(message(1, "10:00:01.000"), message(2, "10:00:02.000", "B"), message(3, "10:00:03.000")))
+    opened, said, *events = month.read()
+    assert opened == "line 2" and said[0] == "the quantum that starts 20261102-10:00:00.000" and "more than one symbol (55): A" in said[1], said
+    assert events == ["log: line 1", "log: line 3"]
+
+
+# ---------------------------------------------------------------- reports
+
+
+def report(execution, id, time, more="", symbol="A"):
+    """An execution report of the exchange, as a raw message."""
+    body = f"35=8|37=X{id}|11=C{id}|17=E{id}{execution}{time}|150={execution}|55={symbol}|54=1|{more}60=20261102-{time}|"
+    return fix.framed(body.replace("|", "\x01").encode())
+
+
+NEW = "44=99|151=500|"
+
+
+def events_text(items):
+    return [call_text(item.block) for item in items if isinstance(item, Sent)]
+
+
+def test_reports_count(tmp_path):
+    """Orders that rest when the quantum starts are carried in; fills and cancels come as they are reported; the page has the counts."""
+    month = Month(tmp_path, quantum("10:00:00.000", "A"), log_of(report("0", 1, "09:59:00.000", NEW), message(7, "10:00:00.500")))
+    assert events_text(drained(month.feed)) == [], "the quantum is not reached"
+    append(month.log, log_of(report("F", 1, "10:00:01.000", "32=200|"), report("8", 2, "10:00:01.500")))
+    found = drained(month.feed)
+    assert events_text(found)[1:] == ["add 0 1 buy 99 500", "deal 1000 1 200"], found
+    said = [item.logged for item in found if isinstance(item, Trouble)][-1]
+    assert said == feeds.Logged("by reports: 2 changes, 1 fill, 1 reject", 1, 0), said
+    append(month.log, log_of(report("4", 1, "10:00:02.000"), report("F", 9, "10:00:03.000", "32=1|")))
+    found = drained(month.feed)
+    assert events_text(found) == ["cancel 2000 1"] and "the order 37=X9 is not known" in "".join(item.text for item in found if isinstance(item, Trouble))
+    append(month.log, log_of(report("0", 3, "10:00:01.250", NEW)))
+    found = drained(month.feed)
+    assert isinstance(found[0], Again) and events_text(found)[1:] == ["add 0 1 buy 99 500", "deal 1000 1 200", "add 1250 2 buy 99 500", "cancel 2000 1"], found
+
+
+def test_requests_until_there_are_reports(tmp_path):
+    """By default requests count until the first report comes; then all calls come again, by reports."""
+    month = Month(tmp_path, quantum("10:00:00.000", "A"), log_of(message(1, "10:00:01.000")))
+    assert events_text(drained(month.feed))[1:] == ["add 1000 1 buy 99 500"]
+    append(month.log, log_of(report("0", 1, "10:00:01.002", NEW)))
+    found = drained(month.feed)
+    assert (found[0].text, events_text(found)[1:]) == (logged.BY_REPORTS, ["add 1002 1 buy 99 500"]) and isinstance(found[0], Again)
+
+
+def test_requests_where_there_are_reports(tmp_path):
+    """With --from requests the page has how many answers it leaves out."""
+    month = Month(tmp_path, quantum("10:00:00.000", "A"), log_of(message(1, "10:00:01.000"), report("0", 1, "10:00:01.002", NEW)))
+    month.feed = LogFeed(str(month.log), str(month.list), PLAIN, None, month.clock, True, LogOptions("requests", account=None))
+    found = drained(month.feed)
+    assert events_text(found)[1:] == ["add 1000 1 buy 99 500"]
+    assert [item.logged for item in found if isinstance(item, Trouble)][-1] == feeds.Logged("by requests: 1 change", 0, 1)
+
+
+def test_reports_grow_to_the_statement(tmp_path):
+    """Random reports that come in any order and in any pieces: at each moment what was given since the last `Again` starts the statement's
+    calls of the log so far, and in the end it is all of them."""
+    rng = random.Random(6)
+    agains = 0
+    for _ in range(25):
+        calls = "".join(quantum(f"10:00:{20 * day:02}.000", "A", day) for day in range(3))
+        lines = [report("0", id, f"10:00:{rng.randrange(60):02}.{rng.randrange(1000):03}", NEW) for id in range(20)]
+        lines += [report(rng.choice("F45"), rng.randrange(22), f"10:00:{rng.randrange(60):02}.000", "32=100|44=98|151=300|41=C1|") for _ in range(30)]
+        rng.shuffle(lines)
+        if rng.random() < 0.5:
+            lines.sort(key=lambda line: line[line.index(b"\x0160=") :])
+        month, given = Month(tmp_path, calls), []
+        for line in lines:
+            append(month.log, log_of(line))
+            for item in drained(month.feed):
+                if isinstance(item, Again):
+                    given, agains = [], agains + 1
+                elif isinstance(item, Sent):
+                    given.append(item)
+            due = month_sources.from_list(str(month.list), PLAIN, [str(month.log)]).calls
+            assert given == due[: len(given)], (given, due)
+        month.clock.time = at("11:00:00")
+        given += sent_of(drained(month.feed))
+        assert given == due, "all of them"
+    assert agains > 100, agains
 
 
 def test_saved_again(tmp_path):
@@ -708,13 +790,13 @@ def test_saved_again(tmp_path):
 
     assert replaced("# and a line more\n" + first + "close 1 2\n") == ["line 5"]
     assert written(first + "close 1 2\nreport\n") == ["line 5"], "in place"
-    changed, fewer = ("list: line 3", messages.OTHER_CALL), ("list", messages.FEWER_CALLS)
+    changed, fewer = ("list: line 3", lists.OTHER_CALL), ("list", lists.FEWER_CALLS)
     other = first.replace("day 1", "day 2") + "close 3 4\nreport\nreport\n"
     assert replaced(other) == [changed, "line 3", "log: line 1", "line 4", "line 5", "line 6"]
     assert written("# in place, and longer\n" * 10 + other + "report\n") == ["line 17"]
     assert written(other + "report\nreport\n") == ["line 8"], "in place, and shorter"
     assert written(other) == [fewer, "line 3", "log: line 1", "line 4", "line 5", "line 6"]
-    assert written("") == [fewer, in_none(1)] and written(other) == ["line 3", "log: line 1", "line 4", "line 5", "line 6"]
+    assert written("") == [fewer] and written(other) == ["line 3", "log: line 1", "line 4", "line 5", "line 6"]
     month.list.unlink()
     assert month.read() + month.read() == [("list", "the file has gone away; it is opened again when it is there")]
 
@@ -729,22 +811,21 @@ def test_log_ends(tmp_path):
     month.log.rename(month.log.with_suffix(".1"))
     assert month.more(message(4, "10:00:03.000")) + month.read() == [("log", ROTATED[1]), "log: line 1"]
     raw = message(5, "10:00:04.000") + message(6, "10:00:05.000")
-    sizes = [size * len(raw) // 2 for size in range(6)]
     for byte in raw[:-1]:
         append(month.log, bytes([byte]))
         found = month.read()
         assert found == [] or byte == 1, "a message came before its end"
     assert month.more() == [] and len(raw) > 100
-    append(month.log, raw[-1:] + raw + raw[:20])
-    assert month.read() == [f"log: line 2, byte {1 + size}" for size in sizes[1:4]]
-    append(month.log, raw[20:] + b"\n")
-    assert month.read() == [f"log: line 2, byte {1 + size}" for size in sizes[4:6]]
+    append(month.log, raw[-1:] + (message(8, "10:00:05.000") + message(9, "10:00:05.500"))[:-20])
+    assert month.read() == ["log: line 2"] * 2
+    append(month.log, message(9, "10:00:05.500")[-20:] + b"\n")
+    assert month.read() == ["log: line 2"]
     assert month.more(message(7, "10:00:06.000")) == ["log: line 3"]
     month.log.unlink()
     os.mkfifo(month.log)
     month = Month.__new__(Month)
     month.list, month.log, month.clock = tmp_path / "list", tmp_path / "log", Still(at("10:00:01"))
-    month.feed = MessagesFeed(str(month.log), str(month.list), PLAIN, None, month.clock, True)
+    month.feed = LogFeed(str(month.log), str(month.list), PLAIN, None, month.clock, True)
     assert month.read() == ["line 2"]
     with open(month.log, "wb") as into:
         into.write(log_of(message(1, "10:00:00.000")))
@@ -858,7 +939,7 @@ def test_played_months():
     calls, log = programme("brent")
     due = [sent.place for sent in month_sources.from_list(calls, PLAIN, [log]).calls]
     for step in (0.25, 3.0):
-        found, _ = played(MessagesFeed(log, calls, PLAIN, None, FeedClock(), False), 3_600, step)
+        found, _ = played(LogFeed(log, calls, PLAIN, None, FeedClock(), False), 3_600, step)
         assert [place for _, items in found for place in items if isinstance(place, str)] == due, step
         times = {place: time for time, items in found for place in items}
         first = times[f"{log}: line 1"] - times["line 9"]  # 10:23:30.245 in a quantum from 10:00:00
@@ -905,14 +986,14 @@ def test_listed_by_pipe(tmp_path):
     path = tmp_path / "calls"
     os.mkfifo(path)
     log = Steps(tmp_path, "log", log_of(message(1, "10:00:01.000")))
-    feed = MessagesFeed(str(log.path), str(path), PLAIN, None, FeedClock(), False)
+    feed = LogFeed(str(log.path), str(path), PLAIN, None, FeedClock(), False)
     assert drained(feed) == [] and feed.ended is None
     with open(path, "w") as into:
         into.write("report\n")
         into.flush()
         assert drained(feed) == [] and feed.ended is None
         into.write(quantum("10:00:00.000").rstrip())
-    assert [item.place for item in drained(feed)] == ["line 1", "line 3", f"{log.path}: line 1", "line 4"] and feed.ended == "end"
+    assert shown(drained(feed)) == ["line 1", "line 3", f"{log.path}: line 1", "line 4"] and feed.ended == "end"
 
 
 def cost(feed):

@@ -9,14 +9,14 @@ import time
 
 import pytest
 
-from quoting import fix, logs, month_sources, scanning
+from quoting import fix, month_sources
+from quoting.exchange import LogReader, choice
+from quoting.exchange.choice import LogOptions
 from quoting.reading import PLAIN, TextError
-from quoting.scanning import Found, Rejected, Scanner
-from quoting.selection import Owner
 from quoting.watch import frames
 from quoting.watch.clocks import FeedClock
 from quoting.watch.feeds import Trouble
-from quoting.watch.messages import MessagesFeed
+from quoting.watch.logged import LogFeed
 from quoting.watch.meter import Meter
 from tests import command
 
@@ -40,10 +40,6 @@ def log_of(*bodies: str) -> bytes:
     return b"".join(b"10:00:00 > " + framed(body).replace(b"\x01", b"|") + b"\n" for body in bodies)
 
 
-def read(*bodies: str, **chosen) -> logs.Log:
-    return logs.read(log_of(*bodies), START, **chosen)
-
-
 def run(data: bytes, *options):
     return command.run("fix", "-", *HEAD, *options, given=data)
 
@@ -56,74 +52,73 @@ def report(execution: str, status: str, more: str = "", at: str = "10:00:06.000"
 
 
 ANSWERS = [
-    (report("F", "2", "32=1000|151=0|"), "1 fill"), (report("F", "1", "32=10|151=990|"), "1 fill"), (report("2", "2"), "1 fill"),
-    (report("1", "1"), "1 fill"), (report("5", "1"), "1 fill"), (report("I", "2"), "1 fill"), (report("H", "0"), "1 fill"),
-    (report("8", "8"), "1 reject"), (report("4", "4"), "1 cancel"), (report("C", "C"), "1 expiry"), (report("3", "3"), "1 expiry"),
-    (report("D", "0"), "1 change by the exchange"), ("35=9|37=9001|11=7|41=1|39=0|434=1|102=0|", "1 rejected cancel or replace"),
-    ("35=3|45=2|372=D|373=5|", "1 rejected message"), ("35=j|45=2|372=G|380=3|", "1 rejected message"),
-    ("35=3|45=2|", "1 rejected message"), ("35=j|379=1|380=3|", "1 rejected message"),
+    report("F", "2", "32=1000|151=0|"), report("F", "1", "32=10|151=990|"), report("2", "2"), report("1", "1"), report("5", "1"), report("I", "2"),
+    report("H", "0"), report("8", "8"), report("4", "4"), report("C", "C"), report("3", "3"), report("D", "0"),
+    "35=9|37=9001|11=7|41=1|39=0|434=1|102=0|", "35=3|45=2|372=D|373=5|", "35=j|45=2|372=G|380=3|", "35=3|45=2|", "35=j|379=1|380=3|",
 ]
-HARMLESS = [report("0", "0"), report("A", "A"), report("5", "0"), report("6", "6"), report("E", "E"), "35=3|45=1|372=A|", "35=j|45=9|372=8|", "35=0|", "35=A|"]
+BY_REQUESTS = ("--from", "requests")
 
 
-@pytest.mark.parametrize("answer, said", ANSWERS)
-def test_item_1_answers_are_counted(answer, said):
-    """Each answer of the exchange ends with status 1 and a sentence; the output is written all the same."""
-    alone, done = run(log_of(*QUOTES)), run(log_of(*QUOTES, answer))
+@pytest.mark.parametrize("answer", ANSWERS)
+def test_item_1_answers_are_counted(answer):
+    """Requests that are read where there are answers of the exchange: status 1 and a sentence; the output is written all the same."""
+    alone, done = run(log_of(*QUOTES)), run(log_of(*QUOTES, answer), *BY_REQUESTS)
     assert alone.status == 0 and done.status == 1 and done.printed == alone.printed
-    assert f"NOT IN THE FIGURES: {said} (35=8, 9, 3, j) is not in the figures." in done.complaint
-    assert "quotes may be overstated" in done.complaint and "add a deal or cancel line for each report" in done.complaint
+    assert "NOT IN THE FIGURES: 1 answer of the exchange (35=8, 9, 3, j), since the log is read by its requests." in done.complaint
+    assert "quotes may be overstated" in done.complaint and "Read it by its reports" in done.complaint
 
 
-@pytest.mark.parametrize("answer", HARMLESS)
-def test_item_1_acknowledgements_are_no_fault(answer):
-    done = run(log_of(*QUOTES, answer))
-    assert done.status == 0 and "FIGURES" not in done.complaint, done
+def test_item_1_reports_count_where_there_are_some():
+    """The requests of such a log change nothing."""
+    done = run(log_of(*QUOTES, report("0", "0", "44=8446|151=1000|")))
+    assert done.status == 0 and done.printed.splitlines()[2:] == ["add 6000 1 buy 8446 1000"] and "2 requests not read" in done.complaint, done
+    unknown = run(log_of(*QUOTES, report("F", "2", "32=1000|")))
+    assert unknown.status == 1 and "line 3: refused 11: the order 37=9001 is not known" in unknown.complaint, unknown
 
 
 def test_item_1_many_in_one_sentence():
-    done = run(log_of(*QUOTES, *(answer for answer, _ in ANSWERS)))
-    assert "NOT IN THE FIGURES: 7 fills, 1 reject, 1 cancel, 2 expiries, 1 change by the exchange, 1 rejected cancel or replace and 4 rejected " \
-        "messages (35=8, 9, 3, j) are not in the figures." in done.complaint, done.complaint
-    assert done.complaint.count("FIGURES") == 1
-    found = json.loads(run(log_of(*QUOTES, *(answer for answer, _ in ANSWERS)), "--json").printed)
-    assert found["left_out"]["fill"] == 7 and "overstated" in found["warning"]
+    given = log_of(*QUOTES, *ANSWERS)
+    done = run(given, *BY_REQUESTS)
+    assert f"NOT IN THE FIGURES: {len(ANSWERS)} answers of the exchange" in done.complaint and done.complaint.count("FIGURES") == 1
+    assert json.loads(run(given, *BY_REQUESTS, "--json").printed)["counts"]["reports"] == sum("35=8" in answer for answer in ANSWERS)
 
 
-def test_item_1_rejects_by_number():
-    """A reject that names no type answers a request where its number (45) is that of one, and the maker has not sent it."""
-    sent = [body.replace("35=D|", f"35=D|49=MAKER|34={number}|") for number, body in enumerate(QUOTES, start=5)]
-    for reject, count in (("35=3|49=EXCH|45=5|", 1), ("35=3|49=EXCH|45=4|", 0), ("35=3|49=MAKER|45=5|", 0), ("35=3|49=EXCH|", 1)):
-        assert sum(read(*sent, reject).reports.counts.values()) == count, reject
-
-
-def test_item_1_reports_of_other_symbols():
-    """A fill of another symbol or account than the chosen one is no fault; one that does not say it counts."""
-    both = [*QUOTES, QUOTES[0].replace("55=BR", "55=GD").replace("11=1|", "11=5|")]
-    fill = report("F", "2").replace("11=1|", "11=5|")
-    assert not read(*both, fill.replace("55=BR", "55=GD"), symbol="BR").reports
-    assert not read(*both, fill.replace("55=BR|", ""), symbol="BR").reports, "it is of order 5, which is GD's"
-    assert read(*both, fill.replace("55=BR|", "").replace("11=5", "11=6"), symbol="BR").reports
-    assert read(*both, "35=9|11=8|41=1|", symbol="BR").reports and not read(*both, "35=9|11=8|41=5|", symbol="BR").reports
+@pytest.mark.parametrize("is_fast", [True, False])
+def test_item_1_answers_of_other_symbols(is_fast):
+    """Answers of another symbol or account than the chosen ones are no fault; those that do not say it count."""
+    both = [QUOTES[0].replace("35=D|", "35=D|1=A7|"), QUOTES[0].replace("55=BR", "55=GD").replace("11=1|", "11=5|1=B2|")]
+    fill = report("F", "2")
+    counted = {
+        fill: 1, fill.replace("55=BR", "55=GD"): 0, fill.replace("55=BR|", ""): 1, fill.replace("55=BR|", "55=BR|1=A7|"): 1,
+        fill.replace("55=BR|", "55=BR|1=B2|"): 0, fill.replace("55=BR|", "55=GD|1=A7|"): 0, fill.replace("55=BR|", "55=BR|55=GD|"): 1,
+        "35=9|11=8|41=1|": 1, "35=9|11=8|41=1|55=BR|": 1, "35=9|11=8|41=5|55=GD|": 0, "35=9|11=8|41=5|1=B2|": 0, "35=3|45=2|": 1,
+    }
+    for answer, count in counted.items():
+        reader = LogReader({"BR": "1"}, ["A7"], "requests", is_fast=None if is_fast else False)
+        reader.feed("log", log_of(*both, answer), True)
+        assert len(reader.timelines) == 1 and choice.unread(reader).answers == count and reader.counts.moves == 1, answer
+    many = run(log_of(*both, *counted), "--symbol", "BR", "--account", "A7", *BY_REQUESTS)
+    assert many.status == 1 and f"NOT IN THE FIGURES: {sum(counted.values())} answers" in many.complaint, many
+    none = run(log_of(*both, fill.replace("55=BR", "55=GD")), "--symbol", "BR", "--account", "A7", *BY_REQUESTS)
+    assert none.status == 0 and "NOT IN THE FIGURES" not in none.complaint, none
 
 
 @pytest.mark.parametrize("tag", ["59=3", "59=4"])
 def test_item_1_ioc_and_fok_never_rest(tag):
     ioc = f"35=D|11=7|55=BR|54=1|38=5000|44=8457|{tag}|60={DATE}-10:00:07.000|"
     alone, done = run(log_of(*QUOTES)), run(log_of(*QUOTES, ioc))
-    assert done.printed == alone.printed and done.status == 1
-    assert "1 IOC or FOK order (59=3, 4) is left out, since it never rests." in done.complaint and "overstated" not in done.complaint
-    assert run(log_of(*QUOTES, ioc.replace(tag, "59=0"))).status == 0
-    log = read(*QUOTES, ioc, f"35=F|11=8|41=7|60={DATE}-10:00:08.000|")
-    assert [each.why for each in log.rejected] == ["order 7, to which it refers, is IOC or FOK and never rested"]
-    twice = read(*QUOTES, ioc.replace(tag, f"{tag}|59=0"))
-    assert [each.why for each in twice.rejected] == ["59 is there twice, with different values"]
+    assert done.printed == alone.printed and done.status == 0
+    assert run(log_of(*QUOTES, ioc.replace(tag, "59=0"))).printed.splitlines()[-1] == "add 7000 3 buy 8457 5000"
+    after = run(log_of(*QUOTES, ioc, f"35=F|11=8|41=7|60={DATE}-10:00:08.000|"))
+    assert after.status == 1 and "line 4: the order 41=7 never rested" in after.complaint, after
+    twice = run(log_of(*QUOTES, ioc.replace(tag, f"{tag}|59=0")))
+    assert twice.status == 1 and "line 3: refused 21: 59 is there twice" in twice.complaint, twice
 
 
 def test_item_1_replace_by_an_ioc_is_a_cancel():
     replace = f"35=G|11=7|41=1|55=BR|54=1|38=5000|44=8457|59=3|60={DATE}-10:00:07.000|"
     done = run(log_of(*QUOTES, replace))
-    assert done.status == 1 and done.printed.splitlines()[-1] == "cancel 7000 1", done
+    assert done.status == 0 and done.printed.splitlines()[-1] == "cancel 7000 1", done
     listed = run(log_of(*QUOTES, replace), "--day", "16", "--close", "1", "2")
     assert command.run("calls", "-", given=listed.printed).status == 0, listed.printed
 
@@ -141,26 +136,25 @@ def files(folder, month: str, log: bytes) -> list:
 def test_item_1_the_statement_says_it(tmp_path):
     sure = command.run("statement", *files(tmp_path, month_of(), log_of(*QUOTES)))
     assert sure.status == 0 and 'id="omitted"' not in sure.printed
-    done = command.run("statement", *files(tmp_path, month_of(), log_of(*QUOTES, report("F", "2"))))
-    assert done.status == 1 and "NOT IN THE FIGURES: 1 fill" in done.complaint
-    assert 'role="alert" id="omitted">Not in these figures: 1 fill.' in done.printed and "may be overstated" in done.printed
-    assert done.printed.index('id="omitted"') < done.printed.index("<h1>") and "What the exchange answered is in neither." in done.printed
+    done = command.run("statement", *files(tmp_path, month_of(), log_of(*QUOTES, report("F", "2"))), *BY_REQUESTS)
+    assert done.status == 1 and "NOT IN THE FIGURES: 1 answer" in done.complaint
+    assert 'role="alert" id="omitted">Not in these figures: 1 answer of the exchange' in done.printed and "may be overstated" in done.printed
+    assert done.printed.index('id="omitted"') < done.printed.index("<h1>") and "what the exchange answered is in neither." in done.printed
 
 
-def test_item_1_reports_outside_the_quanta(tmp_path):
-    """A fill before or after all quanta changes no figure; one without a readable time may."""
-    for answer, status in [
-        (report("F", "2", at="09:59:59.000"), 0), (report("4", "4", at="18:45:01.000"), 0), (report("F", "2", at="18:45:00.000"), 1),
-        (report("F", "2", at="10:00:00"), 1), (report("F", "2", at="noon"), 1), (report("F", "2").replace("55=BR", "55=GD"), 0),
-        (report("F", "2").replace("60=", "58=").replace("35=8|", f"35=8|52={DATE}-09:00:00.000|"), 0),
-    ]:
-        assert command.run("statement", *files(tmp_path, month_of("BR"), log_of(*QUOTES, answer))).status == status, answer
+def test_item_1_a_statement_by_reports(tmp_path):
+    """A fill ends the quote; what rests when the quantum starts is carried in, and both are on the page."""
+    new = report("0", "0", "44=8446|151=1000|", at="09:59:00.000").replace("17=E1", "17=E0")
+    done = command.run("statement", *files(tmp_path, month_of("BR"), log_of(*QUOTES, new, report("F", "2", "32=1000|"))))
+    assert done.status == 0 and "1 order carried in" in done.printed and "1 fill" in done.printed, done.complaint
+    listed = month_sources.from_list(str(tmp_path / "month"), PLAIN, [str(tmp_path / "log")])
+    assert len(listed.calls) == 4, "open, the order, the fill, close"
 
 
 def watched(folder, month: str, log: bytes, **chosen):
     """The meter of a log and its list, with the problems of the feed, when all is read but the close."""
     files(folder, month, log)
-    feed = MessagesFeed(str(folder / "log"), str(folder / "month"), PLAIN, None, FeedClock(), False, Owner.named(chosen.get("symbol"), chosen.get("account")))
+    feed = LogFeed(str(folder / "log"), str(folder / "month"), PLAIN, None, FeedClock(), False, LogOptions(**chosen))
     meter, troubles = Meter("log"), []
     while feed.ended is None or feed.behind:
         for item in feed.read():
@@ -178,16 +172,23 @@ def test_item_1_the_live_page_says_it(tmp_path):
     status = frames.Status(wall=1_000.0)
     sure, _ = watched(tmp_path, opened, log_of(*QUOTES))
     assert frames.sections(sure, 0, status)["omitted"] is None
-    meter, _ = watched(tmp_path, opened, log_of(*QUOTES, report("F", "2"), report("8", "8")))
+    meter, _ = watched(tmp_path, opened, log_of(*QUOTES, report("F", "2"), report("8", "8")), source="requests")
     shown = frames.sections(meter, 0, status)
-    assert shown["omitted"]["head"] == "Not in the figures: 1 fill and 1 reject." and "overstated" in shown["omitted"]["text"]
+    assert shown["omitted"]["head"] == "Not in the figures: 2 answers of the exchange (35=8, 9, 3, j)." and "overstated" in shown["omitted"]["text"]
     assert shown["band"]["head"] == "Do not rely on these figures" and shown["band"]["kind"] == "hold", shown["band"]
     assert shown["state"]["key"] == "unknown", shown["state"]
     assert shown["problems"]["count"] == 0, "hundreds of fills would hide the problems"
-    closed, _ = watched(tmp_path, month_of() + month_of(at=f"{DATE}-19:00:00.000").replace("row 1 1", "row 1 2").rsplit("close", 1)[0],
-                        log_of(*QUOTES, report("F", "2"), QUOTES[0].replace("10:00:05", "19:00:05")))
-    later = frames.sections(closed, 0, status)
-    assert later["omitted"] is not None and later["band"]["head"] != "Do not rely on these figures", "the fill is of the quantum before"
+
+
+def test_item_1_the_live_page_by_reports(tmp_path):
+    """By default reports count: the page says what was read, and answers."""
+    new = [report("0", "0", f"44={price}|151=1000|", at=at).replace("17=E1", f"17=N{side}").replace("37=9001|11=1", f"37=900{side}|11={side}").replace("54=1", f"54={side}")
+           for side, price, at in ((1, 8446, "09:59:00.000"), (2, 8458, "10:00:05.000"))]  # fmt: skip
+    meter, troubles = watched(tmp_path, month_of("BR").rsplit("close", 1)[0], log_of(*QUOTES, *new, report("F", "2", "32=400|")))
+    shown = frames.sections(meter, 6_000, frames.Status(wall=1_000.0))
+    assert shown["omitted"] is None and shown["band"]["head"] != "Do not rely on these figures" and not [each for each in troubles if each.text]
+    assert shown["feed"]["text"].endswith("; by reports: 3 changes, 1 fill, 1 order carried in"), shown["feed"]
+    assert {order.id: order.volume for order in meter.month.view().orders} == {1: 600, 2: 1000}
 
 
 # ---------------------------------------------------------------- item 2: symbols and accounts
@@ -203,7 +204,7 @@ def test_item_2_several_symbols_are_refused(tmp_path):
     done = run(log_of(QUOTES[0], OTHER), "-o", path)
     assert done.status == 1 and path.read_text() == "old", done
     assert "more than one symbol (55): BR (1 message), GD (1 message). Name one with --symbol" in done.complaint, done.complaint
-    for symbol, line in (("BR", "add 5000 1 buy 8446 1000"), ("GD", "add 5000 2 sell 8458 1000")):
+    for symbol, line in (("BR", "add 5000 1 buy 8446 1000"), ("GD", "add 5000 1 sell 8458 1000")):
         one = run(log_of(QUOTES[0], OTHER), "--symbol", symbol)
         assert one.status == 0 and one.printed.splitlines()[2:] == [line] and "1 message of " in one.complaint, one
     wrong = run(log_of(QUOTES[0], OTHER), "--symbol", "XX", "-o", path)
@@ -213,10 +214,10 @@ def test_item_2_several_symbols_are_refused(tmp_path):
 def test_item_2_a_cancel_has_its_orders_symbol():
     cancel = f"35=F|11=3|41=1|60={DATE}-11:00:00.000|"
     assert run(log_of(QUOTES[0], OTHER, cancel), "--symbol", "BR").printed.splitlines()[-1] == "cancel 3600000 1"
-    assert "cancel" not in run(log_of(QUOTES[0], OTHER, cancel), "--symbol", "GD").printed
+    assert "cancel" not in run(log_of(QUOTES[0], OTHER, cancel), "--symbol", "GD").printed, "it is not known there"
     assert run(log_of(*QUOTES, cancel)).status == 0, "with one symbol no option is needed"
     unknown = cancel.replace("41=1", "41=77")
-    assert run(log_of(QUOTES[0], OTHER, unknown), "--symbol", "BR").complaint.count("it has no symbol (55), and other messages have") == 1
+    assert run(log_of(QUOTES[0], OTHER, unknown), "--symbol", "BR").complaint.count("refused 11: the order 41=77 is not known") == 1
 
 
 def test_item_2_orders_without_a_symbol():
@@ -224,10 +225,10 @@ def test_item_2_orders_without_a_symbol():
     done = run(log_of(QUOTES[0], bare))
     assert done.status == 1 and not done.printed and "BR (1 message), none (1 message)" in done.complaint, done
     named = run(log_of(QUOTES[0], bare), "--symbol", "BR")
-    assert named.status == 1 and "line 2: it has no symbol (55), and other messages have" in named.complaint, named
+    assert named.status == 1 and "line 2: refused 21: 55 is absent" in named.complaint, named
     assert run(log_of(*(body.replace("55=BR|", "") for body in QUOTES))).status == 0
-    twice = read(QUOTES[0], QUOTES[1].replace("55=BR", "55=BR|55=GD"))
-    assert [each.why for each in twice.rejected] == ["55 is there twice, with different values"]
+    twice = run(log_of(QUOTES[0], QUOTES[1].replace("55=BR", "55=BR|55=GD")))
+    assert twice.status == 1 and "line 2: refused 21: 55 is there twice" in twice.complaint, twice
 
 
 def test_item_2_several_accounts_are_refused():
@@ -235,9 +236,6 @@ def test_item_2_several_accounts_are_refused():
     done = run(log_of(mine, its))
     assert done.status == 1 and not done.printed and "more than one account (1): A7 (1 message), B2 (1 message). Name one with --account" in done.complaint
     assert run(log_of(mine, its), "--account", "A7").status == 0
-    same_id = its.replace("11=2|", "11=1|").replace("54=2", "54=1")
-    log = read(mine, same_id, f"35=F|11=3|41=1|55=BR|60={DATE}-11:00:00.000|", account="A7")
-    assert len(log.taken) == 1 and "order 1 may be one of several: BR A7, BR B2" in log.rejected[0].why, log.rejected
 
 
 def test_item_2_accounts_of_another_symbol_are_nobodys_business():
@@ -250,11 +248,11 @@ def test_item_2_a_statement_of_one_symbol(tmp_path):
     done = command.run("statement", *files(tmp_path, month_of(), log_of(QUOTES[0], OTHER)))
     assert done.status == 1 and not done.printed and f"the quantum that starts {START}: it has messages of more than one symbol" in done.complaint
     named = command.run("statement", *files(tmp_path, month_of(), log_of(QUOTES[0], OTHER)), "--symbol", "BR")
-    assert named.printed and "in no quantum" in named.complaint
+    assert named.printed and named.status == 0 and "1 message of GD skipped" in named.printed, named
     mine, its = QUOTES[0].replace("35=D|", "35=D|1=A7|"), QUOTES[1].replace("35=D|", "35=D|1=B2|")
     assert "more than one account" in command.run("statement", *files(tmp_path, month_of("BR"), log_of(mine, its))).complaint
     chosen = command.run("statement", *files(tmp_path, month_of("BR"), log_of(mine, its)), "--account", "A7")
-    assert chosen.status == 0 and "Messages of other accounts were skipped: BR B2 (1 message)." in chosen.printed, chosen.complaint
+    assert chosen.status == 0 and "1 message of BR B2 skipped." in chosen.printed, chosen.complaint
     with pytest.raises(TextError):
         month_sources.from_list(str(tmp_path / "month"), PLAIN, [str(tmp_path / "log")])
 
@@ -264,12 +262,11 @@ def test_item_2_the_live_page_takes_one_symbol(tmp_path):
     opened = month_of().rsplit("close", 1)[0]
     meter, troubles = watched(tmp_path, opened, log_of(QUOTES[0], OTHER))
     assert meter.month.report().orders == 1 and meter.problem_count == 1
-    assert "this message of GD is left out: its quantum has messages of BR" in troubles[0].text
-    assert "1 message of another symbol or account is left out." in frames.sections(meter, 0, frames.Status())["omitted"]["text"]
+    assert any("it has messages of more than one symbol (55): BR (1 message), GD (1 message). Name one with --symbol" in each.text for each in troubles)
     both = log_of(QUOTES[0].replace("35=D|", "35=D|1=A7|"), QUOTES[1].replace("35=D|", "35=D|1=B2|"))
     assert watched(tmp_path, opened, both)[0].month.report().orders == 1
     chosen, troubles = watched(tmp_path, opened, both, account="B2")
-    assert chosen.month.report().ask == 8458 and not troubles
+    assert chosen.month.report().ask == 8458 and not [each for each in troubles if each.text]
 
 
 # ---------------------------------------------------------------- item 3: where messages start
@@ -309,24 +306,46 @@ def test_item_3_what_is_no_message_is_reported(damaged, why):
     assert last.status == 1 and last.printed == alone.printed and "line 3: refused 20: " in last.complaint and why in last.complaint, last.complaint
 
 
+class Noted(LogReader):
+    """Notes each message: its line, and its fields, or why it is none."""
+
+    def __init__(self) -> None:
+        super().__init__({}, is_fast=False)
+        self.noted: list = []
+
+    def message(self, fields):
+        self.noted.append((self.line, fields))
+
+    def damaged(self, why):
+        self.noted.append((self.line, why))
+
+
+def noted(*pieces: bytes) -> list:
+    reader = Noted()
+    for at, piece in enumerate(pieces, start=1):
+        reader.feed("log", piece, at == len(pieces))
+    return reader.noted
+
+
+def is_message(each) -> bool:
+    return not isinstance(each[1], str)
+
+
 def test_item_3_a_message_within_a_message():
     """What a message that was read has in a text is no message."""
     inner = "8=FIX.4.4 58=FIX.4.4"
-    found = list(scanning.messages(framed(f"35=D|58={inner}|") + framed("35=0|")))
-    assert [each.kind for each in found] == [b"D", b"0"]
-    broken = list(scanning.messages(framed(f"35=D|58={inner}|")[:-2] + b"x\x01" + framed("35=0|")))
-    assert [type(each) for each in broken] == [Rejected, Rejected, Rejected, Found]
+    found = noted(framed(f"35=D|58={inner}|") + framed("35=0|"))
+    assert [fields[0][1] for _, fields in found] == [b"D", b"0"]
+    broken = noted(framed(f"35=D|58={inner}|")[:-2] + b"x\x01" + framed("35=0|"))
+    assert [is_message(each) for each in broken] == [False, False, False, True]
 
 
-def test_item_3_places():
-    """Lines end at LF, CR or CRLF; the second message of a line has its byte."""
+def test_item_3_lines():
+    """Lines end at LF, CR or CRLF, in any pieces."""
     beat = framed("35=0|")
     log = b"a\r\n" + beat + beat + b"\r" + beat[:-1] + b"\n\n" + beat.replace(b"\x01", b"|")
-    due = ["line 2", "line 2, byte 27", "line 3", "line 5"]
-    assert [each.place for each in scanning.messages(log)] == due
     for size in range(1, len(log)):
-        scanner = Scanner()
-        assert [each.place for each in [*scanner.take(log[:size]), *scanner.take(log[size:]), *scanner.end()]] == due, size
+        assert [line for line, _ in noted(log[:size], log[size:])] == [2, 2, 3, 5], size
 
 
 def plain_scan(data: bytes) -> list:
@@ -372,15 +391,14 @@ def test_item_3_any_log_in_any_pieces(note):
     rng, messages, rejected = random.Random(3), 0, 0
     for _ in range(1_500):
         log = random_log(rng)
-        due = list(scanning.messages(log))
-        assert [(isinstance(each, Found)) for each in due] == [is_message for _, is_message in plain_scan(log)], log
-        scanner, found, at = Scanner(), [], 0
+        due = noted(log)
+        assert [is_message(each) for each in due] == [is_whole for _, is_whole in plain_scan(log)], log
+        pieces, at = [], 0
         while at < len(log):
-            size = rng.choice([1, 2, 7, 26, 90, 300])
-            found += scanner.take(log[at : at + size])
-            at += size
-        assert [*found, *scanner.end()] == due, log
-        messages, rejected = messages + sum(isinstance(each, Found) for each in due), rejected + sum(isinstance(each, Rejected) for each in due)
+            pieces.append(log[at : at + rng.choice([1, 2, 7, 26, 90, 300])])
+            at += len(pieces[-1])
+        assert noted(*pieces) == due, log
+        messages, rejected = messages + sum(map(is_message, due)), rejected + sum(not is_message(each) for each in due)
     assert messages > 3_000 and rejected > 2_000, (messages, rejected)
     note(f"fix logs: {messages} messages and {rejected} that are none, in any pieces")
 
@@ -395,7 +413,7 @@ def test_item_3_time_grows_with_the_log(what):
         "tens": (nested + b"|10=1") * (size // 28), "one end": one_end(60_000) * 3,
     }[what]
     began = time.process_time()
-    count = sum(1 for _ in scanning.messages(log))
+    count = len(noted(log))
     taken = time.process_time() - began
     assert count > 1_000 and taken < len(log) * 10e-6, (count, taken, len(log))
 
@@ -424,21 +442,21 @@ def test_logs_without_requests(tmp_path):
 
 def test_many_refused_messages_are_folded():
     done = run(b"8=FIX.4.2|\n" * 1_000 + log_of(*QUOTES))
-    assert done.status == 1 and "950 more are refused, the last one at line 1000" in done.complaint and done.complaint.count("\n") < 60
-    assert len(json.loads(run(b"8=FIX.4.2|\n" * 1_000, "--json").printed)["refused"]) == 1_000
+    assert done.status == 1 and "line 1: refused 20: its version (8) is FIX.4.2, and FIX.4.4 is read, and 999 more like it" in done.complaint
+    assert done.complaint.count("\n") < 5
+    assert json.loads(run(b"8=FIX.4.2|\n" * 1_000, "--json").printed)["refused"][0]["count"] == 1_000
 
 
 def test_random_logs_end_well(tmp_path):
-    """Damaged logs of both directions: a status and a sentence from `fix` and `statement`, and the live page's calls are the statement's."""
+    """Damaged logs of both directions: a status and a sentence from `fix` and `statement`."""
     rng = random.Random(5)
     for _ in range(40):
         log = random_log(rng)
         done = run(log)
-        rejected = [each for each in scanning.messages(log) if isinstance(each, Rejected)]
+        rejected = [each for each in noted(log) if not is_message(each)]
         assert done.status in (0, 1) and "Traceback" not in done.complaint and (done.status or not rejected), log
         given = files(tmp_path, month_of("BR"), log)
         made = command.run("statement", *given)
         assert made.printed and "Traceback" not in made.complaint and made.status >= bool(rejected), made.complaint
-        listed = month_sources.from_list(given[0], PLAIN, given[2:])
-        meter, _ = watched(tmp_path, month_of("BR"), log)
-        assert meter.calls == len(listed.calls) and meter.reports.counts == listed.reports.counts, log
+        listed = month_sources.from_list(given[0], PLAIN, given[2:], LogOptions("requests"))
+        assert len(listed.calls) >= 2 and bool(listed.reports) == any(each[1][0] == (b"35", b"8") for each in noted(log) if is_message(each)), log

@@ -10,6 +10,7 @@ import stat
 import subprocess
 import sys
 import time
+from collections import Counter
 from contextlib import ExitStack, redirect_stderr, redirect_stdout
 from dataclasses import replace
 from io import BytesIO, TextIOWrapper
@@ -102,9 +103,10 @@ def test_resume_settles_changed_sessions_again(here):
             assert path.stat().st_size == times.st_size
             os.utime(path, ns=(times.st_atime_ns, times.st_mtime_ns))
     lines = part.read_bytes().splitlines(keepends=True)
-    first = parts.outcome_of(lines[2])
+    seal = parts.seal_of(json.loads(lines[0]))
+    first = parts.outcome_of(lines[2], seal)
     marked = replace(first, row=replace(first.row, weight="17"))
-    part.write_bytes(b"".join([*lines[:2], parts.row_line(marked), *lines[3:]]))
+    part.write_bytes(b"".join([*lines[:2], parts.row_line(marked, seal), *lines[3:]]))
     status, printed, said = settle("day", "-o", "on.csv", "--resume", *ROW, cwd=here)
     assert status == 0 and "2 session(s) changed" in said and "settled again" in said, said
     settle("day", "-o", "new.csv", *ROW, cwd=here)
@@ -342,6 +344,109 @@ def test_a_damaged_part_file_never_gives_a_traceback_or_a_wrong_table(here, monk
         assert sorted([*table.todo, *table.places]) == names and table.kept == [whole[name].row for name in table.places], "a damaged row was taken"
         table.close()
     assert refused > 20 and taken > 20, (refused, taken)
+
+
+# What a run of the command makes of a damaged part file. Each way of damage takes the lines of a good one, and those of one of other options.
+
+MORE = ("--row", "1 1 0:10:00 501 100 3 60%", "--sp", "2000")  # a bit away from ROW, and no order has this volume
+ODD_VALUES = (None, True, -1, 2**70, 1e300, float("nan"), "", "x", "\ud800", "a\nb", [], [[]], {}, [1, 2, 3], ["day/0.csv"])
+
+
+def flip_bytes(rng, lines, other):
+    data = bytearray(b"".join(lines))
+    for _ in range(rng.randint(1, 3)):
+        data[rng.randrange(len(data))] = rng.choice((rng.randrange(256), *b'\n"{[,}0123456789'))
+    return bytes(data)
+
+
+def flip_bit_of_head(rng, lines, other):
+    head = bytearray(lines[0])
+    head[rng.randrange(len(head))] ^= 1 << rng.randrange(8)
+    return b"".join([bytes(head), *lines[1:]])
+
+
+def cut_end(rng, lines, other):
+    data = b"".join(lines)
+    return data[: rng.randrange(len(data) + 1)]
+
+
+def cut_line(rng, lines, other):
+    at = rng.randrange(len(lines))
+    return b"".join([*lines[:at], lines[at][: rng.randrange(len(lines[at]))], *lines[at + 1 :]])
+
+
+def drop_lines(rng, lines, other):
+    return b"".join(line for line in lines if rng.random() < 0.7)
+
+
+def double_lines(rng, lines, other):
+    return b"".join(line * rng.choice((1, 1, 2, 3)) for line in lines)
+
+
+def swap_lines(rng, lines, other):
+    return b"".join([*lines[:2], *rng.sample(lines[2:], len(lines) - 2)] if rng.random() < 0.5 else rng.sample(lines, len(lines)))
+
+
+def mix_files(rng, lines, other):
+    """Lines of the same number out of one file or the other."""
+    return b"".join(rng.choice(pair) for pair in zip(lines, other))
+
+
+def odd_value(rng, lines, other):
+    """A value of a line, or of a list or an object in it, is another, or is gone."""
+    at = rng.randrange(len(lines))
+    made = json.loads(lines[at])
+    inside = rng.choice([made, *(value for value in made.values() if value and isinstance(value, (list, dict)))])
+    key = rng.choice(list(inside) if isinstance(inside, dict) else range(len(inside)))
+    if rng.random() < 0.4:
+        del inside[key]
+    else:
+        inside[key] = rng.choice(ODD_VALUES)
+    return b"".join([*lines[:at], json.dumps(made).encode() + b"\n", *lines[at + 1 :]])
+
+
+def foreign(rng, lines, other):
+    return rng.choice((b"", b"\n", b"\0" * 50, b"my notes\n", b"[" * 50_000, b'{"settle": 1}\n', settling.HEADER.encode(), other[0] + b"".join(lines[1:]), rng.randbytes(200)))
+
+
+DAMAGES = (flip_bytes, flip_bit_of_head, cut_end, cut_line, drop_lines, double_lines, swap_lines, mix_files, odd_value, foreign)
+
+
+@pytest.fixture
+def quick_end():
+    """Ends a test that hangs."""
+    before = signal.signal(signal.SIGALRM, lambda *_: pytest.fail("this hangs"))
+    signal.alarm(60)
+    yield
+    signal.alarm(0)
+    signal.signal(signal.SIGALRM, before)
+
+
+@pytest.mark.parametrize("damage", DAMAGES, ids=lambda damage: damage.__name__)
+def test_a_run_on_a_damaged_part_file_gives_the_whole_table_or_a_sentence(here, damage, quick_end, note):
+    """Status 0 with the table that a run without a part file makes, to the byte; or 1 with a sentence, no table, and the part file as it was."""
+    rng, counts, files, due = random.Random(f"part {damage.__name__}"), Counter(), {}, {}
+    for options in (ROW, MORE):
+        files[options] = broken_off(here, 5, *options).read_bytes().splitlines(keepends=True)
+        settle("day", "-o", "on.csv", "--restart", *options, cwd=here)
+        due[options] = (here / "on.csv").read_bytes()
+        (here / "on.csv").unlink()
+    assert due[ROW] != due[MORE]
+    part = here / "on.csv.part"
+    for _ in range(40):
+        options, how = rng.choice((ROW, ROW, MORE)), rng.choice(("--resume", "--resume", "--resume", "--restart", None))
+        data = damage(rng, files[ROW], files[MORE])
+        part.write_bytes(data)
+        status, printed, said = settle("day", "-o", "on.csv", *filter(None, [how]), *options, cwd=here)
+        counts[status] += 1
+        if status == 0:
+            assert (here / "on.csv").read_bytes() == due[options] and not part.exists() and printed.startswith("8 sessions: "), (data, said)
+            (here / "on.csv").unlink()
+        else:
+            assert (status, printed) == (1, "") and said.startswith("quoting: on.csv.part") and said.count("\n") == 1, (data, said)
+            assert part.read_bytes() == data and not (here / "on.csv").exists() and sorted(each.name for each in here.iterdir()) == ["day", "on.csv.part"]
+    assert set(counts) == {0, 1}, counts
+    note(f"settle: 40 part files damaged by {damage.__name__}: {counts[0]} taken or begun again, {counts[1]} refused")
 
 
 def test_a_name_with_a_line_end_or_not_in_utf8_is_taken_over(here):

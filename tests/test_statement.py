@@ -168,7 +168,7 @@ def test_pages(path, logs, note):
     """Every example's page."""
     listed = month_sources.from_list(str(path), reading.PLAIN, [str(log) for log in logs])
     month = Month([sent.block for sent in listed.calls])
-    page, _ = made(path, *(["--fix", *logs] if logs else []), status=int(bool(month.refused)))
+    page, _ = made(path, *(["--fix", *logs] if logs else []), status=int(bool(month.refused or listed.left)))
     starts = {}
     for sent in listed.calls:
         call = c.call_of(sent.block)

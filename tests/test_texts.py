@@ -2,6 +2,7 @@
 
 import random
 import re
+import zlib
 from xml.etree import ElementTree
 
 import pytest
@@ -13,7 +14,7 @@ from quoting import picture, reading, texts
 from recount import fix, programs
 from recount.book import Accepted, Book, Message, Open, Row, row_fits
 from tests import calls_text as calls
-from tests import known, message_lists, months
+from tests import known, message_lists, months, plain_programmes
 from tests import session_text as session
 from tests.paths import EXAMPLES, PROGRAMMES, ROOT
 from tests.running import words as packed
@@ -172,16 +173,23 @@ def test_picture_gaps():
     assert kept_rects(picture.picture("long", session.to_bytes(long))) == [(tall, 100.0), (tall, 590.0)]
 
 
-def test_rows():
-    """Every row of the programmes is one that a month opens with."""
-    rows = 0
-    for file in sorted(PROGRAMMES.glob("*.rows")):
-        for at, name, words in reading.lines(file.read_text()):
-            row = session.row_words(words)
-            assert row_fits(Row(*row)), (file, at, name)
-            assert Book().call(Open(row, 1, 0)) == Accepted(), (file, at, name)
-            rows += 1
-    assert rows == 56 + 120 + 72 + 12 + 24, rows
+PROGRAMME_ROWS = {  # how many, and the CRC-32 of the table that was compared with the source document
+    "000-currency-options": (56, 1780367357), "001-stock-futures-on-holidays": (120, 2610181270), "002-premium-options": (72, 2236825975),
+    "003-brent-gold-silver": (12, 4287738576), "004-mini-metals": (24, 3186845187)}
+
+
+def test_every_programme_is_known():
+    assert sorted(path.stem for path in PROGRAMMES.glob("*.toml")) == sorted(PROGRAMME_ROWS)
+
+
+@pytest.mark.parametrize("name", PROGRAMME_ROWS)
+def test_rows(name):
+    """Every row of the programmes is one that a month opens with, and none has changed."""
+    rows = list(plain_programmes.rows_of(name))
+    for instrument, words in rows:
+        assert row_fits(Row(*words)) and Book().call(Open(words, 1, 0)) == Accepted(), (instrument, words)
+    text = "".join(f"{instrument} {' '.join(map(str, words))}\n" for instrument, words in rows)
+    assert (len(rows), zlib.crc32(text.encode())) == PROGRAMME_ROWS[name], text
 
 
 def some_bytes(*likely):

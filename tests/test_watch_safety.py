@@ -13,10 +13,11 @@ import websockets
 
 from quoting import calls as c
 from quoting.reading import PLAIN
-from quoting.watch import connections, doubts, frames, loop, messages
+from quoting.watch.recounting import Recounting
+from quoting.watch import connections, doubts, frames, logged, loop
 from quoting.watch.clocks import FeedClock
 from quoting.watch.feeds import CallsFeed
-from quoting.watch.messages import MessagesFeed
+from quoting.watch.logged import LogFeed
 from quoting.watch.meter import Meter
 from tests import command
 from tests.browser import PATIENCE, Browser, Served
@@ -254,17 +255,30 @@ def test_a_log_saved_again_is_read_again(watched, tmp_path):
     sent = [message(1, "10:00:00.000"), message(2, "10:00:01.000"), message(3, "10:00:02.000")]
     calls.write_text(quantum("10:00:00.000").rsplit("close", 1)[0])
     log.write_bytes(log_of(*sent))
-    feed = watched("", feed=MessagesFeed(str(log), str(calls), PLAIN, None, FeedClock(), True))
+    feed = watched("", feed=LogFeed(str(log), str(calls), PLAIN, None, FeedClock(), True))
     feed.path = log
     assert sorted(feed.orders) == [1, 2, 3]
     reliable(feed.renamed(log_of(*sent, message(4, "10:00:03.000")).decode()))
-    assert sorted(feed.orders) == [1, 2, 3, 4] and messages.REPEATED in feed.problems[1], feed.problems
+    assert sorted(feed.orders) == [1, 2, 3, 4] and logged.REPEATED in feed.problems[1], feed.problems
     reliable(feed.renamed(log_of(message(5, "10:00:04.000")).decode()))
     assert sorted(feed.orders) == [1, 2, 3, 4, 5] and feed.watch.meter.problem_count == 4, "rotated"
     os.truncate(log, 0)
     assert "it lacks day 1" in doubted(feed.read())["why"]
     log.write_bytes(log_of(*sent))
     assert "it ends at 0:00:02 of a quantum that was read up to 0:00:04" in doubted(feed.read())["why"]
+
+
+def test_a_late_message_runs_the_quantum_again(watched, tmp_path):
+    """Nothing was lost: a fresh month and a fresh recount take all calls again, and the figures stay reliable."""
+    log, calls = tmp_path / "log", tmp_path / "list"
+    calls.write_text(quantum("10:00:00.000").rsplit("close", 1)[0])
+    log.write_bytes(log_of(message(1, "10:00:01.000"), message(2, "10:00:05.000")))
+    feed = watched("", feed=LogFeed(str(log), str(calls), PLAIN, None, FeedClock(), True))
+    made = NoRecount.made
+    append(log, log_of(message(3, "10:00:03.000")))
+    reliable(feed.read())
+    assert NoRecount.made == made + 1 and feed.watch.recount.taken == 4 and feed.watch.meter.last == 5_000 and sorted(feed.orders) == [1, 2, 3]
+    assert feed.problems == [logged.LATE], feed.problems
 
 
 # ---------------------------------------------------------------- the page
@@ -403,3 +417,14 @@ def test_a_name_that_is_not_utf_8_is_shown_escaped(tmp_path):
 def test_a_port_that_is_none_gives_a_sentence(port):
     done = command.run("watch", "--calls", EXAMPLES / "watch.calls", f"--port={port}")
     assert done.status == 2 and "argument --port: " in done.complaint and port in done.complaint and "Traceback" not in done.complaint, done
+
+
+def test_no_agreement_while_the_recount_lags():
+    """The page says on how many of how many calls both agree, and no longer that they do when that was seconds ago."""
+    recounting = Recounting()
+    recounting.kind, recounting.agreed, recounting.sent, recounting.agreed_at = "agree", 5, 9, 1_000.0
+    soon, late = recounting.readings(1_002.0), recounting.readings(1_006.0)
+    assert soon["kind"] == "agree" and soon["text"].startswith("on 5 of 9 calls, "), soon
+    assert late["kind"] == "waiting" and late["head"] == "The recount lags" and "on 5 of 9 calls" in late["text"], late
+    recounting.agreed = 9
+    assert recounting.readings(1_060.0)["kind"] == "agree" and "on all 9 calls" in recounting.readings(1_060.0)["text"]

@@ -1,4 +1,4 @@
-"""Sessions settled by a Dask cluster. A session that ends its workers becomes a row, and a cluster that is lost an error with a sentence.
+"""Sessions, or desks, settled by a Dask cluster. A session that ends its workers becomes a row, and a cluster that is lost an error with a sentence.
 
 Dask gives up a piece of work after several workers ended while they had it, whether or not it was the cause. The sessions of such a piece are
 therefore settled once more, each of them alone in the cluster, so that a row names only the session that is the cause.
@@ -16,7 +16,7 @@ from typing import Any, Callable, Iterator, Sequence
 
 from quoting import settling
 from quoting.native import Missing
-from quoting.settling import Outcome, ReadOptions, Settled
+from quoting.settling import Outcome, Settled
 
 BATCH = 8  # sessions in a piece of work, so that handing it over costs little beside it
 AHEAD = 64  # pieces that are given out and not yet taken back
@@ -38,36 +38,44 @@ class Piece:
     future: Any
 
 
+def unreadable(name: str, killed: Killed) -> Outcome:
+    return Outcome(Settled(name, "unreadable", reason=f"each worker that settled it ended, {killed} in a row"), None)
+
+
 @dataclass
 class Cluster:
-    """A client of a cluster, and how long it may go without finishing anything."""
+    """A client of a cluster, and how long it may go without finishing anything; the work that it does on a batch of names, and what is
+    said of a name that ended its workers."""
 
     client: Any
     patience: float
     say: Callable[[str], None]
+    work: Callable[[list[str], Any], list[Any]] = settling.outcomes
+    ended: Callable[[str, Killed], Any] = unreadable
+    batch: int = BATCH
     finished: int = 0
     since: float = field(default_factory=monotonic)
     is_warned: bool = False
 
-    def rows(self, names: Sequence[str], read_options: ReadOptions) -> Iterator[Outcome]:
+    def rows(self, names: Sequence[str], read_options: Any) -> Iterator[Any]:
         """The outcomes in the order of the names."""
         given: deque[Piece] = deque()
         self.since = monotonic()
-        for batch in settling.batches(names, BATCH):
+        for batch in settling.batches(names, self.batch):
             given.append(self.give(batch, read_options))
             if len(given) >= AHEAD:
                 yield from self.take(given, read_options)
         while given:
             yield from self.take(given, read_options)
 
-    def give(self, names: list[str], read_options: ReadOptions) -> Piece:
+    def give(self, names: list[str], read_options: Any) -> Piece:
         """Not `pure`: a session that changed since is not to be answered from memory."""
         try:
-            return Piece(names, self.client.submit(settling.outcomes, names, read_options, pure=False))
+            return Piece(names, self.client.submit(self.work, names, read_options, pure=False))
         except Exception as error:
             raise Lost(f"the scheduler takes no more work: {error}") from None
 
-    def take(self, given: deque[Piece], read_options: ReadOptions) -> list[Outcome]:
+    def take(self, given: deque[Piece], read_options: Any) -> list[Any]:
         """The outcomes of the first piece."""
         first = given.popleft()
         try:
@@ -83,18 +91,18 @@ class Cluster:
         except Killed:
             pass
 
-    def alone(self, name: str, read_options: ReadOptions) -> Outcome:
+    def alone(self, name: str, read_options: Any) -> Any:
         """The outcome of a session while the cluster has no other work."""
         try:
             return self.answer(self.give([name], read_options), ())[0]
         except Killed as killed:
-            return Outcome(Settled(name, "unreadable", reason=f"each worker that settled it ended, {killed} in a row"), None)
+            return self.ended(name, killed)
 
-    def answer(self, piece: Piece, given: Sequence[Piece]) -> list[Outcome]:
+    def answer(self, piece: Piece, given: Sequence[Piece]) -> list[Any]:
         """The outcomes of a piece. Errors of any kind may come from Dask or from a worker."""
         while True:
             try:
-                found: list[Outcome] = piece.future.result(timeout=LOOK)
+                found: list[Any] = piece.future.result(timeout=LOOK)
                 self.since, self.is_warned = monotonic(), False
                 return found
             except (TimeoutError, asyncio.TimeoutError, futures.TimeoutError):  # one class from Python 3.11 on

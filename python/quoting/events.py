@@ -120,3 +120,22 @@ def dtype() -> Any:
     import numpy
 
     return numpy.dtype([("kind", "u1"), ("zero", "u1", 3), ("t", "<u4"), ("id", "<u4"), ("price", "<i4"), ("volume", "<u4")])
+
+
+def from_frame(frame: Any, start: Time = 0, step: Any = None) -> Any:
+    """The records of a DataFrame, or of anything with the columns kind, t or timestamp, id, side, price and volume, as a numpy array.
+
+    `t` is milliseconds from the quantum's start; `timestamp` are datetimes of one day, and `start` is the quantum's start on that day, as
+    "10:00:00". With a step prices are decimals, and must be on a step; floats count as the nearest step that is equal to 9 digits. What an
+    event does not take may be empty (NaN or None).
+
+    Raises:
+        ValueError: A value cannot be taken; the row is named, counted from 0.
+
+    >>> frame = {"t": [0, 5], "kind": ["add", "cancel"], "id": [1, 1], "side": ["buy", None], "price": [84.35, None], "volume": [500, None]}
+    >>> [event_of(each.tobytes()) for each in from_frame(frame, step="0.01")]
+    [Add(t=0, id=1, side='buy', price=8435, volume=500), Cancel(t=5, id=1)]
+    """
+    from quoting.frames_in import records_of
+
+    return records_of(frame, start, step)

@@ -87,12 +87,13 @@ def add_session(parser: argparse.ArgumentParser) -> None:
     """The arguments of a command that reads sessions."""
     add_reading(parser)
     parser.add_argument("--format", choices=FORMATS, help="how the session is written, where its content does not show it")
+    parser.add_argument("--decimal", choices=[".", ","], help="what is before the decimals of a CSV (.); with , its fields are separated by ;")
     parser.add_argument("--row", metavar="ROW", help='the row of a session without one, as "1 1 8:45:00 1000 150 3 60%%"')
     parser.add_argument("--sp", metavar="SP", help="the settlement price of a session without one")
 
 
 def options_of(args: argparse.Namespace) -> Options:
-    return Options(args.start, args.step, getattr(args, "old_months", False), args.complete)
+    return Options(args.start, args.step, getattr(args, "old_months", False), args.complete, getattr(args, "decimal", None) or ".")
 
 
 def head_of(args: argparse.Namespace) -> Optional[bytes]:
@@ -124,9 +125,9 @@ def format_of(name: str, data: bytes) -> str:
 
 
 def is_csv(data: bytes) -> bool:
-    """Whether the first word of the first line that is not empty has a comma."""
+    """Whether the first word of the first line that is not empty has a comma or a semicolon."""
     for _, name, _ in reading.lines(data[:FRONT].decode("utf-8-sig", "replace")):
-        return "," in name
+        return "," in name or ";" in name
     return False
 
 
@@ -169,9 +170,10 @@ def line_of_record(source: Source, place: int) -> Optional[int]:
     """The line of a text from which a session's record comes, both counted from 1."""
     if source.text is None or place < 1:
         return None
-    sizes = texts.csv_sizes if source.form == "csv" else texts.session_sizes
+    is_csv = source.form == "csv"
+    sizes = texts.csv_sizes(source.text, texts.separator_of(source.text)) if is_csv else texts.session_sizes(source.text)
     start, end = SIZE * (place - 1), 0
-    for line, size in sizes(source.text):
+    for line, size in sizes:
         end += size
         if end > start:
             return line

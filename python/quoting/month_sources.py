@@ -1,29 +1,28 @@
-r"""Where a month's calls come from: a list (text or bytes), a list with the messages of FIX logs put in, or a folder of sessions.
+r"""Where a month's calls come from: a list (text or bytes), a list with the events of FIX logs put in, or a folder of sessions.
 
-In a text `start TIME` or `start TIME SYMBOL` before an open says when its quantum starts. The messages of the logs from then to the
-quantum's end, of that symbol (55) where one is named, then follow the open.
+In a text `start TIME` or `start TIME SYMBOL` before an open says when its quantum starts. The orders that rest then, and the events of the
+logs from then to the quantum's end, of that symbol (55) where one is named, then follow the open.
 """
 
 import re
 from collections import Counter
 from dataclasses import dataclass, field
-from datetime import datetime, timedelta
 from pathlib import Path
 from typing import Optional, Sequence
 
 from quoting import calls as c
-from quoting import fix, inputs, logs, reading, texts, values
+from quoting import exchange, fix, inputs, reading, texts, values
+from quoting.events import SIZE
+from quoting.exchange import choice
+from quoting.exchange.choice import LogOptions, Unread
 from quoting.reading import Options, TextError
-from quoting.reports import Reports
-from quoting.reports import time_of as answer_time
 from quoting.rows import HEAD, Rule
-from quoting.scanning import Rejected, messages
-from quoting.selection import NOBODY, Choice, Owner, listed, owner_text
+from quoting.selection import NAMES
+from quoting.selection import listed as listed_names
 
 NAME = re.compile(r"([0-9]{1,2})-([0-9])-([0-9])\.(session|csv|bin|txt)")
 CHARGES = "charges.csv"
 CHARGE_COLUMNS = ["day", "expiry", "quantum", "active", "passive", "lapses"]
-TIME = re.compile(rb"\x0160=([^\x01]*)\x01")
 PLACED_BEFORE = "start is written: start YYYYMMDD-HH:MM:SS.sss, with the symbol (55) after it if need be, and an open follows"
 
 
@@ -38,56 +37,34 @@ class Sent:
 
 @dataclass
 class Listed:
-    """All calls of a month; what was left out, a sentence each; what the exchange answered in the logs, which no call says; and which
-    messages were skipped without loss, a sentence each."""
+    """All calls of a month; what was left out, a sentence each; what the exchange answered in the logs, where these are read by their
+    requests; and what else was read from the logs or skipped without loss, a sentence each."""
 
     name: str
     calls: list[Sent] = field(default_factory=list)
     left: list[str] = field(default_factory=list)
-    reports: Reports = field(default_factory=Reports)
+    reports: Unread = field(default_factory=Unread)
     skipped: list[str] = field(default_factory=list)
 
 
 # ---------------------------------------------------------------- a list
 
 
-@dataclass
+@dataclass(frozen=True)
 class Span:
-    """A quantum that takes messages."""
+    """A quantum that takes the events of logs: when it starts and ends, in milliseconds since 1970."""
 
     start: str
-    symbol: Optional[bytes]
-    begins: datetime
-    ends: datetime
-    messages: list[tuple[str, bytes]] = field(default_factory=list)
-    owners: Counter[Owner] = field(default_factory=Counter)  # of the requests
-
-    def takes(self, time: datetime, symbol: Optional[bytes]) -> bool:
-        return self.begins <= time <= self.ends and self.symbol in (None, symbol)
-
-    def may_take(self, time: Optional[datetime], symbol: Optional[bytes]) -> bool:
-        """Whether an answer may be about this quantum: what it does not say excludes nothing, and its time may be cut to seconds."""
-        is_in = time is None or self.begins.replace(microsecond=0) <= time <= self.ends
-        return is_in and (None in (self.symbol, symbol) or self.symbol == symbol)
-
-    def check_owners(self) -> None:
-        """Refuses requests of several symbols or accounts in one quantum."""
-        for what in ("symbol", "account"):
-            counts: Counter[Optional[bytes]] = Counter()
-            for owner, count in self.owners.items():
-                counts[getattr(owner, what)] += count
-            try:
-                Choice(what, None, counts)
-            except ValueError as error:
-                raise TextError(f"the quantum that starts {self.start}: {error}") from None
+    symbol: Optional[str]
+    begins: int
+    ends: int
 
 
 class ListReader:
     """Gathers the calls of a text, and the quanta that take messages after their opens."""
 
-    def __init__(self, name: str, options: Options, chosen: Owner = NOBODY) -> None:
-        self.options, self.listed, self.chosen = options, Listed(name), chosen
-        self.sorter = logs.Sorter(chosen.account)
+    def __init__(self, name: str, options: Options, symbol: Optional[str] = None) -> None:
+        self.options, self.listed, self.symbol = options, Listed(name), symbol
         self.started: Optional[tuple[str, Optional[bytes]]] = None
         self.spans: dict[int, Span] = {}  # by the number of calls up to the open
 
@@ -114,17 +91,16 @@ class ListReader:
         self.listed.calls.append(Sent(block, f"line {at}", start))
         if self.started is not None:
             start_time, symbol = self.started
-            self.spans[len(self.listed.calls)] = span_of(start_time, symbol or self.chosen.symbol, c.call_of(block))
+            named = symbol.decode("utf-8", "surrogateescape") if symbol else self.symbol
+            self.spans[len(self.listed.calls)] = span_of(start_time, named, c.call_of(block))
         self.started = None
 
-    def with_messages(self) -> Listed:
-        """The list with each quantum's messages after its open."""
+    def with_events(self, events: dict[int, list[Sent]]) -> Listed:
+        """The list with each quantum's events after its open."""
         whole = Listed(self.listed.name, [], self.listed.left, self.listed.reports, self.listed.skipped)
         for count, sent in enumerate(self.listed.calls, start=1):
             whole.calls.append(sent)
-            span = self.spans.get(count)
-            if span is not None:
-                whole.calls += [Sent(c.block(c.Message(span.start.encode(), data)), place) for place, data in span.messages]
+            whole.calls += events.get(count, [])
         return whole
 
 
@@ -138,87 +114,65 @@ def start_of(words: list[str]) -> tuple[str, Optional[bytes]]:
     return words[0], words[1].encode() if len(words) == 2 else None
 
 
-def span_of(start: str, symbol: Optional[bytes], opened: Optional[c.Call]) -> Span:
+def span_of(start: str, symbol: Optional[str], opened: Optional[c.Call]) -> Span:
     if not isinstance(opened, c.Open):
         raise TextError(PLACED_BEFORE)
-    begins = fix.moment(start)
+    begins = exchange.milliseconds(start)
     length = opened.words[2] if len(opened.words) > 2 else 0
-    return Span(start, symbol, begins, begins + timedelta(milliseconds=length))
+    return Span(start, symbol, begins, begins + length)
 
 
-def text_list(name: str, text: str, options: Options, log_names: Sequence[str], chosen: Owner) -> Listed:
-    reader = ListReader(name, options, chosen)
+def text_list(name: str, text: str, options: Options, log_names: Sequence[str], log_options: LogOptions) -> Listed:
+    reader = ListReader(name, options, log_options.symbol)
     reader.read(text)
-    for log in log_names:
-        place_messages(reader, log, reading.read_bytes(log))
+    if not log_names:
+        return reader.listed
+    symbols = [span.symbol for span in reader.spans.values()]
+    steps = {symbol: log_options.step for symbol in symbols if symbol is not None}
+    accounts = None if log_options.account is None else [log_options.account]
+    logs = exchange.LogReader(steps, accounts, log_options.source, usual=log_options.step if None in symbols or not symbols else None)
+    choice.feed_logs(logs, log_names)
+    carried, events = 0, {}
     try:
-        for span in reader.spans.values():
-            span.check_owners()
-    except TextError as error:
-        error.file = name
-        raise
-    others = Counter({owner_text(owner): count for owner, count in reader.sorter.others.items()})
-    if others:
-        reader.listed.skipped.append(f"Messages of other accounts were skipped: {listed(others)}")
-    return reader.with_messages()
+        for count, span in reader.spans.items():
+            quantum = exchange.quantum_of(lines_for(logs, span), span.begins, span.ends)
+            carried += len(quantum.carried)
+            events[count] = [*sent_of(quantum.carried), *sent_of(quantum.events)]
+    except ValueError as error:
+        raise reading.failed(f"the quantum that starts {span.start}: {error}", name) from None
+    listed = reader.listed
+    listed.left += choice.faults(logs)
+    listed.reports = choice.unread(logs)
+    listed.skipped += [*choice.remarks(logs), *([f"{choice.plural(carried, 'order')} carried in, over all quanta"] if carried else [])]
+    return reader.with_events(events)
 
 
-def place_messages(reader: ListReader, log: str, data: bytes) -> None:
-    """Each message to its quantum. One whose time can't be read goes where the one before it went, to be refused there."""
-    spans, before = list(reader.spans.values()), None
-    for item in messages(data):
-        each = reader.sorter.sort(item)
-        if each is None:
-            continue
-        place = f"{log}: {item.place}"
-        if isinstance(each, Rejected):
-            reader.listed.left.append(f"{place}: {each.why}")
-        elif not each.found.is_request:
-            count_answer(reader.listed.reports, each, spans)
-        else:
-            span = span_for(each, spans) if time_of(each.found.data) else before
-            place_request(reader.listed, span, each, place)
-            before = span or before
+def lines_for(logs: exchange.LogReader, span: Span) -> list[exchange.Timeline]:
+    """The one symbol and account that a quantum counts.
+
+    Raises:
+        ValueError: There are several, and none is named.
+    """
+    found = [line for line in logs.timelines.values() if span.symbol in (None, line.symbol)]
+    found = [line for line in found if line.first_after(span.ends) > line.first_at(span.begins) or line.carried(span.begins)]
+    for what in ("symbol", "account"):
+        counts = Counter({getattr(line, what) or "none": line.first_after(span.ends) - line.first_at(span.begins) for line in found})
+        if len(counts) > 1:
+            raise ValueError(f"it has messages of more than one {NAMES[what]}: {listed_names(counts)}. Name one with --{what}")
+    return found
 
 
-def count_answer(reports: Reports, each: logs.Sorted, spans: list[Span]) -> None:
-    """Counts an answer that may be about one of the quanta."""
-    time = answer_time(each.found)
-    if each.omission is not None and any(span.may_take(time, each.owner.symbol) for span in spans):
-        reports.counts[each.omission] += 1
+def sent_of(records: exchange.Records, first: int = 0) -> list[Sent]:
+    """The events from one on as calls of the month."""
+    rest = exchange.Records(records.data[first * SIZE :], records.places[first:] if first else records.places)
+    return [Sent(c.block(event), f"{file}: line {line}") for event, (file, line) in zip(rest.events(), rest.places)]
 
 
-def place_request(listed: Listed, span: Optional[Span], each: logs.Sorted, place: str) -> None:
-    if span is None:
-        listed.left.append(f"{place}: this message is in no quantum of the list")
-        return
-    if each.omission is not None:
-        listed.reports.counts[each.omission] += 1
-    if each.data is not None:
-        span.messages.append((place, each.data))
-        if time_of(each.found.data) and (each.found.kind == b"D" or None not in each.owner):
-            span.owners[each.owner] += 1
-
-
-def time_of(message: bytes) -> Optional[datetime]:
-    found = TIME.search(message)
-    try:
-        return fix.moment(found[1].decode("latin-1")) if found else None
-    except ValueError:
-        return None
-
-
-def span_for(each: logs.Sorted, spans: list[Span]) -> Optional[Span]:
-    time = time_of(each.found.data)
-    assert time is not None
-    return next((span for span in spans if span.takes(time, each.owner.symbol)), None)
-
-
-def from_list(name: str, options: Options, log_names: Sequence[str] = (), chosen: Owner = NOBODY) -> Listed:
+def from_list(name: str, options: Options, log_names: Sequence[str] = (), log_options: LogOptions = LogOptions()) -> Listed:
     """The calls of a list of any form. Of the logs the chosen account is read; the chosen symbol is that of quanta that name none."""
     data = reading.read_bytes(name)
     if not reading.holds_bytes(data):
-        return text_list(name, reading.whole_text(data, options, name), options, log_names, chosen)
+        return text_list(name, reading.whole_text(data, options, name), options, log_names, log_options)
     if log_names:
         raise reading.failed("messages are put into a text, which says when each quantum starts, and this list is bytes", name)
     found = inputs.calls_of(name, data, options)

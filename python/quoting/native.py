@@ -141,6 +141,15 @@ def version() -> str:
     return text.decode()
 
 
+def built() -> dict[str, str]:
+    """What `make library` noted beside the library: its version, its commit, and the kit that proved it; {} where nothing is noted."""
+    try:
+        lines = (Path(library()._name).resolve().parent / "BUILT").read_text(encoding="utf-8").splitlines()
+    except (OSError, UnicodeDecodeError):
+        return {}
+    return {name: rest for name, _, rest in (line.partition(" ") for line in lines) if rest}
+
+
 def words(count: int) -> Any:
     """A buffer of so many words, all 0."""
     return (WORD * count)()

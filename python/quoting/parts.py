@@ -1,8 +1,8 @@
 """The part file of `quoting settle`: the rows of a table that is not finished, so that a later run can go on with them.
 
 It has JSON lines and is only appended to. The first line has the options of the run, each `process` line a process that wrote here, and each
-`row` line a row with the stamp (size and times) of its session, and a check sum, so that a damaged figure is not taken over. Of two rows of
-one session the later counts. A last line without its line end was cut off, and is dropped. The process that writes it has it locked.
+`row` line a row with the stamp (size and times) of its session, and a check sum of both and of the first line, so that neither a damaged
+figure nor a row of other options is taken over. Of two rows of one session the later counts. A last line without its line end was cut off, and is dropped. The process that writes it has it locked.
 """
 
 import fcntl
@@ -19,7 +19,7 @@ from quoting import native, output, reading, settling, values
 from quoting.rows import HEAD
 from quoting.settling import COLUMNS, Outcome, ReadOptions, Settled, Stamp
 
-FORM = 1  # of the part file
+FORM = 2  # of the part file
 START = b'{"settle": '
 AGAIN = "--restart settles every session again"
 STATUSES = ("settled", "refused", "unreadable")
@@ -87,16 +87,21 @@ def parsed(line: bytes) -> dict[str, Any]:
     return found if isinstance(found, dict) else {}
 
 
-def row_line(outcome: Outcome) -> bytes:
+def seal_of(head: dict[str, Any]) -> int:
+    """A number of the first line, which is in the check sum of each row."""
+    return zlib.crc32(json.dumps(head, sort_keys=True).encode())
+
+
+def row_line(outcome: Outcome, seal: int) -> bytes:
     words = astuple(outcome.row)
-    return json_line({"row": words, "stamp": outcome.stamp, "sum": check_sum(words, outcome.stamp)})
+    return json_line({"row": words, "stamp": outcome.stamp, "sum": check_sum(seal, words, outcome.stamp)})
 
 
-def check_sum(words: Any, stamp: Any) -> int:
-    return zlib.crc32(json.dumps([words, stamp]).encode())
+def check_sum(seal: int, words: Any, stamp: Any) -> int:
+    return zlib.crc32(json.dumps([seal, words, stamp]).encode())
 
 
-def outcome_of(line: bytes) -> Optional[Outcome]:
+def outcome_of(line: bytes, seal: int) -> Optional[Outcome]:
     """The row and stamp of a line, None if it is the line of a process. ValueError says what is wrong with it."""
     found = parsed(line)
     if "process" in found:
@@ -109,8 +114,8 @@ def outcome_of(line: bytes) -> Optional[Outcome]:
     row = Settled(*words)
     if row.status not in STATUSES or (row.status == "settled" and not all(word.isascii() and word.isdigit() for word in (row.kept, row.length))):
         raise ValueError("this is not a row of a table")
-    if found.get("sum") != check_sum(words, found.get("stamp")):
-        raise ValueError("this row is damaged: its check sum is wrong")
+    if found.get("sum") != check_sum(seal, words, found.get("stamp")):
+        raise ValueError("this row is damaged, or line 1 is: the check sum is wrong")
     return Outcome(row, stamp_in(found.get("stamp")))
 
 
@@ -187,6 +192,7 @@ class Table:
         self.path, self.names, self.part = path, names, part_of(path)
         self.options = option_words(read_options)
         self.head = {"settle": FORM, "version": native.version(), "options": self.options}
+        self.seal = seal_of(self.head)
         self.places: dict[str, int] = {}  # where the row of each session is
         self.kept: list[Settled] = []
         self.notes: list[str] = []
@@ -225,7 +231,7 @@ class Table:
         is_old = first == settling.HEADER.encode()
         if first and not is_old and "settle" not in parsed(first):
             raise PartError(f"{self.part} is not a part file of settle: move it away, or choose another -o")
-        count = sum(1 for line in self.file if is_old or line.startswith(b'{"row"'))
+        count = sum(1 for line in self.file if line.endswith(b"\n") and not line.startswith(b'{"process"'))  # damaged ones too
         if count and not restart:
             goes_on = "" if is_old else "--resume goes on with it, "
             raise PartError(f"{self.part} has {count} row(s) of a run that was not finished: {goes_on}--restart deletes it")
@@ -234,7 +240,7 @@ class Table:
     def resumed(self, first: bytes) -> int:
         """Takes the rows of an earlier run whose sessions have not changed. The bytes up to the last whole line."""
         head = self.head_in(first)
-        found, size = self.entries(len(first))
+        found, size = self.entries(len(first), seal_of(head))
         if not found:
             return 0
         self.check(head)
@@ -253,25 +259,27 @@ class Table:
         head = parsed(first)
         if "settle" not in head:
             raise PartError(f"{self.part} is not a part file of settle: move it away, or choose another -o")
+        if head["settle"] != FORM:
+            raise PartError(f"{self.part} has form {head['settle']!r}, and this version reads form {FORM}: {AGAIN}")
         return head
 
     def check(self, head: dict[str, Any]) -> None:
         """The rows are to be as this run would make them."""
-        if (head.get("settle"), head.get("version")) != (FORM, self.head["version"]):
+        if head.get("version") != self.head["version"]:
             raise PartError(f"{self.part} is of version {head.get('version')}, and this is {self.head['version']}: {AGAIN}")
         if head.get("options") != self.options:
             words = head.get("options")
             before = shown(words if isinstance(words, dict) else {})
             raise PartError(f"{self.part} was begun with {before}, and this run has {shown(self.options)}: give the same options, or {AGAIN}")
 
-    def entries(self, size: int) -> tuple[dict[str, Entry], int]:
+    def entries(self, size: int, seal: int) -> tuple[dict[str, Entry], int]:
         """The last row of each session, and the bytes up to the last whole line."""
         found: dict[str, Entry] = {}
         for number, line in enumerate(self.file, start=2):
             if not line.endswith(b"\n"):
                 break
             try:
-                outcome = outcome_of(line)
+                outcome = outcome_of(line, seal)
             except ValueError as error:
                 raise PartError(f"{self.part}: line {number}: {error}; {AGAIN}") from None
             if outcome:
@@ -302,7 +310,7 @@ class Table:
     def write(self, outcome: Outcome) -> None:
         """A row is there at once, so that it outlives whatever ends the run."""
         at = self.file.tell()
-        self.append(row_line(outcome))
+        self.append(row_line(outcome, self.seal))
         self.places[outcome.row.file] = at
 
     def lines(self) -> Iterator[bytes]:
@@ -310,7 +318,7 @@ class Table:
         yield settling.HEADER.encode()
         for name in self.names:
             self.file.seek(self.places[name])
-            outcome = outcome_of(self.file.readline())
+            outcome = outcome_of(self.file.readline(), self.seal)
             if outcome is None or outcome.row.file != name:
                 raise PartError(f"{self.part}: another program has changed this file: {AGAIN}")
             yield outcome.row.line.encode()

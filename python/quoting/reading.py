@@ -12,6 +12,7 @@ quoting.reading.TextError: id: 'x' is not a number
 """
 
 import re
+from contextlib import contextmanager
 import sys
 from dataclasses import dataclass
 from decimal import Decimal
@@ -41,12 +42,13 @@ class TextError(Exception):
 @dataclass(frozen=True)
 class Options:
     """How times, prices and shares are read: from a wall clock's start, in steps of a decimal, and with p in percent as before W6.
-    `complete` says that a file is whole although its last line has no line end."""
+    `complete` says that a file is whole although its last line has no line end, `decimal` what is before the decimals in CSV."""
 
     start: int = 0
     step: Optional[Decimal] = None
     old_months: bool = False
     complete: bool = False
+    decimal: str = "."
 
 
 PLAIN = Options()
@@ -115,6 +117,25 @@ def failed(what: str, file: Optional[str] = None, line: Optional[int] = None) ->
 
 def split_lines(text: str) -> list[str]:
     return LINE_END.split(text)
+
+
+def lines_with_ends(text: str) -> Iterator[tuple[str, int]]:
+    """Each line, and where the next one starts."""
+    at = 0
+    for end in LINE_END.finditer(text):
+        yield text[at : end.start()], end.end()
+        at = end.end()
+    yield text[at:], len(text)
+
+
+@contextmanager
+def at_line(line: int) -> Iterator[None]:
+    """Names the line of what cannot be read, where nothing else did."""
+    try:
+        yield
+    except TextError as error:
+        error.line = error.line or line
+        raise
 
 
 def words_of(line: str) -> list[str]:

@@ -1,109 +1,30 @@
-r"""The messages in the bytes of a FIX log.
+r"""The frame of a FIX message in the bytes of a log: where a message ends, or why it is none.
 
 A message starts wherever `8=FIX.` occurs outside a message that was read, whatever byte is before it. Its fields are separated by byte 1
-or by |. What starts like a message and is none is found too, with the reason.
+or by |.
 
->>> log = b"OUT:8=FIX.4.4|9=5|35=0|10=163|\n\n[8=FIX.4.4\x019=5\x0135=0\x0110=163\x01]8=FIX.4.4|9=5|35=0|10=162|"
->>> [(found.place, found.kind) for found in messages(log) if isinstance(found, Found)]
-[('line 1', b'0'), ('line 3', b'0')]
->>> [f"{found.place}: {found.why}" for found in messages(log) if isinstance(found, Rejected)]
-['line 3, byte 29: refused 20: the checksum (10) is 162, and the bytes add up to 163']
+>>> log = b"OUT:8=FIX.4.4|9=5|35=0|10=163|8=FIX.4.4|9=5|35=0|10=162|"
+>>> window = Window(log, True)
+>>> window.message_at(4)
+(30, b'8=FIX.4.4\x019=5\x0135=0\x0110=163\x01')
+>>> window.message_at(30)
+Traceback (most recent call last):
+quoting.scanning.Broken: the checksum (10) is 162, and the bytes add up to 163
 """
 
 import re
-from dataclasses import dataclass
-from functools import cached_property
-from typing import Iterator, Optional, Union
 
 from quoting import fix
 
-START = re.compile(rb"8=FIXT?\.")  # FIXT is that of version 5.0: found, and rejected
 HEAD = re.compile(rb"8=FIX\.4\.4([\x01|])9=([0-9]{1,13})\1")
-LONGEST_HEAD, LONGEST_START = 26, 7  # bytes
+LONGEST_HEAD = 26  # bytes
 LONGEST_BODY = 65_535  # bytes: a damaged length must not make a reader wait for ever
 TAIL = 6  # the bytes of 10=ddd
 CHECKSUM = re.compile(rb"10=([0-9]{3})(?![0-9])")
 VERSION = re.compile(rb"8=([A-Z0-9.]*)")
 CUT_LENGTH = re.compile(rb"(?:9(?:=[0-9]*)?)?")
 BAR, BAR_LESS = b"|", ord("|") - fix.END[0]
-REQUESTS = (b"D", b"F", b"G")
 NOWHERE = 1 << 62
-
-
-# ---------------------------------------------------------------- what is found
-
-
-@dataclass(frozen=True)
-class Place:
-    """Where something starts: its line, and its byte in the line where another message starts before it there; both count from 1."""
-
-    line: int
-    byte: int = 0
-
-    def __str__(self) -> str:
-        return f"line {self.line}, byte {self.byte}" if self.byte else f"line {self.line}"
-
-
-@dataclass(frozen=True)
-class Found:
-    """A message of a log, its fields separated by byte 1."""
-
-    at: Place
-    data: bytes
-
-    @property
-    def place(self) -> str:
-        return str(self.at)
-
-    @cached_property
-    def fields(self) -> list[tuple[bytes, bytes]]:
-        """Tags and values, without the frame's 8, 9 and 10."""
-        pairs = (each.partition(b"=") for each in self.data.split(fix.END)[2:-2])
-        return [(tag, value) for tag, _, value in pairs]
-
-    @property
-    def kind(self) -> bytes:
-        """Its type (35)."""
-        return self.fields[0][1]
-
-    @property
-    def is_request(self) -> bool:
-        return self.kind in REQUESTS
-
-    def value(self, tag: int) -> Optional[bytes]:
-        """The value of a tag, None where it is absent.
-
-        Raises:
-            ValueError: The tag is there twice, with different values.
-        """
-        name = b"%d" % tag
-        found = {value for each, value in self.fields if each == name}
-        if len(found) > 1:
-            raise ValueError(f"{tag} is there twice, with different values")
-        return found.pop() if found else None
-
-    def first(self, tag: int) -> Optional[bytes]:
-        """The first value of a tag, None where it is absent."""
-        name = b"%d" % tag
-        return next((value for each, value in self.fields if each == name), None)
-
-
-@dataclass(frozen=True)
-class Rejected:
-    """A message, or what starts like one, that was not taken, and why."""
-
-    at: Place
-    why: str
-
-    @property
-    def place(self) -> str:
-        return str(self.at)
-
-
-Item = Union[Found, Rejected]
-
-
-# ---------------------------------------------------------------- the scan
 
 
 class Broken(Exception):
@@ -191,70 +112,3 @@ class Window:
     def sum_of(self, separator: bytes, at: int, end: int) -> int:
         less = BAR_LESS * self.data.count(BAR, at, end) if separator == BAR else 0
         return sum(self.data[at:end]) - less
-
-
-class Scanner:
-    """Finds the messages in a log's bytes as they come: the same ones whatever pieces the bytes come in."""
-
-    def __init__(self, line: int = 1) -> None:
-        self.rest = b""
-        self.line = line  # of the first byte of the rest
-        self.column = 0  # bytes of that line before the rest
-        self.is_after_cr = False  # the byte before the rest is CR, to which an LF belongs
-        self.last_line = 0  # on which the last one was found
-
-    def take(self, data: bytes) -> Iterator[Item]:
-        """What these bytes complete."""
-        self.rest += data
-        yield from self.scan(False)
-
-    def end(self) -> Iterator[Item]:
-        """No more bytes follow: what is incomplete is rejected."""
-        yield from self.scan(True)
-
-    def scan(self, is_final: bool) -> Iterator[Item]:
-        window, at = Window(self.rest, is_final), 0
-        counted = 0  # bytes whose lines are counted
-        while True:
-            start = START.search(window.data, at)
-            if start is None:
-                at = max(at, len(window.data) - (0 if is_final else LONGEST_START - 1))
-                break
-            at = start.start()
-            try:
-                end, message = window.message_at(at)
-            except Incomplete:
-                break
-            except Broken as broken:
-                place, counted = self.place_at(counted, at), at
-                yield Rejected(place, f"refused 20: {broken}")
-                at += 1
-            else:
-                place, counted = self.place_at(counted, at), at
-                yield Found(place, message)
-                at = end
-        self.count(counted, at)
-        self.rest = window.data[at:]
-
-    def place_at(self, counted: int, at: int) -> Place:
-        self.count(counted, at)
-        is_first, self.last_line = self.last_line != self.line, self.line
-        return Place(self.line, 0 if is_first else self.column + 1)
-
-    def count(self, start: int, end: int) -> None:
-        """Moves line and column on, over bytes of the rest."""
-        data = self.rest[start:end]
-        if not data:
-            return
-        ends = data.count(b"\n") + data.count(b"\r") - data.count(b"\r\n") - (self.is_after_cr and data[:1] == b"\n")
-        self.line += ends
-        last = max(data.rfind(b"\n"), data.rfind(b"\r"))
-        self.column = len(data) - 1 - last if last >= 0 else self.column + len(data)
-        self.is_after_cr = data[-1:] == b"\r"
-
-
-def messages(data: bytes) -> Iterator[Item]:
-    """All messages of a log, and what starts like one."""
-    scanner = Scanner()
-    scanner.rest = data
-    yield from scanner.end()

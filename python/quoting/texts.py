@@ -15,7 +15,7 @@ from dataclasses import astuple, dataclass
 from typing import Any, Callable, Iterator, Optional, Sequence
 
 from quoting import calls as c
-from quoting import fix, reading, values
+from quoting import csv_columns, fix, reading, values
 from quoting.events import KINDS, SIDES, SIZE, Add, Amend, Cancel, Deal, Event, Tick, event_of, record, split
 from quoting.reading import PLAIN, Options, TextError
 from quoting.rows import COLUMNS, HEAD
@@ -185,6 +185,10 @@ def session_text(data: bytes) -> str:
 # ---------------------------------------------------------------- a session as CSV
 
 CSV_COLUMNS = ("t", "kind", "id", "side", "price", "volume")
+INDEX_NAMES = ("", "index", "unnamed: 0", "level_0")  # of a column of numbers that pandas, Excel or a database puts first
+NOTHING = ("", "nan", "<na>", "none", "null")  # cells without a value
+WHOLE = re.compile(r"(-?[0-9_]+)\.0+")  # a whole number of a column in which some cells have no value
+ISO_TIME = re.compile(r"([0-9]{4}-[0-9]{2}-[0-9]{2})[T ]([0-9]{2}:[0-9]{2}:[0-9]{2})(?:\.([0-9]{1,9}))?(Z|[+-][0-9]{2}:?[0-9]{2})?")
 
 
 @dataclass
@@ -194,6 +198,7 @@ class CsvReader:
     options: Options
     head: Head
     names: Optional[list[str]] = None
+    day: Optional[str] = None  # of the times of a column `timestamp`, with their zone: all of one day
 
     def take(self, cells: list[str]) -> Optional[Event]:
         """The event of a line that has one."""
@@ -202,21 +207,22 @@ class CsvReader:
         if cells[0] == "row":
             self.head.take_row(cells[1:])
         elif cells[0] == "sp":
-            self.head.take_sp(cells[1:])
+            self.head.take_sp([cell.replace(",", ".") if self.options.decimal == "," else cell for cell in cells[1:]])
         else:
             self.names = self.header(cells)
         return None
 
     def header(self, cells: list[str]) -> list[str]:
-        if sorted(cells) != sorted(CSV_COLUMNS):
+        names = csv_names(cells)
+        if names is None:
             raise TextError(f"the columns are {','.join(CSV_COLUMNS)}, in any order, got {','.join(map(values.brief, cells))}")
-        return cells
+        return names
 
     def event(self, cells: list[str]) -> Event:
         names = self.names or []
         if len(cells) != len(names):
             raise TextError(f"there are {len(names)} columns, got {len(cells)} fields")
-        given = dict(zip(names, cells))
+        given = {name: "" if cell.lower() in NOTHING else cell for name, cell in zip(names, cells) if name}
         kind = given.pop("kind")
         if kind not in EVENT_COLUMNS:
             raise TextError(f"kind: {values.brief(kind)!r} is not one of {', '.join(EVENT_COLUMNS)}")
@@ -224,12 +230,45 @@ class CsvReader:
         more = [name for name, cell in given.items() if cell and name not in taken]
         if more:
             raise TextError(f"{'an' if kind[0] == 'a' else 'a'} {kind} has no {more[0]}, got {values.brief(given[more[0]])!r}")
-        return event(kind, [given[name] for name in taken], self.options)
+        return event(kind, [self.word(name, given[name]) for name in taken], self.options)
+
+    def word(self, name: str, cell: str) -> str:
+        """A cell as a text has it."""
+        if name == "t":
+            return self.clock(cell)
+        if name == "side":
+            return cell
+        if name == "price" and self.options.step is not None:
+            return cell.replace(",", ".") if self.options.decimal == "," else cell
+        found = WHOLE.fullmatch(cell.replace(",", ".") if self.options.decimal == "," else cell)
+        return found[1] if found else cell
+
+    def clock(self, cell: str) -> str:
+        """A time of day, where the cell has a date and a time; decimals of a second after the third are cut off."""
+        found = ISO_TIME.fullmatch(cell)
+        if found is None:
+            whole = WHOLE.fullmatch(cell)
+            return whole[1] if whole else cell
+        day = f"{found[1]}{found[4] or ''}"
+        self.day = self.day or day
+        if day != self.day:
+            raise TextError(f"t: {cell} is of another day or zone than the first time, {self.day}")
+        return f"{found[2].lstrip('0') if found[2][0] == '0' and found[2][1] != ':' else found[2]}.{(found[3] or '').ljust(3, '0')[:3]}"
 
 
-def csv_cells(line: str) -> list[str]:
+def csv_names(cells: list[str]) -> Optional[list[str]]:
+    """The names of the columns, each once; an index column has none, and t may be called timestamp. None where they are not those of a
+    session."""
+    names = [cell.lower() for cell in cells]
+    names = ["t" if name == "timestamp" else name for name in names]
+    if names and names[0] in INDEX_NAMES:
+        names[0] = ""
+    return names if sorted(name for name in names if name) == sorted(CSV_COLUMNS) and names.count("") <= (names[0] == "") else None
+
+
+def csv_cells(line: str, separator: str = ",") -> list[str]:
     """The fields of a line, without the quotes around them."""
-    cells = [cell.strip(" \t") for cell in line.split("#", 1)[0].split(",")]
+    cells = [cell.strip(" \t") for cell in line.split("#", 1)[0].split(separator)]
     return [cell[1:-1] if len(cell) > 1 and cell[0] == cell[-1] == '"' else cell for cell in cells]
 
 
@@ -240,36 +279,58 @@ def csv_bytes(text: str, options: Options = PLAIN, head: Optional[bytes] = None)
     52
     """
     reader = CsvReader(options, Head(options, head))
-    records = b"".join(map(record, csv_items(reader, text)))
-    return reader.head.data() + records
+    at, end = csv_front(reader, text)
+    whole = csv_columns.records(text[end:], reader.names or [], options)
+    return reader.head.data() + (b"".join(map(record, csv_rest(reader, text[end:], at))) if whole is None else whole)
 
 
 def csv_events(text: str, options: Options = PLAIN) -> tuple[bytes, list[Event]]:
     """The leading bytes and the events of a session in CSV."""
     reader = CsvReader(options, Head(options))
-    events = list(csv_items(reader, text))
+    at, end = csv_front(reader, text)
+    events = list(csv_rest(reader, text[end:], at))
     return reader.head.data(), events
 
 
-def csv_items(reader: CsvReader, text: str) -> Iterator[Event]:
-    for at, line in enumerate(reading.split_lines(text), start=1):
-        cells = csv_cells(line)
-        try:
-            found = reader.take(cells) if any(cells) else None
-        except TextError as error:
-            error.line = error.line or at
-            raise
-        if found is not None:
-            yield found
-    if reader.names is None:
-        raise TextError(f"there is no line with the columns {','.join(CSV_COLUMNS)}")
+def csv_front(reader: CsvReader, text: str) -> tuple[int, int]:
+    """Reads up to the line with the columns' names: its number, and where the next one starts."""
+    for at, (line, end) in enumerate(reading.lines_with_ends(text), start=1):
+        cells = csv_cells(line, csv_separator(reader.options))
+        if any(cells):
+            with reading.at_line(at):
+                reader.take(cells)
+        if reader.names is not None:
+            return at, end
+    raise TextError(f"there is no line with the columns {','.join(CSV_COLUMNS)}")
 
 
-def csv_sizes(text: str) -> Iterator[tuple[int, int]]:
+def csv_rest(reader: CsvReader, text: str, before: int) -> Iterator[Event]:
+    """The events after the line with the columns' names, one at a time."""
+    separator = csv_separator(reader.options)
+    for at, line in enumerate(reading.split_lines(text), start=before + 1):
+        cells = csv_cells(line, separator)
+        if any(cells):
+            with reading.at_line(at):
+                found = reader.take(cells)
+            if found is not None:
+                yield found
+
+
+def csv_separator(options: Options) -> str:
+    return ";" if options.decimal == "," else ","
+
+
+def separator_of(text: str) -> str:
+    """What separates the columns' names of a CSV that was read."""
+    found = (line for line, _ in reading.lines_with_ends(text) if any(csv_names(csv_cells(line, each)) for each in ";,"))
+    return ";" if ";" in next(found, "") else ","
+
+
+def csv_sizes(text: str, separator: str = ",") -> Iterator[tuple[int, int]]:
     """The line and the bytes of each event of a session in CSV, for a text that can be read."""
     named = False
     for at, line in enumerate(reading.split_lines(text), start=1):
-        cells = csv_cells(line)
+        cells = csv_cells(line, separator)
         if named and any(cells):
             yield at, SIZE
         named = named or any(cells) and cells[0] not in ("row", "sp")

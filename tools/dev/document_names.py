@@ -11,7 +11,7 @@ from functools import cache
 from pathlib import Path
 
 ROOT = Path(__file__).resolve().parent.parent.parent
-PAGES = ["README.md", "bench/README.md", *(f"docs/{name}.md" for name in ("ARCHITECTURE", "CONTRIBUTING", "DECISIONS", "FORMATS", "GLOSSARY", "PROOFS", "REFUSALS"))]
+PAGES = ["README.md", "bench/README.md", "examples/silver/README.md", *(f"docs/{name}.md" for name in ("ARCHITECTURE", "CONTRIBUTING", "DECISIONS", "FORMATS", "GLOSSARY", "GUIDE", "PROOFS", "REFUSALS"))]
 QUOTED = re.compile(r"`([^`\n]+)`")
 FOLDERS = ("crates", "docs", "tests", "examples", "python", "recount", "include", "lib", "bench", "tools", "shared")
 BUILT = ("target/", "/dev/")

@@ -28,7 +28,7 @@ abbrev pub entryOf : List ℕ → List ℕ → List ℕ → ℕ
 entryOf words hints out = entryNumber (leb 2464 (length words)) (mayBeMonth words) (leb 2048 (length hints)) (leb 20 (length out))
 
 -- For every list of calls whose month the words are: they are those of the list with the taken records' event calls after it, and r is how many
--- these are; the answer's words are an accepted call's, or those of a call that is refused by what refuses the next record. What is behind
+-- these are; the answer's words are an accepted call's, or those of a call that is refused by what refuses the next record. What follows
 -- the words and the answer is kept. r fits 32 bits, so it is never a refusal. Where no record is taken the hints are as they were; else the
 -- first 2,048 bytes are free, as an event call leaves them.
 pub record RecordsTaken (words hints out records words′ hints′ out′ : List ℕ) (r : ℕ) : Type 0 where

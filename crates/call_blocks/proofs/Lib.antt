@@ -5,3 +5,4 @@ pub mod Loops
 pub mod Pieces
 pub mod Decoding
 pub mod Writing
+pub mod Fronts

@@ -6,10 +6,10 @@ use mathlib.Core.Path.{_≡_, refl, sym, ap, subst, _∙_}
 use mathlib.Core.List.{List, [], _∷_, _++_}
 use mathlib.Core.Bool.{Bool, true, false, _||_}
 use borrow.Author.Needs.{needs}
-use borrow.Author.Tests.{leb-true, leb-false, eqb-true, eqb-false}
+use borrow.Author.Tests.{leb-true, leb-false, eqb-true, eqb-false, le-leb}
 use lib.Dec.{leb, eqb}
-use lib.ListN.{length, getD, take, drop, length-append, length-drop}
-use lib.Seq.{getD-take, take-append-seam, drop-append-le, take-append-le, drop-drop}
+use lib.ListN.{length, getD, take, drop, length-append, length-drop, take-append-drop}
+use lib.Seq.{getD-take, take-append-seam, drop-append-le, take-append-le, drop-drop, length-take-le}
 use Rattle.lists.specs.Lists.{if_then_else_}
 use Rattle.rules.specs.declared.SpreadRule.the-variants.{Settled, OfStrike}
 use Rattle.rules.specs.declared.Amendment.{Amendment}
@@ -140,6 +140,39 @@ pub size-stays : (ws more : List ℕ) → (blockSize ws ≡ 0 → ⊥) → block
 size-stays ws more s =
     whole (ws ++ more) (blockSize ws) (told-stays ws more (whole-told ws s) ∙ sym (is-due ws s))
     (omega (arith, size-fits ws, length-append ws more))
+
+-- ---- a block's own words are a block of the same size
+
+module _ (ws : List ℕ) (s : dueAt ws ≡ 0 → ⊥) where
+  fits-of : (k m n : ℕ) → due k ws ≡ n → telling k ≡ m → m ≤ n → word ws 0 ≡ k → telling (word ws 0) ≤ dueAt ws
+  fits-of k m n d t l e =
+      let a : telling (word ws 0) ≡ m = ap telling e ∙ t in
+      let b : dueAt ws ≡ n = ap (λ (j : ℕ). due j ws) e ∙ d in
+      omega (arith, a, b, l)
+
+  fits-side : (b : Bool) → dueAt ws ≡ (if b then 6 else 0) → telling (word ws 0) ≡ 4 → telling (word ws 0) ≤ dueAt ws
+  fits-side true d t = omega (arith, d, t)
+  fits-side false d t = absurd (s d)
+
+  fits-add : word ws 0 ≡ 2 → telling (word ws 0) ≤ dueAt ws
+  unfolding due telling addDue
+  fits-add e = fits-side (eqb (word ws 3) 1 || eqb (word ws 3) 2) (ap (λ (j : ℕ). due j ws) e) (ap telling e)
+
+  fits-by : (kind : ℕ) → word ws 0 ≡ kind → (a b c d : Bool) → eqb kind 1 ≡ a → eqb kind 2 ≡ b → eqb kind 13 ≡ c → eqb kind 16 ≡ d
+      → telling (word ws 0) ≤ dueAt ws
+  unfolding due telling
+  fits-by kind e true b c d p q r t = fits-of 1 2 (5 + word ws 1) refl refl (omega arith) (e ∙ eqb-true kind 1 p)
+  fits-by kind e false true c d p q r t = fits-add (e ∙ eqb-true kind 2 q)
+  fits-by kind e false false true d p q r t = fits-of 13 2 (8 + word ws 1) refl refl (omega arith) (e ∙ eqb-true kind 13 r)
+  fits-by kind e false false false true p q r t =
+      fits-of 16 3 (3 + (word ws 1 + word ws 2 + 3) / 4) refl refl (omega arith) (e ∙ eqb-true kind 16 t)
+  fits-by kind e false false false false p q r t =
+      let o = other-telling kind ((((tt, eqb-false kind 1 p), eqb-false kind 2 q), eqb-false kind 13 r), eqb-false kind 16 t) in
+      let a : telling (word ws 0) ≡ telling kind = ap telling e in
+      omega (arith, o, a)
+
+  telling-fits : telling (word ws 0) ≤ dueAt ws
+  telling-fits = fits-by (word ws 0) refl (eqb (word ws 0) 1) (eqb (word ws 0) 2) (eqb (word ws 0) 13) (eqb (word ws 0) 16) refl refl refl refl
 
 -- ---- a block that is whole says the same call
 
@@ -315,6 +348,43 @@ call-stays ws more s =
     let h : 0 < length ws = omega arith in
     ap (λ (n : ℕ). callBy n (ws ++ more)) (come ws more 0 h)
     ∙ call-by-stays ws more (word ws 0) (omega arith) (λ z. s (k ∙ z))
+
+-- ---- the words of one block
+
+module _ (ws : List ℕ) (s : blockSize ws ≡ 0 → ⊥) where
+  abbrev own : List ℕ
+  own = take (blockSize ws) ws
+
+  own-length : length own ≡ blockSize ws
+  own-length = length-take-le (blockSize ws) ws (size-fits ws)
+
+  parted : own ++ drop (blockSize ws) ws ≡ ws
+  parted = take-append-drop (blockSize ws) ws
+
+  some : 0 < blockSize ws
+  some = omega (arith, s)
+
+  first-stays : word own 0 ≡ word ws 0
+  first-stays = getD-take (blockSize ws) ws 0 0 some
+
+  own-told : isTold own ≡ true
+  unfolding isTold
+  own-told =
+      let d = is-due ws s in
+      let f = telling-fits ws (λ z. s (d ∙ z)) in
+      let t : telling (word own 0) ≡ telling (word ws 0) = ap telling first-stays in
+      le-leb (telling (word own 0)) (length own) (omega (arith, own-length, d, f, t))
+
+  -- they are a block of the same size ..
+  pub own-size : blockSize own ≡ blockSize ws
+  own-size =
+      whole own (blockSize ws)
+      (sym (told-stays own (drop (blockSize ws) ws) own-told) ∙ ap dueAt parted ∙ sym (is-due ws s))
+      (omega (arith, own-length))
+
+  -- .. that says the same call
+  pub own-call : callOf own ≡ callOf ws
+  own-call = sym (call-stays own (drop (blockSize ws) ws) (λ z. s (sym own-size ∙ z))) ∙ ap callOf parted
 
 -- ---- a list in two pieces
 

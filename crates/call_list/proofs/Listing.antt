@@ -6,7 +6,7 @@ use mathlib.Core.List.{List, [], _∷_, _++_, append-assoc, append-nil}
 use mathlib.Core.Bool.{true, false}
 use borrow.Author.Tests.{le-leb, lt-leb}
 use lib.ListN.{length, take, drop, length-append, length-drop}
-use lib.Seq.{length-take-le, take-length, take-add, drop-drop}
+use lib.Seq.{length-take-le, take-length, take-all, take-add, drop-drop}
 use Rattle.rules.specs.Terms.{paper}
 use Rattle.rules.specs.Answers.{Outcome, accepted, refused, Reply, done, cell, asked, report, outlook}
 use Rattle.rules.specs.Calls.{Call, Book, freshBook}
@@ -14,20 +14,17 @@ use Rattle.rules.specs.Book.{answerOf, step, run, after}
 use Rattle.rules.specs.Histories.{answersFrom}
 use Rattle.lent.specs.Words.{cellWords}
 use Rattle.lent.proofs.Parts.{next-part}
-use Rattle.month.specs.declared.Month.{Month}
-use Rattle.month.specs.Represents.{monthOf, Reached}
-use Rattle.call_step.specs.declared.Done.{Done}
-use Rattle.call_step.specs.declared.Shown.{Shown}
+use Rattle.month.specs.Represents.{monthOf}
+use Rattle.month.specs.Words.{wordsAfter, HoldsMonth}
+use Rattle.month.proofs.Words.{month-fits, month-length as words-long}
 use Rattle.call_blocks.specs.declared.Measured.{Measured}
 use Rattle.call_blocks.specs.Kinds.{blockSize, callOf}
 use Rattle.call_blocks.specs.Reading.{callsOf}
 use Rattle.call_blocks.specs.Measures.{Measures}
 use Rattle.call_blocks.proofs.Loops.{Passed, at-start, next-call, one-more, none-left}
-use Rattle.call_step.specs.Blocks.{NextBlockPerformed}
 use Rattle.answer_words.specs.Words.{answerWords}
-use Rattle.month_words.specs.Calling.{wordsShown}
-use Rattle.month_words.proofs.Calling.{shown-words}
 use Rattle.call_list.specs.Listing.{listWords, answersOf, ListAnswered}
+use Rattle.call_list.specs.Internal.{NextCalled}
 
 -- ---- the answers' words
 
@@ -73,14 +70,14 @@ part-long l a h =
 
 -- ---- the loop
 
--- After k calls: their words are read, the month is that of those calls, and the buffer's front holds their answers.
-pub record Ongoing (ws before out : List ℕ) (month : Month) (at k : ℕ) : Type 0 where
+-- After k calls: their words are read, the month's words are those of these calls, and the buffer's front holds their answers.
+pub record Ongoing (ws before out month : List ℕ) (at k : ℕ) : Type 0 where
   pub passed : Passed ws k at (blockSize (drop at ws))
   pub room : 20 * length (callsOf ws) ≤ length before
-  pub month-is : month ≡ monthOf (after paper (take k (callsOf ws)))
+  pub month-is : month ≡ wordsAfter (take k (callsOf ws))
   pub out-is : out ≡ answersOf (take k (callsOf ws)) ++ drop (20 * k) before
 
-pub starts : (ws before : List ℕ) (month : Month) → 20 * length (callsOf ws) ≤ length before → month ≡ monthOf (after paper [])
+pub starts : (ws before month : List ℕ) → 20 * length (callsOf ws) ≤ length before → month ≡ wordsAfter []
     → Ongoing ws before before month 0 0
 unfolding answersOf answersFrom listWords
 starts ws before month h e =
@@ -91,9 +88,12 @@ starts ws before month h e =
       out-is = refl;
     }
 
-module _ (ws before out : List ℕ) (month : Month) (at k : ℕ) (g : Ongoing ws before out month at k) where
-  pub is-reached : Reached month
-  is-reached = record { calls = take k (callsOf ws); is = g .month-is }
+module _ (ws before out month : List ℕ) (at k : ℕ) (g : Ongoing ws before out month at k) where
+  pub month-length : length month ≡ 2464
+  month-length = ap length (g .month-is) ∙ words-long (monthOf (after paper (take k (callsOf ws)))) (month-fits (take k (callsOf ws)))
+
+  pub is-month : HoldsMonth month
+  is-month = record { calls = take k (callsOf ws); is = take-all 2464 month (omega (arith, month-length)) ∙ g .month-is }
 
   front-length : length (answersOf (take k (callsOf ws))) ≡ 20 * k
   front-length = answers-length (take k (callsOf ws)) ∙ ap (λ (n : ℕ). 20 * n) (length-take-le k (callsOf ws) (g .passed .some))
@@ -110,50 +110,48 @@ module _ (ws before out : List ℕ) (month : Month) (at k : ℕ) (g : Ongoing ws
   pub next-inside : k < length (callsOf ws) → 20 * k + 20 ≤ length out
   next-inside h = omega (arith, out-length, g .room)
 
-  module _ (h : k < length (callsOf ws)) (r : Done) (s : NextBlockPerformed month ws at r) where
-    abbrev size : ℕ
-    size = blockSize (drop at ws)
+  abbrev size : ℕ
+  size = blockSize (drop at ws)
 
-    is-some : size ≡ 0 → ⊥
+  module _ (h : k < length (callsOf ws)) where
+    -- the next block is one
+    pub is-some : size ≡ 0 → ⊥
     is-some z =
         let n : length (callsOf ws) - k ≡ 0 =
         sym (length-drop k (callsOf ws)) ∙ ap length (none-left ws k at size (g .passed) (omega arith))
         in
         omega arith
 
+    -- and its place is inside
+    pub at-inside : at ≤ length ws
+    at-inside = omega (arith, g .passed .fits)
+
+  module _ (h : k < length (callsOf ws)) (month′ part : List ℕ) (r : ℕ) (s : NextCalled month ws at month′ part r) where
     is-more : 0 < size
-    is-more = let z = is-some in omega arith
+    is-more = let z = is-some h in omega arith
 
     longer : take (k + 1) (callsOf ws) ≡ take k (callsOf ws) ++ (callOf (drop at ws) ∷ [])
     longer = take-add k 1 (callsOf ws) ∙ ap (λ (l : List Call). take k (callsOf ws) ++ take 1 l) (next-call ws k at size (g .passed) is-more)
 
-    passed-on : Passed ws (k + 1) (r .next) (blockSize (drop (r .next) ws))
+    passed-on : Passed ws (k + 1) r (blockSize (drop r ws))
     passed-on =
-        subst (λ (n : ℕ). Passed ws (k + 1) n (blockSize (drop n ws))) (sym (s .next))
+        subst (λ (n : ℕ). Passed ws (k + 1) n (blockSize (drop n ws))) (sym (s .place))
         (one-more ws k at size (g .passed) is-more (blockSize (drop (at + size) ws)) refl)
 
-    month-on : r .month ≡ monthOf (after paper (take (k + 1) (callsOf ws)))
-    month-on =
-        s .some is-some .month (take k (callsOf ws)) (g .month-is) ∙ ap (λ (l : List Call). monthOf (after paper l)) (sym longer)
+    month-on : month′ ≡ wordsAfter (take (k + 1) (callsOf ws))
+    month-on = s .month-after (take k (callsOf ws)) (g .month-is) ∙ ap wordsAfter (sym longer)
 
-    words-are : wordsShown (r .shown .outcome) (r .shown .report) ≡ answerWords (answerOf paper (after paper (take k (callsOf ws))) (callOf (drop at ws)))
-    words-are =
-        ap (λ (x : Shown). wordsShown (x .outcome) (x .report)) (s .some is-some .shown (take k (callsOf ws)) (g .month-is))
-        ∙ shown-words (answerOf paper (after paper (take k (callsOf ws))) (callOf (drop at ws)))
-
-    answers-on : (part : List ℕ) → part ≡ wordsShown (r .shown .outcome) (r .shown .report)
-        → answersOf (take k (callsOf ws)) ++ part ≡ answersOf (take (k + 1) (callsOf ws))
-    answers-on part e =
-        ap (λ (l : List ℕ). answersOf (take k (callsOf ws)) ++ l) (e ∙ words-are)
+    answers-on : answersOf (take k (callsOf ws)) ++ part ≡ answersOf (take (k + 1) (callsOf ws))
+    answers-on =
+        ap (λ (l : List ℕ). answersOf (take k (callsOf ws)) ++ l) (s .answer (take k (callsOf ws)) (g .month-is))
         ∙ sym (answers-more (take k (callsOf ws)) (callOf (drop at ws)))
         ∙ ap answersOf (sym longer)
 
     behind : drop 20 (drop (20 * k) before) ≡ drop (20 * (k + 1)) before
     behind = let e : 20 * k + 20 ≡ 20 * (k + 1) = omega arith in drop-drop 20 (20 * k) before ∙ ap (λ (n : ℕ). drop n before) e
 
-    pub goes-on : (part : List ℕ) (n : ℕ) → n ≡ 20 → part ≡ wordsShown (r .shown .outcome) (r .shown .report)
-        → Ongoing ws before (take (20 * k) out ++ (part ++ drop n (drop (20 * k) out))) (r .month) (r .next) (k + 1)
-    goes-on part n is e =
+    pub goes-on : (n : ℕ) → n ≡ 20 → Ongoing ws before (take (20 * k) out ++ (part ++ drop n (drop (20 * k) out))) month′ r (k + 1)
+    goes-on n is =
         record {
           passed = passed-on;
           room = g .room;
@@ -161,7 +159,7 @@ module _ (ws before out : List ℕ) (month : Month) (at k : ℕ) (g : Ongoing ws
           out-is =
               ap (λ (m : ℕ). take (20 * k) out ++ (part ++ drop m (drop (20 * k) out))) is
               ∙ next-part out (answersOf (take k (callsOf ws))) (drop (20 * k) before) part (20 * k) 20 (g .out-is) front-length
-              ∙ (λ i. answers-on part e i ++ behind i);
+              ∙ (λ i. answers-on i ++ behind i);
         }
 
 -- ---- the answer
@@ -178,7 +176,7 @@ too-short ws before m p h =
     }
 
 -- the end of the list
-pub finished : (ws before out : List ℕ) (month : Month) (at k : ℕ) → Ongoing ws before out month at k → (m : Measured) → Measures ws m
+pub finished : (ws before out month : List ℕ) (at k : ℕ) → Ongoing ws before out month at k → (m : Measured) → Measures ws m
     → m .calls ≤ k
     → ListAnswered ws before out (record { calls = m .calls; words = m .words; fits = true })
 finished ws before out month at k g m p h =

@@ -25,11 +25,11 @@ module _ (day : ℕ) (opening : Opening) where
     unfolding refusalOf causes firstNumber
     by-1 = rw (ne-eqb (length ws) 7 h) refl
 
-    answer-is : answerOf paper b (Open ws day opening) ≡ refused 1
+    pub answer-is : answerOf paper b (Open ws day opening) ≡ refused 1
     unfolding answerOf
     answer-is = rw by-1 refl
 
-    step-is : step paper b (Open ws day opening) ≡ b
+    pub step-is : step paper b (Open ws day opening) ≡ b
     unfolding step
     step-is = rw by-1 refl
 

@@ -175,7 +175,7 @@ fn tell_outlook(after: AfterOutlook, next: usize) -> Done
 }
 
 // As many words of an open's row as are handed on: a row of another length than seven is refused whatever it holds, so none are.
-fn handed_on(length: usize) -> usize
+pub fn handed_on(length: usize) -> usize
     ensures { λ r. ⌜ (r ≡ (if eqb length 7 then 7 else 0)) × (r ≤ 7) ⌝ }
 {
     if length == 7 {

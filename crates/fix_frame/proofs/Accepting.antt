@@ -56,7 +56,7 @@ not-one : (k : ℕ) → isKind k ≡ true → k ≡ 1 → ⊥
 not-one k h e = true≢false (sym h ∙ ap isKind e)
 
 -- ---- the test of the frame, once head, length and sum are right
-combined : (lr na t cr l : Bool) → (t ≡ true → l ≡ true → (lr ≡ true) × (cr ≡ true)) → (l ≡ false → cr ≡ false)
+pub combined : (lr na t cr l : Bool) → (t ≡ true → l ≡ true → (lr ≡ true) × (cr ≡ true)) → (l ≡ false → cr ≡ false)
     → lr && true && na && t && cr ≡ na && (t && l)
 combined lr true true cr true h k = let f = h refl refl in (λ i. f .0 i && true && true && true && f .1 i)
 combined true true true cr false h k = k refl
@@ -66,7 +66,7 @@ combined false true false cr l h k = refl
 combined true false t cr l h k = refl
 combined false false t cr l h k = refl
 
-three-long : (v : List ℕ) (n : ℕ) (t : Bool) → sameBytes v (threeDigits n) ≡ t → eqb (length v) 3 ≡ false → t ≡ false
+pub three-long : (v : List ℕ) (n : ℕ) (t : Bool) → sameBytes v (threeDigits n) ≡ t → eqb (length v) 3 ≡ false → t ≡ false
 three-long v n true e h = absurd (eqb-false (length v) 3 h (ap length (same-is v (threeDigits n) e)))
 three-long v n false e h = refl
 

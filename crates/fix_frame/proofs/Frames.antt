@@ -45,11 +45,11 @@ module _ (b : List ℕ) (n : ℕ) (l : List ℕ) (e : drop n b ≡ l) where
   pub at-first : getD b n 0 ≡ getD l 0 0
   at-first = ap (λ (i : ℕ). getD b i 0) (sym (add-zero n)) ∙ at-drop 0
 
-abbrev listOf : ℕ → (ℕ → ℕ) → List ℕ
+abbrev pub listOf : ℕ → (ℕ → ℕ) → List ℕ
 listOf zero f = []
 listOf (suc k) f = f 0 ∷ listOf k (λ i. f (suc i))
 
-spread : (k : ℕ) (l : List ℕ) → k ≤ length l → l ≡ listOf k (λ i. getD l i 0) ++ drop k l
+pub spread : (k : ℕ) (l : List ℕ) → k ≤ length l → l ≡ listOf k (λ i. getD l i 0) ++ drop k l
 spread zero l h = refl
 spread (suc k) [] h = absurd (omega arith)
 spread (suc k) (b ∷ l) h = ap (λ (m : List ℕ). b ∷ m) (spread k l (omega arith))
@@ -83,10 +83,10 @@ head-holds b r e = ap headRight e
 
 -- ---- the type
 module _ (b : List ℕ) (n : ℕ) where
-  place : (i : ℕ) (x : ℕ) → byteIs b (n + i) x ≡ true → getD (drop n b) i 0 ≡ x
+  pub place : (i : ℕ) (x : ℕ) → byteIs b (n + i) x ≡ true → getD (drop n b) i 0 ≡ x
   place i x h = getD-drop n b i 0 ∙ eqb-true (getD b (n + i) 0) x h
 
-  place-0 : (x : ℕ) → byteIs b n x ≡ true → getD (drop n b) 0 0 ≡ x
+  pub place-0 : (x : ℕ) → byteIs b n x ≡ true → getD (drop n b) 0 0 ≡ x
   place-0 x h = getD-drop n b 0 0 ∙ ap (λ (i : ℕ). getD b i 0) (add-zero n) ∙ eqb-true (getD b n 0) x h
 
   pub type-is : n + 5 ≤ length b → typeRight b n ≡ true → drop n b ≡ 51 ∷ 53 ∷ 61 ∷ getD b (n + 3) 0 ∷ 1 ∷ drop (n + 5) b

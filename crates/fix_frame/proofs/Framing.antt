@@ -21,7 +21,7 @@ use Rattle.fix_frame.proofs.Refusing.{counted-digits}
 use Rattle.fix_frame.proofs.Accepting.{short-tag, accepted}
 
 -- ---- the bytes of 10
-tail-inner : (s i : ℕ) → i < 6 → getD (tailOf s) i 0 ≡ 1 → ⊥
+pub tail-inner : (s i : ℕ) → i < 6 → getD (tailOf s) i 0 ≡ 1 → ⊥
 tail-inner s zero h e = omega arith
 tail-inner s (suc zero) h e = omega arith
 tail-inner s (suc (suc zero)) h e = omega arith
@@ -43,7 +43,7 @@ three-clear : (d e f : ℕ) → (d ≡ 1 → ⊥) → (e ≡ 1 → ⊥) → (f �
 unfolding clear
 three-clear d e f h k l = clear-cons d (e ∷ f ∷ []) h (clear-cons e (f ∷ []) k (clear-cons f [] l refl))
 
-ten-closed : (s : ℕ) → closed (tailOf s) ≡ some []
+pub ten-closed : (s : ℕ) → closed (tailOf s) ≡ some []
 unfolding closed closes endingOf sameBytes any fieldsOf pieces fieldsIn goodTag allDigits
 ten-closed s =
     ap closingIn

@@ -91,15 +91,15 @@ kind-byte v k e = by (sameBytes v (kindText new)) (sameBytes v (kindText cancel)
     by false false false p q r e = absurd (let z : _≡_ {A = ℕ} 0 1 = cc in omega arith)
 
 -- what the test of a frame says
-record Right (first size kind : Field) (body : List Field) (check : Field) : Type 0 where
-  is-eight : first ≡ eight
-  is-nine : size ≡ nineOf (size .value)
-  counts : lengthRight size (kind ∷ body) ≡ true
-  is-type : kind .tag ≡ typeTag
-  is-ten : check .tag ≡ checksumTag
-  sums : check .value ≡ threeDigits (sum (fieldsBytes (first ∷ size ∷ kind ∷ body)) % 256)
+pub record Right (first size kind : Field) (body : List Field) (check : Field) : Type 0 where
+  pub is-eight : first ≡ eight
+  pub is-nine : size ≡ nineOf (size .value)
+  pub counts : lengthRight size (kind ∷ body) ≡ true
+  pub is-type : kind .tag ≡ typeTag
+  pub is-ten : check .tag ≡ checksumTag
+  pub sums : check .value ≡ threeDigits (sum (fieldsBytes (first ∷ size ∷ kind ∷ body)) % 256)
 
-right : (first size kind : Field) (body : List Field) (check : Field) → goodFrame first size kind body check ≡ true → Right first size kind body check
+pub right : (first size kind : Field) (body : List Field) (check : Field) → goodFrame first size kind body check ≡ true → Right first size kind body check
 right first size kind body check h =
     let h₇ = both _ (checksumRight check (first ∷ size ∷ kind ∷ body)) h in
     let h₆ = both _ (hasTag checksumTag check) (h₇ .0) in

@@ -9,7 +9,7 @@ ghost use Rattle.fix_frame.specs.Frames.{headRight, typeRight, tailRight
 use fix_digits::Number;
 
 // 8=FIX.4.4, byte 1, 9=
-fn head_good(b: &[u8]) -> bool
+pub fn head_good(b: &[u8]) -> bool
     requires { ⌜ 12 ≤ length (now b) ⌝ }
     ensures { λ r. ⌜ r ≡ headRight (now (b .entry)) ⌝ }
 {
@@ -36,7 +36,7 @@ fn type_good(b: &[u8], at: usize) -> bool
 }
 
 // 10=, three digits of the sum, byte 1
-fn tail_good(b: &[u8], at: usize, sum: u8) -> bool
+pub fn tail_good(b: &[u8], at: usize, sum: u8) -> bool
     requires { ⌜ at + 7 ≤ length (now b) ⌝ }
     ensures { λ r. ⌜ r ≡ tailRight (now (b .entry)) at sum ⌝ }
 {
@@ -56,7 +56,7 @@ fn wide(n: usize) -> u64
 }
 
 // The number of 9, against the length of the body.
-fn length_good(v: &[u8], n: usize) -> bool
+pub fn length_good(v: &[u8], n: usize) -> bool
     requires { ⌜ n < 9223372036854775808 ⌝ }
     ensures { λ r. ⌜ r ≡ isNumber (inDigits (now (v .entry))) n ⌝ }
 {

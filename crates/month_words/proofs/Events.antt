@@ -12,7 +12,7 @@ use Rattle.rules.specs.declared.Steps.{Steps}
 use Rattle.lists.specs.Lists.{if_then_else_}
 use Rattle.rules.specs.Terms.{paper}
 use Rattle.rules.specs.Units.{millis, contracts}
-use Rattle.rules.specs.Answers.{Outcome, Reply, refused, accepted, done}
+use Rattle.rules.specs.Answers.{Outcome, Reply, outcomeBy, refused, accepted, done}
 use Rattle.rules.specs.Records.{addKind}
 use Rattle.rules.specs.Calls.{Call, Send}
 use Rattle.rules.specs.Book.{after, answerOf}
@@ -28,7 +28,7 @@ use Rattle.month.specs.Words.{wordsAfter}
 use Rattle.quantum_in_place.specs.Events.{SaysEvent}
 use Rattle.month_in_place.specs.Events.{ChangesMonth, ShowsMonth}
 use Rattle.month_words.specs.Calling.{isCall, Performs}
-use Rattle.month_words.specs.Internal.{addIn, amendIn, cancelIn, dealIn, tickIn, SaysAdd, SaysBlock, SendsShown, ShowsWords}
+use Rattle.month_words.specs.Internal.{addIn, amendIn, cancelIn, dealIn, tickIn, SaysAdd, SaysBlock, ChangesShown, ShowsWords}
 
 -- ---- which event
 
@@ -142,25 +142,32 @@ add-said ws side t id volume price s a b c d h =
 
 -- ---- what becomes of it
 
-pub shown-refused : (ws : List ℕ) (e : Event) (ws′ out : List ℕ) (n : ℕ) → 0 < n → ChangesMonth ws (Send e) ws′ n → out ≡ answerWords (refused n) → SendsShown ws e ws′ out
-shown-refused ws e ws′ out zero h s a = absurd (omega arith)
-shown-refused ws e ws′ out (suc n) h s a = record { month = s .month; answer = λ calls is. a ∙ ap answerWords (s .answer calls is) }
+-- the answer's words, by the number
+pub number-refused : (n : ℕ) → 0 < n → answerWords (refused n) ≡ answerWords (outcomeBy n done)
+number-refused zero h = absurd (omega arith)
+number-refused (suc n) h = refl
 
-pub shown-accepted : (ws : List ℕ) (e : Event) (ws′ out : List ℕ) (n : ℕ) → n ≤ 0 → ChangesMonth ws (Send e) ws′ n → out ≡ answerWords (accepted done) → SendsShown ws e ws′ out
-shown-accepted ws e ws′ out zero h s a = record { month = s .month; answer = λ calls is. a ∙ ap answerWords (s .answer calls is) }
-shown-accepted ws e ws′ out (suc n) h s a = absurd (omega arith)
+pub number-accepted : (n : ℕ) → n ≤ 0 → answerWords (accepted done) ≡ answerWords (outcomeBy n done)
+number-accepted zero h = refl
+number-accepted (suc n) h = absurd (omega arith)
+
+pub changes-shown : (ws : List ℕ) (c : Call) (ws′ out : List ℕ) (n : ℕ) → ChangesMonth ws c ws′ n → out ≡ answerWords (outcomeBy n done) → ChangesShown ws c ws′ out
+changes-shown ws c ws′ out n s a = record { month = s .month; answer = λ calls is. a ∙ ap answerWords (s .answer calls is) }
 
 -- the fields say an event
 pub says-event : (bytes : List ℕ) (f : Fields) → SaysBlock bytes f → SaysEvent f
 says-event bytes f s = record { event = s .event; is = s .fields }
 
 -- the call that the block says has run
-pub event-performs : (ws out bytes ws′ out′ : List ℕ) (f : Fields) (s : SaysBlock bytes f) → SendsShown ws (s .event) ws′ out′ → Performs ws out bytes ws′ (out′ ++ drop 20 out)
-event-performs ws out bytes ws′ out′ f s d =
+pub changes-performs : (ws out bytes ws′ out′ : List ℕ) (c : Call) → c ≡ callOf (wordsIn bytes) → ChangesShown ws c ws′ out′ → Performs ws out bytes ws′ (out′ ++ drop 20 out)
+changes-performs ws out bytes ws′ out′ c e s =
     record {
-      month = λ calls is. d .month calls is ∙ ap (λ (c : Call). wordsAfter (calls ++ (c ∷ [])) ++ drop 2464 ws) (sym (s .says));
-      answer = λ calls is. ap (λ (l : List ℕ). l ++ drop 20 out) (d .answer calls is ∙ ap (λ (c : Call). answerWords (answerOf paper (after paper calls) c)) (sym (s .says)));
+      month = λ calls is. s .month calls is ∙ ap (λ (x : Call). wordsAfter (calls ++ (x ∷ [])) ++ drop 2464 ws) e;
+      answer = λ calls is. ap (λ (l : List ℕ). l ++ drop 20 out) (s .answer calls is ∙ ap (λ (x : Call). answerWords (answerOf paper (after paper calls) x)) e);
     }
+
+pub event-performs : (ws out bytes ws′ out′ : List ℕ) (f : Fields) (s : SaysBlock bytes f) → ChangesShown ws (Send (s .event)) ws′ out′ → Performs ws out bytes ws′ (out′ ++ drop 20 out)
+event-performs ws out bytes ws′ out′ f s d = changes-performs ws out bytes ws′ out′ (Send (s .event)) (sym (s .says)) d
 
 -- ---- a call that changes nothing
 

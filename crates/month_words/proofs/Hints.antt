@@ -2,19 +2,18 @@
 use Prim.Native.Nat.{ℕ, _<_}
 use native.Mathlib.Omega.{arith}
 use mathlib.Core.Path.{_≡_, refl, sym, ap, subst, _∙_}
-use mathlib.Core.Bool.{true≢false}
+use mathlib.Core.Bool.{true, true≢false}
 use mathlib.Core.List.{List, _++_}
 use lib.ListN.{length, take, drop, take-append-drop}
 use lib.Seq.{drop-at}
-use Rattle.rules.specs.declared.Event.{Event}
 use Rattle.rules.specs.declared.Amendment.{Amendment}
 use Rattle.rules.specs.Answers.{Outcome, Reply, refused, done}
-use Rattle.rules.specs.Calls.{Call, Send, Ask}
+use Rattle.rules.specs.Calls.{Call, Ask}
 use Rattle.rules.proofs.Answers.{refused-by}
 use Rattle.words.specs.Bytes.{wordsIn}
 use Rattle.call_blocks.specs.Kinds.{callOf}
 use Rattle.month_in_place.specs.Events.{ChangesMonth, ShowsMonth}
-use Rattle.month_words.specs.Calling.{LeavesHints}
+use Rattle.month_words.specs.Calling.{notes, LeavesHints}
 use Rattle.month_words.specs.Internal.{LeavesLent}
 
 module _ (ws : List ℕ) where
@@ -24,14 +23,15 @@ module _ (ws : List ℕ) where
   pub untouched : (c : Call) (hints : List ℕ) → LeavesLent ws c hints hints
   untouched c hints = record { refusal = λ calls is n e. refl; others = λ e. refl }
 
-  -- an event, by its number
-  pub send-leaves : (e : Event) (ws′ : List ℕ) (n : ℕ) (hints hints′ : List ℕ) → ChangesMonth ws (Send e) ws′ n → (0 < n → hints′ ≡ hints) → LeavesLent ws (Send e) hints hints′
-  send-leaves e ws′ n hints hints′ s kept =
+  -- a call that shows nothing, by its number
+  pub changes-leave : (c : Call) (ws′ : List ℕ) (n : ℕ) (hints hints′ : List ℕ) → notes c ≡ true → ChangesMonth ws c ws′ n → (0 < n → hints′ ≡ hints)
+      → LeavesLent ws c hints hints′
+  changes-leave c ws′ n hints hints′ t s kept =
       record {
         refusal = λ calls is k r.
             let (j, z, y) = refused-by n k done (sym r ∙ sym (s .answer calls is)) in
             kept (omega (arith, z));
-        others = λ r. absurd (true≢false r);
+        others = λ r. absurd (true≢false (sym t ∙ r));
       }
 
   -- an ask, by what it shows

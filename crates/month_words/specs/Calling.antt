@@ -5,17 +5,14 @@ use mathlib.Core.Bool.{Bool, true, false, not, _&&_}
 use mathlib.Core.List.{List, [], _∷_, _++_}
 use lib.Dec.{eqb, leb}
 use lib.ListN.{length, take, drop}
-use Rattle.rules.specs.declared.Report.{Report}
 use Rattle.lists.specs.Lists.{if_then_else_}
 use Rattle.rules.specs.Terms.{paper}
-use Rattle.rules.specs.Answers.{accepted, refused, done, cell, asked, report, outlook}
+use Rattle.rules.specs.Answers.{refused}
 use Rattle.rules.specs.Calls as C
 use Rattle.rules.specs.Calls.{Call}
 use Rattle.rules.specs.Book.{after, answerOf}
 use Rattle.words.specs.Bytes.{wordsIn}
 use Rattle.call_blocks.specs.Kinds.{blockSize, callOf}
-use Rattle.call_step.specs.declared.Outcome.{Outcome}
-use Rattle.call_step.specs.declared.Outcome.the-variants as O
 use Rattle.answer_words.specs.Words.{answerWords}
 use Rattle.month.specs.Words.{wordsAfter}
 use Rattle.month_in_place.specs.Entry.{mayBeMonth}
@@ -47,9 +44,9 @@ pub record Performs (words out bytes words′ out′ : List ℕ) : Type 0 where
 abbrev pub notes : Call → Bool
 notes (C.Open row day opening) = false
 notes (C.Send e) = true
-notes (C.Message start message) = false
+notes (C.Message start message) = true
 notes (C.Ask a) = true
-notes (C.Commit a ticket) = false
+notes (C.Commit a ticket) = true
 notes (C.Close a p) = false
 notes C.Drop = false
 notes (C.Charge day expiry quantum a p) = false
@@ -59,8 +56,8 @@ notes C.Report = false
 notes C.Outlook = false
 
 -- Demand 1 of the hints, "A refused call leaves the month and each lent buffer with the contents it had": for every list of calls whose
--- month these words are, where the plain book refuses the call, the hints are as they were. A call that is neither an event nor an ask
--- leaves them in any case, and no call changes a byte after the first 2,048.
+-- month these words are, where the plain book refuses the call, the hints are as they were. A call that is neither an event, a message, an
+-- ask nor a commit leaves them in any case, and no call changes a byte after the first 2,048.
 pub record LeavesHints (words hints bytes hints′ : List ℕ) : Type 0 where
   pub refusal : (calls : List Call) → take 2464 words ≡ wordsAfter calls → (n : ℕ)
       → answerOf paper (after paper calls) (callOf (wordsIn bytes)) ≡ refused n → hints′ ≡ hints
@@ -69,18 +66,9 @@ pub record LeavesHints (words hints bytes hints′ : List ℕ) : Type 0 where
 
 -- Too few words for a month, words that are no month's by the tests on entry, too few hints, too few words for an answer, and bytes that are
 -- no call, are answered as such, and then nothing is changed, nor are the hints. The hints are no function of the month, and what is answered and left in the words is the same
--- whatever they contain. What an accepted event or ask leaves in the first 2,048 bytes is free.
+-- whatever they contain. What an accepted event, message, ask or commit leaves in the first 2,048 bytes is free.
 pub record Calling (words hints out bytes words′ hints′ out′ : List ℕ) (r : Called) : Type 0 where
   pub called : r ≡ calledBy (leb 2464 (length words)) (mayBeMonth words) (leb 2048 (length hints)) (leb 20 (length out)) (isCall bytes)
   pub done : r ≡ Done → Performs words out bytes words′ out′
   pub kept : (r ≡ Done → ⊥) → (words′ ≡ words) × (hints′ ≡ hints) × (out′ ≡ out)
   pub leaves : LeavesHints words hints bytes hints′
-
--- what an answer's words are, as the struct shows it
-abbrev pub wordsShown : Outcome → Report → List ℕ
-wordsShown O.Accepted r = answerWords (accepted done)
-wordsShown (O.Refused n) r = answerWords (refused n)
-wordsShown (O.Found v) r = answerWords (accepted (cell v))
-wordsShown (O.Asked p) r = answerWords (accepted (asked p))
-wordsShown O.Reported r = answerWords (accepted (report r))
-wordsShown (O.Outlook o) r = answerWords (accepted (outlook o))

@@ -1,7 +1,7 @@
 -- What the functions of a call in lent words promise to each other.
 use Prim.Native.Nat.{ℕ}
 use mathlib.Core.Path.{_≡_}
-use mathlib.Core.Bool.{true, false}
+use mathlib.Core.Bool.{Bool, true, false}
 use mathlib.Core.List.{List, [], _∷_, _++_}
 use lib.ListN.{take, drop}
 use Rattle.rules.specs.declared.Event.{Event}
@@ -16,6 +16,8 @@ use Rattle.record.specs.Fields.{fieldsFor}
 use Rattle.words.specs.Bytes.{wordsIn}
 use Rattle.call_blocks.specs.Kinds.{word, addDue, stepsAt, callOf}
 use Rattle.words.specs.Sides.{sideBy}
+use Rattle.call_blocks.specs.declared.Decoded.{Decoded}
+use Rattle.call_blocks.specs.declared.Decoded.the-variants as D
 use Rattle.answer_words.specs.Words.{answerWords}
 use Rattle.month.specs.Words.{wordsAfter}
 use Rattle.month_words.specs.Calling.{isCall, notes}
@@ -49,10 +51,10 @@ pub record SaysBlock (bytes : List ℕ) (f : Fields) : Type 0 where
   pub says : callOf (wordsIn bytes) ≡ Send event
   pub fields : f ≡ fieldsFor event
 
--- an event, with the words of its answer
-pub record SendsShown (words : List ℕ) (e : Event) (words′ out : List ℕ) : Type 0 where
-  pub month : (calls : List Call) → take 2464 words ≡ wordsAfter calls → words′ ≡ wordsAfter (calls ++ (Send e ∷ [])) ++ drop 2464 words
-  pub answer : (calls : List Call) → take 2464 words ≡ wordsAfter calls → out ≡ answerWords (answerOf paper (after paper calls) (Send e))
+-- a call that shows nothing, with the words of its answer
+pub record ChangesShown (words : List ℕ) (c : Call) (words′ out : List ℕ) : Type 0 where
+  pub month : (calls : List Call) → take 2464 words ≡ wordsAfter calls → words′ ≡ wordsAfter (calls ++ (c ∷ [])) ++ drop 2464 words
+  pub answer : (calls : List Call) → take 2464 words ≡ wordsAfter calls → out ≡ answerWords (answerOf paper (after paper calls) c)
 
 -- a call that changes nothing, with the words of its answer
 pub record ShowsWords (words : List ℕ) (c : Call) (out : List ℕ) : Type 0 where
@@ -63,3 +65,18 @@ pub record ShowsWords (words : List ℕ) (c : Call) (out : List ℕ) : Type 0 wh
 pub record LeavesLent (words : List ℕ) (c : Call) (hints hints′ : List ℕ) : Type 0 where
   pub refusal : (calls : List Call) → take 2464 words ≡ wordsAfter calls → (n : ℕ) → answerOf paper (after paper calls) c ≡ refused n → hints′ ≡ hints
   pub others : notes c ≡ false → hints′ ≡ hints
+
+-- the calls that show something: a look, an ask, a report, an outlook
+abbrev pub isShown : Decoded → Bool
+isShown (D.Open day opening) = false
+isShown (D.Send e) = false
+isShown D.Message = false
+isShown (D.Ask a) = true
+isShown (D.Commit a ticket) = false
+isShown (D.Close active passive) = false
+isShown D.Drop = false
+isShown (D.Charge day expiry quantum active passive) = false
+isShown (D.Withdraw day expiry quantum) = false
+isShown (D.Look day expiry quantum) = true
+isShown D.Report = true
+isShown D.Outlook = true

@@ -3,39 +3,42 @@
 //
 // A buffer is judged before the call: words, hints, answer, then the bytes; none of these is a refusal of the book. An event's fields are
 // read off the block's bytes, and `call_blocks::decode` is not asked: by it a tick would take some 75 instructions more. What is read has to
-// be right only where it says an event (`SaysBlock`). `perform`, the call by value, has two callers: with one the compiler would inline it,
-// and every event would pay for its 64 KB frame.
+// be right only where it says an event (`SaysBlock`). Every call goes in place: none copies the month.
 ghost use mathlib.Core.Path.{_≡_};
 ghost use mathlib.Core.List.{[], _++_};
-ghost use mathlib.Core.Bool.{true};
+ghost use mathlib.Core.Bool.{true, false};
 ghost use Prim.Native.Nat.{_+_, _*_, _≤_, _<_};
 ghost use lib.Dec.{leb};
 ghost use lib.ListN.{length, drop, getD};
 ghost use Rattle.rules.specs.declared.Event.{Event};
 ghost use Rattle.lists.specs.Lists.{if_then_else_};
 ghost use Rattle.rules.specs.Terms.{paper};
-ghost use Rattle.rules.specs.Calls.{Send, Look, Ask};
+ghost use Rattle.rules.specs.Answers.{outcomeBy, done};
+ghost use Rattle.rules.specs.Calls.{Open, Send, Message, Look, Ask, Report, Outlook};
 ghost use Rattle.rules.specs.Book.{after};
 ghost use Rattle.month.specs.Represents.{monthOf};
 ghost use Rattle.month.specs.Words.{monthWords, HoldsMonth};
 ghost use Rattle.record.specs.Fields.{fieldsFor};
 ghost use Rattle.words.specs.Bytes.{wordsIn};
-ghost use Rattle.call_blocks.specs.Kinds.{stepsAt, callOf};
+ghost use Rattle.answer_words.specs.Words.{answerWords};
+ghost use Rattle.call_blocks.specs.Kinds.{stepsAt, rowAt, startAt, messageAt, callOf};
+ghost use Rattle.call_blocks.specs.Decoded.{callWith};
 ghost use Rattle.quantum_in_place.specs.Events.{SaysEvent};
 ghost use Rattle.month_in_place.specs.Entry.{mayBeMonth};
-ghost use Rattle.month_words.specs.Calling.{isCall, wordsShown, Calling, Performs};
-ghost use Rattle.month_words.specs.Internal.{amendIn, cancelIn, dealIn, tickIn, SaysAdd, SaysBlock, SendsShown, ShowsWords, LeavesLent};
+ghost use Rattle.month_in_place.specs.Events.{ChangesMonth};
+ghost use Rattle.month_words.specs.Calling.{isCall, Calling, Performs};
+ghost use Rattle.month_words.specs.Internal.{amendIn, cancelIn, dealIn, tickIn, SaysAdd, SaysBlock, ChangesShown, ShowsWords, LeavesLent, isShown};
 use call_blocks::Decoded;
-use call_step::Outcome;
-use call_step::Shown;
 use month::MONTH_WORDS;
-use month::Month;
 use record::Fields;
 use rules::Amendment;
 use rules::Asked;
 use rules::Contracts;
+use rules::Event;
 use rules::Looked;
 use rules::Millis;
+use rules::Opening;
+use rules::OutlookAnswer;
 use rules::Steps;
 
 // How many bytes the hints have, and how many words an answer.
@@ -61,8 +64,7 @@ pub fn fresh(words: &mut [u32]) -> bool
     if words.len() < MONTH_WORDS {
         return false;
     }
-    let month = Month::fresh();
-    month.to_words(words);
+    quanta_in_place::fresh(&mut words[0..MONTH_WORDS]);
     true
 }
 
@@ -74,33 +76,16 @@ pub fn is_call(bytes: &[u8]) -> bool
     (size != 0) & (size == call_blocks::count(bytes)) & (bytes.len() % 4 == 0)
 }
 
-pub fn put_answer(shown: Shown, answer: &mut [u32])
+// The answer of a call that shows nothing, by the refusal's number, or 0.
+fn put_number(n: u32, answer: &mut [u32])
     requires { ⌜ length (now answer) ≡ 20 ⌝ }
-    ensures { λ _. ⌜ now (answer .exit) ≡ wordsShown (shown .outcome) (shown .report) ⌝ }
+    ensures { λ _. ⌜ now (answer .exit) ≡ answerWords (outcomeBy n done) ⌝ }
 {
-    let outcome = shown.outcome;
-    let report = shown.report;
-    match outcome {
-        Outcome::Accepted => answer_words::put_accepted(answer),
-        Outcome::Refused(n) => answer_words::put_refused(n, answer),
-        Outcome::Found(view) => answer_words::put_cell(view, answer),
-        Outcome::Asked(preview) => answer_words::put_asked(preview, answer),
-        Outcome::Reported => answer_words::put_report(report, answer),
-        Outcome::Outlook(outlook) => answer_words::put_outlook(outlook, answer),
+    if 0 < n {
+        answer_words::put_refused(n, answer);
+        return;
     }
-}
-
-// A call on the month, by value.
-fn perform(words: &mut [u32], bytes: &[u8], answer: &mut [u32])
-    requires { ⌜ HoldsMonth (now words) × (2464 ≤ length (now words)) × (20 ≤ length (now answer)) × (isCall (now bytes) ≡ true) ⌝ }
-    ensures { λ _. ⌜ Performs (now (words .entry)) (now (answer .entry)) (now (bytes .entry)) (now (words .exit)) (now (answer .exit)) ⌝ }
-{
-    let month = Month::of_words(words);
-    let done = call_step::block(month, bytes, 0);
-    let after = done.month;
-    let shown = done.shown;
-    after.to_words(words);
-    put_answer(shown, &mut answer[0..20]);
+    answer_words::put_accepted(answer);
 }
 
 // ---- an event
@@ -233,14 +218,10 @@ fn event_in(bytes: &[u8]) -> Fields
 // An event, in place.
 fn send(words: &mut [u32], hints: &mut [u8], f: Fields, answer: &mut [u32])
     requires { ⌜ HoldsMonth (now words) × (2464 ≤ length (now words)) × (length (now hints) ≡ 2048) × SaysEvent f × (length (now answer) ≡ 20) ⌝ }
-    ensures { λ _. ⌜ ((e : Event) → f ≡ fieldsFor e → SendsShown (now (words .entry)) e (now (words .exit)) (now (answer .exit)) × LeavesLent (now (words .entry)) (Send e) (now (hints .entry)) (now (hints .exit))) ⌝ }
+    ensures { λ _. ⌜ ((e : Event) → f ≡ fieldsFor e → ChangesShown (now (words .entry)) (Send e) (now (words .exit)) (now (answer .exit)) × LeavesLent (now (words .entry)) (Send e) (now (hints .entry)) (now (hints .exit))) ⌝ }
 {
     let n = month_in_place::send(words, hints, f);
-    if 0 < n {
-        answer_words::put_refused(n, answer);
-        return;
-    }
-    answer_words::put_accepted(answer);
+    put_number(n, answer);
 }
 
 // ---- a call that is no event
@@ -269,7 +250,84 @@ fn ask(words: &[u32], hints: &mut [u8], a: Amendment, answer: &mut [u32])
     }
 }
 
-// A look, an ask, or by value.
+// An outlook, by the quantum's words.
+fn outlook(words: &[u32], answer: &mut [u32])
+    requires { ⌜ HoldsMonth (now words) × (2464 ≤ length (now words)) × (length (now answer) ≡ 20) ⌝ }
+    ensures { λ _. ⌜ ShowsWords (now (words .entry)) Outlook (now (answer .exit)) ⌝ }
+{
+    let seen = quanta_in_place::outlook(words);
+    match seen {
+        OutlookAnswer::Shown(outlook) => answer_words::put_outlook(outlook, answer),
+        OutlookAnswer::Refused(r) => answer_words::put_refused(rules::number(r), answer),
+    }
+}
+
+fn report(words: &[u32], answer: &mut [u32])
+    requires { ⌜ HoldsMonth (now words) × (2464 ≤ length (now words)) × (length (now answer) ≡ 20) ⌝ }
+    ensures { λ _. ⌜ ShowsWords (now (words .entry)) Report (now (answer .exit)) ⌝ }
+{
+    let report = quanta_in_place::report(words);
+    answer_words::put_report(report, answer);
+}
+
+// An open, with the row's words in a local array.
+fn open(words: &mut [u32], bytes: &[u8], day: u32, opening: Opening) -> u32
+    requires { ⌜ HoldsMonth (now words) × (2464 ≤ length (now words)) ⌝ }
+    ensures { λ r. ⌜ ChangesMonth (now (words .entry)) (Open (rowAt (wordsIn (now (bytes .entry)))) day opening) (now (words .exit)) r ⌝ }
+{
+    let row = call_blocks::row(bytes);
+    let n = call_step::handed_on(call_blocks::row_length(bytes));
+    quanta_in_place::open(words, &row[..n], day, opening)
+}
+
+// A message, with the bytes that its block says.
+fn message(words: &mut [u32], hints: &mut [u8], bytes: &[u8]) -> u32
+    requires { ⌜ HoldsMonth (now words) × (2464 ≤ length (now words)) × (length (now hints) ≡ 2048) ⌝ }
+    ensures { λ r. ⌜ ChangesMonth (now (words .entry)) (Message (startAt (wordsIn (now (bytes .entry)))) (messageAt (wordsIn (now (bytes .entry))))) (now (words .exit)) r × (0 < r → now (hints .exit) ≡ now (hints .entry)) ⌝ }
+{
+    let start = call_blocks::start(bytes);
+    let message = call_blocks::message(bytes);
+    messages_in_place::message(words, hints, start, message)
+}
+
+// An event that was decoded. `call` does events past this.
+fn event(words: &mut [u32], hints: &mut [u8], e: Event) -> u32
+    requires { ⌜ HoldsMonth (now words) × (2464 ≤ length (now words)) × (length (now hints) ≡ 2048) ⌝ }
+    ensures { λ r. ⌜ ChangesMonth (now (words .entry)) (Send e) (now (words .exit)) r × (0 < r → now (hints .exit) ≡ now (hints .entry)) ⌝ }
+{
+    let f = record::event_fields(e);
+    month_in_place::send(words, hints, f)
+}
+
+// A call that changes the month and shows nothing: the refusal's number, or 0. Of a call that shows something it does nothing.
+fn change(words: &mut [u32], hints: &mut [u8], bytes: &[u8], said: Decoded) -> u32
+    requires { ⌜ HoldsMonth (now words) × (2464 ≤ length (now words)) × (length (now hints) ≡ 2048) ⌝ }
+    ensures { λ r. ⌜ (isShown said ≡ false → ChangesMonth (now (words .entry)) (callWith (wordsIn (now (bytes .entry))) said) (now (words .exit)) r × LeavesLent (now (words .entry)) (callWith (wordsIn (now (bytes .entry))) said) (now (hints .entry)) (now (hints .exit))) ⌝ }
+{
+    match said {
+        Decoded::Open { day, opening } => open(words, bytes, day, opening),
+        Decoded::Send(e) => event(words, hints, e),
+        Decoded::Message => message(words, hints, bytes),
+        Decoded::Commit(a, ticket) => messages_in_place::commit(words, hints, a, ticket),
+        Decoded::Close(active, passive) => quanta_in_place::close(words, active, passive),
+        Decoded::Drop => quanta_in_place::drop(words),
+        Decoded::Charge {
+            day,
+            expiry,
+            quantum,
+            active,
+            passive,
+        } => quanta_in_place::charge(words, day, expiry, quantum, active, passive),
+        Decoded::Withdraw {
+            day,
+            expiry,
+            quantum,
+        } => quanta_in_place::withdraw(words, day, expiry, quantum),
+        _ => 0,
+    }
+}
+
+// A call that shows something, or one that changes the month.
 fn other(words: &mut [u32], hints: &mut [u8], bytes: &[u8], answer: &mut [u32])
     requires { ⌜ HoldsMonth (now words) × (2464 ≤ length (now words)) × (length (now hints) ≡ 2048) × (20 ≤ length (now answer)) × (isCall (now bytes) ≡ true) ⌝ }
     ensures { λ _. ⌜ Performs (now (words .entry)) (now (answer .entry)) (now (bytes .entry)) (now (words .exit)) (now (answer .exit)) × LeavesLent (now (words .entry)) (callOf (wordsIn (now (bytes .entry)))) (now (hints .entry)) (now (hints .exit)) ⌝ }
@@ -282,14 +340,19 @@ fn other(words: &mut [u32], hints: &mut [u8], bytes: &[u8], answer: &mut [u32])
             quantum,
         } => look(words, day, expiry, quantum, &mut answer[0..20]),
         Decoded::Ask(a) => ask(words, hints, a, &mut answer[0..20]),
-        _ => perform(words, bytes, answer),
+        Decoded::Report => report(words, &mut answer[0..20]),
+        Decoded::Outlook => outlook(words, &mut answer[0..20]),
+        _ => {
+            let n = change(words, hints, bytes, said);
+            put_number(n, &mut answer[0..20]);
+        }
     }
 }
 
 // ---- a call
 
 // One call, on the month whose words these are. The hints only say where an id was last found: they may contain anything, and nothing that
-// is answered or left in the words depends on it. A refused call leaves them; what an accepted event or ask leaves in the first 2,048 bytes
+// is answered or left in the words depends on it. A refused call leaves them; what an accepted call leaves in the first 2,048 bytes
 // is free, and the bytes after these never change.
 pub fn call(words: &mut [u32], hints: &mut [u8], bytes: &[u8], answer: &mut [u32]) -> Called
     requires { ⌜ (2464 ≤ length (now words) → mayBeMonth (now words) ≡ true → HoldsMonth (now words)) ⌝ }
@@ -314,11 +377,6 @@ pub fn call(words: &mut [u32], hints: &mut [u8], bytes: &[u8], answer: &mut [u32
     }
     if !is_call(bytes) {
         return Called::NoCall;
-    }
-    // drop and report. A single call of `perform` the compiler would put in place, and its frame of 64 KB into each event's way
-    if bytes.len() == 4 {
-        perform(words, bytes, answer);
-        return Called::Done;
     }
     other(words, &mut hints[0..2048], bytes, answer);
     Called::Done

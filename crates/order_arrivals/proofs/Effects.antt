@@ -6,7 +6,7 @@ use mathlib.Core.List.{List, [], _∷_, _++_, map, map-append, append-nil, List�
 use mathlib.Core.Bool.{Bool, true, false}
 use lib.Dec.{ltb}
 use lib.Seq.{map-set-same}
-use lib.ListN.{length, take, drop, set, length-map, length-append, length-take, length-drop, replicate}
+use lib.ListN.{length, take, drop, set, getD, length-map, length-append, length-take, length-drop, replicate}
 use borrow.Author.Tests.{ltb-true, ltb-false}
 use Rattle.rules.specs.declared.Order.{Order}
 use Rattle.rules.specs.declared.Row.{Row}
@@ -27,6 +27,7 @@ use Rattle.order_side.proofs.Lists.{map-take, map-drop}
 use Rattle.order_side.proofs.Columns.{column-length, column-more, column-shifted, column-take}
 use Rattle.order_table.specs.Internal.{blankOrder}
 use Rattle.order_table.proofs.Slots.{Has, position, seen-at}
+use Rattle.order_arrivals.proofs.Groups.{behind-ids}
 use Rattle.order_arrivals.specs.Arrivals.{idsIn, arrivalsOf, idOf, Follows}
 
 -- ---- the three things that happen to a list of ids
@@ -116,6 +117,10 @@ module _ (row : Row) (events : List Event) (e : Event) (ids : List ℕ) (before 
 
   pub sized : length ids ≡ 64
   sized = ap length are ∙ column-length old few
+
+  -- behind them is 0
+  pub blanks : (j : ℕ) → before ≤ j → getD ids j 0 ≡ 0
+  blanks j h = ap (λ (l : List ℕ). getD l j 0) are ∙ behind-ids old j (omega (arith, old-count, h))
 
   -- the ids that are looked through are the old ones
   pub looked : seenFrom 1 id (take before ids) ≡ seenFrom 1 id old

@@ -8,3 +8,5 @@ pub mod Quanta
 pub mod Shown
 -- Open and close.
 pub mod Openings
+-- The fresh month.
+pub mod FreshWords

@@ -13,7 +13,7 @@ ghost use Rattle.rules.specs.Calls.{Idle};
 ghost use Rattle.rules.specs.Calls as B;
 ghost use Rattle.quantum.specs.Represents.{quantumOf, quantumIn};
 ghost use Rattle.quantum.specs.Words.{quantumWords};
-ghost use Rattle.month.specs.Words.{HoldsMonth};
+ghost use Rattle.month.specs.Words.{wordsAfter, HoldsMonth};
 ghost use Rattle.month_in_place.specs.Events.{ChangesMonth, ShowsMonth};
 ghost use Rattle.quanta_in_place.specs.Internal.{restarted};
 use month::CELLS_AT;
@@ -103,6 +103,28 @@ fn forget(words: &mut [u32])
         share: 1,
     };
     restart(words, 0, 0, 0, 0, row, SpreadRule::Settled(Steps(0)));
+}
+
+// The fresh month: all words 0, and the idle quantum in its place.
+pub fn fresh(words: &mut [u32])
+    requires { ⌜ length (now words) ≡ 2464 ⌝ }
+    ensures { λ _. ⌜ now (words .exit) ≡ wordsAfter [] ⌝ }
+{
+    let row = Row {
+        expiry: 1,
+        quantum: 0,
+        length: Millis(1000),
+        minimum: Contracts(1),
+        a: 0,
+        b: 0,
+        share: 1,
+    };
+    clear(words);
+    put_opened(
+        &mut words[QUANTUM_AT..CELLS_AT],
+        row,
+        SpreadRule::Settled(Steps(0)),
+    );
 }
 
 // ---- calls that change the month: each answers the refusal's number, or 0

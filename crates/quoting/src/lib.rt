@@ -1,6 +1,7 @@
 // The library for programs in C. Each call takes numbers and lent slices, requires nothing of its caller but that a month's words are what
 // these calls left, and answers by one number and by what it leaves in a lent buffer: a refused call leaves each as it was.
-// include/quoting.h says word for word what each one does.
+// include/quoting.h says word for word what each one does. Calls that must be fast are in crates of their own, an archive each (`c_call`,
+// `c_records`, `c_scan`, `session`).
 use standing_rules::Maker;
 ghost use mathlib.Core.Path.{_≡_};
 ghost use mathlib.Core.Bool.{true, not};
@@ -26,7 +27,6 @@ ghost use Rattle.c_fix.specs.Messages.{readWords, messageFor, textFor};
 ghost use Rattle.c_others.specs.Extras.{weighed, sigmaWords, spreadFor};
 ghost use Rattle.c_session.specs.Sessions.{FillsPairs};
 ghost use Rattle.c_account.specs.Accounts.{strikeOf, ruleOf, FillsAccount};
-ghost use Rattle.c_month.specs.Months.{CallsMonth};
 ghost use Rattle.quoting.specs.Lists.{AnswersCalls, wordsOutcome};
 ghost use Rattle.c_standing.specs.Standings.{AnswersStanding};
 ghost use Rattle.standing_rules.specs.Calls.{standing};
@@ -164,20 +164,6 @@ pub extern "C" fn quoting_month_fresh(words: &mut [u32]) -> u64
     ensures { λ r. ⌜ Fills (accepted (wordsAfter [])) (now (words .entry)) (now (words .exit)) r ⌝ }
 {
     c_month::fresh(words)
-}
-
-// One call on the month whose words these are.
-#[no_mangle]
-pub extern "C" fn quoting_month_call(
-    words: &mut [u32],
-    hints: &mut [u8],
-    call: &[u8],
-    answer: &mut [u32],
-) -> u64
-    requires { ⌜ (2464 ≤ length (now words) → mayBeMonth (now words) ≡ true → HoldsMonth (now words)) ⌝ }
-    ensures { λ r. ⌜ CallsMonth (now (words .entry)) (now (hints .entry)) (now (answer .entry)) (now (call .entry)) (now (words .exit)) (now (hints .exit)) (now (answer .exit)) r ⌝ }
-{
-    c_month::call(words, hints, call, answer)
 }
 
 // The open quantum of the month whose words these are.

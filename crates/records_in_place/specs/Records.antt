@@ -50,7 +50,7 @@ abbrev pub recordsSent : Book → List ℕ → Sent
 recordsSent b bytes = sentFrom mostSent 1 b (recordsOf bytes)
 
 -- What records promise of a month's words: for every list of calls whose month they are, the words of the list with the taken records' event
--- calls after it, with what is behind them kept; how many were taken; and the number that refuses the next.
+-- calls after it, with what follows the words kept; how many were taken; and the number that refuses the next.
 pub record SendsRecords (words records words′ : List ℕ) (r : Taken) : Type 0 where
   pub month : (calls : List Call) → take 2464 words ≡ wordsAfter calls
       → words′ ≡ wordsAfter (calls ++ recordsSent (after paper calls) records .calls) ++ drop 2464 words

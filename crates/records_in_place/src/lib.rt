@@ -1,5 +1,3 @@
-use month::CELLS_AT;
-use month::QUANTUM_AT;
 // Event records, one after the other, on the words of a month, in place: the same as that many event calls, up to the first one that is
 // refused.
 //
@@ -16,6 +14,8 @@ ghost use Rattle.quantum_in_place.specs.Events.{HoldsQuantum};
 ghost use Rattle.month.specs.Words.{HoldsMonth};
 ghost use Rattle.records_in_place.specs.Records.{SendsRecords};
 ghost use Rattle.records_in_place.specs.Internal.{RunsQuantum};
+use month::CELLS_AT;
+use month::QUANTUM_AT;
 
 // How many records were taken, and the number of what refused the next one, or 0.
 pub struct Taken {

@@ -47,7 +47,7 @@ count-more (suc m) n count =
     let e : suc m + n ≡ suc (m + n) = omega arith in
     ap (λ (k : ℕ). countAfter k count) e ∙ count-more m n (following count)
 
-abbrev toEnd : List Inside → Kopecks → Kopecks → List Call
+abbrev pub toEnd : List Inside → Kopecks → Kopecks → List Call
 toEnd inside active passive = map callOf inside ++ (Close active passive ∷ [])
 
 module _ (place : ℕ) (row : Row) (opening : Opening) where
@@ -215,7 +215,7 @@ untouched b [] i none = refl
 untouched b (q ∷ qs) i none =
     untouched (filedBy b q) qs i (λ p m. none p (List·Memᴰ·tail m)) ∙ elsewhere b q i (none q (List·Memᴰ·head refl))
 
-named : (qs : List Whole) (i : ℕ)
+pub named : (qs : List Whole) (i : ℕ)
     → ((q : Whole) × List·Memᴰ q qs × (placeIn q ≡ i)) ⊎ ((q : Whole) → List·Memᴰ q qs → placeIn q ≢ i)
 named [] i = inr (λ q m. absurd (List·Memᴰ·not-nil m))
 named (p ∷ qs) i = go (eqb (placeIn p) i) refl (named qs i)
@@ -233,7 +233,7 @@ named (p ∷ qs) i = go (eqb (placeIn p) i) refl (named qs i)
 -- ---- permutations
 
 module _ {A : Type 0} where
-  perm-in : {x : A} {xs ys : List A} → List·Permᴰ xs ys → List·Memᴰ x xs → List·Memᴰ x ys
+  pub perm-in : {x : A} {xs ys : List A} → List·Permᴰ xs ys → List·Memᴰ x xs → List·Memᴰ x ys
   perm-in List·Permᴰ·nil m = m
   perm-in (List·Permᴰ·cons e p) (List·Memᴰ·head q) = List·Memᴰ·head (q ∙ e)
   perm-in (List·Permᴰ·cons e p) (List·Memᴰ·tail m) = List·Memᴰ·tail (perm-in p m)
@@ -251,7 +251,7 @@ module _ {A : Type 0} where
   perm-sum f (List·Permᴰ·trans p q) = perm-sum f p ∙ perm-sum f q
 
   -- two lists with the same elements at the same places
-  lists-same : (xs ys : List A) (d : A) → length xs ≡ length ys → ((i : ℕ) → getD xs i d ≡ getD ys i d) → xs ≡ ys
+  pub lists-same : (xs ys : List A) (d : A) → length xs ≡ length ys → ((i : ℕ) → getD xs i d ≡ getD ys i d) → xs ≡ ys
   lists-same [] [] d l h = refl
   lists-same [] (y ∷ ys) d l h = absurd (omega (arith, l))
   lists-same (x ∷ xs) [] d l h = absurd (omega (arith, l))
@@ -293,11 +293,11 @@ module _ (b : Book) (l : length (b .cells) ≡ 186) (idle : b .running ≡ Idle)
       let count = all-counted b first ∙ ap (λ (n : ℕ). countAfter n (b .count)) (perm-sum countedIn p) ∙ sym (all-counted b second) in
       λ i. record { running = running i; cells = cells i; count = count i }
 
-fresh-length : length (freshBook .cells) ≡ 186
+pub fresh-length : length (freshBook .cells) ≡ 186
 unfolding freshBook
 fresh-length = length-replicate 186 blankCell
 
-fresh-idle : freshBook .running ≡ Idle
+pub fresh-idle : freshBook .running ≡ Idle
 unfolding freshBook
 fresh-idle = refl
 
@@ -319,7 +319,7 @@ rearranged terms first second h p k =
 
 module _ (terms : Terms) where
   -- such a call is judged by the open quantum alone
-  one-same : (b d : Book) → b .running ≡ d .running → (c : Inside) → anywhere c ≡ true
+  pub one-same : (b d : Book) → b .running ≡ d .running → (c : Inside) → anywhere c ≡ true
       → refusalOf terms b (callOf c) ≡ refusalOf terms d (callOf c)
   unfolding refusalOf causes
   one-same b d same (event e) h = ap (λ (r : Running). firstNumber (sendCauses r e)) same
@@ -331,7 +331,7 @@ module _ (terms : Terms) where
   one-same b d same outlook h = ap (λ (r : Running). firstNumber (cause 7 (not (isOpen r)) ∷ [])) same
 
   -- and leaves the same one open
-  left-same : (b d : Book) → b .running ≡ d .running → (c : Inside) → changed b (callOf c) .running ≡ changed d (callOf c) .running
+  pub left-same : (b d : Book) → b .running ≡ d .running → (c : Inside) → changed b (callOf c) .running ≡ changed d (callOf c) .running
   unfolding changed
   left-same b d same (event e) = ap (λ (r : Running). noted r e) same
   left-same b d same (message start bytes) = ap (λ (r : Running). notedAll r (M.eventsOf start bytes)) same
@@ -341,7 +341,7 @@ module _ (terms : Terms) where
   left-same b d same report = same
   left-same b d same outlook = same
 
-  closed-same : (b d : Book) → b .running ≡ d .running → (active passive : Kopecks)
+  pub closed-same : (b d : Book) → b .running ≡ d .running → (active passive : Kopecks)
       → refusalOf terms b (Close active passive) ≡ refusalOf terms d (Close active passive)
   unfolding refusalOf causes
   closed-same b d same active passive =
@@ -425,14 +425,17 @@ pub record Own (terms : Terms) (q : Whole) : Type 0 where
   pub free : Anywhere q
   pub accepted : NoneRefused terms freshBook (callsIn q)
 
-fresh-blank : (i : ℕ) → cellAt (freshBook .cells) i .filled ≡ false
+pub fresh-cell : (i : ℕ) → cellAt (freshBook .cells) i ≡ blankCell
 unfolding freshBook
-fresh-blank i = ap (λ (c : Cell). c .filled) (blank-at 186 i)
+fresh-cell i = blank-at 186 i
   where
     blank-at : (n i : ℕ) → getD (replicate n blankCell) i blankCell ≡ blankCell
     blank-at zero i = refl
     blank-at (suc n) zero = refl
     blank-at (suc n) (suc i) = blank-at n i
+
+fresh-blank : (i : ℕ) → cellAt (freshBook .cells) i .filled ≡ false
+fresh-blank i = ap (λ (c : Cell). c .filled) (fresh-cell i)
 
 module _ (terms : Terms) where
   owns : (b : Book) (qs : List Whole) → All Anywhere qs → NoneRefused terms b (joined qs) → {q : Whole} → List·Memᴰ q qs → Own terms q

@@ -2,5 +2,6 @@
 pub mod OldMonths
 pub mod OldCharges
 pub mod DayOrder
+pub mod OwnMonth
 pub mod AsCalls
 pub mod Outlooks

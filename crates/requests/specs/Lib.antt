@@ -6,6 +6,8 @@ pub mod OldMonths
 pub mod OldCharges
 -- document 02, W9: days filled in another order
 pub mod DayOrder
+-- a quantum's cell is the one that it leaves in a month of its own
+pub mod OwnMonth
 -- document 02, W11: messages stand in a list as their calls
 pub mod AsCalls
 -- our own call, outlook, is none of the papers'

@@ -10,8 +10,9 @@ are not reliable, and reads the file again from its start. They are reliable aga
 command again, with a file that has the whole feed. A rotated file is followed if its first call goes on where the old file ended.
 
 A quantum counts one symbol (55), that of its `start`, of --symbol or of its first message, and one account (1), that of --account or of its
-first message; other messages are left out, and the page says so. What the exchange answered in a log (fills, rejects, cancels, expiries)
-is not read: the page says how much of it there is, and does not answer for a quantum that it concerns.
+first message; other messages are left out, and the page says so. The exchange's reports count (35=8), and the requests where the log has
+none (--from). Orders that rest when a quantum starts are carried in. A report that comes late, with an earlier time (60) than others, runs
+the quanta again. Where requests are read and the exchange has answered, the page says how much is left out, and does not answer.
 
 With --replay a finished file is played at a multiple of its own pace. The recount reads the same calls in a process of its own, and the
 page says on how many both agree; where they differ the reading stops and the page names the call.
@@ -34,10 +35,10 @@ from pathlib import Path
 from typing import Any
 
 from quoting import fix, inputs, native, output
+from quoting.exchange import choice
 from quoting.inputs import WrongUse
 from quoting.native import Missing
 from quoting.reading import STANDARD, Options
-from quoting.selection import Owner
 from quoting.watch import hosts
 from quoting.watch.names import name_text
 
@@ -69,6 +70,7 @@ def add(parser: argparse.ArgumentParser) -> None:
     parser.add_argument(
         "--start", metavar="TIME", help="with --calls the quantum's start, H:MM:SS: times h:mm:ss are a wall clock's; "
         "with --fix the start, YYYYMMDD-HH:MM:SS.sss, of an open without a line of its own")
+    choice.add_source(parser, "with --fix, ")
     parser.add_argument("--symbol", metavar="SYMBOL", help="with --fix, the symbol (55) of each quantum whose start names none")
     parser.add_argument("--account", metavar="ACCOUNT", help="with --fix, read the messages of this account (1)")
     parser.add_argument("--step", type=inputs.step_of, metavar="STEP", help="prices are decimals, in steps of STEP, as 0.01")
@@ -123,7 +125,7 @@ def day_start(args: argparse.Namespace) -> int:
 
 def watch_of(args: argparse.Namespace) -> Any:
     """The feed, its clock and the meter."""
-    from quoting.watch import clocks, feeds, loop, messages, playing
+    from quoting.watch import clocks, feeds, logged, loop, playing
     from quoting.watch.meter import Meter
 
     follow = args.replay is None and args.follow is not False
@@ -136,8 +138,8 @@ def watch_of(args: argparse.Namespace) -> Any:
     if args.fix is None:
         feed = feeds.CallsFeed(args.calls, options, follow)
     else:
-        chosen = Owner.named(args.symbol, args.account)
-        feed = messages.MessagesFeed(args.fix, args.open, options, args.start, clock, follow, chosen)
+        chosen = choice.LogOptions(args.source, args.step or choice.LogOptions.step, {}, args.symbol, args.account)
+        feed = logged.LogFeed(args.fix, args.open, options, args.start, clock, follow, chosen)
     if args.replay is not None:
         feed = clock = playing.Playing(feed, args.replay)
     return loop.Watch(feed, clock, Meter(name_of(args), start, args.step), args.silence if follow else 0.0, args.replay)

@@ -1,6 +1,6 @@
 """The page: the figures put into the template page.html (Jinja2), one self-contained file without a script."""
 
-from dataclasses import dataclass
+from dataclasses import dataclass, field
 from importlib import import_module
 from pathlib import Path
 from typing import Any, Optional
@@ -20,6 +20,24 @@ PALETTE = TEMPLATE.parent.parent / "palette.css"  # which the live page has too
 
 
 @dataclass(frozen=True)
+class InputFile:
+    name: str
+    size: int
+    sha256: str
+
+
+@dataclass(frozen=True)
+class Office:
+    """What an office signs beside the figures: facts as pairs of a name and a text, the input files, the versions in one sentence, and
+    what was refused, skipped or missing, a sentence each."""
+
+    facts: list[tuple[str, str]]
+    files: list[InputFile]
+    versions: str
+    remarks: list[str] = field(default_factory=list)
+
+
+@dataclass(frozen=True)
 class Statement:
     """A month with both readings; `faults` are sentences about figures that do not fit together, which should never happen."""
 
@@ -30,6 +48,7 @@ class Statement:
     course: Course
     fee: Fee
     quanta: list[Shown]
+    office: Optional[Office] = None
 
     @property
     def first_difference(self) -> Optional[tuple[int, str, str]]:
@@ -49,7 +68,8 @@ class Statement:
     @property
     def is_whole(self) -> bool:
         """Nothing was refused or left out, and the readings agree."""
-        return not (self.differs or self.course.refused_calls or self.listed.left or self.listed.reports)
+        remarks = self.office.remarks if self.office else []
+        return not (self.differs or self.course.refused_calls or self.listed.left or self.listed.reports or remarks)
 
 
 def statement(title: str, listed: Listed) -> Statement:

@@ -20,7 +20,6 @@ from typing import Iterator, Optional, Protocol, Union
 from quoting import calls as c
 from quoting import reading, texts
 from quoting.reading import STANDARD, Options, TextError
-from quoting.reports import Omission
 from quoting.month_sources import PLACED_BEFORE, Sent, start_of
 from quoting.watch.names import name_text
 
@@ -36,12 +35,21 @@ FROM_START = "the feed is read again from its start"
 
 
 @dataclass(frozen=True)
+class Logged:
+    """What was read of a log: in a few words, the orders carried into the open quantum, and the exchange's answers that are not read."""
+
+    text: str = ""
+    carried: int = 0
+    answers: int = 0
+
+
+@dataclass(frozen=True)
 class Trouble:
     """What could not be read, or what happened to the file; the reading goes on."""
 
     place: str  # "line 12", "brent.log: line 7", "" where it is of the file as a whole
     text: str
-    omission: Optional[Omission] = None  # what the figures leave out, where that is all
+    logged: Optional[Logged] = None  # what was read of a log so far, where that is all
 
 
 @dataclass(frozen=True)
@@ -52,6 +60,11 @@ class Changed(Trouble):
 
     may_follow: bool = False
     is_lost: bool = False
+
+
+@dataclass(frozen=True)
+class Again(Trouble):
+    """What follows are all calls again, from the start of the feed: a message came that belongs before others. Nothing was lost."""
 
 
 Item = Union[Sent, Trouble]

@@ -10,6 +10,7 @@ from typing import Any, Mapping, Optional, Sequence
 from quoting.answers import Cell, MonthReport, verdict_text
 from quoting.cells import ALLOWED, CAP, SERIES, Place
 from quoting.drawing import TICKS
+from quoting.exchange import choice
 from quoting.formats import counted, place_text, roubles, series_text, spread_text, thousands
 from quoting.states import State, Stretch
 from quoting.values import MINUTE, SECOND, clock, milliseconds, part_text, share_text
@@ -62,7 +63,7 @@ def sections(meter: Meter, now: int, status: Status) -> dict[str, Any]:
         "band": {**band._asdict(), "title": title(band, meter.name)},
         "state": state(meter, shown, status),
         "readings": dict(status.readings),
-        "feed": {"kind": status.feed, "text": feed_text(meter.calls, status)},
+        "feed": {"kind": status.feed, "text": feed_text(meter.calls, status) + log_text(meter)},
         "alert": alert(meter, status),
         "omitted": omitted(meter),
         "open": open_quantum(meter, shown, status),
@@ -118,7 +119,7 @@ def band_of(meter: Meter, shown: Optional[Shown], status: Status) -> s.Band:
     found = moment_of(meter, shown)
     if status.feed == "broken":
         return s.broken(s.band(found), found)
-    return s.unsure(s.band(found), meter.reports_now.answers_text()) if meter.reports_now.answers else s.band(found)
+    return s.unsure(s.band(found), answers_text(meter)) if meter.logged.answers else s.band(found)
 
 
 def title(band: s.Band, name: str) -> str:
@@ -134,7 +135,7 @@ def state(meter: Meter, shown: Optional[Shown], status: Status) -> Optional[Sect
         return {"key": "unknown", "word": "not known", "since": f"by the file now: {word}"}
     if status.feed == "broken":
         return {"key": "unknown", "word": "not known", "since": f"last {word}"}
-    if meter.reports_now.answers:
+    if meter.logged.answers:
         return {"key": "unknown", "word": "not known", "since": f"by your requests {word}"}
     since = meter.course.since
     text = f"since {meter.opened.times.down(since)}, for {s.had(shown.report.time - since)}"
@@ -184,9 +185,20 @@ def alert(meter: Meter, status: Status) -> Optional[Section]:
 
 def omitted(meter: Meter) -> Optional[Section]:
     """What the exchange answered and the figures leave out, for as long as the page runs."""
-    if not meter.reports:
+    if not meter.logged.answers:
         return None
-    return {"head": f"Not in the figures: {meter.reports.head()}.", "text": meter.reports.sentence()}
+    return {"head": f"Not in the figures: {answers_text(meter)}.", "text": f"{capital(choice.READ_BY_REQUESTS)}."}
+
+
+def answers_text(meter: Meter) -> str:
+    return choice.Unread(meter.logged.answers).head()
+
+
+def log_text(meter: Meter) -> str:
+    """What was read of the log, after the feed's line; empty where there is no log."""
+    carried = meter.logged.carried
+    parts = [meter.logged.text, *([f"{choice.plural(carried, 'order')} carried in"] if carried else [])]
+    return f"; {', '.join(parts)}" if meter.logged.text else ""
 
 
 def capital(text: str) -> str:

@@ -13,7 +13,7 @@ from quoting.watch import frames
 from quoting.watch.changes import Changes, encoded
 from quoting.watch.clocks import Clock
 from quoting.watch.doubts import PLACED_KINDS, Doubt, Reading, Rotated, goes_on
-from quoting.watch.feeds import Changed, Feed, Item, Trouble
+from quoting.watch.feeds import Again, Changed, Feed, Item, Trouble
 from quoting.watch.meter import Meter, refusal
 from quoting.watch.recounting import Recounting
 
@@ -66,6 +66,8 @@ class Watch:
     def take_one(self, item: Item, came: float) -> None:
         if isinstance(item, Changed):
             self.change(item)
+        elif isinstance(item, Again):
+            self.fresh()
         if isinstance(item, Trouble):
             self.meter.trouble(item, came)
             return
@@ -109,6 +111,10 @@ class Watch:
     def start_over(self, why: str, before: Reading) -> None:
         """The calls that follow are those of the whole feed: a fresh month and a fresh recount take them."""
         self.doubtful(why, before, False)
+        self.fresh()
+
+    def fresh(self) -> None:
+        """A fresh month and a fresh recount."""
         self.meter = self.meter.fresh()
         self.recount.end()
         self.recount = Recounting()

@@ -21,15 +21,14 @@ from quoting.formats import call_text, thousands, time_of_day
 from quoting.month_sources import Sent
 from quoting.months import Month
 from quoting.native import Refused
-from quoting.reports import Reports
 from quoting.states import State
 from quoting.views import View
 from quoting.watch.course import Course, Seen
+from quoting.watch.feeds import Logged, Trouble
 from quoting.watch.sentences import DAY, Times
 
 if TYPE_CHECKING:
     from quoting.watch.clocks import Clock
-    from quoting.watch.feeds import Trouble
 
 # The kinds of blocks: those that alter the open quantum, and those that alter what cells are filled or which quantum is open.
 EVENT_KINDS = frozenset((Kind.ADD, Kind.AMEND, Kind.CANCEL, Kind.DEAL, Kind.TICK, Kind.COMMIT, Kind.MESSAGE))
@@ -103,7 +102,7 @@ class Meter:
         self.closed: Optional[Place] = None  # the cell that was filled last
         self.problems: deque[Problem] = deque(maxlen=LISTED)
         self.problem_count = 0
-        self.reports, self.reports_now = Reports(), Reports()  # what the figures leave out, in all and of the open quantum
+        self.logged = Logged()  # what was read of the log, where there is one
         self.altered = 0  # calls that altered cells, or which quantum is open
         self.made: Optional[tuple[int, dict[str, Any]]] = None  # the month's section, and how much was altered when it was made
         self._cells: tuple[int, dict[Place, Cell]] = (-1, {})
@@ -131,14 +130,12 @@ class Meter:
             self._alter(kind, sent, came)
         return answer
 
-    def trouble(self, found: "Trouble", came: float) -> None:
-        """What the feed could not read, or what the figures leave out, which is counted."""
-        if found.omission is None:
+    def trouble(self, found: Trouble, came: float) -> None:
+        """What the feed could not read, or what was read of a log."""
+        if found.logged is None:
             self._problem(Problem(came, found.place, found.text))
-            return
-        self.reports.counts[found.omission] += 1
-        if self.opened is not None:
-            self.reports_now.counts[found.omission] += 1
+        else:
+            self.logged = found.logged
 
     def _problem(self, found: Problem) -> None:
         self.problems.appendleft(found)
@@ -158,7 +155,7 @@ class Meter:
         self.altered += 1
         call = c.call_of(sent.block)
         if isinstance(call, c.Open):
-            self.opens, self.came, self.reports_now = self.opens + 1, came, Reports()
+            self.opens, self.came = self.opens + 1, came
             self._open((call.day, call.words[0], call.words[1]), call.words[2], sent.start)
             self.course = Course(call.words[2])
         elif isinstance(call, (c.Close, c.Drop)) and self.opened is not None:

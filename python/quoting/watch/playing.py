@@ -5,6 +5,7 @@ every other call at once; between a close and the next open there is a second of
 accepted, since a refused open starts no time.
 """
 
+import re
 import time
 from collections import deque
 from datetime import datetime, timedelta
@@ -15,13 +16,14 @@ from quoting import fix
 from quoting.events import Add, Amend, Cancel, Deal, Tick
 from quoting.months import Month
 from quoting.native import Refused
-from quoting.month_sources import Sent, time_of
+from quoting.month_sources import Sent
 from quoting.values import milliseconds
 from quoting.watch.feeds import MOST_ITEMS, Feed, Item, Trouble
 
 PAUSE = 1.0  # seconds of real time between a close and the next open
 AT_ONCE = float("-inf")
 MILLISECOND = timedelta(milliseconds=1)
+TIME = re.compile(rb"\x0160=([^\x01]*)\x01")
 
 
 class Playing:
@@ -135,5 +137,13 @@ def time_in_quantum(call: Optional[c.Call]) -> Optional[int]:
     time = time_of(call.bytes)
     try:
         return None if time is None else (time - fix.moment(call.start.decode("latin-1"))) // MILLISECOND
+    except ValueError:
+        return None
+
+
+def time_of(message: bytes) -> Optional[datetime]:
+    found = TIME.search(message)
+    try:
+        return fix.moment(found[1].decode("latin-1")) if found else None
     except ValueError:
         return None

@@ -25,6 +25,7 @@ from quoting.watch.recounter import STANDING, Agreed, Called, Check, Ended, Part
 Pair = tuple[str, str, str]  # a figure's name, by the meter, by the recount
 
 EVERY = 2.0  # seconds between two checks
+LAG = 5.0  # seconds since the last agreement after which calls that were not compared are a lag
 SHARE = 4  # after a check that took long, that many times its length goes by before the next, so that the machine is left its other work
 CHEAP = 0.1  # a check that took no longer is made again where no call has come
 MOST_BEHIND = 1_000_000  # calls that may wait for it
@@ -154,8 +155,11 @@ class Recounting:
             return {"kind": "absent", "head": "The recount has stopped", "text": f"{self.why}{until}"}
         if self.kind == "waiting":
             return {"kind": "waiting", "head": "The recount is at work", "text": f"{counted(self.sent, 'call')}, none compared so far"}
-        which = "all " if self.agreed == self.sent else ""
-        text = f"on {which}{counted(self.agreed, 'call')}, {ago(now - self.agreed_at)} ago"
+        is_all = self.agreed == self.sent
+        which = f"on all {counted(self.agreed, 'call')}" if is_all else f"on {self.agreed:,} of {counted(self.sent, 'call')}"
+        text = f"{which}, {ago(now - self.agreed_at)} ago"
+        if not is_all and now - self.agreed_at > LAG:
+            return {"kind": "waiting", "head": "The recount lags", "text": f"both agree {text}"}
         return {"kind": "agree", "head": "Both readings agree", "text": text}
 
     def differs(self) -> Optional[dict[str, Any]]:

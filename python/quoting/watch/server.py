@@ -217,18 +217,23 @@ def bound(address: str, port: int) -> socket.socket:
 
 async def serve(watch: Watch, access: Access, listening: socket.socket) -> None:
     """Until a signal comes."""
+    await serve_app(Pages(watch, access).app(), [watch.read(), watch.show()], listening)
+
+
+async def serve_app(app: ASGIApp, works: list[Awaitable[Any]], listening: socket.socket) -> None:
+    """Serves, with other work beside it, until a signal comes."""
     logging.getLogger("uvicorn").setLevel(logging.CRITICAL)
     uvicorn: Any = import_module("uvicorn")
     h11_protocol = import_module("uvicorn.protocols.http.h11_impl").H11Protocol
     config = uvicorn.Config(
-        Pages(watch, access).app(), log_config=None, log_level="critical", access_log=False, lifespan="off", loop="asyncio",
+        app, log_config=None, log_level="critical", access_log=False, lifespan="off", loop="asyncio",
         http=prompt(h11_protocol, Waiting()), limit_concurrency=MOST_CONNECTIONS, ws="websockets", ws_max_size=MOST_BYTES, ws_per_message_deflate=False, server_header=False,
         proxy_headers=False)
     server, stopped = uvicorn.Server(config), asyncio.Event()
     server.install_signal_handlers = lambda: None  # they are ours
     for number in (signal.SIGINT, signal.SIGTERM):
         asyncio.get_running_loop().add_signal_handler(number, stopped.set)
-    work: list[Awaitable[Any]] = [server.serve(sockets=[listening]), watch.read(), watch.show(), stopped.wait()]
+    work: list[Awaitable[Any]] = [server.serve(sockets=[listening]), *works, stopped.wait()]
     tasks = [asyncio.ensure_future(each) for each in work]
     done, _ = await asyncio.wait(tasks, return_when=asyncio.FIRST_COMPLETED)
     for each in getattr(server, "servers", []):

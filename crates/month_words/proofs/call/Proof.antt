@@ -92,36 +92,20 @@ returns-6 c =
     unchanged (a .words .now) (a .hints .now) (a .answer .now) (a .bytes .now) NoCall no-call-not-done
     (no-call (leb 2464 (length (a .words .now))) (mayBeMonth (a .words .now)) (leb 2048 (length (a .hints .now))) (leb 20 (length (a .answer .now))) (isCall (a .bytes .now)) (le-leb _ _ (room e)) (passed e) (le-leb _ _ (c .before .before .before .before .before .before .if3 .left)) (le-leb _ _ (c .before .before .before .before .before .if4 .left)) (sym (c .before .is-call .ensures) ∙ not-true _ (c .if6 .taken)))
 
-perform-requires : tie.Need-perform-requires
-perform-requires c κs =
+other-requires : tie.Need-other-requires
+other-requires c κs =
     let e = c .before .before .before .before .before .before .before .before .before .before in
-    (holds e, room e, c .before .before .before .before .before .before .before .before .if4 .left, sym (c .before .before .before .before .is-call .ensures) ∙ not-false _ (c .before .before .before .if6 .left))
+    let s = e .before .before .before .before .before .before .before .before in
+    (holds e, room e, length-take-le 2048 (s .args .hints .now) (c .before .before .before .before .before .before .before .before .before .if3 .left), c .before .before .before .before .before .before .before .before .if4 .left, sym (c .before .before .before .before .is-call .ensures) ∙ not-false _ (c .before .before .before .if6 .left))
 
 returns-7 : tie.Need-returns-7
 returns-7 c =
-    let e = c .before .before .before .before .before .before .before .before .before .before .before .before .before .before .before in
+    let e = c .before .before .before .before .before .before .before .before .before .before .before .before .before .before .before .before .before in
     let a = e .before .before .before .before .before .before .before .before .args in
-    record {
-      called = is-done (leb 2464 (length (a .words .now))) (mayBeMonth (a .words .now)) (leb 2048 (length (a .hints .now))) (leb 20 (length (a .answer .now))) (isCall (a .bytes .now)) (le-leb _ _ (room e)) (passed e) (le-leb _ _ (c .before .before .before .before .before .before .before .before .before .before .before .before .before .before .if3 .left)) (le-leb _ _ (c .before .before .before .before .before .before .before .before .before .before .before .before .before .if4 .left)) (sym (c .before .before .before .before .before .before .before .before .before .is-call .ensures) ∙ not-false _ (c .before .before .before .before .before .before .before .before .if6 .left));
-      done = λ d. c .before .before .before .before .perform .ensures;
-      kept = λ never. absurd (never refl);
-      leaves = all-untouched (a .words .now) (a .hints .now) (a .bytes .now);
-    }
-
-other-requires : tie.Need-other-requires
-other-requires c κs =
-    let e = c .before .before .before .before .before .before .before .before .before .before .before in
-    let s = e .before .before .before .before .before .before .before .before in
-    (holds e, room e, length-take-le 2048 (s .args .hints .now) (c .before .before .before .before .before .before .before .before .before .before .if3 .left), c .before .before .before .before .before .before .before .before .before .if4 .left, sym (c .before .before .before .before .before .is-call .ensures) ∙ not-false _ (c .before .before .before .before .if6 .left))
-
-returns-8 : tie.Need-returns-8
-returns-8 c =
-    let e = c .before .before .before .before .before .before .before .before .before .before .before .before .before .before .before .before .before .before in
-    let a = e .before .before .before .before .before .before .before .before .args in
-    let hinted = c .before .before .before .before .before .before .before .before .before .before .before .before .before .before .before .before .before .if3 .left in
+    let hinted = c .before .before .before .before .before .before .before .before .before .before .before .before .before .before .before .before .if3 .left in
     let x = c .before .before .before .before .before .before .other in
     record {
-      called = is-done (leb 2464 (length (a .words .now))) (mayBeMonth (a .words .now)) (leb 2048 (length (a .hints .now))) (leb 20 (length (a .answer .now))) (isCall (a .bytes .now)) (le-leb _ _ (room e)) (passed e) (le-leb _ _ hinted) (le-leb _ _ (c .before .before .before .before .before .before .before .before .before .before .before .before .before .before .before .before .if4 .left)) (sym (c .before .before .before .before .before .before .before .before .before .before .before .before .is-call .ensures) ∙ not-false _ (c .before .before .before .before .before .before .before .before .before .before .before .if6 .left));
+      called = is-done (leb 2464 (length (a .words .now))) (mayBeMonth (a .words .now)) (leb 2048 (length (a .hints .now))) (leb 20 (length (a .answer .now))) (isCall (a .bytes .now)) (le-leb _ _ (room e)) (passed e) (le-leb _ _ hinted) (le-leb _ _ (c .before .before .before .before .before .before .before .before .before .before .before .before .before .before .before .if4 .left)) (sym (c .before .before .before .before .before .before .before .before .before .before .before .is-call .ensures) ∙ not-false _ (c .before .before .before .before .before .before .before .before .before .before .if6 .left));
       done = λ d. x .ensures .0;
       kept = λ never. absurd (never refl);
       leaves =
@@ -156,10 +140,6 @@ call-spec =
     (λ c κs. search needs)
     (λ c. search needs)
     returns-6
-    perform-requires
-    (λ c. search needs)
-    (λ c. search needs)
-    returns-7
     (λ c. search needs)
     (λ c. search needs)
     (λ c. search needs)
@@ -167,4 +147,4 @@ call-spec =
     (λ c. search needs)
     (λ c. search needs)
     (λ c. search needs)
-    returns-8)
+    returns-7)

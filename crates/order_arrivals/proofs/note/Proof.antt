@@ -1,7 +1,7 @@
 -- By the numbers before and after, one of three things happened to the ids (`one-more`, `one-less`, `as-many`).
 use mathlib.Core.Path.{_∙_}
 use native.Mathlib.Omega.{arith}
-use Rattle.order_arrivals.proofs.Effects.{old-count, few, sized, one-more, one-less, as-many}
+use Rattle.order_arrivals.proofs.Effects.{old-count, few, sized, blanks, one-more, one-less, as-many}
 use borrow.Author.Needs.{needs}
 use Rattle.order_arrivals.proofs.note.Statement.{statement}
 use Rattle.order_arrivals.proofs.note.Tie as tie
@@ -26,7 +26,7 @@ remove-requires c κs =
     let less = one-less (p .row) (p .events) (p .event) (a .ids .now) (a .before) (a .after) (a .id) (p .follows) (omega arith) in
     let count = old-count (p .row) (p .events) (p .event) (a .ids .now) (a .before) (a .after) (a .id) (p .follows) in
     let most = few (p .row) (p .events) (p .event) (a .ids .now) (a .before) (a .after) (a .id) (p .follows) in
-    (sized (p .row) (p .events) (p .event) (a .ids .now) (a .before) (a .after) (a .id) (p .follows), omega (arith, count, most), less .some, less .most)
+    (sized (p .row) (p .events) (p .event) (a .ids .now) (a .before) (a .after) (a .id) (p .follows), omega (arith, count, most), less .some, less .most, blanks (p .row) (p .events) (p .event) (a .ids .now) (a .before) (a .after) (a .id) (p .follows))
 
 returns-2 : tie.Need-returns-2
 returns-2 c = λ row events e f.

@@ -23,8 +23,8 @@ function lose(head, title) {
 export function connect() {
   clearTimeout(retry);
   if (connection.socket) return;
-  const base = (location.protocol === "https:" ? "wss://" : "ws://") + location.host;
-  const mine = connection.socket = new WebSocket(`${base}/live${location.search}`);
+  const base = (location.protocol === "https:" ? "wss://" : "ws://") + location.host + location.pathname.replace(/[^/]*$/, "");
+  const mine = connection.socket = new WebSocket(`${base}live${location.search}`);
   heardAt = Date.now();
   silence = setInterval(minding, 1_000);
   mine.addEventListener("message", event => {

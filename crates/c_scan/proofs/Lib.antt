@@ -1,0 +1,2 @@
+-- Laws of the words that the scan answers.
+pub mod Words

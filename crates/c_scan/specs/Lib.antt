@@ -1,0 +1,2 @@
+-- What the scan of a log answers to a program in C.
+pub mod Scans
