@@ -9,9 +9,12 @@ import pytest
 
 from tests.paths import INCLUDE, LIBRARY, TESTS
 
-SPARE = 16_384  # bytes that a figure of the header may be above the measured one
-EVENTS = {"add", "amend", "cancel", "deal", "tick", "ask", "look"}
-MONTH = {"open", "open a strike", "close", "drop", "charge", "withdraw", "report", "outlook", "commit", "message", "quoting_calls"}
+SPARE = 4_096  # bytes that a figure of the header may be above the measured one
+KINDS = {
+    "add", "amend", "cancel", "deal", "tick", "ask", "look", "open", "open a strike", "close", "drop", "charge", "withdraw", "report", "outlook", "commit",
+    "message",
+}  # of quoting_month_call
+MONTH = {"quoting_calls"}
 STANDING = {"quoting_standing"}
 
 
@@ -42,7 +45,7 @@ def test_every_call_of_the_header_is_measured(measured: dict[str, int]) -> None:
     declared = set(re.findall(r"^uint64_t (quoting_\w+)\(", (INCLUDE / "quoting.h").read_text(), re.M))
     found = {name for name in measured if name.startswith("quoting_")}
     assert declared - found == {"quoting_month_call"}, "a call is not measured"
-    assert set(measured) - found == EVENTS | MONTH - {"quoting_calls"}, "a kind of a month's call is not measured"
+    assert set(measured) - found == KINDS, "a kind of a month's call is not measured"
 
 
 @pytest.mark.parametrize(
