@@ -152,6 +152,7 @@ def measure(args, folder):
     print(f"contracts {args.contracts}, pages {args.pages}, {gone:.0f} s, {maker.count:,} messages written ({maker.count / gone:,.0f} a second)")
     good = [1_000 * each for each in delays if each is not None]
     print(f"from log to page: {len(good)} of {len(delays)} seen, median {statistics.median(good):.0f} ms, worst {max(good):.0f} ms")
+    print("each, in ms: " + " ".join(f"{each:.0f}" for each in good))
     print(f"the server: {100 * (after[0] - before[0]) / gone:.0f}% of a processor, {before[1]:.0f} MB before, {after[1]:.0f} MB after")
     print(f"the recount: {lags[-1]:,} calls behind at the end, {max(lags):,} at most; to all pages {watcher.sizes / gone / 1e6:.2f} MB a second")
     process.kill()

@@ -35,11 +35,13 @@ def run_demo(folder: Path, rt: str, make: str) -> "subprocess.CompletedProcess[s
 def test_each_result_follows_its_proof(tmp_path: Path) -> None:
     done = run_demo(tmp_path, RT, MAKE)
     assert done.returncode == 0, done
-    places = [done.stdout.index(text) for text in (
-        "1. A session:", "proved sheet;", "carried  75.22% kept", "proved   74.12% kept", "16:41:10 to 16:47:06", "failed. The picture is target/demo/silver.svg",
-        "2. A month:", "proved quoting;", "the fee 308 roubles 27 kopecks", "target/brent.html")]
+    shown = [
+        "1. A session:", ", 0 left", "carried  75.22% kept", "proved   74.12% kept", "16:41:10 to 16:47:06", "failed. The picture is target/demo/silver.svg",
+        "2. A month:", "proved quoting;", "the fee 308 roubles 27 kopecks", "target/brent.html",
+    ]
+    places = [done.stdout.index(text) for text in shown]
     assert places == sorted(places) and len(done.stdout.splitlines()) < 45, done.stdout
-    assert ", 0 left" in done.stdout and "<svg" in (ROOT / "target" / "demo" / "silver.svg").read_text(encoding="utf-8")
+    assert done.stdout.count(", 0 left") == 2 and "<svg" in (ROOT / "target" / "demo" / "silver.svg").read_text(encoding="utf-8")
 
 
 @pytest.mark.parametrize("rt, make, shown", [(REFUSES, MAKE, False), (RT, REFUSES, True)], ids=["session", "library"])
@@ -47,3 +49,8 @@ def test_what_is_not_proved_is_not_shown(tmp_path: Path, rt: str, make: str, sho
     done = run_demo(tmp_path, rt, make)
     assert done.returncode == 1 and "rt: rules NOT PROVED" in done.stderr and "has failed" in done.stderr, done
     assert ("74.12%" in done.stdout) is shown and "the fee" not in done.stdout
+
+
+def test_without_the_kit_it_says_so(tmp_path: Path) -> None:
+    done = subprocess.run([sys.executable, str(ROOT / "tools" / "demo.py")], env={**os.environ, "PATH": str(tmp_path)}, capture_output=True, text=True)
+    assert done.returncode == 1 and done.stderr.startswith("make demo needs rt") and not done.stdout, done

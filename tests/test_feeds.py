@@ -44,6 +44,8 @@ def drained(feed):
     """All that a feed gives now."""
     found = []
     while True:
+        if isinstance(feed, LogFeed):
+            feed.looked_at = 0.0  # on a busy machine a look may be put off
         items = feed.read()
         found += items
         if not items and not feed.behind:

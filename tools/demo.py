@@ -135,6 +135,8 @@ def shown(path: Path) -> str:
 
 
 def main() -> None:
+    if shutil.which("rt") is None:
+        sys.exit("make demo needs rt, the command of the Rattle kit, which is installed separately")
     MADE.mkdir(parents=True, exist_ok=True)
     session, library = below("sheet"), below("quoting")
     print(f"1. A session: {len(session)} crates are to be proved, of {len(session | library)} for all that is shown here.", flush=True)
@@ -151,4 +153,7 @@ def main() -> None:
 
 
 if __name__ == "__main__":
-    main()
+    try:
+        main()
+    except KeyboardInterrupt:
+        sys.exit("\nstopped")

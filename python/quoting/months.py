@@ -39,7 +39,7 @@ from typing import Any, Iterable, Iterator, Literal, NamedTuple, NoReturn, Optio
 
 from quoting import calls as c
 from quoting import events, month_words, native, ranges, sessions
-from quoting.answers import WORDS, Answer, Asked, Cell, MonthReport, Outlook, answer_of, quote
+from quoting.answers import WORDS, Accepted, Answer, Asked, Cell, MonthReport, Outlook, answer_of, quote
 from quoting.events import SIDES, Add, Amend, Cancel, Deal, Event, Side, Tick
 from quoting.formats import counted
 from quoting.lending import BLOCK_BYTES, HINT_BYTES, MADE, AnswerWords, Form, Lent
@@ -296,6 +296,22 @@ class Month:
         except Refused as refused:
             raise_for(refused)
         return answer_of(answer)  # type: ignore[arg-type]  # an array of words is a sequence of numbers, without saying so
+
+    def blocks(self, blocks: Iterable[bytes]) -> list[Answer]:
+        """The month's answers to blocks in their order, a refusal as a value: as `block`, in less time for many.
+
+        >>> with Month() as month:
+        ...     month.blocks([c.block(c.Drop()), c.block(c.Open([1, 1, 31_500_000, 1000, 150, 3, 600], 1, 8452)), c.block(Tick(1_000))])
+        [Refused(7, 0, 'no quantum is open'), Accepted(), Accepted()]
+        """
+        self._check_open()
+        call, answer, accepted, found = native.function("quoting_month_call"), AnswerWords(), Accepted(), list[Answer]()
+        for block in blocks:
+            made = call(self._words, month_words.COUNT, self._hints, HINT_BYTES, block, len(block), answer, WORDS)
+            if made >> 32:
+                raise_for(Refused.of(made >> 32, made & 0xFFFFFFFF))
+            found.append(accepted if answer[0] == 0 else answer_of(answer))  # type: ignore[arg-type]  # as in `block`
+        return found
 
     def call(self, call: c.Call) -> Answer:
         """The month's answer to a call of `quoting.calls`, or to an event; a refusal is raised."""

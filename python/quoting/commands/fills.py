@@ -64,7 +64,8 @@ def run(args: argparse.Namespace) -> int:
             output.write(args.output, output.json_text({"fills": found}))
         else:
             lost = values.clock(lost_together(found))
-            output.table(args.output, HEADS, [row_of(fill) for fill in found], f"{choice.plural(len(found), 'fill')}, {lost} of kept time lost\n")
+            after = f"{choice.plural(len(found), 'fill')}, {lost} of kept time lost\n"
+            output.table(args.output, HEADS, [row_of(fill) for fill in found], after)
     for each in fix.complaints(reader, made, refused):
         output.complain(each if each.startswith(tuple(args.files)) else f"{args.files[0]}: {each}")
     return int(refused is not None or not choice.is_whole(reader))

@@ -64,6 +64,8 @@ class Detail:
 
     def enter(self) -> None:
         self.clients += 1
+        if self.running is not None:
+            self.running.refine(self.wall.lines(self.contract), self.wall.came)
         self.publish()
 
     def leave(self) -> None:

@@ -18,6 +18,7 @@ from quoting.watch.feeds import Growing, Turn
 
 AGAIN = 1.0  # seconds between two looks for new files
 PIECE = 1 << 20  # bytes that are read of a file before the others get their turn
+BRIEF, RARELY = 0.005, 20  # a look at a fault that takes longer, in seconds, is made again after that many times as long
 WORDS = {"truncated": "was truncated", "rewritten": "was written again", "rotated": "was replaced by another file", "gone": "has gone away"}
 Key = tuple[int, str]  # a file's place among the logs: its pattern's number, and its name
 
@@ -29,7 +30,7 @@ class Fault:
     kind: str
     since: float  # time.time()
     before: frozenset[tuple[Any, ...]] = frozenset()
-    is_lost: bool = False  # only another start can mend it
+    next: float = 0.0  # time.monotonic(): when it is looked at again
 
     def text(self, name: str) -> str:
         return f"{name} {WORDS[self.kind]}"
@@ -152,7 +153,8 @@ class LogFiles:
     def mend(self, log: Log) -> None:
         """Whether all that was read before is there again: in this file, or in another one that is read."""
         fault = log.fault
-        if fault is None or (fault.kind == "gone" and log.growing.missed):
+        began = time.monotonic()
+        if fault is None or began < fault.next or (fault.kind == "gone" and log.growing.missed):
             return
         found: frozenset[tuple[Any, ...]] = frozenset()
         for each in self.logs.values():
@@ -160,6 +162,8 @@ class LogFiles:
             if fault.before <= found:
                 log.fault = None
                 return
+        took = time.monotonic() - began
+        fault.next = began + RARELY * took if took > BRIEF else 0.0
 
     @property
     def readers(self) -> list[LogReader]:

@@ -9,7 +9,6 @@ import numpy as np
 from quoting.exchange import fields as f
 from quoting.exchange.book import Scope, reason_of
 from quoting.exchange.bulk import moves_of
-from quoting.exchange.keys import text_of_key
 from quoting.exchange.orders import ABSENT, NOTHING, REMOVED, Orders, Terms, kind_of
 from quoting.exchange.reasons import Reasons
 from quoting.exchange.timelines import CHANGE, Change, Timeline
@@ -17,7 +16,9 @@ from quoting.wall.files import Key, Log, LogFiles
 
 MODULUS = 1 << 20  # owners that ids can be told apart by
 CHUNK = 4_096  # changes that are put into an array
-Read = tuple[int, int]  # a message's place in what is read: the file's number, and the message's in it
+FILE_BITS = 40
+Read = int  # a message's place in what is read: the file's number times 2^40, and the message's in it
+NO_ID, NO_EXECUTION = bytes(24), bytes(16)
 
 
 class Move(NamedTuple):
@@ -26,10 +27,10 @@ class Move(NamedTuple):
     time: int
     what: int
     owner: int
-    cl: tuple[int, ...]
-    orig: tuple[int, ...]
-    oid: tuple[int, ...]
-    execution: tuple[int, ...]
+    cl: bytes  # the ids as keys: the text itself where it fits, all 0 where it is absent
+    orig: bytes
+    oid: bytes
+    execution: bytes
     side: int
     price: int
     volume: int
@@ -38,10 +39,17 @@ class Move(NamedTuple):
 
 
 def moves_in(part: Any, file: int) -> Iterator[Move]:
-    names = ("time", "what", "owner", "cl", "orig", "oid", "execution", "side", "price", "volume", "line", "seq")
-    columns = [part[name].tolist() for name in names]
-    for time, what, owner, cl, orig, oid, execution, side, price, volume, line, seq in zip(*columns):
-        yield Move(time, what, owner, tuple(cl), tuple(orig), tuple(oid), tuple(execution), side, price, volume, line, (file, seq))
+    front = [part[name].tolist() for name in ("time", "what", "owner")]
+    ids = [keys_of(part[name]) for name in ("cl", "orig", "oid", "execution")]
+    rest = [part[name].tolist() for name in ("side", "price", "volume", "line")]
+    places = (part["seq"].astype(np.int64) + (file << FILE_BITS)).tolist()
+    yield from map(Move._make, zip(*front, *ids, *rest, places))
+
+
+def keys_of(column: Any) -> list[bytes]:
+    """Keys of several numbers each as bytes."""
+    found: list[bytes] = np.ascontiguousarray(column).view(f"V{8 * column.shape[1]}").ravel().tolist()
+    return found
 
 
 class Happened(NamedTuple):
@@ -66,9 +74,9 @@ class Follower:
     def __init__(self, scope: Scope, files: Sequence[str], is_carried: bool) -> None:
         self.scope, self.files, self.is_carried = scope, files, is_carried
         self.orders = Orders(MODULUS, scope.fitting(), scope.foreign())
-        self.ids: dict[tuple[int, ...], int] = {}
-        self.seen: dict[tuple[int, tuple[int, ...]], Read] = {}
-        self.last: tuple[int, Read] = (-(1 << 62), (0, 0))
+        self.ids: dict[bytes, int] = {}
+        self.seen: dict[tuple[int, bytes], Read] = {}
+        self.last: tuple[int, Read] = (-(1 << 62), 0)
         self.count = 0
         self.newest: dict[int, list[Change]] = {}  # by owner, those that are in no array yet
         self.chunks: dict[int, list[Any]] = {}
@@ -78,7 +86,7 @@ class Follower:
     def is_late(self, moves: list[Move]) -> bool:
         """Whether a message has an earlier time than one that was followed, or is the first copy of one. A later copy changes nothing."""
         for move in moves:
-            known = self.seen.get((move.owner, move.execution)) if move.execution[0] else None
+            known = self.seen.get((move.owner, move.execution)) if move.execution != NO_EXECUTION else None
             if known is None and (move.time, move.read) < self.last or known is not None and move.read < known:
                 return True
         return False
@@ -101,14 +109,14 @@ class Follower:
         return made
 
     def is_fresh(self, move: Move) -> bool:
-        if not move.execution[0]:
+        if move.execution == NO_EXECUTION:
             return True
         is_first = self.seen.setdefault((move.owner, move.execution), move.read) == move.read
         self.duplicates += not is_first
         return is_first
 
-    def number(self, key: tuple[int, ...], owner: int) -> int:
-        return self.ids.setdefault(key, len(self.ids)) * MODULUS + owner if key[0] else ABSENT
+    def number(self, key: bytes, owner: int) -> int:
+        return ABSENT if key == NO_ID else self.ids.setdefault(key, len(self.ids)) * MODULUS + owner
 
     def terms(self, move: Move) -> Terms:
         oid = move.time // f.DAY if move.what >= f.ASK else self.number(move.oid, move.owner)
@@ -116,11 +124,11 @@ class Follower:
 
     def happened(self, move: Move, order: int, replaced: int, left: Optional[int]) -> Iterator[Happened]:
         if replaced != NOTHING:
-            yield self.add(move, Change(move.time, REMOVED, replaced + 1, 0, 0, move.read[0], move.line, self.count))
+            yield self.add(move, Change(move.time, REMOVED, replaced + 1, 0, 0, move.read >> FILE_BITS, move.line, self.count))
         if order != NOTHING:
             kind = kind_of(move.what, move.side, move.volume)
             price, volume = (0, 0) if kind == REMOVED else (move.price, move.volume if left is None else left)
-            yield self.add(move, Change(move.time, kind, order + 1, price, volume, move.read[0], move.line, self.count))
+            yield self.add(move, Change(move.time, kind, order + 1, price, volume, move.read >> FILE_BITS, move.line, self.count))
 
     def add(self, move: Move, change: Change) -> Happened:
         owner = self.orders.owner[change.order - 1]
@@ -133,8 +141,8 @@ class Follower:
         return Happened(owner, change)
 
     def note(self, move: Move, why: Any) -> None:
-        cl, orig, oid = (text_of_key(list(key)) for key in (move.cl, move.orig, move.oid))
-        self.reasons.add(reason_of(why, self.scope.names(move.owner), self.files[move.read[0]], move.line, move.time, (cl, orig, oid), move.volume))
+        cl, orig, oid = (key.rstrip(b"\0") for key in (move.cl, move.orig, move.oid))
+        self.reasons.add(reason_of(why, self.scope.names(move.owner), self.files[move.read >> FILE_BITS], move.line, move.time, (cl, orig, oid), move.volume))
 
     # ------------------------------------------------------------ what comes out
 
@@ -208,11 +216,14 @@ class Orderly:
         log.taken = len(book.parts), len(book.moves)
 
     def sort_in(self, found: dict[str, list[Move]], part: Any, log: Log) -> None:
-        number = self.numbers[log.key]
-        for move in moves_in(part, number):
-            name = self.groups[move.owner]
-            found.setdefault(name, []).append(move)
-            log.symbols.add(self.scope.names(move.owner)[0])
+        groups = self.groups
+        for move in moves_in(part, self.numbers[log.key]):
+            name = groups[move.owner]
+            if name in found:
+                found[name].append(move)
+            else:
+                found[name] = [move]
+        log.symbols.update(self.scope.names(owner)[0] for owner in set(part["owner"].tolist()))
 
     def followed(self, name: str, moves: list[Move], is_again: bool) -> Followed:
         earliest = min(move.time for move in moves)

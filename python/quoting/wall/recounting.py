@@ -19,7 +19,8 @@ from quoting.wall.running import Call, Running
 from quoting.watch.recounter import Agreed, Called, Check, Ended, Parted, changes_cells, shown_by
 
 ENTRY = "import sys; sys.path[0] = sys.argv[1]; from quoting.wall.recounter import main; main()"
-EVERY = 1.0  # seconds between two checks of a contract
+EVERY = 2.0  # seconds between two checks of a contract
+SHARE = 4  # checks that take long are made less often: all contracts together take at most that part of the process's time
 MOST_BEHIND = 2_000_000  # calls that may wait for it
 
 
@@ -94,7 +95,7 @@ class Recounts:
         now = time.monotonic()
         if count.under_way or count.sent == count.checked or now < count.next:
             return
-        count.checked, count.under_way, count.next = count.sent, True, now + EVERY
+        count.checked, count.under_way = count.sent, True
         shown = shown_by(running.meter.month, count.looks)
         count.looks = False
         self.put((running.key, Check(shown, running.meter.month.words())))
@@ -128,6 +129,7 @@ class Recounts:
         count = self.counts.get(name)
         if isinstance(said, Agreed) and count is not None:
             count.agreed, count.under_way = said.calls, False
+            count.next = time.monotonic() + max(EVERY, SHARE * len(self.counts) * said.took)
         elif isinstance(said, Parted):
             self.parted[name] = said
         elif isinstance(said, Ended):

@@ -2,6 +2,7 @@
 programs, all under the rules on host, origin and token of `quoting watch`. A page can mute contracts, and alter nothing else."""
 
 import asyncio
+import gc
 import json
 import re
 import socket
@@ -34,6 +35,7 @@ FIRST = "index.html"
 IDLE = 0.04  # seconds between two looks at logs that have nothing new
 FRAME, SLOW = 0.1, 0.25  # seconds between two states: where something came, and where only time goes on
 MOST_MUTE = 60  # minutes
+RARELY = (50_000, 20, 100)  # when garbage is collected
 
 
 class Live:
@@ -49,9 +51,14 @@ class Live:
         self.details = {key: Detail(wall, self.recounts, key) for key in dict.fromkeys(wall.keys.values())}
 
     async def read(self) -> None:
-        """Reads on for ever."""
+        """Reads on for ever. What was there at the start stays: the collector of garbage need not go through it again and again."""
+        gc.set_threshold(*RARELY)
+        was_reading = True
         while True:
             size = self.wall.poll()
+            if was_reading and not self.wall.is_reading:
+                was_reading = False
+                gc.freeze()
             self.is_new = self.is_new or size > 0
             for running in self.wall.running.values():
                 self.recounts.take(running)
