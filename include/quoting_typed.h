@@ -417,13 +417,14 @@ static inline QUOTING_CHECKED quoting_status quoting_month_commit(
 /* Takes a FIX message, with the quantum's start in the form of 60 (YYYYMMDD-HH:MM:SS.sss). */
 static inline QUOTING_CHECKED quoting_status quoting_month_message(
     struct quoting_month *month, const char *start, size_t start_length, const void *message, size_t length) {
-    uint8_t block[12 + QUOTING_MESSAGE_BYTES + 4] = {0};
+    uint8_t block[12 + QUOTING_MESSAGE_BYTES + 4];
     uint32_t answer[QUOTING_ANSWER_WORDS];
     if (start_length > QUOTING_MESSAGE_BYTES || length > QUOTING_MESSAGE_BYTES - start_length) return QUOTING_MESSAGE_TOO_LONG;
     const uint32_t front[] = {QUOTING_CALL_MESSAGE, (uint32_t) start_length, (uint32_t) length};
     quoting_put_words(block, front, 3);
     if (start_length != 0) memcpy(block + 12, start, start_length);
     if (length != 0) memcpy(block + 12 + start_length, message, length);
+    memset(block + 12 + start_length + length, 0, 3); /* the padding, which is not read */
     quoting_status status = quoting_month_bytes(month, block, 12 + (start_length + length + 3) / 4 * 4, answer);
     return status == QUOTING_ACCEPTED && answer[0] != QUOTING_ANSWER_ACCEPTED ? (quoting_status) QUOTING_NOT_THIS_ANSWER : status;
 }

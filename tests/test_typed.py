@@ -12,7 +12,7 @@ import pytest
 from recount import programs
 from tests import test_library
 from tests.conftest import Note
-from tests.paths import INCLUDE, LIBRARY, TESTS
+from tests.paths import INCLUDE, LIBRARY, ROOT, TESTS
 
 pytestmark = [pytest.mark.usefixtures("library", "programs"), pytest.mark.xdist_group("typed")]
 
@@ -98,6 +98,12 @@ def test_typed_calls_under_valgrind(tmp_path: Path) -> None:
     typed = compiled(tmp_path / "typed", "cc", "-std=c11", "-g", "-O2", *STRICT, "-pthread", TESTS / "typed.c", LIBRARY / "libquoting.a")
     for data, lines in list(lists(1))[:7]:
         assert printed([*VALGRIND, typed], data) == lines, data.hex()
+
+
+def test_benchmark_of_calls(tmp_path: Path) -> None:
+    """Its calls are all accepted."""
+    program = compiled(tmp_path / "calls", "cc", "-std=c11", "-O2", *STRICT, ROOT / "bench" / "calls.c", LIBRARY / "libquoting.a")
+    assert printed([program], b"").count(" ns\n") == 5
 
 
 def test_cpp_month_under_sanitizers(tmp_path: Path) -> None:

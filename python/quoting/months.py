@@ -107,8 +107,7 @@ class Month:
     """A fresh month; in a `with` block it ends at the block's end, and later calls are errors.
 
     Threads may use one month at the same time: each call is made as a whole, and gets its own answer. (The calls keep the interpreter's
-    lock. On a build of Python without one, guard each month by a lock of your own.) A message, a report or an open takes up to 150 KB of
-    its thread's stack.
+    lock. On a build of Python without one, guard each month by a lock of your own.)
 
     A call that the month refuses raises `Refused` and leaves the month as it was. Times are milliseconds from the quantum's start, or texts
     h:mm:ss; prices are whole steps, and charges kopecks.

@@ -4,8 +4,8 @@ Every call answers one number of 64 bits; from 2^32 on it is a refusal and its p
 come here (`quoting.ranges`): a ctypes number would cut them silently. Bytes and buffers are given as the objects that they are, so that no
 address outlives them.
 
-A call works on the stack of its thread, the month's messages, reports and opens with up to 150 KB (QUOTING_STACK_MONTH in the header). A
-thread of Python has more unless `threading.stack_size` was set lower.
+A call works on the stack of its thread, with QUOTING_STACK_BYTES of the header at most. A thread of Python has more unless
+`threading.stack_size` was set lower.
 """
 
 import ctypes
