@@ -18,7 +18,7 @@ import websockets
 from quoting.answers import line
 from quoting.months import Month
 from quoting.month_sources import Sent
-from quoting.watch import loop, recounter, server
+from quoting.watch import clients, loop, recounter, server
 from quoting.watch.changes import Changes
 from quoting.watch.clocks import FeedClock
 from quoting.watch.meter import Meter
@@ -216,7 +216,7 @@ def test_token():
 
 async def crowd(served):
     """A hundred pages are let in, the next is sent away."""
-    pages = [await connect(served) for _ in range(server.MOST_CLIENTS)]
+    pages = [await connect(served) for _ in range(clients.MOST_CLIENTS)]
     for page in pages:
         assert "head" in json.loads(await asyncio.wait_for(page.recv(), browser.PATIENCE))
     more = await closing_code(served)
@@ -226,7 +226,7 @@ async def crowd(served):
 
 def test_crowd():
     with Served("--calls", EXAMPLE, "--no-follow") as served:
-        assert asyncio.run(crowd(served)) == server.TOO_MANY
+        assert asyncio.run(crowd(served)) == clients.TOO_MANY
 
 
 def test_slow():
@@ -243,7 +243,7 @@ def test_slow():
     async def run():
         page, watch = Slow(), object.__new__(loop.Watch)
         watch.shown = Changes()
-        sending = asyncio.create_task(server.Client(page, watch).send_changes())
+        sending = asyncio.create_task(server.AskingClient(page, watch).send_changes())
         for at in range(100):
             watch.shown.take({"count": at, "head": "the same"}, lambda got: ("null", None))
             await asyncio.sleep(0)

@@ -3,11 +3,8 @@ programs, all under the rules on host, origin and token of `quoting watch`. A pa
 
 import asyncio
 import gc
-import json
-import re
 import socket
 import time
-from collections import deque
 from pathlib import Path
 from typing import Any, Callable, Optional
 
@@ -16,8 +13,7 @@ from starlette.requests import Request
 from starlette.responses import JSONResponse, PlainTextResponse, Response
 from starlette.routing import Mount, Route, WebSocketRoute
 from starlette.types import ASGIApp
-from starlette.websockets import WebSocket, WebSocketDisconnect
-from websockets.exceptions import ConnectionClosed
+from starlette.websockets import WebSocket
 
 from quoting.wall import metrics, sections
 from quoting.wall.alarms import Alarms
@@ -27,8 +23,9 @@ from quoting.wall.recounting import Recounts
 from quoting.wall.state import Wall
 from quoting.watch import server as watch_server
 from quoting.watch.changes import Changes
+from quoting.watch.clients import UNWANTED, Client, Unwanted, attend, fields_of
 from quoting.watch.hosts import Access
-from quoting.watch.server import FLOOD, KINDS, MOST_CLIENTS, PALETTE, TOO_MANY, UNREAD, UNWANTED, Guarded, Pages, Unwanted
+from quoting.watch.server import Guarded, Pages, files_of
 
 PAGE = Path(__file__).resolve().parent / "page"
 FIRST = "index.html"
@@ -114,53 +111,23 @@ class Live:
 
 def mute_of(text: str) -> tuple[str, int]:
     """The contract (empty: all) and the minutes of a mute; whatever else is sent is unwanted."""
-    try:
-        given = json.loads(text)
-    except (ValueError, RecursionError):
-        raise Unwanted(UNREAD) from None
-    asked = given.get("mute") if isinstance(given, dict) and len(given) == 1 else None
-    if not isinstance(asked, dict) or set(asked) != {"key", "minutes"}:
-        raise Unwanted(UNWANTED)
+    asked = fields_of(text, "mute", {"key", "minutes"})
     key, minutes = asked["key"], asked["minutes"]
     if not isinstance(key, str) or type(minutes) is not int or not 0 <= minutes <= MOST_MUTE:
         raise Unwanted(UNWANTED)
     return key, minutes
 
 
-class Client:
-    """A page of the wall."""
+class MutingClient(Client):
+    """A page of the wall, which mutes contracts."""
 
     def __init__(self, socket: WebSocket, live: Live) -> None:
-        self.socket, self.live = socket, live
-        self.sent: deque[float] = deque(maxlen=FLOOD)
+        super().__init__(socket, live.shown)
+        self.live = live
 
-    async def send_changes(self) -> None:
-        """Sends what has changed, and awaits that it is taken: meanwhile states may be skipped."""
-        seen = self.live.shown.unseen()
-        while True:
-            text, seen = self.live.shown.since(seen)
-            if text:
-                await self.socket.send_text(text)
-            await self.live.shown.newer(seen)
-
-    async def receive(self) -> None:
-        try:
-            while True:
-                message = await self.socket.receive()
-                if message["type"] == "websocket.disconnect":
-                    return
-                if message.get("text") is None:
-                    raise Unwanted(UNREAD)
-                self.count()
-                self.live.mute(*mute_of(message["text"]))
-        except Unwanted as unwanted:
-            await self.socket.close(unwanted.args[0])
-
-    def count(self) -> None:
-        now = time.monotonic()
-        self.sent.append(now)
-        if len(self.sent) == FLOOD and now - self.sent[0] < 1:
-            raise Unwanted(UNWANTED)
+    async def take(self, text: str) -> None:
+        self.count()
+        self.live.mute(*mute_of(text))
 
 
 class WallPages:
@@ -168,7 +135,7 @@ class WallPages:
 
     def __init__(self, live: Live, access: Access) -> None:
         self.live, self.access = live, access
-        self.files = files_of(access.token)  # read once: no request reaches the folder
+        self.files = files_of(PAGE, access.token)  # read once: no request reaches the folder
 
     def app(self) -> ASGIApp:
         files = [Route(path, self.file, methods=["GET"]) for path in self.files]
@@ -205,31 +172,7 @@ class WallPages:
         return PlainTextResponse(f"{text}\n", 200 if is_well else 503)
 
     async def page(self, page: WebSocket) -> None:
-        await page.accept()
-        if self.live.clients >= MOST_CLIENTS:
-            await page.close(TOO_MANY)
-            return
-        client = Client(page, self.live)
-        self.live.enter()
-        sending = asyncio.create_task(client.send_changes())
-        try:
-            await client.receive()
-        except (ConnectionClosed, WebSocketDisconnect, RuntimeError):
-            pass  # the page has gone
-        finally:
-            self.live.leave()
-            sending.cancel()
-            await asyncio.gather(sending, return_exceptions=True)
-
-
-def files_of(token: Optional[str]) -> dict[str, tuple[bytes, str]]:
-    """The page's files and their types by the paths of requests; where there is a token, their links to one another have it."""
-    found = {each.name: each.read_bytes() for each in (PALETTE, *sorted(PAGE.iterdir())) if each.suffix in KINDS}
-    if token is not None:
-        names = "|".join(map(re.escape, found))
-        links = re.compile(rf'"(?:\./)?(?:{names})(?=")'.encode())
-        found = {name: links.sub(lambda link: link[0] + f"?token={token}".encode(), data) for name, data in found.items()}
-    return {"/" if name == FIRST else f"/{name}": (data, KINDS[Path(name).suffix]) for name, data in found.items()}
+        await attend(page, self.live, lambda socket: MutingClient(socket, self.live))
 
 
 def run(live: Live, access: Access, listening: socket.socket, say: Callable[[], None]) -> None:

@@ -5,13 +5,10 @@ it has taken the one before.
 """
 
 import asyncio
-import json
 import logging
 import re
 import signal
 import socket
-import time
-from collections import deque
 from importlib import import_module
 from pathlib import Path
 from typing import Any, Awaitable, Callable, Optional
@@ -21,10 +18,10 @@ from starlette.requests import Request
 from starlette.responses import PlainTextResponse, Response
 from starlette.routing import Route, WebSocketRoute
 from starlette.types import ASGIApp, Message, Receive, Scope, Send
-from starlette.websockets import WebSocket, WebSocketDisconnect
-from websockets.exceptions import ConnectionClosed
+from starlette.websockets import WebSocket
 
 from quoting.watch.changes import encoded
+from quoting.watch.clients import UNWANTED, Client, Unwanted, attend, fields_of
 from quoting.watch.connections import Waiting, prompt
 from quoting.watch.hosts import Access
 from quoting.watch.loop import Watch
@@ -38,17 +35,11 @@ POLICY = (
     "form-action 'none'; frame-ancestors 'none'")
 HEADERS = {
     "Content-Security-Policy": POLICY, "X-Content-Type-Options": "nosniff", "Referrer-Policy": "no-referrer", "Cache-Control": "no-store"}
-MOST_CLIENTS = 100
 MOST_CONNECTIONS = 400  # of pages, and of browsers that load one
 MOST_BYTES = 1_024  # of a message from a page
 MOST_SIGNS = 64  # of a field of an ask
-ASKS, FLOOD = 10, 100  # asks in a second that are answered; messages in a second at which a page is shut out
-UNREAD, UNWANTED, TOO_MANY = 1003, 1008, 1013  # closing codes of a WebSocket
+ASKS = 10  # asks in a second that are answered
 MOST_PASSES, PASS = 10, 0.2  # at the end: how often tasks are cancelled, and for how many seconds they are waited for
-
-
-class Unwanted(Exception):
-    """A message that no page of ours sends; the closing code."""
 
 
 # ---------------------------------------------------------------- requests
@@ -93,9 +84,9 @@ def headed(send: Send) -> Send:
     return with_headers
 
 
-def files_of(token: Optional[str]) -> dict[str, tuple[bytes, str]]:
-    """The page's files and their types by the paths of requests; where there is a token, their links to one another have it."""
-    found = {each.name: each.read_bytes() for each in (PALETTE, *sorted(PAGE.iterdir())) if each.suffix in KINDS}
+def files_of(folder: Path, token: Optional[str]) -> dict[str, tuple[bytes, str]]:
+    """A page's files and their types by the paths of requests; where there is a token, their links to one another have it."""
+    found = {each.name: each.read_bytes() for each in (PALETTE, *sorted(folder.iterdir())) if each.suffix in KINDS}
     if token is not None:
         names = "|".join(map(re.escape, found))
         links = re.compile(rf'"(?:\./)?(?:{names})(?=")'.encode())
@@ -108,57 +99,26 @@ def files_of(token: Optional[str]) -> dict[str, tuple[bytes, str]]:
 
 def ask_of(text: str) -> dict[str, Any]:
     """The fields of an ask; whatever else is sent is unwanted."""
-    try:
-        given = json.loads(text)
-    except (ValueError, RecursionError):
-        raise Unwanted(UNREAD) from None
-    asked = given.get("ask") if isinstance(given, dict) and len(given) == 1 else None
-    if not isinstance(asked, dict) or set(asked) != {"n", "t", "id", "price", "volume"}:
-        raise Unwanted(UNWANTED)
+    asked = fields_of(text, "ask", {"n", "t", "id", "price", "volume"})
     number, *fields = (asked[name] for name in ("n", "t", "id", "price", "volume"))
     if type(number) is not int or not 0 <= number < 2**53 or not all(isinstance(each, str) and len(each) <= MOST_SIGNS for each in fields):
         raise Unwanted(UNWANTED)
     return asked
 
 
-class Client:
-    """A page: what it was sent last, and when it asked."""
+class AskingClient(Client):
+    """A page that asks about amendments."""
 
     def __init__(self, socket: WebSocket, watch: Watch) -> None:
-        self.socket, self.watch = socket, watch
-        self.asked: deque[float] = deque(maxlen=FLOOD)
+        super().__init__(socket, watch.shown)
+        self.watch = watch
 
-    async def send_changes(self) -> None:
-        """Sends what has changed, and awaits that it is taken: meanwhile states may be skipped."""
-        seen = self.watch.shown.unseen()
-        while True:
-            text, seen = self.watch.shown.since(seen)
-            if text:
-                await self.socket.send_text(text)
-            await self.watch.shown.newer(seen)
-
-    async def receive(self) -> None:
-        """Answers asks until the page goes, or sends what it should not."""
-        try:
-            while True:
-                message = await self.socket.receive()
-                if message["type"] == "websocket.disconnect":
-                    return
-                if message.get("text") is None:
-                    raise Unwanted(UNREAD)
-                await self.socket.send_text(encoded({"answer": self.answer(ask_of(message["text"]))}))
-        except Unwanted as unwanted:
-            closing = asyncio.create_task(self.socket.close(unwanted.args[0]))
-            while (await self.socket.receive())["type"] != "websocket.disconnect":
-                pass  # what it has sent after it comes before its farewell
-            await closing
+    async def take(self, text: str) -> None:
+        await self.socket.send_text(encoded({"answer": self.answer(ask_of(text))}))
 
     def answer(self, asked: dict[str, Any]) -> dict[str, Any]:
-        now = time.monotonic()
-        self.asked.append(now)
-        if len(self.asked) == FLOOD and now - self.asked[0] < 1:
-            raise Unwanted(UNWANTED)
-        if sum(now - each < 1 for each in self.asked) > ASKS:
+        now = self.count()
+        if sum(now - each < 1 for each in self.times) > ASKS:
             lines = [f"At most {ASKS} asks a second are answered: ask again."]
             return {"n": asked["n"], "kind": "refused", "head": "Not asked", "lines": lines}
         return {"n": asked["n"], **self.watch.ask(asked["t"], asked["id"], asked["price"], asked["volume"])}
@@ -169,7 +129,7 @@ class Pages:
 
     def __init__(self, watch: Watch, access: Access) -> None:
         self.watch, self.access = watch, access
-        self.files = files_of(access.token)  # read once: no request reaches the folder
+        self.files = files_of(PAGE, access.token)  # read once: no request reaches the folder
 
     def app(self) -> ASGIApp:
         files = [Route(path, self.file, methods=["GET"]) for path in self.files]
@@ -180,21 +140,7 @@ class Pages:
         return Response(data, media_type=kind)
 
     async def live(self, page: WebSocket) -> None:
-        await page.accept()
-        if self.watch.clients >= MOST_CLIENTS:
-            await page.close(TOO_MANY)
-            return
-        client = Client(page, self.watch)
-        self.watch.enter()
-        sending = asyncio.create_task(client.send_changes())
-        try:
-            await client.receive()
-        except (ConnectionClosed, WebSocketDisconnect, RuntimeError):
-            pass  # the page has gone
-        finally:
-            self.watch.leave()
-            sending.cancel()
-            await asyncio.gather(sending, return_exceptions=True)
+        await attend(page, self.watch, lambda socket: AskingClient(socket, self.watch))
 
 
 # ---------------------------------------------------------------- the run
