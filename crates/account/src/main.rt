@@ -1,4 +1,6 @@
 // Prints where the time of one session went: 32 leading bytes and the records from standard input, 1,600 records at most.
+#![tactic(auto)]
+
 use console::{field, field_line, text};
 use rules::{Millis, SpreadRule};
 use session_account::{AccountAnswer, Times};

@@ -1,4 +1,6 @@
 // The answers to a month's calls in twenty lent words, each at its place (specs/Words).
+#![tactic(auto)]
+
 ghost use Rattle.std.specs.Prelude.{◌≡◌, length};
 ghost use Rattle.rules.specs.Answers.{accepted, refused, done, cell, asked, report as reported, outlook as foreseen};
 ghost use Rattle.answer_words.specs.Words.{quote_flag, quote_word, possible_flag, possible_word, lapses_kind, lapses_word, answer_words};

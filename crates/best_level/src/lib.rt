@@ -8,6 +8,8 @@
 // or more are strictly better, the next worse one where the depth is below M; only the contracts at that key are added up, since no order
 // is between. A second step is omitted where the contracts at the first are less than an eighth of what is then missing, or too much. The
 // changed order's key is tried where the best level can be there. The search starts from the best price found so far.
+#![tactic(auto)]
+
 ghost use Rattle.std.specs.Prelude.{◌≡◌, ◌&&◌, true, false, List, ℕ, ◌+◌, ◌-◌, ◌≤◌, min, max, ltb, eqb, length, get_or, take, drop};
 ghost use Rattle.lists.specs.Lists.{if◌then◌else◌};
 ghost use Rattle.best_quote.specs.Levels.{level_at, is_best, Columns, Searchable};

@@ -3,6 +3,8 @@
 // What the search yields is not measured again: every order better than what it finds had its volumes added up, and they were too few, so
 // the most of the sums that were too few is what is before the found price (`short_all`), and the found price's own sum is the depth with
 // those at it. Keeping both sums apart in the inner loop would give the same and cost jumping sessions 23% more instructions.
+#![tactic(auto)]
+
 ghost use Rattle.std.specs.Prelude.{◌≡◌, ◌+◌, ◌≤◌, eqb};
 ghost use Rattle.lists.specs.Lists.{if◌then◌else◌};
 ghost use Rattle.best_quote.specs.Levels.{held, level_at, is_best, Columns, Searchable};

@@ -1,4 +1,6 @@
 // A board of strikes, each a pair of K and L, checked against two shares in percent.
+#![tactic(auto)]
+
 ghost use Rattle.std.specs.Prelude.{◌≡◌, [], map, ◌&&◌, ◌*◌, ◌≤◌, ◌<◌, leb, eqb, length, get_or};
 ghost use Rattle.lists.specs.Lists.{within, sum, every};
 ghost use Rattle.rules.specs.Boards.{kept_of, length_in, good_quantum_of, reaches, judged};

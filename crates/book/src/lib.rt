@@ -1,5 +1,7 @@
 // The events on the live orders: an accepted one changes the orders and the best level of its side in the table's words, a refused one
 // nothing.
+#![tactic(auto)]
+
 ghost use Rattle.std.specs.Prelude.{◌≡◌, List, ◌&&◌, ℕ, ◌<◌, length};
 ghost use Rattle.rules.specs.declared.Order.{Order};
 ghost use Rattle.rules.specs.declared.Millis.{Millis};

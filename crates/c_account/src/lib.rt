@@ -1,4 +1,6 @@
 // A session's account in a lent buffer, for C: the milliseconds of each state and the stretches of one state.
+#![tactic(auto)]
+
 ghost use Rattle.std.specs.Prelude.{◌≡◌, ℕ, ◌≤◌, ◌<◌, length};
 ghost use Rattle.rules.specs.Terms.{paper};
 ghost use Rattle.rules.specs.Units.{steps};

@@ -1,4 +1,6 @@
 // What a call for C answers: one number, and the words or bytes that it puts at the front of a lent buffer.
+#![tactic(auto)]
+
 ghost use Rattle.std.specs.Prelude.{◌≡◌, ◌++◌, ◌+◌, ◌≤◌, length, take, drop};
 ghost use Rattle.rules.specs.Answers.{number_of, accepted};
 ghost use Rattle.c_answers.specs.Answers.{refused_number, Fills};

@@ -1,4 +1,6 @@
 // The C call that makes one call on a month, in an archive of its own: here the compiler finds one caller of what it runs, and inlines it.
+#![tactic(auto)]
+
 ghost use Rattle.std.specs.Prelude.{◌≡◌, true, ◌≤◌, length};
 ghost use Rattle.month.specs.Words.{HoldsMonth};
 ghost use Rattle.month_in_place.specs.Entry.{may_be_month};

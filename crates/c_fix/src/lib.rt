@@ -1,4 +1,6 @@
 // FIX messages for C: read into words in a lent buffer, and written from words into lent bytes.
+#![tactic(auto)]
+
 ghost use Rattle.std.specs.Prelude.{◌≡◌, ◌∷◌, ◌≤◌, length, take};
 ghost use Rattle.rules.specs.Answers.{accepted};
 ghost use Rattle.rules.specs.Records.{add_kind, unsigned_of};

@@ -1,4 +1,6 @@
 // A month in lent words, for C: a fresh one, one call on it, and its view, each answered by one number.
+#![tactic(auto)]
+
 ghost use Rattle.std.specs.Prelude.{◌≡◌, true, [], ◌+◌, ◌≤◌, length};
 ghost use Rattle.lists.specs.Lists.{if◌then◌else◌};
 ghost use Rattle.rules.specs.Answers.{accepted};

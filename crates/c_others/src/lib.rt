@@ -1,5 +1,7 @@
 // For C, as one number or as words in a lent buffer: weights, the choice of a row, boards, sigmas, volatile days and a row eased on one,
 // safe minutes.
+#![tactic(auto)]
+
 ghost use Rattle.std.specs.Prelude.{◌≡◌, not, eqb, length};
 ghost use Rattle.rules.specs.Answers.{accepted};
 ghost use Rattle.rules.specs.Choosing.{chosen_row};

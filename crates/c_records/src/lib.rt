@@ -1,5 +1,7 @@
 // Event records on a month in lent words, for C: the one call of an archive of its own, so that the compiler inlines an event's step into
 // the loop over the records.
+#![tactic(auto)]
+
 ghost use Rattle.std.specs.Prelude.{◌≡◌, true, ◌≤◌, length};
 ghost use Rattle.rules.specs.Answers.{outcome_by, done};
 ghost use Rattle.answer_words.specs.Words.{answer_words};

@@ -1,4 +1,6 @@
 // A log of FIX messages for C: the rows of its messages as words in a lent buffer.
+#![tactic(auto)]
+
 ghost use Rattle.std.specs.Prelude.{◌≡◌, ◌<◌, length};
 ghost use Rattle.c_answers.specs.Answers.{Fills};
 ghost use Rattle.c_scan.specs.Scans.{scan_outcome};

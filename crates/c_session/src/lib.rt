@@ -1,4 +1,6 @@
 // A session's K, w and pairs in a lent buffer, for C.
+#![tactic(auto)]
+
 ghost use Rattle.std.specs.Prelude.{◌≡◌, ℕ, ◌≤◌, ◌<◌, length};
 ghost use Rattle.rules.specs.Terms.{paper};
 ghost use Rattle.rules.specs.Session.{shown_session, most_records, session, session_bytes};

@@ -1,4 +1,6 @@
 // What a list of calls on the standing of makers answers to C, as one number.
+#![tactic(auto)]
+
 ghost use Rattle.std.specs.Prelude.{◌≡◌};
 ghost use Rattle.c_standing.specs.Standings.{count_number, standing_number};
 ghost use Rattle.standing.specs.Words.{readable};

@@ -4,6 +4,8 @@
 //
 // One more kind of block is one arm of `due_words` and one of `decode`, with a variant of `Decoded` if it says a call that has none; in specs/
 // a clause of `due` and of `call_by`, `call_with`, `words_of` and `CallFits`; in `call_step` an arm of `call`.
+#![tactic(auto)]
+
 ghost use Rattle.std.specs.Prelude.{◌≡◌, ◌+◌, ◌*◌, ◌/◌, ◌≤◌, ◌<◌, length, get_or, take, drop};
 ghost use Rattle.rules.specs.Units.{millis, contracts};
 ghost use Rattle.words.specs.Bytes.{words_in, bytes_of};

@@ -2,6 +2,8 @@
 // this runner (specs/Demand).
 //
 // The month's words and its hints are two local arrays, and each call goes in place.
+#![tactic(auto)]
+
 ghost use Rattle.std.specs.Prelude.{◌≡◌, ◌≤◌, length, drop};
 ghost use Rattle.words.specs.Bytes.{words_in};
 ghost use Rattle.month.specs.Words.{HoldsMonth};

@@ -6,6 +6,8 @@
 // One block's answer is a struct that is a function of the plain book's answer (`shown_of`): a report holds an array, which no enum may hold,
 // so it is beside the enum and blank where none is shown. An open's row is words, so seven go into a local array; a row of another length
 // is refused by 1 whatever it holds, and is handed on as no words at all.
+#![tactic(auto)]
+
 ghost use Rattle.std.specs.Prelude.{◌≡◌, ◌≤◌, eqb};
 ghost use Rattle.lists.specs.Lists.{if◌then◌else◌};
 ghost use Rattle.rules.specs.Answers.{shown_answer, shown_looked, shown_asked, shown_report, shown_outlook};

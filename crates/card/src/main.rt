@@ -1,4 +1,6 @@
 // The weight card: writes a line for each f from 0 to 1,000, with the weights by p of 600, 700 and 750.
+#![tactic(auto)]
+
 use console::{field, number, text};
 
 fn line(f: u64) {

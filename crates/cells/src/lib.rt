@@ -1,4 +1,6 @@
 // A cell of the month by itself: while it is blank, and with new charges in place of its old ones; and the named one among the 186.
+#![tactic(auto)]
+
 ghost use Rattle.std.specs.Prelude.{◌≡◌, true, ◌<◌};
 ghost use Rattle.rules.specs.Terms.{paper};
 ghost use Rattle.rules.specs.Cells.{blank_cell, good_cell, place_of, cell_at};

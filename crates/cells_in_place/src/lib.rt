@@ -1,5 +1,7 @@
 // The cells of a month in their 1,860 lent words, ten a cell: one read, one written, one with new charges, one blank again, and what a report
 // says of all of them. No more than one cell is copied at a time.
+#![tactic(auto)]
+
 ghost use Rattle.std.specs.Prelude.{◌≡◌, ◌&&◌, List, map, ◌≤◌, ◌<◌, length, set};
 ghost use Rattle.rules.specs.declared.Cell.{Cell};
 ghost use Rattle.lists.specs.Lists.{sum};

@@ -2,6 +2,8 @@
 //
 // Time runs on in one function, `onward`. The clock has the number of lapses and whether the millisecond before the present is kept; a lapse
 // starts where the quote is not kept and that millisecond is, or there is none.
+#![tactic(auto)]
+
 ghost use Rattle.std.specs.Prelude.{◌≡◌, List, [], true, ◌&&◌, ◌≤◌, leb, length};
 ghost use Rattle.rules.specs.declared.Event.{Event};
 ghost use Rattle.rules.specs.declared.Row.{Row};

@@ -1,5 +1,7 @@
 // What the programs share: text and numbers to standard output, bytes from standard input, and the words and prices in them. No
 // contract can say which bytes C reads or writes, so those that print promise no more than that they are safe and end.
+#![tactic(auto)]
+
 ghost use Rattle.std.specs.Prelude.{◌≡◌, ◌+◌, ◌*◌, ◌≤◌, length};
 ghost use Rattle.io.specs.Counts.{IsPrefixLen};
 ghost use Rattle.rules.specs.Records.{signed_of, word_at};

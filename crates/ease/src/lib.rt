@@ -1,4 +1,6 @@
 // The row of a day inside a period: a and b doubled, M halved, in the lent words.
+#![tactic(auto)]
+
 ghost use Rattle.std.specs.Prelude.{◌≡◌, ◌*◌, min, ◌≤◌};
 ghost use Rattle.volatile.specs.Answers.{inside_of, shown_day};
 ghost use Rattle.ease.specs.Easing.{doubled, halved, eased, eased_if, is_inside};

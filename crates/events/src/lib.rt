@@ -3,6 +3,8 @@
 //
 // The session and the month share this function. What the session's loop carries holds numbers only: a bool or an enum beside words costs
 // some 30 instructions a record. A refusal is its number here (0 where none); it becomes a `Refusal` after the loop (`rules::refusal_of`).
+#![tactic(auto)]
+
 ghost use Rattle.std.specs.Prelude.{◌≡◌, ◌<◌};
 ghost use Rattle.record.specs.Fields.{read_fields};
 ghost use Rattle.clock.specs.Clocks.{Onward};

@@ -1,4 +1,6 @@
 // The frame of a message of any type: what is before and after its fields, with length and checksum.
+#![tactic(auto)]
+
 ghost use Rattle.std.specs.Prelude.{◌≡◌, ◌+◌, ◌-◌, ◌*◌, ◌≤◌, ◌<◌, length, get_or, take, drop};
 ghost use Rattle.fix_scan_rules.specs.Rows.{packed};
 ghost use Rattle.fix_any_frame.specs.AnyFrames.{type_begins, AnyFrameFound};

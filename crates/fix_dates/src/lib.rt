@@ -1,4 +1,6 @@
 // Times of the form YYYYMMDD-HH:MM:SS.sss, and the milliseconds from one to another.
+#![tactic(auto)]
+
 ghost use Rattle.std.specs.Prelude.{◌≡◌, true, ◌&&◌, ◌||◌, eqb, ◌+◌, ◌-◌, ◌≤◌, ◌<◌, length, get_or};
 ghost use Rattle.lists.specs.Lists.{if◌then◌else◌};
 ghost use Rattle.std.proofs.Math.Option.{some};

@@ -1,4 +1,6 @@
 // A FIX message (W11) on a quantum, open or idle: the one or two events that it means, both or neither.
+#![tactic(auto)]
+
 ghost use Rattle.std.specs.Prelude.{◌≡◌, ℕ};
 ghost use Rattle.rules.specs.declared.Refusal.TheVariants.{NoQuantumOpen};
 ghost use Rattle.lists.specs.Lists.{if◌then◌else◌};

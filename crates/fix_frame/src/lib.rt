@@ -1,4 +1,6 @@
 // The frame of a message: what is before and after its fields, with length and checksum.
+#![tactic(auto)]
+
 ghost use Rattle.std.specs.Prelude.{◌≡◌, ◌+◌, ◌≤◌, ◌<◌, length};
 ghost use Rattle.lists.specs.Lists.{sum};
 ghost use Rattle.rules.specs.Digits.{in_digits};

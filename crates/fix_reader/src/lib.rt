@@ -1,4 +1,6 @@
 // FIX 4.4: NewOrderSingle, OrderCancelRequest and OrderCancelReplaceRequest, read from bytes.
+#![tactic(auto)]
+
 ghost use Rattle.std.specs.Prelude.{◌≡◌, ◌<◌, drop};
 ghost use Rattle.rules.specs.Digits.{word_in, steps_in};
 ghost use Rattle.rules.specs.Dates.{time_in, since as sinceOf};

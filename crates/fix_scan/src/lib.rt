@@ -1,4 +1,6 @@
 // The messages of a log: where each is, its type, and where the values of the wanted tags are.
+#![tactic(auto)]
+
 ghost use Rattle.std.specs.Prelude.{◌≡◌, ◌∷◌, ◌+◌, ◌-◌, ◌*◌, ◌≤◌, ◌<◌, length, drop, replicate};
 ghost use Rattle.fix_scan_rules.specs.Rows.{row_in};
 ghost use Rattle.fix_scan_rules.specs.Scans.{digits_front, size_in, begins, turn_by, row};

@@ -1,5 +1,7 @@
 // Where the values of wanted tags are in a message. A table says the slot of each tag below 1,000: 0 for a tag that is skipped, 255
 // for those of the frame, else its place in the list of wanted tags, counted from 1.
+#![tactic(auto)]
+
 ghost use Rattle.std.specs.Prelude.{◌≡◌, true, ◌+◌, ◌-◌, ◌*◌, ◌≤◌, ◌<◌, length, get_or, replicate};
 ghost use Rattle.fix_fields.specs.Ends.{ClosedFrom};
 ghost use Rattle.fix_tag_spans.specs.Slots.{SlotsMade, SpansAsked, AnySpans};

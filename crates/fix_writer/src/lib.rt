@@ -1,4 +1,6 @@
 // FIX 4.4: NewOrderSingle, OrderCancelRequest and OrderCancelReplaceRequest, written as bytes with no other tags.
+#![tactic(auto)]
+
 ghost use Rattle.std.specs.Prelude.{◌≡◌, [], ◌∷◌, ◌++◌, ◌+◌, ◌≤◌, ◌<◌, length};
 ghost use Rattle.rules.specs.Digits.{decimal_of, signed_decimal, three_digits};
 ghost use Rattle.rules.specs.Fields.{field_bytes, fields_bytes};

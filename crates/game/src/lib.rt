@@ -3,6 +3,8 @@
 // The function computes the closed form, in five lines, and keeps no table. The closed form is proved equal to the recurrence for all
 // numbers, so the limit of 60 is only a refusal. The maker's strategy: double until the doubles are used, then single. The taker's voids
 // every single minute that he can, and a double one only if he keeps a knock for each minute that must still be single.
+#![tactic(auto)]
+
 ghost use Rattle.std.specs.Prelude.{◌≡◌, ◌||◌, ◌-◌};
 ghost use Rattle.game.specs.Value.{value};
 ghost use Rattle.game.specs.Answers.{is_above, safe_minutes, shown_safe};

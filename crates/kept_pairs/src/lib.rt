@@ -1,5 +1,7 @@
 // The pairs of a session as time runs on, all of it kept or none: what touches the last pair lengthens it, and each is written where it
 // fits.
+#![tactic(auto)]
+
 ghost use Rattle.std.specs.Prelude.{◌≡◌, ◌≤◌};
 ghost use Rattle.kept_pairs.specs.Internal.{put_pair, begun_at, MarksBounds, MarksAfter};
 

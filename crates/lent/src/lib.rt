@@ -1,5 +1,7 @@
 // Values in words that a caller lends: a truth value, a number of 64 bits in two words, a cell in ten, the month's 186 cells one after the
 // other; and words copied. Each is written at fixed places and read back.
+#![tactic(auto)]
+
 ghost use Rattle.std.specs.Prelude.{◌≡◌, List, ◌+◌, ◌*◌, eqb, length};
 ghost use Rattle.rules.specs.declared.Cell.{Cell};
 ghost use Rattle.lent.specs.Words.{flag_word, low as low_of, high as high_of, cell_words, cells_words};

@@ -1,5 +1,7 @@
 // A FIX message (W11) and a commit on the words of a month, in place: what refuses them is known before anything is written, so a message's
 // two events are taken both or neither, and nothing is copied.
+#![tactic(auto)]
+
 ghost use Rattle.std.specs.Prelude.{◌≡◌, ◌&&◌, not, ◌≤◌, ◌<◌, eqb, ltb, length};
 ghost use Rattle.lists.specs.Lists.{any};
 ghost use Rattle.rules.specs.declared.Order.{Order};
@@ -15,7 +17,7 @@ ghost use Rattle.fix_dates.specs.Answers.{shown_elapsed};
 ghost use Rattle.quantum_in_place.specs.Events.{HoldsQuantum};
 ghost use Rattle.month.specs.Words.{HoldsMonth};
 ghost use Rattle.month_in_place.specs.Events.{ChangesMonth};
-ghost use Rattle.messages_in_place.specs.Internal.{first_number, number_where, none_open_or, OfEvents, untimely as untimely_by, Refuses, RefusesThen, add_of, new_at, replaced_at, MessageChanges, BothOrNeither};
+ghost use Rattle.messages_in_place.specs.Internal.{first_refused, number_where, none_open_or, OfEvents, untimely as untimely_by, Refuses, RefusesThen, add_of, new_at, replaced_at, MessageChanges, BothOrNeither};
 
 use fix_dates::{Elapsed, after};
 use fix_reader::MessageRead;
@@ -28,7 +30,7 @@ use rules::{Amendment, Contracts, Event, Millis, Order, Refusal, Side, Steps, Ti
 
 // The first of two that is not 0.
 fn first_of(a: u32, b: u32) -> u32
-    ensures { result ≡ first_number a b }
+    ensures { result ≡ first_refused a b }
 {
     if 0 < a {
         return a;

@@ -3,6 +3,8 @@
 // Calls that show nothing end in one function where they are accepted, in another where they are refused (`accepted`, `refused`); the count
 // of W5 is moved in the first. A commit works its amend out on a copy and looks at the ticket only where that is accepted, so amend's own
 // refusals come first by construction.
+#![tactic(auto)]
+
 ghost use Rattle.std.specs.Prelude.{◌≡◌, List, [], ◌++◌, true, ℕ, ◌≤◌, ◌<◌, length, take, drop};
 ghost use Rattle.rules.specs.declared.Event.TheVariants.{Add, Amend, Cancel, Deal, Tick};
 ghost use Rattle.rules.specs.Terms.{paper};

@@ -1,5 +1,7 @@
 // Calls on a month's words in place (month/specs/Words has their layout): an event changes the words of the open quantum and of the
 // count, a look reads the ten words of its cell, and an ask tries its amendment on a copy of the quantum's words. No cell is copied.
+#![tactic(auto)]
+
 ghost use Rattle.std.specs.Prelude.{◌≡◌, true, List, [], ◌∷◌, ℕ, ◌+◌, ◌*◌, ◌≤◌, ◌<◌, ltb, length, get_or};
 ghost use Rattle.rules.specs.declared.Event.{Event};
 ghost use Rattle.rules.specs.declared.Cell.{Cell};

@@ -1,5 +1,7 @@
 // The open quantum of a month's words as it is now, written into a lent buffer for whoever shows it (specs/Views). The month's words stay as
 // they were.
+#![tactic(auto)]
+
 ghost use Rattle.std.specs.Prelude.{◌≡◌, true, ◌&&◌, List, ◌*◌, ◌≤◌, eqb, ltb, length, get_or};
 ghost use Rattle.rules.specs.declared.Row.{Row};
 ghost use Rattle.rules.specs.declared.SpreadRule.{SpreadRule};

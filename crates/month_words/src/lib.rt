@@ -4,6 +4,8 @@
 // The buffers are checked before the call: words, hints, answer, then the bytes; none of these is a refusal of the book. An event's fields are
 // read off the block's bytes, and `call_blocks::decode` is not called: with it a tick would take some 75 instructions more. What is read has to
 // be right only where it says an event (`SaysBlock`). Every call goes in place: none copies the month.
+#![tactic(auto)]
+
 ghost use Rattle.std.specs.Prelude.{◌≡◌, [], ◌++◌, true, false, ◌+◌, ◌*◌, ◌≤◌, ◌<◌, leb, length, drop, get_or};
 ghost use Rattle.rules.specs.declared.Event.{Event};
 ghost use Rattle.lists.specs.Lists.{if◌then◌else◌};

@@ -1,5 +1,7 @@
 // What several crates compute with: the lesser and the greater of two numbers, both of two tests, a number in a wider type, and sums that
 // fit. They are here once, each with its whole answer, so that no crate proves them again.
+#![tactic(auto)]
+
 ghost use Rattle.std.specs.Prelude.{◌≡◌, ◌&&◌, ◌+◌, ◌-◌, ◌*◌, ◌%◌, ◌≤◌, ◌<◌, min as lesser, max as greater};
 
 // Both tests pass. Neither is left out where the other fails, so there is no branch.

@@ -4,6 +4,8 @@
 //
 // Whether an order came or went is seen by the number of live orders before and after the event, so the notes need not know how an event
 // is decided. They are the month's alone: a session has none.
+#![tactic(auto)]
+
 ghost use Rattle.std.specs.Prelude.{◌≡◌, List, [], ◌∷◌, ◌++◌, ℕ, ◌-◌, ◌≤◌, ◌<◌, length, take, get_or};
 ghost use Rattle.rules.specs.declared.Row.{Row};
 ghost use Rattle.rules.specs.declared.Event.{Event};

@@ -1,6 +1,8 @@
 // The live orders of one side in 256 lent words (specs/Slots has their layout): found by id, read, added, changed, removed. An order is an
 // `Order` wherever it is taken or returned; the words are how it is stored. The best level is among the words too, and is moved by the crate
 // best_level. Prices are keys: the better one is the greater, 0 is no price (crate price_keys).
+#![tactic(auto)]
+
 ghost use Rattle.std.specs.Prelude.{◌≡◌, true, List, ◌+◌, ◌*◌, ◌/◌, ◌≤◌, ◌<◌, length, get_or};
 ghost use Rattle.rules.specs.Units.{good_price};
 ghost use Rattle.best_quote.specs.declared.Level.{Level};

@@ -7,6 +7,8 @@
 //
 // A hint is a byte for each id modulo 2,048 that says where such an id was last found. The word there is compared with the id, and nothing
 // else rests on the hint; otherwise both sides are scanned without branches.
+#![tactic(auto)]
+
 ghost use Rattle.std.specs.Prelude.{◌≡◌, List, [], ◌&&◌, not, ℕ, ◌≤◌, ◌<◌, eqb, length};
 ghost use Rattle.rules.specs.declared.Order.{Order};
 ghost use Rattle.rules.specs.declared.Row.{Row};

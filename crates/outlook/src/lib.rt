@@ -1,5 +1,7 @@
 // The outlook on an open quantum, from its duty and its clock: how much must still be kept, until when nothing need be, and what the cell
 // is worth if nothing more is kept or all that is left.
+#![tactic(auto)]
+
 ghost use Rattle.std.specs.Prelude.{◌≡◌, List, ◌-◌, ◌≤◌};
 ghost use Rattle.rules.specs.declared.Event.{Event};
 ghost use Rattle.rules.specs.declared.Opening.{Opening};

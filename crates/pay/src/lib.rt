@@ -1,4 +1,6 @@
 // The six failure counts and the fee of a month's cells.
+#![tactic(auto)]
+
 ghost use Rattle.std.specs.Prelude.{◌≡◌, true, ℕ, ◌/◌, ◌≤◌, min, ltb};
 ghost use mathlib.Core.List.{Memᴰ, map};
 ghost use Rattle.rules.specs.declared.Cell.{Cell};

@@ -4,6 +4,8 @@
 // no price. So neither side is a case of its own in any sum or search. The spread limit is one number, fixed at open: max(b, a × max(SP, 0)
 // / 100,000), and the test is D against 1 and against it. The definition stays as the paper has it; `keys_law` says that the test on two
 // keys agrees with it.
+#![tactic(auto)]
+
 ghost use Rattle.std.specs.Prelude.{◌≡◌, true, ◌≤◌, pos, eqb};
 ghost use Rattle.std.specs.Int.Signed.{le_z};
 ghost use Rattle.rules.specs.declared.Steps.{Steps};

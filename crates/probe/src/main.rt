@@ -1,4 +1,6 @@
 // Reads one case from standard input, runs the public calls that it names, and writes what they answer.
+#![tactic(auto)]
+
 ghost use Rattle.std.specs.Prelude.{◌≡◌, ◌+◌, ◌*◌, ◌≤◌, length};
 
 mod accounted;

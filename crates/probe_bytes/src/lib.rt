@@ -1,4 +1,6 @@
 // The cases of `probe` that read and write bytes: event records (case 3), and FIX messages (cases 9 to 11).
+#![tactic(auto)]
+
 ghost use Rattle.std.specs.Prelude.{◌≡◌, ◌≤◌, length};
 ghost use Rattle.lists.specs.Lists.{within};
 

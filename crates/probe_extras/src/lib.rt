@@ -1,5 +1,7 @@
 // The cases of `probe` beside the month: boards of strikes (4), volatile days (5 and 12), rows eased on them (6, 13 and 14), the standing of
 // makers (7) and safe minutes (8).
+#![tactic(auto)]
+
 mod boards;
 mod days;
 mod eased;

@@ -1,5 +1,7 @@
 // Calls on a month's words in place that open, close or drop its quantum, change one of its cells, or show its state: open, close,
 // drop, charge, withdraw, report and outlook. None copies the cells or the quantum.
+#![tactic(auto)]
+
 ghost use Rattle.std.specs.Prelude.{◌≡◌, true, List, [], ◌∷◌, ℕ, ◌≤◌, length, replicate};
 ghost use Rattle.rules.specs.Terms.{paper};
 ghost use Rattle.rules.specs.Rows.{good_row_for, row_of};

@@ -1,4 +1,6 @@
 // An open quantum by value, for the month: its duty, its clock, the table of its live orders and its notes.
+#![tactic(auto)]
+
 ghost use Rattle.std.specs.Prelude.{◌≡◌, List, [], ◌∷◌, ◌++◌, true, not, ◌&&◌, length};
 ghost use Rattle.rules.specs.declared.Event.{Event};
 ghost use Rattle.rules.specs.declared.Row.{Row};

@@ -3,6 +3,8 @@
 //
 // The clock is put back whether an event is taken or not, a tick aside: a refused one leaves the clock and the table as they were, so the
 // five words are written without a test. A tick has a way of its own: it reads neither table nor notes.
+#![tactic(auto)]
+
 ghost use Rattle.std.specs.Prelude.{◌≡◌, ◌<◌, length};
 ghost use Rattle.rules.specs.declared.Event.{Event};
 ghost use Rattle.rules.specs.declared.Event.TheVariants.{Tick};

@@ -2,6 +2,8 @@
 // these calls left, and answers by one number and by what it leaves in a lent buffer: a refused call leaves each as it was.
 // include/quoting.h says word for word what each one does. Calls that must be fast are in crates of their own, an archive each (`c_call`,
 // `c_records`, `c_scan`, `session`).
+#![tactic(auto)]
+
 ghost use Rattle.std.specs.Prelude.{◌≡◌, true, not, [], ◌≤◌, eqb, length};
 ghost use Rattle.rules.specs.Terms.{paper};
 ghost use Rattle.rules.specs.Answers.{accepted};

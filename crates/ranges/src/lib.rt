@@ -1,4 +1,6 @@
 // The ranges of document 01's numbers, each as a test. Tests are joined by calls of `both`, so that no branches meet.
+#![tactic(auto)]
+
 ghost use Rattle.std.specs.Prelude.{◌≡◌, leb};
 ghost use Rattle.std.specs.Int.Signed.{le_z};
 ghost use Rattle.lists.specs.Lists.{within};

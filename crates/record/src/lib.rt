@@ -1,4 +1,6 @@
 // Event records of 20 bytes: their fields, the event that these say, the record of an event, and a record's place among others.
+#![tactic(auto)]
+
 ghost use Rattle.std.specs.Prelude.{◌≡◌, ◌+◌, ◌/◌, ◌≤◌, ◌%◌, eqb, length};
 ghost use Rattle.rules.specs.declared.Event.TheVariants.{Add};
 ghost use Rattle.lists.specs.Lists.{within};

@@ -2,6 +2,8 @@
 // refused.
 //
 // The records go through `quantum_in_place::step`, as an event call does, and the count of accepted calls moves once, after the last one.
+#![tactic(auto)]
+
 ghost use Rattle.std.specs.Prelude.{◌≡◌, [], ◌∷◌, ◌+◌, ◌*◌, ◌/◌, ◌≤◌, eqb, length, get_or};
 ghost use Rattle.lists.specs.Lists.{if◌then◌else◌};
 ghost use Rattle.rules.specs.Changes.{count_after};

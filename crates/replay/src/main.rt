@@ -4,6 +4,8 @@
 // One read a turn, and no wait for more while there is something to answer. What remains of a piece moves to the front of the buffer, each
 // byte once at most. Past the last word that has come a word is read as 0, so a length that is not known yet must not be used. Lines are
 // written as they are made, with no buffer: a line must be out before the next read in any case.
+#![tactic(auto)]
+
 ghost use Rattle.std.specs.Prelude.{◌≡◌, ◌*◌, ◌≤◌, length};
 ghost use Rattle.month.specs.Represents.{Reached};
 ghost use Rattle.words.specs.Bytes.{words_in};

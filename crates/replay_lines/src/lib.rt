@@ -1,4 +1,6 @@
 // The lines of the answers that are more than accepted or refused: a cell, a report, an ask's preview, an outlook.
+#![tactic(auto)]
+
 use console::{field, field_line, number, price, text};
 use rules::{CellView, Kopecks, LapsesLeft, Outlook, Possible, Preview, Quote, Report, Ticket};
 

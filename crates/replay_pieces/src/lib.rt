@@ -1,4 +1,6 @@
 // A list of calls that comes in pieces: what follows the calls of a piece, and what remains of it moved to the front of its buffer.
+#![tactic(auto)]
+
 ghost use Rattle.std.specs.Prelude.{◌≡◌, ◌-◌, ◌≤◌, length, take, drop};
 ghost use Rattle.words.specs.Bytes.{words_in};
 ghost use Rattle.replay_pieces.specs.Rests.{rest_of};

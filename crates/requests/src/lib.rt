@@ -2,3 +2,4 @@
 // another order (W9), messages as the calls that they mean (W11); and that our own call, outlook, changes nothing. For the desk, too: a
 // quantum's cell is the one that it leaves in a month of its own. The claims are in specs/, their proofs in proofs/; there is nothing here to
 // run.
+#![tactic(auto)]

@@ -1,4 +1,6 @@
 // The row: read from words or from the leading bytes of a session, and chosen from the two lent tables.
+#![tactic(auto)]
+
 ghost use Rattle.std.specs.Prelude.{◌≡◌, ◌+◌, ◌*◌, ◌≤◌, length};
 ghost use Rattle.rules.specs.Terms.{paper};
 ghost use Rattle.rules.specs.Rows.{good_length, good_row, as_read};

@@ -1,4 +1,6 @@
 // The types that the meter's crates pass to each other, and the refusal's number. In specs/ documents 01 and 02 are definitions.
+#![tactic(auto)]
+
 ghost use Rattle.std.specs.Prelude.{◌≡◌, ◌≤◌};
 ghost use Rattle.rules.specs.Answers.{number_of};
 

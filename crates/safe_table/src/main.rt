@@ -1,6 +1,8 @@
 // The safe minutes of m minutes for all stocks: reads m, a word, and writes a line for each h from 0 to 60, in it G for each k from 0 to 60.
 //
 // A program of its own, since one run of `probe` is one case: by it all 226,981 triples are compared with the recurrence in a few seconds.
+#![tactic(auto)]
+
 use console::{number, text};
 use game::SafeAnswer;
 

@@ -3,6 +3,8 @@
 // The session runs on a quantum's duty, clock and table and not on the month, in two passes: the first finds the first refusal, K and the
 // number of pairs and writes nothing; the second writes. The C call needs the first only. The definitions say it by the plain book; laws in
 // crates/session_pass/proofs and crates/record_runs/proofs remove the book.
+#![tactic(auto)]
+
 ghost use Rattle.std.specs.Prelude.{◌≡◌, ◌≤◌, length};
 ghost use Rattle.rules.specs.Terms.{paper};
 ghost use Rattle.rules.specs.Session.{shown_session, most_records, session, session_bytes, ran, front as frontOf, buffer_after, one_number};

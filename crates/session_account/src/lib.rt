@@ -2,6 +2,8 @@
 // open quantum, twice where stretches are written, as in a session run.
 //
 // Two passes, as in the session run. The state is worked out before each event and at the end, from the two best keys of the table.
+#![tactic(auto)]
+
 ghost use Rattle.std.specs.Prelude.{◌≡◌, ℕ, ◌+◌, ◌≤◌, true, [], length};
 ghost use Rattle.rules.specs.declared.Row.{Row};
 ghost use Rattle.rules.specs.declared.SpreadRule.{SpreadRule};

@@ -1,4 +1,6 @@
 // Prints the sheet of one session: 32 leading bytes and the records from standard input, 1,600 records at most.
+#![tactic(auto)]
+
 use console::{field, field_line, text};
 use rules::{Cell, Kopecks, Millis, SessionAnswer};
 

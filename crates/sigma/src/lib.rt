@@ -2,6 +2,8 @@
 //
 // A price is raised by 2,147,483,648 too; 3R - S does not change by it. Whether an R is in range is checked before it is raised. The root is
 // found between 0 and 4,194,304 by halving, 22 turns, on 18 n² against the sum. No float is used.
+#![tactic(auto)]
+
 ghost use Rattle.std.specs.Prelude.{◌≡◌, ◌*◌, ◌/◌, max, ◌≤◌, ◌<◌, leb, pos, nat_abs, length, get_or};
 ghost use Rattle.std.proofs.Math.IntN.{sub_ℕ};
 ghost use Rattle.rules.specs.Records.{signed_of};

@@ -3,6 +3,8 @@
 //
 // A side of at most four orders has no sums to carry: this is proved to find the best key, so nothing is measured after it, and the two
 // carried sums of such a side are 0.
+#![tactic(auto)]
+
 ghost use Rattle.std.specs.Prelude.{◌≡◌, true, ◌+◌, ◌*◌, ◌≤◌, ◌%◌, min, max, ltb, length};
 ghost use Rattle.lists.specs.Lists.{if◌then◌else◌, how_many};
 ghost use Rattle.best_quote.specs.Levels.{is_best, Columns};

@@ -7,6 +7,8 @@
 // old place to the new one, a leave from its place to the last used one. Nothing is sorted again. "a maker twice" cannot be seen from
 // neighbours: a local array of 65,536 marks over the maker number modulo its length says whether a number like this one was met before. It
 // goes on to the end where a fault is found, so a refused call costs what an accepted one does.
+#![tactic(auto)]
+
 ghost use Rattle.std.specs.Prelude.{◌≡◌, ◌+◌, ◌*◌, ◌≤◌, ◌<◌, length, set};
 ghost use Rattle.standing_rules.specs.Calls.{Join, Change, Leave, call_of, standing, wrong, step, answer_of};
 ghost use Rattle.standing_rules.specs.Internal.{seen_in, shifted};

@@ -3,6 +3,8 @@
 //
 // It requires that at most 512 records are lent. A function that makes a lent slice of records of its own array needs a walk, and one that
 // calls this crate does not.
+#![tactic(auto)]
+
 ghost use Rattle.std.specs.Prelude.{◌≡◌, ◌++◌, ◌≤◌, take, drop};
 ghost use Rattle.standing_rules.specs.Calls.{Join, Change, Leave, call_of, standing, step, answer_of};
 

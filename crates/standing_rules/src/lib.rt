@@ -1,5 +1,7 @@
 // A maker's record in the standing, and the work of join, change and leave on records by value: the order of two records, one step of a
 // look through the used ones, what a call is answered and where its record moves. The calls themselves are in `standing`.
+#![tactic(auto)]
+
 ghost use Rattle.std.specs.Prelude.{◌≡◌, true, not, ◌&&◌, ◌||◌, ◌+◌, ◌≤◌, ◌<◌, ◌^◌, min, leb, ltb};
 ghost use Rattle.lists.specs.Lists.{if◌then◌else◌};
 ghost use Rattle.standing_rules.specs.Order.{above};

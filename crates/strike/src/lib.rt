@@ -3,6 +3,8 @@
 // The limit is one number of steps: the greater of b and the greatest n that, less half a step, is at most the product. `strike_law` says
 // that D is at most it exactly where D is within the limit by the definition, for every D and whatever the four numbers; so the ranges are
 // needed only for the widths. The code halves between 0 and 2,000,001, 21 turns.
+#![tactic(auto)]
+
 ghost use Rattle.std.specs.Prelude.{◌≡◌, true, ◌+◌, ◌-◌, ◌*◌, ◌^◌, ◌≤◌, ◌<◌, leb};
 ghost use Rattle.rules.specs.Causes.{good_spread_rule};
 ghost use Rattle.rules.specs.Strikes.{good_strike, square_of};

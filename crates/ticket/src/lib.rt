@@ -1,6 +1,8 @@
 // Tickets: the month's count of accepted calls, and whether a ticket is the present one.
 //
 // A crate of its own, so that an edit of the test of a ticket proves little again.
+#![tactic(auto)]
+
 ghost use Rattle.std.specs.Prelude.{◌≡◌, eqb};
 ghost use Rattle.lists.specs.Lists.{if◌then◌else◌};
 ghost use Rattle.rules.specs.Causes.{same_price, same_amendment, good_ticket};

@@ -2,6 +2,8 @@
 //
 // The thirty sigmas are in a ring with their running sum, zeros before the first; the average is looked at only where a period begins with
 // thirty before it.
+#![tactic(auto)]
+
 ghost use Rattle.std.specs.Prelude.{◌≡◌, ◌≤◌, ◌<◌, ltb};
 ghost use Rattle.volatile.specs.Answers.{inside_of, shown_day};
 ghost use Rattle.volatile.specs.Internal.{Roomy, pushed, phase_after, sigma_with, judged, state_after, fresh, Ready, early};

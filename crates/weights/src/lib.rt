@@ -1,6 +1,8 @@
 // The weight card: for three required shares the weight of each f, looked up.
 //
 // A crate of its own, so that no other crate's check or edit pays for the constants.
+#![tactic(auto)]
+
 ghost use Rattle.std.specs.Prelude.{◌≡◌, true, ◌+◌, ◌<◌, min};
 ghost use Rattle.rules.specs.Terms.{paper};
 ghost use Rattle.rules.specs.Pay.{weight_at};

@@ -1,4 +1,6 @@
 // Numbers in 32-bit words and bytes: two's complement, a word from its four bytes, and a side as 1 or 2.
+#![tactic(auto)]
+
 ghost use Rattle.std.specs.Prelude.{◌≡◌, ◌+◌, ◌≤◌, ◌<◌, length};
 ghost use Rattle.rules.specs.Units.{steps};
 ghost use Rattle.rules.specs.Records.{signed_of, unsigned_of, word_at, add_kind};

@@ -7,7 +7,7 @@ use Rattle.rules.specs.Calls.{Commit, amend_of}
 use Rattle.record.specs.Fields.{fields_for}
 use Rattle.month_in_place.specs.Events.{ChangesMonth}
 use Rattle.month_in_place.proofs.Months.{holds_quantum}
-use Rattle.messages_in_place.specs.Internal.{first_number}
+use Rattle.messages_in_place.specs.Internal.{first_refused}
 use Rattle.messages_in_place.proofs.Commits.{commit_idle, commit_sent, commit_refused}
 use borrow.Author.Rules.{rules}
 use Rattle.messages_in_place.proofs.commit.Statement.{statement}
@@ -39,7 +39,7 @@ returns-3 c =
     let s = c.before.before.before.before.before.before.before.before.before.before.before.before.before.before in
     let x = c.before.before.refuses_amendment in
     let k = commit_refused s.args.words.now s.args.a s.args.ticket c.before.before.before.before.before.before.before.wide.result c.before.before.before.before.before.before.before.wide.ensures (sym c.before.before.before.before.before.before.is_present.ensures ∙ c.before.before.before.before.before.if2.false)
-    c.before.before.before.before.before.before.before.before.before.before.if1.false x.result c.first_of.result x.ensures (c.first_of.ensures ∙ ap (first_number x.result) c.before.number2.ensures) in
+    c.before.before.before.before.before.before.before.before.before.before.if1.false x.result c.first_of.result x.ensures (c.first_of.ensures ∙ ap (first_refused x.result) c.before.number2.ensures) in
     (k.1, λ refused. refl)
 
 pub commit-spec : {M : Type 1} → statement M
