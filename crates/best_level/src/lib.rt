@@ -25,7 +25,7 @@ use order_side::{AT, BEFORE, BEST, COUNT, Change, KEYS, VOLUMES};
 use rules::{Contracts, Side};
 
 // What a requote did: whether the best key may have moved, and for how many orders volumes were added up.
-#[derive(Drop)]
+#[derive(Clone, Copy)]
 pub struct Requoted {
     pub moves: bool,
     pub sums: u32,
@@ -148,7 +148,7 @@ fn below(keys: &[u32], key: u32) -> u32
 // ---- guesses
 
 // A level that is tried, the best price found to qualify so far, 0 for none, and the number of sums made.
-#[derive(Drop)]
+#[derive(Clone, Copy)]
 struct Guess {
     level: Level,
     start: u32,
@@ -287,7 +287,7 @@ fn by_search(
 }
 
 // A best level, and for how many orders volumes were added up for it.
-#[derive(Drop)]
+#[derive(Clone, Copy)]
 struct LevelFound {
     level: Level,
     sums: u32,

@@ -13,7 +13,7 @@ ghost use Rattle.best_quote.specs.Searches.{SearchFinds};
 use rules::{Contracts, Quote, Side};
 
 // A price level: its key, the contracts at better keys, and at it.
-#[derive(Drop)]
+#[derive(Clone, Copy)]
 pub struct Level {
     pub key: u32,
     pub before: u32,
@@ -21,7 +21,7 @@ pub struct Level {
 }
 
 // What a search finds, the contracts at better prices, those at it or better, and for how many orders it added up volumes.
-#[derive(Drop)]
+#[derive(Clone, Copy)]
 pub struct Searched {
     pub quote: Quote,
     pub before: u32,

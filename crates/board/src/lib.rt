@@ -11,7 +11,7 @@ use numbers::both;
 use ranges::{at_most, between};
 
 // Whether the board is met, or refusal 18.
-#[derive(Drop)]
+#[derive(Clone, Copy)]
 pub enum BoardAnswer {
     Met,
     Failed,

@@ -20,7 +20,7 @@ use record::Fields;
 use rules::{Contracts, Order, Steps};
 
 // The answer to an event: the refusal's number; or 0, and what changes on which side, buys 0 and sells 1.
-#[derive(Drop)]
+#[derive(Clone, Copy)]
 struct Answer {
     refusal: u32,
     s: usize,
@@ -243,7 +243,7 @@ fn changed(table: &mut [u32], hints: &mut [u8], f: Fields) -> Answer
 
 // What an event comes to: the number of the trader's refusal, or 0; whether the live orders then keep the quote, 1 or 0; for how many
 // orders volumes were added up for the best quote of its side.
-#[derive(Drop)]
+#[derive(Clone, Copy)]
 pub struct Sent {
     pub refusal: u32,
     pub keeps: u32,

@@ -21,7 +21,7 @@ use rules::{
 };
 
 // A list's number of calls, and of words that they take.
-#[derive(Drop)]
+#[derive(Clone, Copy)]
 pub struct Measured {
     pub calls: usize,
     pub words: usize,
@@ -29,7 +29,7 @@ pub struct Measured {
 
 // The call that a block says, by its arguments. An open's row and a message's bytes are not among them, since no enum holds an array or a
 // reference: they are `row`, `start` and `message` of the block's bytes.
-#[derive(Drop)]
+#[derive(Clone, Copy)]
 pub enum Decoded {
     Open {
         day: u32,

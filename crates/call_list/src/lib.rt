@@ -12,7 +12,7 @@ ghost use Rattle.call_list.specs.Listing.{ListAnswered};
 ghost use Rattle.call_list.specs.Internal.{NextCalled};
 
 // How many calls and words of the list were read, and whether their answers fit the lent buffer.
-#[derive(Drop)]
+#[derive(Clone, Copy)]
 pub struct Listed {
     pub calls: usize,
     pub words: usize,

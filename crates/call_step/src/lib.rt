@@ -28,7 +28,7 @@ use rules::{
 };
 
 // What a call is answered; Refused holds the refusal's number.
-#[derive(Drop)]
+#[derive(Clone, Copy)]
 pub enum Outcome {
     Accepted,
     Refused(u32),
@@ -39,14 +39,14 @@ pub enum Outcome {
 }
 
 // An outcome, with the report where it is Reported and a blank one where it is not.
-#[derive(Drop)]
+#[derive(Clone, Copy)]
 pub struct Shown {
     pub outcome: Outcome,
     pub report: Report,
 }
 
 // What a block hands back: the month, the place behind it, what the call shows.
-#[derive(Drop)]
+#[derive(Clone, Copy)]
 pub struct Done {
     pub month: Month,
     pub next: usize,

@@ -12,7 +12,7 @@ use numbers::both;
 use rules::{Cell, Kopecks, Millis};
 
 // A named cell.
-#[derive(Drop)]
+#[derive(Clone, Copy)]
 pub enum Named {
     OutOfRange,
     Blank,

@@ -22,7 +22,7 @@ ghost use Rattle.clock.specs.Words.{duty_words, clock_words};
 use rules::{Contracts, Millis, Row, SpreadRule};
 
 // What a quantum is opened with: its length, the least volume of a quote, and the widest spread.
-#[derive(Drop)]
+#[derive(Clone, Copy)]
 pub struct Duty {
     pub length: Millis,
     pub minimum: Contracts,
@@ -31,7 +31,7 @@ pub struct Duty {
 
 // The time, the kept time, whether the live orders keep the quote from now on (1) or not (0), the number of lapses, and whether the
 // millisecond before the present is kept (1) or not (0; also at time 0).
-#[derive(Drop)]
+#[derive(Clone, Copy)]
 pub struct Clock {
     pub time: Millis,
     pub kept: Millis,
@@ -41,7 +41,7 @@ pub struct Clock {
 }
 
 // Kept time and lapses of a whole quantum.
-#[derive(Drop)]
+#[derive(Clone, Copy)]
 pub struct Totals {
     pub kept: Millis,
     pub lapses: u32,

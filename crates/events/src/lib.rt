@@ -16,7 +16,7 @@ use record::Fields;
 use rules::Event;
 
 // What an event hands back: the clock after it, and the refusal's number or 0.
-#[derive(Drop)]
+#[derive(Clone, Copy)]
 pub struct ClockAfter {
     pub clock: Clock,
     pub refusal: u32,

@@ -42,7 +42,7 @@ fn packed(b: &[u8], from: usize, to: usize) -> u32
     }
 }
 
-#[derive(Drop)]
+#[derive(Clone, Copy)]
 pub enum AnyFrame {
     // The type, packed; the fields after 35, which end where 10 begins
     Of { kind: u32, start: usize, end: usize },

@@ -15,7 +15,7 @@ use fix_digits::is_digit;
 use rules::{Millis, Timestamp};
 
 // What 21 bytes say, or that they say no time.
-#[derive(Drop)]
+#[derive(Clone, Copy)]
 pub enum Time {
     At(Timestamp),
     Not,
@@ -236,7 +236,7 @@ fn instant(s: Timestamp) -> u64
 }
 
 // A time from a start: before it, so many milliseconds later, or more than 32 bits of them.
-#[derive(Drop)]
+#[derive(Clone, Copy)]
 pub enum Elapsed {
     At(Millis),
     Before,

@@ -35,7 +35,7 @@ fn more(n: u64, d: u64) -> u64
     18446744073709551615
 }
 
-#[derive(Drop)]
+#[derive(Clone, Copy)]
 pub enum Number {
     Is(u64),
     Not,
@@ -62,7 +62,7 @@ pub fn number_in(v: &[u8]) -> Number
     Number::Is(n)
 }
 
-#[derive(Drop)]
+#[derive(Clone, Copy)]
 pub enum Unsigned {
     Is(u32),
     Not,
@@ -81,7 +81,7 @@ pub fn word_in(v: &[u8]) -> Unsigned
     Unsigned::Not
 }
 
-#[derive(Drop)]
+#[derive(Clone, Copy)]
 pub enum Signed {
     Is(Steps),
     Not,

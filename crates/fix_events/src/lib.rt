@@ -18,7 +18,7 @@ use quantum::Quantum;
 use rules::{Answer, Contracts, Event, Refusal, Side, Steps};
 
 // What a message hands back: the quantum after it, the answer, and whether the accepted events are two.
-#[derive(Drop)]
+#[derive(Clone, Copy)]
 pub struct AfterMessage {
     pub quantum: Quantum,
     pub answer: Answer,

@@ -10,7 +10,7 @@ ghost use Rattle.fix_fields.specs.Spans.{noted, EndsAt, SpansFound};
 use fix_digits::is_digit;
 
 // Where a tag stands: the slot that it belongs to, and the byte behind its equals sign. Slot 7 is for no tag, and for those of the frame.
-#[derive(Drop)]
+#[derive(Clone, Copy)]
 pub struct Tag {
     pub slot: usize,
     pub next: usize,

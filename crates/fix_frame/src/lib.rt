@@ -74,7 +74,7 @@ fn kind_good(kind: u8) -> bool
     (kind == 68) | (kind == 70) | (kind == 71)
 }
 
-#[derive(Drop)]
+#[derive(Clone, Copy)]
 pub enum Frame {
     // The type's byte; the fields behind 35, which end where 10 begins
     Of { kind: u8, start: usize, end: usize },

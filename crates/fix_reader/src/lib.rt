@@ -21,7 +21,7 @@ use rules::{Contracts, Side, Steps, Timestamp};
 
 // A message that was read, or why it was not: the frame, length, checksum or type is wrong; or a used tag is absent, there twice,
 // unreadable or past 32 bits.
-#[derive(Drop)]
+#[derive(Clone, Copy)]
 pub enum MessageRead {
     New {
         id: u32,
@@ -84,7 +84,7 @@ fn time(b: &[u8], spans: &[usize; 16]) -> Time
     fix_dates::time_in(&b[from..to])
 }
 
-#[derive(Drop)]
+#[derive(Clone, Copy)]
 pub enum SideRead {
     Is(Side),
     Not,
@@ -121,7 +121,7 @@ fn side(b: &[u8], spans: &[usize; 16]) -> SideRead
 }
 
 // What 54, 38 and 44 say.
-#[derive(Drop)]
+#[derive(Clone, Copy)]
 pub enum TermsRead {
     Of {
         side: Side,

@@ -55,7 +55,7 @@ fn digits_end(b: &[u8], from: usize) -> usize
 }
 
 // What a message says of its own length: so many bytes in all, or nothing that could be so.
-#[derive(Drop)]
+#[derive(Clone, Copy)]
 pub enum Size {
     Is(usize),
     Wrong,
@@ -94,7 +94,7 @@ fn size_at(b: &[u8], at: usize) -> Size
 }
 
 // A message's bytes: whole, cut off by the end, or with no length to go by.
-#[derive(Drop)]
+#[derive(Clone, Copy)]
 pub enum Part {
     Whole(usize),
     Cut,
@@ -180,7 +180,7 @@ fn turn(b: &[u8], at: usize, tags: &[u32], slots: &[u8; 1000], row: &mut [u32]) 
 }
 
 // After the last row, and the first byte that was not read.
-#[derive(Drop)]
+#[derive(Clone, Copy)]
 pub struct Stop {
     pub used: usize,
     pub at: usize,

@@ -10,7 +10,7 @@ ghost use Rattle.fix_tag_spans.specs.Internal.{AnyTag, LongTag, ThirdTag, noted_
 use fix_digits::is_digit;
 
 // The slot of a tag and the byte after its equals sign; slot 255 is for no tag, too.
-#[derive(Drop)]
+#[derive(Clone, Copy)]
 pub struct SlotTag {
     pub slot: u8,
     pub next: usize,

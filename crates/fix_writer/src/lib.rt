@@ -13,7 +13,7 @@ use fix_dates::Time;
 use rules::{Contracts, Side, Steps};
 
 // A message's bytes up to the length, and zeros after them; or, where the 60 handed over is no time, no bytes.
-#[derive(Drop)]
+#[derive(Clone, Copy)]
 pub struct MessageText {
     pub good: bool,
     pub bytes: [u8; 114],

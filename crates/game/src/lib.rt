@@ -12,7 +12,7 @@ ghost use Rattle.game.specs.Answers.{is_above, safe_minutes, shown_safe};
 use numbers::min;
 
 // The minutes that are safe, or refusal 26: a number above 60.
-#[derive(Drop)]
+#[derive(Clone, Copy)]
 pub enum SafeAnswer {
     Safe(u32),
     AboveSixty,

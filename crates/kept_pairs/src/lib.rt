@@ -8,7 +8,7 @@ ghost use Rattle.kept_pairs.specs.Internal.{put_pair, begun_at, MarksBounds, Mar
 use rules::Millis;
 
 // The pairs so far: how many, and where the last one starts. The clock says whether it reaches the present.
-#[derive(Drop)]
+#[derive(Clone, Copy)]
 pub struct Marks {
     pub pairs: u32,
     pub start: u32,

@@ -36,7 +36,7 @@ pub const MONTH_WORDS: usize = 2464;
 
 // A month, which only these calls make: whether a quantum is open, and then its cell's place, p and lapse limit; the count of accepted
 // calls (W5); the open quantum, or an idle one in its place; the cells.
-#[derive(Drop)]
+#[derive(Clone, Copy)]
 pub struct Month {
     running: bool,
     place: usize,
@@ -48,35 +48,35 @@ pub struct Month {
 }
 
 // What a call that shows nothing hands back.
-#[derive(Drop)]
+#[derive(Clone, Copy)]
 pub struct AfterCall {
     pub month: Month,
     pub answer: Answer,
 }
 
 // What look hands back.
-#[derive(Drop)]
+#[derive(Clone, Copy)]
 pub struct LookedAt {
     pub month: Month,
     pub answer: Looked,
 }
 
 // What ask hands back.
-#[derive(Drop)]
+#[derive(Clone, Copy)]
 pub struct AskedAbout {
     pub month: Month,
     pub answer: Asked,
 }
 
 // What report hands back.
-#[derive(Drop)]
+#[derive(Clone, Copy)]
 pub struct Reported {
     pub month: Month,
     pub answer: Report,
 }
 
 // What outlook hands back.
-#[derive(Drop)]
+#[derive(Clone, Copy)]
 pub struct AfterOutlook {
     pub month: Month,
     pub answer: OutlookAnswer,

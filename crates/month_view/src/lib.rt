@@ -25,7 +25,7 @@ use rules::{Order, Side};
 
 // The result of a view: the month's words are too few, or no month's, or the buffer's are too few, and then nothing is written; or so many
 // words were written, 0 with none open.
-#[derive(Drop)]
+#[derive(Clone, Copy)]
 pub enum Viewed {
     WordsShort,
     NoMonth,

@@ -38,7 +38,7 @@ pub const ANSWER: usize = 20;
 
 // What became of a call: done, accepted or refused; or the lent words are too few or no month's, the hints or the answer's words are too few,
 // or the bytes are no call, and then nothing is changed.
-#[derive(Drop)]
+#[derive(Clone, Copy)]
 pub enum Called {
     Done,
     WordsShort,

@@ -13,7 +13,7 @@ ghost use Rattle.order_side.specs.Internal.{Sized, HasOrder, Added, OrderReplace
 use rules::{Contracts, Order, Side};
 
 // What an event does to a side: an order that had `old` and `held` has `key` and `volume`, where none has 0 and 0.
-#[derive(Drop)]
+#[derive(Clone, Copy)]
 pub struct Change {
     pub old: u32,
     pub held: Contracts,

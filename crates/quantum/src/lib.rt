@@ -36,7 +36,7 @@ pub const OPENING_AT: usize = 586;
 pub const QUANTUM_WORDS: usize = 598;
 
 // The notes are what a view of the quantum shows and the others do not hold (crate `order_arrivals`).
-#[derive(Drop)]
+#[derive(Clone, Copy)]
 pub struct Quantum {
     duty: Duty,
     clock: Clock,
@@ -45,7 +45,7 @@ pub struct Quantum {
 }
 
 // What an event hands back of a quantum.
-#[derive(Drop)]
+#[derive(Clone, Copy)]
 pub struct Sent {
     pub quantum: Quantum,
     pub answer: Answer,

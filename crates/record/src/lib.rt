@@ -12,7 +12,7 @@ ghost use Rattle.record.specs.Internal.{low_kind};
 use rules::{Contracts, Event, Millis, RecordRead, Refusal, Side, Steps};
 
 // The fields of a record. The kind is its whole first word, so it is 1 to 6 only where the three bytes after the kind's own are zero.
-#[derive(Drop)]
+#[derive(Clone, Copy)]
 pub struct Fields {
     pub kind: u32,
     pub t: Millis,

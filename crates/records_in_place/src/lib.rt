@@ -16,7 +16,7 @@ ghost use Rattle.records_in_place.specs.Internal.{RunsQuantum};
 use month::{CELLS_AT, QUANTUM_AT};
 
 // How many records were taken, and the number of what refused the next one, or 0.
-#[derive(Drop)]
+#[derive(Clone, Copy)]
 pub struct Taken {
     pub count: u64,
     pub refusal: u32,

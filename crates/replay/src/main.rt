@@ -30,7 +30,7 @@ fn line(shown: Shown) {
 }
 
 // What a piece of the input leaves: the month, and how many of its words are read.
-#[derive(Drop)]
+#[derive(Clone, Copy)]
 struct Played {
     month: Month,
     words: usize,

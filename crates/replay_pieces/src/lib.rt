@@ -6,7 +6,7 @@ ghost use Rattle.words.specs.Bytes.{words_in};
 ghost use Rattle.replay_pieces.specs.Rests.{rest_of};
 
 // What stands behind the calls that are read: what may become a call, what is none, or a block that is longer than the buffer.
-#[derive(Drop)]
+#[derive(Clone, Copy)]
 pub enum Rest {
     More,
     NoCall,

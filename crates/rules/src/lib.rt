@@ -5,33 +5,33 @@ ghost use Rattle.std.specs.Prelude.{◌≡◌, ◌≤◌};
 ghost use Rattle.rules.specs.Answers.{number_of};
 
 // Units: milliseconds, price steps, contracts and kopecks.
-#[derive(Drop)]
+#[derive(Clone, Copy)]
 pub struct Millis(pub u32);
 
-#[derive(Drop)]
+#[derive(Clone, Copy)]
 pub struct Steps(pub i32);
 
-#[derive(Drop)]
+#[derive(Clone, Copy)]
 pub struct Contracts(pub u32);
 
-#[derive(Drop)]
+#[derive(Clone, Copy)]
 pub struct Kopecks(pub u64);
 
-#[derive(Drop)]
+#[derive(Clone, Copy)]
 pub enum Side {
     Buy,
     Sell,
 }
 
 // A best quote on a side.
-#[derive(Drop)]
+#[derive(Clone, Copy)]
 pub enum Quote {
     Absent,
     At(Steps),
 }
 
 // A live order.
-#[derive(Drop)]
+#[derive(Clone, Copy)]
 pub struct Order {
     pub id: u32,
     pub side: Side,
@@ -40,7 +40,7 @@ pub struct Order {
 }
 
 // A row of the programme's table: length is L, minimum M, share p; b counts price steps and is never negative.
-#[derive(Drop)]
+#[derive(Clone, Copy)]
 pub struct Row {
     pub expiry: u32,
     pub quantum: u32,
@@ -52,7 +52,7 @@ pub struct Row {
 }
 
 // What a strike's open takes in place of SP: a in tenths, the premium difference in price steps, the days, b in price steps.
-#[derive(Drop)]
+#[derive(Clone, Copy)]
 pub struct Strike {
     pub a: u32,
     pub difference: u32,
@@ -61,21 +61,21 @@ pub struct Strike {
 }
 
 // What a quantum's spread limit depends on: SP, beside the row's a and b, or a strike's four numbers.
-#[derive(Drop)]
+#[derive(Clone, Copy)]
 pub enum SpreadRule {
     Settled(Steps),
     OfStrike(Strike),
 }
 
 // What open is given besides the row and the day: what the spread limit depends on, and the lapse limit.
-#[derive(Drop)]
+#[derive(Clone, Copy)]
 pub struct Opening {
     pub spread: SpreadRule,
     pub allowed: u32,
 }
 
 // A cell of the month: kept is K, length L, share p, allowed the lapse limit, lapses their count, active A, passive P.
-#[derive(Drop)]
+#[derive(Clone, Copy)]
 pub struct Cell {
     pub filled: bool,
     pub kept: Millis,
@@ -87,7 +87,7 @@ pub struct Cell {
     pub passive: Kopecks,
 }
 
-#[derive(Drop)]
+#[derive(Clone, Copy)]
 pub enum Event {
     Add {
         t: Millis,
@@ -117,7 +117,7 @@ pub enum Event {
 }
 
 // What an amend, an ask and a commit name.
-#[derive(Drop)]
+#[derive(Clone, Copy)]
 pub struct Amendment {
     pub t: Millis,
     pub id: u32,
@@ -126,14 +126,14 @@ pub struct Amendment {
 }
 
 // What an ask gives and a commit takes: the amendment and the month's count of accepted calls.
-#[derive(Drop)]
+#[derive(Clone, Copy)]
 pub struct Ticket {
     pub amendment: Amendment,
     pub count: u64,
 }
 
 // Why a call is refused, in the order of the numbers 1 to 21.
-#[derive(Drop)]
+#[derive(Clone, Copy)]
 pub enum Refusal {
     RowNotSevenWords,
     RowWordOutOfRange,
@@ -159,14 +159,14 @@ pub enum Refusal {
 }
 
 // The answer of a call that shows nothing when it is accepted.
-#[derive(Drop)]
+#[derive(Clone, Copy)]
 pub enum Answer {
     Accepted,
     Refused(Refusal),
 }
 
 // A filled cell with its verdict and weight.
-#[derive(Drop)]
+#[derive(Clone, Copy)]
 pub struct CellView {
     pub cell: Cell,
     pub met: bool,
@@ -174,14 +174,14 @@ pub struct CellView {
 }
 
 // The answer of look.
-#[derive(Drop)]
+#[derive(Clone, Copy)]
 pub enum Looked {
     Found(CellView),
     Refused(Refusal),
 }
 
 // Both best quotes after the amendment that was asked about, and its ticket.
-#[derive(Drop)]
+#[derive(Clone, Copy)]
 pub struct Preview {
     pub bid: Quote,
     pub ask: Quote,
@@ -189,14 +189,14 @@ pub struct Preview {
 }
 
 // The answer of ask.
-#[derive(Drop)]
+#[derive(Clone, Copy)]
 pub enum Asked {
     Shown(Preview),
     Refused(Refusal),
 }
 
 // The answer of report: it is never refused. The six failure counts are those of expiry 1, quantum 0, 1, 2, then expiry 2.
-#[derive(Drop)]
+#[derive(Clone, Copy)]
 pub struct Report {
     pub running: bool,
     pub time: Millis,
@@ -210,14 +210,14 @@ pub struct Report {
 }
 
 // A number of milliseconds, or a time, where there is one.
-#[derive(Drop)]
+#[derive(Clone, Copy)]
 pub enum Possible {
     Never,
     At(Millis),
 }
 
 // How many lapses more the lapse limit allows: any number, none even of those that were, or so many.
-#[derive(Drop)]
+#[derive(Clone, Copy)]
 pub enum LapsesLeft {
     Unlimited,
     Over,
@@ -227,7 +227,7 @@ pub enum LapsesLeft {
 // The outlook on an open quantum: how many milliseconds must still be kept, and how many are left; the latest time until which nothing
 // need be kept; how many must still be kept for the full weight; the lapses left; whether the cell is met if nothing more is kept, and
 // whether it is failed whatever comes; the weights if nothing more is kept, and if all that is left is.
-#[derive(Drop)]
+#[derive(Clone, Copy)]
 pub struct Outlook {
     pub need: Millis,
     pub left: Millis,
@@ -241,28 +241,28 @@ pub struct Outlook {
 }
 
 // The answer of outlook.
-#[derive(Drop)]
+#[derive(Clone, Copy)]
 pub enum OutlookAnswer {
     Shown(Outlook),
     Refused(Refusal),
 }
 
 // A row read from words.
-#[derive(Drop)]
+#[derive(Clone, Copy)]
 pub enum RowRead {
     Read(Row),
     Refused(Refusal),
 }
 
 // An event read from a record.
-#[derive(Drop)]
+#[derive(Clone, Copy)]
 pub enum RecordRead {
     Read(Event),
     Refused(Refusal),
 }
 
 // The answer of a session run: K, w and the number of pairs, or a refusal and its place.
-#[derive(Drop)]
+#[derive(Clone, Copy)]
 pub enum SessionAnswer {
     Finished {
         kept: Millis,
@@ -276,7 +276,7 @@ pub enum SessionAnswer {
 }
 
 // A time to the millisecond, as FIX writes it.
-#[derive(Drop)]
+#[derive(Clone, Copy)]
 pub struct Timestamp {
     pub year: u32,
     pub month: u32,

@@ -22,7 +22,7 @@ use clock::{Clock, Duty};
 use rules::{Millis, Refusal, Row, RowRead, SpreadRule};
 
 // The milliseconds of each state.
-#[derive(Drop)]
+#[derive(Clone, Copy)]
 pub struct Times {
     pub kept: Millis,
     pub no_bid: Millis,
@@ -33,14 +33,14 @@ pub struct Times {
 }
 
 // The answer of an account run: the milliseconds of each state and the number of stretches, or a refusal and its place.
-#[derive(Drop)]
+#[derive(Clone, Copy)]
 pub enum AccountAnswer {
     Finished { times: Times, stretches: u32 },
     Refused { refusal: Refusal, place: u32 },
 }
 
 // The stretches so far: how many, where the last one starts, its state's word (6 with none), and the milliseconds of each state.
-#[derive(Drop)]
+#[derive(Clone, Copy)]
 struct Marks {
     stretches: u32,
     start: u32,
@@ -49,14 +49,14 @@ struct Marks {
 }
 
 // A run so far.
-#[derive(Drop)]
+#[derive(Clone, Copy)]
 struct Progress {
     clock: Clock,
     marks: Marks,
 }
 
 // What a record hands back: the run after it, and the refusal's number or 0.
-#[derive(Drop)]
+#[derive(Clone, Copy)]
 struct ProgressAfter {
     progress: Progress,
     refusal: u32,

@@ -15,14 +15,14 @@ use kept_pairs::Marks;
 use rules::{Refusal, Row, RowRead, SessionAnswer, SpreadRule, Steps};
 
 // A run so far.
-#[derive(Drop)]
+#[derive(Clone, Copy)]
 struct Progress {
     clock: Clock,
     marks: Marks,
 }
 
 // What a record hands back: the run after it, and the refusal's number or 0.
-#[derive(Drop)]
+#[derive(Clone, Copy)]
 struct ProgressAfter {
     progress: Progress,
     refusal: u32,

@@ -13,7 +13,7 @@ ghost use Rattle.sigma.specs.Internal.{lifted, lowered, risen, fallen, change_sh
 use rules::Steps;
 
 // The R of a day, raised; or none where the previous price is zero or R is beyond 1,000,000.
-#[derive(Drop)]
+#[derive(Clone, Copy)]
 pub enum Change {
     Unusable,
     By(u32),
@@ -146,7 +146,7 @@ pub fn sigma(a: u32, b: u32, c: u32) -> u32
 }
 
 // The sigma of the last of some prices, or none.
-#[derive(Drop)]
+#[derive(Clone, Copy)]
 pub enum SigmaAnswer {
     Absent,
     Of(u32),

@@ -14,7 +14,7 @@ ghost use Rattle.small_side.specs.Internal.{Descending, four, level_in};
 use rules::Contracts;
 
 // The best key, 0 where no price qualifies, and for how many orders volumes were added up.
-#[derive(Drop)]
+#[derive(Clone, Copy)]
 pub struct KeyFound {
     pub key: u32,
     pub sums: u32,

@@ -19,21 +19,21 @@ ghost use Rattle.standing.specs.Internal.{measured, asked_at, ready_of};
 use standing_rules::{Answer, Asked, Checked, Maker, Seen};
 
 // How many calls a list of words has, and whether it is a list of calls.
-#[derive(Drop)]
+#[derive(Clone, Copy)]
 struct Measured {
     calls: usize,
     whole: bool,
 }
 
 // What a list of calls hands back: the count, and whether it ran.
-#[derive(Drop)]
+#[derive(Clone, Copy)]
 pub struct Ran {
     pub count: usize,
     pub fits: bool,
 }
 
 // How many calls run, all or none.
-#[derive(Drop)]
+#[derive(Clone, Copy)]
 struct Ready {
     calls: usize,
     fits: bool,

@@ -11,7 +11,7 @@ ghost use Rattle.standing_rules.specs.Calls.{Join, Change, Leave, call_of, stand
 use standing_rules::{Answer, Asked, Maker};
 
 // The records after a call, and its answer.
-#[derive(Drop)]
+#[derive(Clone, Copy)]
 pub struct Left {
     pub records: [Maker; 512],
     pub answer: Answer,

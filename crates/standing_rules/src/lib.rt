@@ -9,14 +9,14 @@ ghost use Rattle.standing_rules.specs.Calls.{call_of};
 ghost use Rattle.standing_rules.specs.Internal.{look_of, back_to, marked, is_behind, check_of, nearer, record_of, judged, accepted, planned};
 
 #[repr(C)]
-#[derive(Drop)]
+#[derive(Clone, Copy)]
 pub struct Maker {
     pub number: u32,
     pub rating: u32,
 }
 
 // A call as three words: the kind, 1 join, 2 change, any other leave; the maker's number; the rating, which a leave does not use.
-#[derive(Drop)]
+#[derive(Clone, Copy)]
 pub struct Asked {
     pub kind: u32,
     pub number: u32,
@@ -24,7 +24,7 @@ pub struct Asked {
 }
 
 // What a call answers: the count after it, and 0 or the refusal's number. Refused, the count is the one given.
-#[derive(Drop)]
+#[derive(Clone, Copy)]
 pub struct Answer {
     pub count: usize,
     pub refusal: u32,
@@ -32,7 +32,7 @@ pub struct Answer {
 
 // What is found of a record among used ones: whether the maker is present, and at which place; how many records of other makers stand
 // above it.
-#[derive(Drop)]
+#[derive(Clone, Copy)]
 pub struct Seen {
     pub present: bool,
     pub at: usize,
@@ -40,14 +40,14 @@ pub struct Seen {
 }
 
 // What is found of the order of used records: whether each stands behind the one before it, no maker twice; the last of them.
-#[derive(Drop)]
+#[derive(Clone, Copy)]
 pub struct Checked {
     pub good: bool,
     pub last: Maker,
 }
 
 // What a call does: the record leaves the place `from`, and stands at `to`; the new count. Refused, nothing moves.
-#[derive(Drop)]
+#[derive(Clone, Copy)]
 pub struct Plan {
     pub from: usize,
     pub to: usize,

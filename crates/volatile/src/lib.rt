@@ -12,7 +12,7 @@ use numbers::both;
 use ranges::at_most;
 use sigma::Change;
 
-#[derive(Drop)]
+#[derive(Clone, Copy)]
 pub enum DayAnswer {
     Inside,
     Outside,
@@ -20,7 +20,7 @@ pub enum DayAnswer {
 }
 
 // The last thirty sigmas in a ring, the number of sigmas so far, and the sum of the thirty.
-#[derive(Drop)]
+#[derive(Clone, Copy)]
 struct Window {
     recent: [u32; 30],
     day: usize,
@@ -28,7 +28,7 @@ struct Window {
 }
 
 // Whether the day is in a period; if so, the period's first day and its average.
-#[derive(Drop)]
+#[derive(Clone, Copy)]
 struct Phase {
     inside: bool,
     first: usize,
@@ -36,7 +36,7 @@ struct Phase {
 }
 
 // The last two R, raised, with the days so far.
-#[derive(Drop)]
+#[derive(Clone, Copy)]
 struct State {
     older: u32,
     newer: u32,
