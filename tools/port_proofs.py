@@ -1,0 +1,262 @@
+#!/usr/bin/env python3
+"""Turns a function's proof of the older form (a Proof.antt of steps that come one before the other) to Invariants.antt and Answers.antt.
+
+    port_proofs.py CRATE NAMES.json COMMIT [FUNCTION ..]
+
+NAMES.json is what `rt check --generated FOLDER --old-names` wrote for the crate; the old proofs are read from COMMIT. An answer that only searches
+is left out, since the check searches by itself. What it cannot turn it leaves as it was, for a hand.
+"""
+
+import json
+import re
+import subprocess
+import sys
+from pathlib import Path
+
+PATH = r"[\w\-'◌·]+(?:\.[\w\-'◌·]+)*"
+HEAD = re.compile(r"^((?:abbrev |unfoldable |pub )*)([A-Za-z][\w'◌\-]*)(?: \(.*?\)| \{.*?\})* :(?: |$)")
+
+
+def blocks(text):
+    """The file's imports, and each declaration: (comment, name, signature lines, other lines)"""
+    imports, decls, comment, current = [], [], [], None
+    for line in text.split("\n"):
+        if line.startswith("use "):
+            imports.append(line)
+        elif line.startswith("--"):
+            comment.append(line)
+            current = None
+        elif not line.strip():
+            continue
+        elif HEAD.match(line) or re.match(r"(data|record|module|mutual|pub (data|record)|ruleset|infix)", line):
+            m = HEAD.match(line)
+            current = {"comment": comment, "name": m[2] if m else None, "lines": [line]}
+            decls.append(current)
+            comment = []
+        elif current:
+            current["lines"].append(line)
+        else:
+            imports.append(line)
+    return imports, decls, comment
+
+
+def arguments(text):
+    """The arguments of `tie.spec`, in order"""
+    at = text.index("tie.spec") + len("tie.spec")
+    out, depth, word = [], 0, ""
+    for ch in text[at:]:
+        if ch in " \n" and not depth:
+            if word:
+                out.append(word)
+            word = ""
+        elif ch == ")" and not depth:
+            break
+        else:
+            depth += (ch == "(") - (ch == ")")
+            word += ch
+    if word:
+        out.append(word)
+    return out
+
+
+def same(name):
+    """a name without the difference between its older spellings"""
+    return name.replace("-", "_")
+
+
+class Names:
+    """What the steps and goals of one function are called now."""
+
+    def __init__(self, row):
+        self.row = row
+        self.places = {p[0]: (i, p) for i, p in enumerate(row["places"])}
+        self.needs = {same(old): (new, at[0]) for (old, new), at in zip(row["needs"], row["asked_at"])}
+        self.order = [old for old, _ in row["needs"]]
+        self.missed = []
+
+    def step(self, place, parts):
+        """parts of a path from the place on, as today's path from `c`"""
+        while parts and parts[0] == "before":
+            place = self.places[place][1][1] if place in self.places else None
+            if place is None:
+                self.missed.append(".".join(parts))
+                return None, parts
+            parts = parts[1:]
+        if not parts:
+            return place, []
+        if parts[0] in ("args", "requires", "lifetimes", "ranges", "type_inv", "well_formed"):
+            return None, parts
+        at = place
+        while at:
+            i, p = self.places[at]
+            arm = self.row["arms"][i]
+            if arm:
+                for new, step, path in arm[2]:
+                    if same(parts[0]) == same(step) and path and parts[1 : 1 + len(path)] == path:
+                        return None, [arm[0], new] + self.clause(i, [new] + parts[1 + len(path) :])[1:]
+            if same(p[2][0]) == same(parts[0]):
+                if arm:
+                    for new, step, path in arm[2]:
+                        if same(parts[0]) == same(step) and not path:
+                            return None, [arm[0], new] + parts[1:]
+                rest = parts[1:]
+                if rest:
+                    for old, new in p[4]:
+                        if rest[0] == old:
+                            rest = [new] + rest[1:]
+                            break
+                return None, [p[2][1]] + self.clause(i, rest)
+            at = p[1]
+        self.missed.append(".".join(parts))
+        return None, parts
+
+    def clause(self, i, rest):
+        fields = (self.row["clauses"][i] or {}).get("fields") or []
+        if rest and rest[0] == "ensures" and len(fields) == 1 and (len(rest) < 2 or rest[1] != fields[0]):
+            return ["ensures", fields[0]] + rest[1:]
+        return rest
+
+
+def turned(body, names, place, var="c"):
+    """The body of an answer, with today's paths"""
+    aliases = {var: place}
+    # a variable bound to a bare place goes; what is bound to a path keeps its name
+    bound = re.compile(r"let ([\w\-'₀]+) = (%s) in\s*" % PATH)
+    while True:
+        for m in bound.finditer(body):
+            parts = m[2].split(".")
+            if parts[0] in aliases and all(p == "before" for p in parts[1:]):
+                at, _ = names.step(aliases[parts[0]], parts[1:]) if parts[1:] else (aliases[parts[0]], [])
+                aliases[m[1]] = at
+                body = body[: m.start()] + body[m.end() :]
+                break
+        else:
+            break
+
+    def one(m):
+        parts = m[0].split(".")
+        if parts[0] not in aliases or len(parts) == 1:
+            return m[0]
+        at, rest = names.step(aliases[parts[0]], parts[1:])
+        return ".".join([var] + rest) if rest else var
+
+    return re.sub(r"(?<![\w\-'.◌])" + PATH, one, body)
+
+
+def loops(row, kind, old, lines, goal):
+    """An invariant or a measure of the older form, over `l`"""
+    m = re.match(r"(?:abbrev )?(\S+) ([^=]*?) ?=", lines[0])
+    text = "\n".join(lines)
+    args = m[2].split()
+    body = text[m.end() :]
+    label = old.split("_", 1)[1]
+    for k, ((was, now), variables) in enumerate(row["loops"]):
+        if was != label and not (was == "loop" and label == "loop"):
+            continue
+        changed = row["changed"][k]
+        values = [("l.initial." if c else "l.") + v for v, c in zip(variables, changed)] + ["l." + v for v, c in zip(variables, changed) if c]
+        if len(values) != len(args):
+            return None
+        table = dict(zip(args, values))
+        body = re.sub(r"(?<![\w\-'.◌])([A-Za-z][\w\-'₀]*)", lambda w: table.get(w[1], w[1]), body)
+        name = f"{kind}-{now}"
+        return name, f"abbrev pub {name} : {goal}.{name}\n{name} l ={body}"
+    return None
+
+
+def turn(crate, function, old, row):
+    imports, decls, _ = blocks(old)
+    names = Names(row)
+    spec = next(d for d in decls if "tie.spec" in "\n".join(d["lines"]))
+    args = arguments("\n".join(spec["lines"]))
+    first = len(args) - len(names.order)
+    needed = dict(zip(args[first:], names.order)) if first >= 0 else {}
+    inline = list(zip(args[first:], names.order)) if first >= 0 else []
+    imports = [i for i in imports if not re.search(r"\.(Statement\.\{|Tie as )", i)]
+    answers, invariants, kept, bad = [], [], [], []
+
+    def answer(need, unfold, params, body):
+        found = names.needs.get(same(need)) or names.needs.get(same(need).removeprefix("overflow_"))
+        if not found:
+            bad.append(f"no goal is called {need} now")
+            return
+        new, place = found
+        if re.fullmatch(r"\s*\(?\s*search (rules|needs)\s*\)?\s*", body):
+            return
+        out = f"pub {new} : goal.{new}\n" + "".join(u + "\n" for u in unfold)
+        answers.append(out + f"{new} c =" + turned(body, names, place, params[0]).replace("\n\n", "\n"))
+
+    for d in decls:
+        text = "\n".join(d["lines"])
+        if d is spec:
+            continue
+        m = re.search(r": tie\.Need-([\w\-]+)", text)
+        loop = re.search(r": tie\.(invariant|decreases)_(\w+)", text)
+        if m:
+            signature = next(i for i, l in enumerate(d["lines"]) if re.match(re.escape(d["name"]) + r"(?: [\w'₀κ]+)* =", l))
+            unfold = [l for l in d["lines"][:signature] if l.startswith("unfolding")]
+            head = re.match(re.escape(d["name"]) + r"((?: [\w'κ₀]+)*) =", d["lines"][signature])
+            params = head[1].split() or ["c"]
+            body = d["lines"][signature][head.end() :] + "".join("\n" + l for l in d["lines"][signature + 1 :])
+            answer(m[1], unfold, params, body)
+        elif loop:
+            i = next(i for i, l in enumerate(d["lines"]) if re.match(re.escape(d["name"]) + r"(?: [^:]*)? =", l))
+            got = loops(row, loop[1], f"{loop[1]}_{loop[2]}", d["lines"][i:], "goal")
+            if got:
+                invariants.append(got[1])
+            else:
+                bad.append(f"the loop of {d['name']}")
+        elif d["name"] != spec["name"]:
+            kept.append("\n".join(d["comment"] + d["lines"]))
+    for arg, need in inline:
+        m = re.match(r"\(\s*λ ([\wκ' ]+)\.\s*(.*)\)$", arg, re.S)
+        if m:
+            params = m[1].split()
+            body = m[2]
+            more = re.match(r"λ ([\wκ' ]+)\.\s*(.*)$", body, re.S)
+            answer(need, [], params, " " + body)
+    first = old.split("\n")[0]
+    top = (first + "\n") if first.startswith("--") else ""
+    path = function.replace("/", ".")
+    out = {}
+    if invariants:
+        out["Invariants.antt"] = top + "\n".join(imports) + f"\nuse Rattle.{crate}.proofs.{path}.Given as goal\n\n" + "\n\n".join(invariants) + "\n"
+    if answers:
+        out["Answers.antt"] = top + "\n".join(imports) + f"\nuse Rattle.{crate}.proofs.{path}.Goals as goal\n\n" + "\n\n".join(kept + answers) + "\n"
+    return out, bad + [f"a step is not there now: {m}" for m in names.missed]
+
+
+def git(*words):
+    return subprocess.run(["git", *words], stdout=subprocess.PIPE, text=True, check=True).stdout
+
+
+def main():
+    crate, rows, commit, *chosen = sys.argv[1:]
+    with open(rows, encoding="utf-8") as f:
+        table = json.load(f)
+    base = f"crates/{crate}/proofs/"
+    for path in git("ls-tree", "-r", "--name-only", commit, "--", base).split("\n"):
+        if not path.endswith("/Proof.antt"):
+            continue
+        function = path[len(base) : -len("/Proof.antt")]
+        if chosen and function not in chosen and function.split("/")[-1] not in chosen:
+            continue
+        row = table.get(f"Rattle-{crate}-proofs.{function.replace('/', '.')}.Lts")
+        old = git("show", f"{commit}:{path}")
+        if not row or "tie.spec" not in old:
+            print(f"{function}: by hand ({'no names' if not row else 'walked by hand'})")
+            continue
+        try:
+            out, bad = turn(crate, function, old, row)
+        except Exception as e:
+            print(f"{function}: by hand ({type(e).__name__} {e})")
+            continue
+        for name, text in out.items():
+            to = Path(base) / function / name
+            to.parent.mkdir(parents=True, exist_ok=True)
+            to.write_text(text, encoding="utf-8")
+        for line in bad:
+            print(f"{function}: {line}")
+
+
+main()
