@@ -9,14 +9,8 @@ top="$(git rev-parse --show-toplevel)"
 cd "$top/crates/$crate" || exit 2
 rt fmt > /dev/null 2>&1
 rm -rf "/tmp/port/$crate.names"
-rt check > "/tmp/port/$crate.first" 2>&1
-if ! grep -q '^logic=proved' "/tmp/port/$crate.first"; then
-    rt check --generated "/tmp/port/$crate.names" --old-names > "/tmp/port/$crate.generated" 2>&1
-    left="$(sed -n 's/^fn \(\S*\): \(no proof\|not proved\).*/\1/p' "/tmp/port/$crate.first" | sed "s/^$crate:://; s/::/\//g")"
-    (cd "$top" && python3 tools/port_proofs.py "$crate" "/tmp/port/$crate.names/names.json" "$commit" $left) > "/tmp/port/$crate.turned" 2>&1
-    rt fmt > /dev/null 2>&1
-    rt check > "/tmp/port/$crate.log" 2>&1
-else
-    cp "/tmp/port/$crate.first" "/tmp/port/$crate.log"
-fi
+rt check --generated "/tmp/port/$crate.names" --old-names > "/tmp/port/$crate.generated" 2>&1
+(cd "$top" && python3 tools/port_proofs.py "$crate" "/tmp/port/$crate.names/names.json" "$commit") > "/tmp/port/$crate.turned" 2>&1
+rt fmt > /dev/null 2>&1
+rt check > "/tmp/port/$crate.log" 2>&1
 echo "$crate: $(grep -c ': proved$' "/tmp/port/$crate.log") proved, $(grep -cE '^fn .*: (no proof|not proved)' "/tmp/port/$crate.log") left; $(tail -n 40 "/tmp/port/$crate.log" | grep '^logic=' | cut -c1-20)"

@@ -28,7 +28,7 @@ def blocks(text):
             current = None
         elif not line.strip():
             continue
-        elif HEAD.match(line) or re.match(r"(data|record|module|mutual|pub (data|record)|ruleset|infix)", line):
+        elif HEAD.match(line) or re.match(r"(pub )?(data|record|module|mutual|ruleset|infix[lr]?) ", line):
             m = HEAD.match(line)
             current = {"comment": comment, "name": m[2] if m else None, "lines": [line]}
             decls.append(current)
@@ -61,7 +61,7 @@ def arguments(text):
 
 def same(name):
     """a name without the difference between its older spellings"""
-    return name.replace("-", "_")
+    return name.replace("-", "_").lower()
 
 
 class Names:
@@ -84,7 +84,15 @@ class Names:
             parts = parts[1:]
         if not parts:
             return place, []
+        if parts[0].endswith("_lem"):
+            parts = [parts[0].removesuffix("_lem")] + parts[1:]
+        if parts[0] == "type-inv":
+            parts = ["type_inv"] + parts[1:]
         if parts[0] in ("args", "requires", "lifetimes", "ranges", "type_inv", "well_formed"):
+            for old, new in self.row["args"]:
+                words = [w.lstrip(".") for w in old.split()]
+                if parts[: len(words)] == words:
+                    parts = [w.lstrip(".") for w in new.split()] + parts[len(words) :]
             return None, parts
         at = place
         while at:
@@ -99,7 +107,13 @@ class Names:
                     for new, step, path in arm[2]:
                         if same(parts[0]) == same(step) and not path:
                             return None, [arm[0], new] + parts[1:]
-                rest = parts[1:]
+                rest = ["type_inv" if w == "type-inv" else w for w in parts[1:]]
+                if rest and (p[2][0].startswith("if") or p[2][0].endswith("test")):
+                    rest[0] = {"taken": "true", "left": "false"}.get(rest[0], rest[0])
+                if len(rest) > 1 and rest[0] == "new" and re.fullmatch(r"[01]", rest[1]) and p[3] in self.row["params"]:
+                    k = next((k for k, w in enumerate(rest[1:]) if w == "0"), 0)
+                    if k < len(self.row["params"][p[3]]):
+                        rest = ["new", self.row["params"][p[3]][k]] + rest[k + 2 :]
                 if rest:
                     for old, new in p[4]:
                         if rest[0] == old:
@@ -119,25 +133,30 @@ class Names:
 
 def turned(body, names, place, var="c"):
     """The body of an answer, with today's paths"""
-    aliases = {var: place}
-    # a variable bound to a bare place goes; what is bound to a path keeps its name
+    aliases = {var: (place, [])}
+    # a variable bound to a bare place goes, or to what a match gave; what is bound to another path keeps its name
     bound = re.compile(r"let ([\w\-'₀]+) = (%s) in\s*" % PATH)
-    while True:
+    again = True
+    while again:
+        again = False
         for m in bound.finditer(body):
             parts = m[2].split(".")
-            if parts[0] in aliases and all(p == "before" for p in parts[1:]):
-                at, _ = names.step(aliases[parts[0]], parts[1:]) if parts[1:] else (aliases[parts[0]], [])
-                aliases[m[1]] = at
+            if parts[0] not in aliases:
+                continue
+            at, before = aliases[parts[0]]
+            parts = before + parts[1:]
+            if all(p == "before" for p in parts) or "given" in parts or "match" in parts:
+                aliases[m[1]] = (at, parts)
                 body = body[: m.start()] + body[m.end() :]
+                again = True
                 break
-        else:
-            break
 
     def one(m):
         parts = m[0].split(".")
-        if parts[0] not in aliases or len(parts) == 1:
+        if parts[0] not in aliases or (len(parts) == 1 and not aliases[parts[0]][1]):
             return m[0]
-        at, rest = names.step(aliases[parts[0]], parts[1:])
+        place, before = aliases[parts[0]]
+        at, rest = names.step(place, before + parts[1:])
         return ".".join([var] + rest) if rest else var
 
     return re.sub(r"(?<![\w\-'.◌])" + PATH, one, body)
@@ -162,6 +181,11 @@ def loops(row, kind, old, lines, goal):
         name = f"{kind}-{now}"
         return name, f"abbrev pub {name} : {goal}.{name}\n{name} l ={body}"
     return None
+
+
+def used(shared, crate, path, text):
+    names = [n for n, _ in shared if re.search(r"(?<![\w\-'.])%s(?![\w\-'])" % re.escape(n), text)]
+    return f"use Rattle.{crate}.proofs.{path}.Invariants.{{{', '.join(names)}}}\n" if names else ""
 
 
 def turn(crate, function, old, row):
@@ -208,6 +232,12 @@ def turn(crate, function, old, row):
                 bad.append(f"the loop of {d['name']}")
         elif d["name"] != spec["name"]:
             kept.append("\n".join(d["comment"] + d["lines"]))
+            at = re.search(r"\(([\w']+) : tie\.([\w\-]+)", text)
+            if at:
+                place = next((p[0] for p in row["places"] if same(p[0]) == same(at[2])), None)
+                new = dict(zip([same(p[0]) for p in row["places"]], row["places_by_name"]))
+                words = re.sub(r"tie\.([\w\-]+)", lambda w: "goal." + new.get(same(w[1]), w[1]), kept[-1])
+                kept[-1] = turned(words, names, place, at[1]) if place else words
     for arg, need in inline:
         m = re.match(r"\(\s*λ ([\wκ' ]+)\.\s*(.*)\)$", arg, re.S)
         if m:
@@ -215,6 +245,15 @@ def turn(crate, function, old, row):
             body = m[2]
             more = re.match(r"λ ([\wκ' ]+)\.\s*(.*)$", body, re.S)
             answer(need, [], params, " " + body)
+    # what an invariant names of the file is beside it
+    text, shared = "\n".join(invariants), []
+    for block in reversed(kept):
+        m = re.search(r"^((?:abbrev |unfoldable |pub )+)([A-Za-z][\w'◌\-]*)", block, re.M)
+        if m and "abbrev" in m[1] + m[0] and re.search(r"(?<![\w\-'])%s(?![\w\-'])" % re.escape(m[2]), text):
+            shared.insert(0, (m[2], block.replace(m[0], "abbrev pub " + m[2], 1)))
+            kept.remove(block)
+            text += block
+    invariants = [b for _, b in shared] + invariants
     first = old.split("\n")[0]
     top = (first + "\n") if first.startswith("--") else ""
     path = function.replace("/", ".")
@@ -222,7 +261,7 @@ def turn(crate, function, old, row):
     if invariants:
         out["Invariants.antt"] = top + "\n".join(imports) + f"\nuse Rattle.{crate}.proofs.{path}.Given as goal\n\n" + "\n\n".join(invariants) + "\n"
     if answers:
-        out["Answers.antt"] = top + "\n".join(imports) + f"\nuse Rattle.{crate}.proofs.{path}.Goals as goal\n\n" + "\n\n".join(kept + answers) + "\n"
+        out["Answers.antt"] = top + "\n".join(imports) + f"\nuse Rattle.{crate}.proofs.{path}.Goals as goal\n" + used(shared, crate, path, "\n".join(kept + answers)) + "\n" + "\n\n".join(kept + answers) + "\n"
     return out, bad + [f"a step is not there now: {m}" for m in names.missed]
 
 

@@ -9,4 +9,4 @@ use Rattle.rules.specs.Records.{signed_of}
 use Rattle.words.proofs.Complement.{signed_fits}
 
 pub read_is : (w v : ℕ) (z : ℤ) → w < 4294967296 → z ≡ signed_of w → w ≡ v → to_z w32 (of_z w32 z) ≡ signed_of v
-read_is w v z h e f = ap (λ (x : ℤ). to_z w32 (of_z w32 x)) e ∙ to_z-of_z (record { sfits = signed_fits w h }) ∙ ap signed_of f
+read_is w v z h e f = ap (λ (x : ℤ). to_z w32 (of_z w32 x)) e ∙ to_z-of_z {w = w32} (record { sfits = signed_fits w h }) ∙ ap signed_of f

@@ -197,17 +197,17 @@ stays b (q ∷ qs) i f h = stays (filed_by b q) qs i f.1 (ap (λ (c : Cell). c.f
     other = elsewhere b q i (λ e. true≢false (sym h ∙ ap (λ (k : ℕ). (cell_at b.cells k).filled) (sym e) ∙ f.0.blank))
 
 -- each quantum's place holds its cell
-lands : (b : Book) {q : Whole} {qs : List Whole} → length b.cells ≡ 186 → Fits b qs → Memᴰ q qs
+lands : {q : Whole} {qs : List Whole} (b : Book) → length b.cells ≡ 186 → Fits b qs → Memᴰ q qs
     → cell_at (filed_all b qs).cells (place_in q) ≡ cell_in q
 unfolding filed_all
-lands b {q} l f (Memᴰ.head {x = p} {xs = qs} e) = subst (λ (x : Whole). cell_at (filed_all (filed_by b p) qs).cells (place_in x) ≡ cell_in x) (sym e) (kept ∙ put)
+lands {q} b l f (Memᴰ.head {x = p} {xs = qs} e) = subst (λ (x : Whole). cell_at (filed_all (filed_by b p) qs).cells (place_in x) ≡ cell_in x) (sym e) (kept ∙ put)
   where
     put : cell_at (filed_by b p).cells (place_in p) ≡ cell_in p
     put = get_or-set_same b.cells (place_in p) (cell_in p) blank_cell (omega (arith, f.0.inside, l))
 
     kept : cell_at (filed_all (filed_by b p) qs).cells (place_in p) ≡ cell_at (filed_by b p).cells (place_in p)
     kept = stays (filed_by b p) qs (place_in p) f.1 (ap (λ (c : Cell). c.filled) put)
-lands b {q} l f (Memᴰ.tail {x = p} {xs = qs} m) = lands (filed_by b p) (filed_length b p ∙ l) f.1 m
+lands {q} b l f (Memᴰ.tail {x = p} {xs = qs} m) = lands (filed_by b p) (filed_length b p ∙ l) f.1 m
 
 -- a place that none names is as it was
 untouched : (b : Book) (qs : List Whole) (i : ℕ) → ((q : Whole) → Memᴰ q qs → place_in q ≢ i)

@@ -33,7 +33,7 @@ module _ (w : ℕ) where
 -- a price read from the list, by way of the word that represents it
 pub word_is : (p : ℤ) (w : ℕ) → mag p < 2147483648 → w ≡ unsigned_of (to_z w32 (of_z w32 p)) → signed_of w ≡ p
 word_is p w f e =
-    ap signed_of e ∙ ap (λ (z : ℤ). signed_of (unsigned_of z)) (to_z-of_z (record { sfits = f })) ∙ signed_unsigned p f
+    ap signed_of e ∙ ap (λ (z : ℤ). signed_of (unsigned_of z)) (to_z-of_z {w = w32} (record { sfits = f })) ∙ signed_unsigned p f
 
 -- the difference of two prices is that of the raised ones
 as_sub : (p : ℤ) → mag p < 2147483648 → p ≡ sub_ℕ (lifted p) 2147483648

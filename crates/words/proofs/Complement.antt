@@ -63,7 +63,7 @@ module _ (w : ℕ) (least : 2147483648 ≤ w) where
 
 module _ (x : ℤ) (fits : mag x < 2147483648) where
   same : again x ≡ x
-  same = to_z-of_z (record { sfits = fits })
+  same = to_z-of_z {w = w32} (record { sfits = fits })
 
   same_test : {b : Bool} → le_z (pos 0) (again x) ≡ b → le_z (pos 0) x ≡ b
   same_test t = rw same at t

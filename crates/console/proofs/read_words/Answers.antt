@@ -1,0 +1,38 @@
+-- The words before the place are read, and the rest is as it was. The measure is the number of words left.
+use Prim.Native.Nat.{ℕ, ◌+◌, ◌-◌, ◌*◌, ◌≤◌}
+use native.Mathlib.Omega.{arith}
+use mathlib.Core.Path.{◌≡◌, refl, ap, ◌∙◌}
+use mathlib.Core.List.{List}
+use borrow.Author.Rules.{rules}
+use lib.ListN.{length}
+use Rattle.rules.specs.Records.{word_at}
+use Rattle.console.proofs.Filling.{filled, none_filled, one_more as again, all-filled as all, filled-length}
+use Rattle.console.proofs.read_words.Goals as goal
+
+-- The words before the place are read, and the rest is as it was. The measure is the number of words left.
+-- the value that is due at a place
+abbrev due : List ℕ → ℕ → ℕ → ℕ
+due bytes from i = word_at bytes (from + 4 * i)
+
+pub loop-i-init : goal.loop-i-init
+loop-i-init c = (omega arith, refl, none_filled (due c.args.bytes.now c.args.from) c.args.words.now)
+
+pub bounds-words-i : goal.bounds-words-i
+bounds-words-i c =
+    let l = c.loop-i in
+    omega (arith, l.invariant.1, ap length l.invariant.2 ∙ filled-length _ _ l.i (omega (arith, l.invariant.0, l.invariant.1)))
+
+pub loop-i-preserved : goal.loop-i-preserved
+loop-i-preserved c =
+    let l = c.loop-i in
+    let a = c.args in (
+      omega arith,
+      l.invariant.1,
+      again (due a.bytes.now a.from) 0 a.words.now l.words l.i _ (omega (arith, l.invariant.1)) l.invariant.2 c.word_at.ensures,
+    )
+
+pub returns : goal.returns
+returns c =
+    let l = c.loop-i in
+    let a = c.args in
+    l.invariant.2 ∙ all (due a.bytes.now a.from) a.words.now l.i (omega (arith, l.invariant.0, l.invariant.1))

@@ -1,0 +1,10 @@
+-- `standing_rules::is_behind` meets its contract: the first record follows none.
+use borrow.Author.Rules.{rules}
+use borrow.Author.Tests.{eq-eqb, ne_eqb}
+use Rattle.standing_rules.proofs.is_behind.Goals as goal
+
+pub returns-then-i-eq0 : goal.returns-then-i-eq0
+returns-then-i-eq0 c = simp (eq-eqb _ _ c.if-i-eq0.true)
+
+pub returns : goal.returns
+returns c = simp (ne_eqb _ _ c.if-i-eq0.false, c.is_above.ensures)

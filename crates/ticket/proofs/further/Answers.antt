@@ -1,0 +1,12 @@
+-- One more, or as it was.
+use mathlib.Core.Path.{ap, sym, ◌∙◌}
+use mathlib.Core.Bool.{Bool}
+use Rattle.lists.specs.Lists.{if◌then◌else◌}
+use Rattle.rules.specs.Changes.{following}
+use borrow.Author.Rules.{rules}
+use Rattle.ticket.proofs.further.Goals as goal
+
+pub returns-then-more : goal.returns-then-more
+returns-then-more c =
+    let a = c.args in
+    c.next.ensures ∙ ap (λ (b : Bool). if b then following a.count else a.count) (sym c.if-more.true)
