@@ -73,15 +73,24 @@ class Names:
         self.needs = {same(old): (new, at[0]) for (old, new), at in zip(row["needs"], row["asked_at"])}
         self.order = [old for old, _ in row["needs"]]
         self.missed = []
+        self.asked = None
 
     def step(self, place, parts):
         """parts of a path from the place on, as today's path from `c`"""
+        at = place
         while parts and parts[0] == "before":
-            place = self.places[place][1][1] if place in self.places else None
-            if place is None:
-                self.missed.append(".".join(parts))
-                return None, parts
+            at = self.places[at][1][1] if at in self.places else None
             parts = parts[1:]
+        found = self.found(at, parts) if at or not parts else None
+        if found is None and parts:
+            found = self.found(self.asked, parts)
+        if found is None:
+            if parts:
+                self.missed.append(".".join(parts))
+            return at or "Start", parts
+        return found
+
+    def found(self, place, parts):
         if not parts:
             return place, []
         if parts[0].endswith("_lem"):
@@ -121,11 +130,12 @@ class Names:
                             break
                 return None, [p[2][1]] + self.clause(i, rest)
             at = p[1]
-        self.missed.append(".".join(parts))
-        return None, parts
+        return None
 
     def clause(self, i, rest):
         fields = (self.row["clauses"][i] or {}).get("fields") or []
+        if len(rest) > 1 and rest[0] == "ensures" and len(fields) > 1 and rest[1].isdigit() and int(rest[1]) < len(fields):
+            return ["ensures", fields[int(rest[1])]] + rest[2:]
         if rest and rest[0] == "ensures" and len(fields) == 1 and (len(rest) < 2 or rest[1] != fields[0]):
             return ["ensures", fields[0]] + rest[1:]
         return rest
@@ -134,6 +144,7 @@ class Names:
 def turned(body, names, place, var="c"):
     """The body of an answer, with today's paths"""
     aliases = {var: (place, [])}
+    names.asked = place
     # a variable bound to a bare place goes, or to what a match gave; what is bound to another path keeps its name
     bound = re.compile(r"let ([\w\-'₀]+) = (%s) in\s*" % PATH)
     again = True
@@ -183,6 +194,56 @@ def loops(row, kind, old, lines, goal):
     return None
 
 
+def inlined(body, helpers, names, place, var, depth=0):
+    """The body with a `let` for each helper over a place that it calls"""
+    lets = ""
+    for name, (binder, kind, param, others, text, at) in helpers.items():
+        call = re.compile(r"(?<![\w\-'.])%s (%s(?:\.before)*)(?![\w.\-'])" % (re.escape(name), r"[\w\-']+"))
+        if depth < 4 and call.search(body):
+            inner = inlined(text, helpers, names, at, param, depth + 1)
+            value = turned(inner, names, at, param)
+            kind = turned(kind, names, at, binder)
+            lets += f"\n    let {name} : {kind} = " + (f"λ {' '.join(others)}. " if others else "") + value + " in"
+            body = call.sub(name, body)
+    return (lets + ("" if body.startswith("\n") else "\n   ") + body) if lets else body
+
+
+def ensured(crate, function):
+    """The names of the function's `ensures`, in order"""
+    name = function.split("/")[-1]
+    for path in sorted(Path(f"crates/{crate}/src").glob("*.rt")):
+        m = re.search(r"\bfn %s\b(?:<[^>]*>)?\(.*?\n(?=\{|    \{\n)" % re.escape(name), path.read_text(encoding="utf-8"), re.S)
+        if m:
+            return re.findall(r"^\s+ensures (\w+) \{", m[0], re.M)
+    return []
+
+
+def as_record(body, clauses):
+    """A tuple at the end of an answer as a record of the clauses"""
+    text = body.rstrip()
+    if not text.endswith(")"):
+        return body
+    depth, start = 0, None
+    for i in range(len(text) - 1, -1, -1):
+        depth += (text[i] == ")") - (text[i] == "(")
+        if not depth:
+            start = i
+            break
+    parts, depth, word = [], 0, ""
+    for ch in text[start + 1 : -1]:
+        if ch == "," and not depth:
+            parts.append(word.strip())
+            word = ""
+            continue
+        depth += (ch in "([{") - (ch in ")]}")
+        word += ch
+    if word.strip():
+        parts.append(word.strip())
+    if len(parts) != len(clauses) or (start and text[start - 1] not in " \n"):
+        return body
+    return text[:start] + "record { " + " ".join(f"{c} = {p};" for c, p in zip(clauses, parts)) + " }"
+
+
 def used(shared, crate, path, text):
     names = [n for n, _ in shared if re.search(r"(?<![\w\-'.])%s(?![\w\-'])" % re.escape(n), text)]
     return f"use Rattle.{crate}.proofs.{path}.Invariants.{{{', '.join(names)}}}\n" if names else ""
@@ -198,6 +259,16 @@ def turn(crate, function, old, row):
     inline = list(zip(args[first:], names.order)) if first >= 0 else []
     imports = [i for i in imports if not re.search(r"\.(Statement\.\{|Tie as )", i)]
     answers, invariants, kept, bad = [], [], [], []
+    clauses = ensured(crate, function)
+    helpers = {}
+    for d in decls:
+        text = "\n".join(d["lines"])
+        at = re.match(r"(?:pub )?([\w\-']+) : \(([\w']+) : tie\.([\w\-]+)(?: [\w]+)*\) →", text)
+        if at and d is not spec and not re.search(r"^unfolding", text, re.M):
+            place = next((p[0] for p in row["places"] if same(p[0]) == same(at[3])), None)
+            head = re.search(r"^%s ([\w'₀]+)((?: [\w'₀]+)*) =" % re.escape(at[1]), text, re.M)
+            if place and head and "where" not in text:
+                helpers[at[1]] = (at[2], text[at.end() : head.start()].strip(), head[1], head[2].split(), text[head.end() :].strip(), place)
 
     def answer(need, unfold, params, body):
         found = names.needs.get(same(need)) or names.needs.get(same(need).removeprefix("overflow_"))
@@ -208,7 +279,11 @@ def turn(crate, function, old, row):
         if re.fullmatch(r"\s*\(?\s*search (rules|needs)\s*\)?\s*", body):
             return
         out = f"pub {new} : goal.{new}\n" + "".join(u + "\n" for u in unfold)
-        answers.append(out + f"{new} c =" + turned(body, names, place, params[0]).replace("\n\n", "\n"))
+        more = "".join(" " + p for p in params[1:] if not p.startswith("κ"))
+        body = turned(inlined(body, helpers, names, place, params[0]), names, place, params[0]).replace("\n\n", "\n")
+        if need.startswith("returns") and len(clauses) > 1:
+            body = as_record(body, clauses)
+        answers.append(out + f"{new} c{more} =" + body)
 
     for d in decls:
         text = "\n".join(d["lines"])
@@ -230,6 +305,8 @@ def turn(crate, function, old, row):
                 invariants.append(got[1])
             else:
                 bad.append(f"the loop of {d['name']}")
+        elif d["name"] in helpers:
+            continue
         elif d["name"] != spec["name"]:
             kept.append("\n".join(d["comment"] + d["lines"]))
             at = re.search(r"\(([\w']+) : tie\.([\w\-]+)", text)

@@ -10,11 +10,7 @@ use mir.Facts.{to_z-of_z}
 use Rattle.rules.specs.Records.{signed_of, word_at}
 use Rattle.console.proofs.Filling.{filled, none_filled, one_more as again, all-filled as all, filled-length}
 use Rattle.console.proofs.read_prices.Goals as goal
-
--- The prices before the place are read, and the rest is as it was. The measure is the number of prices left.
--- the value that is due at a place
-abbrev due : List ℕ → ℕ → ℕ → ℤ
-due bytes from i = signed_of (word_at bytes (from + 4 * i))
+use Rattle.console.proofs.read_prices.Invariants.{due}
 
 pub loop-i-init : goal.loop-i-init
 loop-i-init c = (omega arith, refl, none_filled (due c.args.bytes.now c.args.from) c.args.prices.now)

@@ -8,11 +8,7 @@ use lib.ListN.{length}
 use Rattle.rules.specs.Records.{word_at}
 use Rattle.console.proofs.Filling.{filled, none_filled, one_more as again, all-filled as all, filled-length}
 use Rattle.console.proofs.read_words.Goals as goal
-
--- The words before the place are read, and the rest is as it was. The measure is the number of words left.
--- the value that is due at a place
-abbrev due : List ℕ → ℕ → ℕ → ℕ
-due bytes from i = word_at bytes (from + 4 * i)
+use Rattle.console.proofs.read_words.Invariants.{due}
 
 pub loop-i-init : goal.loop-i-init
 loop-i-init c = (omega arith, refl, none_filled (due c.args.bytes.now c.args.from) c.args.words.now)

@@ -32,13 +32,13 @@ pub note-requires : goal.note-requires
 note-requires c = slot_small c.args.b.now c.args.start c.args.end c.requires.0 c.loop-at.spans c.loop-at.at c.loop-at.invariant c.loop-at-test.true c.tag_at-tag.result.slot c.tag_at-tag.result.next c.tag_at-tag.ensures c.if-slot-eq7.false
 
 pub overflow_add-at : goal.overflow_add-at
-overflow_add-at c = omega (arith, c.end_of_lem.ensures.inside)
+overflow_add-at c = omega (arith, c.end_of-to.ensures.inside)
 
 pub loop-at-smaller : goal.loop-at-smaller
-loop-at-smaller c = omega (arith, c.end_of_lem.ensures.inside, farther c.args.b.now c.args.start c.args.end c.requires.0 c.loop-at.spans c.loop-at.at c.loop-at.invariant c.loop-at-test.true c.tag_at-tag.result.slot c.tag_at-tag.result.next c.tag_at-tag.ensures c.if-slot-eq7.false c.if-b-from-eq1.false c.end_of_lem.result c.end_of_lem.ensures)
+loop-at-smaller c = omega (arith, c.end_of-to.ensures.inside, farther c.args.b.now c.args.start c.args.end c.requires.0 c.loop-at.spans c.loop-at.at c.loop-at.invariant c.loop-at-test.true c.tag_at-tag.result.slot c.tag_at-tag.result.next c.tag_at-tag.ensures c.if-slot-eq7.false c.if-b-from-eq1.false c.end_of-to.result c.end_of-to.ensures)
 
 pub loop-at-preserved : goal.loop-at-preserved
-loop-at-preserved c = onwards c.args.b.now c.args.start c.args.end c.requires.0 c.loop-at.spans c.loop-at.at c.loop-at.invariant c.loop-at-test.true c.tag_at-tag.result.slot c.tag_at-tag.result.next c.tag_at-tag.ensures c.if-slot-eq7.false c.if-b-from-eq1.false c.end_of_lem.result c.end_of_lem.ensures c.note.new.0 c.note.ensures
+loop-at-preserved c = onwards c.args.b.now c.args.start c.args.end c.requires.0 c.loop-at.spans c.loop-at.at c.loop-at.invariant c.loop-at-test.true c.tag_at-tag.result.slot c.tag_at-tag.result.next c.tag_at-tag.ensures c.if-slot-eq7.false c.if-b-from-eq1.false c.end_of-to.result c.end_of-to.ensures c.note.new.spans c.note.ensures
 
 pub returns : goal.returns
 returns c = finishes c.args.b.now c.args.start c.args.end c.requires.0 c.loop-at.spans c.loop-at.at c.loop-at.invariant c.loop-at-test.false

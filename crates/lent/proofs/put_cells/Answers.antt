@@ -18,7 +18,7 @@ pub loop-i-preserved : goal.loop-i-preserved
 loop-i-preserved c =
     let l = c.loop-i in
     let k = 10 * l.i + 10 - 10 * l.i in
-    let next = cells_on c.args.cells l.words c.args.words.now c.put_cell.new.1.0 l.i k blank_cell (search rules) (omega arith) c.put_cell.ensures l.invariant.2 in
+    let next = cells_on c.args.cells l.words c.args.words.now c.put_cell.new.words l.i k blank_cell (search rules) (omega arith) c.put_cell.ensures l.invariant.2 in
     (search rules, cells_long c.args.cells _ c.args.words.now (l.i + 1) (search rules) (search rules) next ∙ c.requires, next)
 
 pub returns : goal.returns

@@ -18,20 +18,18 @@ module _ (spread : SpreadRule) (words : List ℕ) where
   refused-1 : (length words ≡ 7 → ⊥) → refused 1 ≡ read_row paper spread words
   unfolding read_row first_number
   refused-1 h = simp (ne_eqb (length words) 7 h)
-
   refused-2 : length words ≡ 7 → good_row_for paper spread (row_of words) ≡ false → refused 2 ≡ read_row paper spread words
   unfolding read_row first_number
   refused-2 h e = simp (eq-eqb (length words) 7 h, e)
-
   taken : length words ≡ 7 → good_row_for paper spread (row_of words) ≡ true → accepted (row_of words) ≡ read_row paper spread words
   unfolding read_row first_number
   taken h e = simp (eq-eqb (length words) 7 h, e)
 
 -- the test, as the definition has it
-tested : (k : tie.After-is-good) → let a = k.before.before.before.before.before.before.before.before.before.before.before.args in
+tested : (k : goal.After-is_good) → let a = k.args in
     (t : Bool) → k.is_good.result ≡ t → good_row_for paper a.spread (row_of a.words.now) ≡ t
 unfolding row_of good_row_for
-tested k t e = sym (ap (good_row paper) k.before.as_read.ensures) ∙ sym k.is_good.ensures ∙ e
+tested k t e = sym (ap (good_row paper) k.as_read.ensures) ∙ sym k.is_good.ensures ∙ e
 
 pub returns-then-words-ne7 : goal.returns-then-words-ne7
 returns-then-words-ne7 c = refused-1 c.args.spread c.args.words.now c.if-words-ne7.true

@@ -1,0 +1,12 @@
+-- `call_blocks::message` meets its contract: as many bytes as the third word says, after those of the start.
+use mathlib.Core.Path.{◌∙◌}
+use lib.ListN.{take, drop}
+use Rattle.words.specs.Bytes.{words_in, bytes_of}
+use borrow.Author.Rules.{rules}
+use Rattle.call_blocks.proofs.message.Goals as goal
+
+pub returns : goal.returns
+returns c =
+    let ws = words_in c.args.bytes.now in
+    c.part.ensures
+    ∙ λ i. take ((c.length-n.ensures.0 ∙ c.word-2.ensures) i) (drop ((c.length-at.ensures.0 ∙ c.word.ensures) i) (bytes_of (drop 3 ws)))

@@ -1,0 +1,10 @@
+-- The eighth word.
+use Prim.Native.Nat.{ℕ}
+use mathlib.Core.Path.{ap, ◌∙◌}
+use Rattle.rules.specs.Units.{steps}
+use Rattle.rules.specs.Records.{signed_of}
+use borrow.Author.Rules.{rules}
+use Rattle.row.proofs.leading_price.Goals as goal
+
+pub returns : goal.returns
+returns c = c.to_steps.ensures ∙ ap (λ (w : ℕ). steps (signed_of w)) c.word_at.ensures

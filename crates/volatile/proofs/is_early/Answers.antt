@@ -1,0 +1,7 @@
+-- Both tests.
+use mathlib.Core.Path.{◌∙◌}
+use borrow.Author.Rules.{rules}
+use Rattle.volatile.proofs.is_early.Goals as goal
+
+pub returns : goal.returns
+returns c = c.both.ensures ∙ simp c.is_before.ensures

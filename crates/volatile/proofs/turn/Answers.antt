@@ -1,0 +1,18 @@
+-- By the number of R before it.
+use native.Mathlib.Omega.{arith}
+use mathlib.Core.Path.{◌∙◌}
+use Rattle.volatile.proofs.Steps.{first_two, from_third}
+use borrow.Author.Rules.{rules}
+use Rattle.volatile.proofs.turn.Goals as goal
+
+pub returns-then-i-lt2 : goal.returns-then-i-lt2
+returns-then-i-lt2 c =
+    let a = c.args in
+    (first_two a.s a.i a.r a.threshold c.if-i-lt2.true, λ h. absurd (omega arith))
+
+pub returns : goal.returns
+returns c =
+    let a = c.args in (
+      c.judge.ensures.0 ∙ from_third a.s a.i a.r a.threshold c.if-i-lt2.false,
+      λ h. c.judge.ensures.1,
+    )
