@@ -119,10 +119,10 @@ class Names:
                 rest = ["type_inv" if w == "type-inv" else w for w in parts[1:]]
                 if rest and (p[2][0].startswith("if") or p[2][0].endswith("test")):
                     rest[0] = {"taken": "true", "left": "false"}.get(rest[0], rest[0])
-                if len(rest) > 1 and rest[0] == "new" and re.fullmatch(r"[01]", rest[1]) and p[3] in self.row["params"]:
+                if len(rest) > 1 and rest[0] in ("new", "auto") and re.fullmatch(r"[01]", rest[1]) and p[3] in self.row["params"]:
                     k = next((k for k, w in enumerate(rest[1:]) if w == "0"), 0)
                     if k < len(self.row["params"][p[3]]):
-                        rest = ["new", self.row["params"][p[3]][k]] + rest[k + 2 :]
+                        rest = [rest[0], self.row["params"][p[3]][k]] + rest[k + 2 :]
                 if rest:
                     for old, new in p[4]:
                         if rest[0] == old:
@@ -156,7 +156,8 @@ def turned(body, names, place, var="c"):
                 continue
             at, before = aliases[parts[0]]
             parts = before + parts[1:]
-            if all(p == "before" for p in parts) or "given" in parts or "match" in parts:
+            bare = [p for p in parts if p != "before"]
+            if len(bare) < 2 and bare not in (["args"], ["requires"]) or "given" in parts or "match" in parts:
                 aliases[m[1]] = (at, parts)
                 body = body[: m.start()] + body[m.end() :]
                 again = True
@@ -255,8 +256,11 @@ def turn(crate, function, old, row):
     spec = next(d for d in decls if "tie.spec" in "\n".join(d["lines"]))
     args = arguments("\n".join(spec["lines"]))
     first = len(args) - len(names.order)
-    needed = dict(zip(args[first:], names.order)) if first >= 0 else {}
-    inline = list(zip(args[first:], names.order)) if first >= 0 else []
+    needs_of = {d["name"]: m[1] for d in decls if (m := re.search(r":\s+tie\.Need-([\w\-]+)", "\n".join(d["lines"])))}
+    trivial = re.compile(r"\(\s*λ [\wκ' ]+\.\s*(omega arith|tt|search (rules|needs))\s*\)$")
+    inline = [(a, n) for a, n in zip(args[first:], names.order) if not trivial.match(a)] if first >= 0 else []
+    # where the goals are others now, the places do not fit
+    apart = any(a in needs_of and same(needs_of[a]) not in (same(n), "overflow_" + same(n)) for a, n in inline)
     imports = [i for i in imports if not re.search(r"\.(Statement\.\{|Tie as )", i)]
     answers, invariants, kept, bad = [], [], [], []
     clauses = ensured(crate, function)
@@ -317,7 +321,9 @@ def turn(crate, function, old, row):
                 kept[-1] = turned(words, names, place, at[1]) if place else words
     for arg, need in inline:
         m = re.match(r"\(\s*λ ([\wκ' ]+)\.\s*(.*)\)$", arg, re.S)
-        if m:
+        if m and apart:
+            bad.append(f"an answer in the list, for some goal: {arg[:200]}")
+        elif m:
             params = m[1].split()
             body = m[2]
             more = re.match(r"λ ([\wκ' ]+)\.\s*(.*)$", body, re.S)
