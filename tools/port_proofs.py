@@ -289,7 +289,7 @@ def turn(crate, function, old, row):
         text = "\n".join(d["lines"])
         if d is spec:
             continue
-        m = re.search(r": tie\.Need-([\w\-]+)", text)
+        m = re.search(r":\s+tie\.Need-([\w\-]+)", text)
         loop = re.search(r": tie\.(invariant|decreases)_(\w+)", text)
         if m:
             signature = next(i for i, l in enumerate(d["lines"]) if re.match(re.escape(d["name"]) + r"(?: [\w'₀κ]+)* =", l))
