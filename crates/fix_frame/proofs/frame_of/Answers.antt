@@ -10,7 +10,6 @@ use borrow.Author.Tests.{not-true, not-false}
 use Rattle.fix_frame.proofs.Shapes.{unshaped}
 use Rattle.fix_frame.proofs.Refusing.{long, last_one, head_right_lem, tail_right_lem, room, type_right_lem, kind_right, count_right}
 use Rattle.fix_frame.proofs.Framing.{frame_right}
-use borrow.Author.Rules.{rules}
 use Rattle.fix_frame.proofs.frame_of.Goals as goal
 
 pub returns-then-n-lt26 : goal.returns-then-n-lt26

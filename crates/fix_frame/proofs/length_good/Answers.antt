@@ -3,7 +3,6 @@ use mathlib.Core.Path.{ap, sym, ◌∙◌}
 use Rattle.rules.specs.Digits.{in_digits}
 use Rattle.fix_digits.specs.Answers.{shown_number}
 use Rattle.fix_fields.proofs.Slots.{no_length, a-length}
-use borrow.Author.Rules.{rules}
 use Rattle.fix_frame.proofs.length_good.Goals as goal
 
 pub returns-in_default : goal.returns-in_default
