@@ -268,7 +268,7 @@ def turn(crate, function, old, row):
     helpers, opened = {}, {}
     for d in decls:
         text = "\n".join(d["lines"])
-        at = re.match(r"(?:pub )?([\w\-']+) : \(([\w']+) : tie\.([\w\-]+)(?: [\w]+)*\) →", text)
+        at = re.match(r"(?:pub )?([\w\-']+) : \(([\w']+) : tie\.([\w\-]+)(?: [\w]+)*\)\s*→", text)
         if at and d is not spec:
             place = next((p[0] for p in row["places"] if same(p[0]) == same(at[3])), None)
             head = re.search(r"^%s ([\w'₀]+)((?: [\w'₀]+)*) =" % re.escape(at[1]), text, re.M)
