@@ -39,7 +39,7 @@ def all_words() -> frozenset[str]:
     sources = (file for file in files() if file.endswith((".rt", ".antt", ".py", ".c", ".h", ".rs", ".cpp", ".js", "Makefile")) or "/must-fail/" in file)
     text = "\n".join((ROOT / file).read_text(encoding="utf-8", errors="replace") for file in sources)
     edits = {Path(file).stem for file in files() if file.endswith(".edit")}
-    return frozenset(re.findall(r"[\w′-]+", text)) | frozenset(re.findall(r"\w+", text)) | edits | crates()
+    return frozenset(re.findall(r"[\w-]+'*", text)) | frozenset(re.findall(r"\w+", text)) | edits | crates()
 
 
 def path_missing(name: str) -> bool:
@@ -66,7 +66,7 @@ def missing(name: str) -> bool:
         return path_missing(name)
     if re.fullmatch(r"\w+(::\w+)+", name):
         return function_missing(name)
-    if re.fullmatch(r"[a-z]+_[a-z_0-9]+|[a-z]+-[a-z0-9-]+|[A-Z][a-z]+[A-Za-z]*|[a-z]+[A-Z]\w*", name):
+    if re.fullmatch(r"[a-z]+[_-][a-z0-9_-]+'*|[A-Z][a-z]+[A-Za-z]*|[a-z]+[A-Z]\w*", name):
         return name not in all_words()
     return False
 

@@ -56,17 +56,14 @@ NAMES = {
     "pieces": "replay_pieces",
 }
 ANY = "|".join(sorted(NAMES, key=len, reverse=True))
-# where a word is a crate's name: a module of the logic, a path of Rattle, a folder, a file of a crate, or the argument of rt
+# where a word is a crate's name: a module of the logic, a path of Rattle, a folder, a file of a crate, or a program
 PLACES = [
-    re.compile(rf"(?<=Rattle·)({ANY})(?=[.·{{])"),
+    re.compile(rf"(?<=Rattle\.)({ANY})(?=[.{{])"),
     re.compile(rf"(?<![\w.:/·-])({ANY})(?=::)"),
     re.compile(rf"(?<=crates/)({ANY})(?![\w])"),
     re.compile(rf"(?<![\w/.-])({ANY})(?=/(?:specs|proofs|src|must-fail)\b)"),
-    re.compile(rf"(?<=rt staticlib )({ANY})(?![\w])"),
     re.compile(rf"(?<=target/bin/)({ANY})(?![\w])"),
 ]
-# a name that the checker makes of a crate and its function, with hyphens: `calls-makers·look-at`
-MADE = re.compile(rf"(?<![\w·])({ANY.replace('_', '-')})(?=·[a-z])")
 # modules of a crate that have the name of another crate
 OWN = {"byte_cases": {"messages"}, "weights": {"table"}}
 # in a document a crate's name is in backquotes
@@ -82,8 +79,6 @@ def in_text(path: Path, text: str) -> str:
     own = next((OWN[part] for part in path.parts if part in OWN), set())
     for place in PLACES:
         text = place.sub(lambda m: m.group(1) if m.group(1) in own else renamed(m), text)
-    if path.suffix == ".antt":
-        text = MADE.sub(lambda m: NAMES[m.group(1).replace("-", "_")].replace("_", "-"), text)
     return QUOTED.sub(renamed, text) if path.suffix == ".md" else text
 
 

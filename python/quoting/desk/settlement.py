@@ -2,8 +2,8 @@
 
 An instrument's month is one list of calls on a fresh month of the proved library: quantum by quantum, each from its open to its close, in
 the order of cells.csv. Two expiries run at the same time, and the list has one after the other: a quantum's cell and refusals are those
-that it has in a fresh month of its own, and any other order of the quanta gives the same cells, failure counts and fee (`each-as-alone` and
-`any-order` in crates/requests/proofs/OwnMonth.antt; W9 says the latter where no call is refused).
+that it has in a fresh month of its own, and any other order of the quanta gives the same cells, failure counts and fee (`each_as_alone` and
+`any_order` in crates/requests/proofs/OwnMonth.antt; W9 says the latter where no call is refused).
 """
 
 from collections import Counter
