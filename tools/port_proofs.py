@@ -94,6 +94,8 @@ class Names:
     def found(self, place, parts):
         if not parts:
             return place, []
+        if re.match(r"Is[A-Z]", parts[0]):
+            parts = [parts[0][2:]] + parts[1:]
         if parts[0].endswith("_lem"):
             parts = [parts[0].removesuffix("_lem")] + parts[1:]
         if parts[0] == "type-inv":
@@ -142,7 +144,7 @@ class Names:
         return rest
 
 
-def turned(body, names, place, var="c"):
+def turned(body, names, place, var="c", out="c"):
     """The body of an answer, with today's paths"""
     aliases = {var: (place, [])}
     names.asked = place
@@ -170,7 +172,7 @@ def turned(body, names, place, var="c"):
             return m[0]
         place, before = aliases[parts[0]]
         at, rest = names.step(place, before + parts[1:])
-        return ".".join([var] + rest) if rest else var
+        return ".".join([out] + rest) if rest else out
 
     return re.sub(r"(?<![\w\-'.◌])" + PATH, one, body)
 
@@ -268,7 +270,7 @@ def turn(crate, function, old, row):
     helpers, opened = {}, {}
     for d in decls:
         text = "\n".join(d["lines"])
-        at = re.match(r"(?:pub )?([\w\-']+) : \(([\w']+) : tie\.([\w\-]+)(?: [\w]+)*\)\s*→", text)
+        at = re.match(r"(?:pub )?([\w\-']+) : \(([\w']+) : tie\.([\w\-]+)(?: [\w]+)*\)\s*(?:→|(?=[({]))", text)
         if at and d is not spec:
             place = next((p[0] for p in row["places"] if same(p[0]) == same(at[3])), None)
             head = re.search(r"^%s ([\w'₀]+)((?: [\w'₀]+)*) =" % re.escape(at[1]), text, re.M)
@@ -326,7 +328,7 @@ def turn(crate, function, old, row):
                 place = next((p[0] for p in row["places"] if same(p[0]) == same(at[2])), None)
                 new = dict(zip([same(p[0]) for p in row["places"]], row["places_by_name"]))
                 words = re.sub(r"tie\.([\w\-]+)", lambda w: "goal." + new.get(same(w[1]), w[1]), kept[-1])
-                kept[-1] = turned(words, names, place, at[1]) if place else words
+                kept[-1] = turned(words, names, place, at[1], at[1]) if place else words
     for arg, need in inline:
         m = re.match(r"\(\s*λ ([\wκ' ]+)\.\s*(.*)\)$", arg, re.S)
         if m and apart:

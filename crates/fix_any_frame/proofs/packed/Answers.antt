@@ -1,7 +1,6 @@
 -- `fix_any_frame::packed` meets its contract: each arm packs as many bytes as it says (`pack_one` and the others), and more are 0.
 use mathlib.Core.Path.{refl}
 use Rattle.fix_any_frame.proofs.Types.{pack_one, pack_two, pack_three, pack_four, pack_more}
-use borrow.Author.Rules.{rules}
 use Rattle.fix_any_frame.proofs.packed.Goals as goal
 
 pub returns-in-1 : goal.returns-in-1
