@@ -206,6 +206,8 @@ def inlined(body, helpers, names, place, var, depth=0):
         if depth < 4 and call.search(body):
             inner = inlined(text, helpers, names, at, param, depth + 1)
             value = turned(inner, names, at, param)
+            for other in helpers:
+                kind = re.sub(r"(?<![\w\-'.])%s (?:[\w\-']+(?:\.before)*)(?= [\w(]|\))" % re.escape(other), other, kind)
             kind = turned(kind, names, at, binder or param)
             lets += f"\n    let {name} : {kind} = " + (f"λ {' '.join(others)}. " if others else "") + value + " in"
             body = call.sub(name, body)

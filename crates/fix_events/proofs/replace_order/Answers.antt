@@ -15,14 +15,14 @@ pub returns-then-other_side : goal.returns-then-other_side
 returns-then-other_side c =
     let said : Moment → Message Moment = λ t. replace_order c.args.id c.args.orig c.args.side c.args.volume c.args.price t in
     let sided : (k : Bool) → c.other_side.result ≡ k → (t : Moment) (b : Book) → InBook c.args.quantum c.args.running b
-    → other_side_in b.running (said c t) ≡ k = λ k e t b h. sym (c.other_side.ensures c.args.id c.args.volume c.args.price t b h) ∙ e in
+    → other_side_in b.running (said t) ≡ k = λ k e t b h. sym (c.other_side.ensures c.args.id c.args.volume c.args.price t b h) ∙ e in
     said_side c.args.quantum c.args.running (said) c.refused.result c.args.when (sided true c.if-other_side.true) c.refused.ensures
 
 pub returns-in-At : goal.returns-in-At
 returns-in-At c =
     let said : Moment → Message Moment = λ t. replace_order c.args.id c.args.orig c.args.side c.args.volume c.args.price t in
     let sided : (k : Bool) → c.other_side.result ≡ k → (t : Moment) (b : Book) → InBook c.args.quantum c.args.running b
-    → other_side_in b.running (said c t) ≡ k = λ k e t b h. sym (c.other_side.ensures c.args.id c.args.volume c.args.price t b h) ∙ e in
+    → other_side_in b.running (said t) ≡ k = λ k e t b h. sym (c.other_side.ensures c.args.id c.args.volume c.args.price t b h) ∙ e in
     let k = ap shown_elapsed c.in-At.is in
     said-both c.args.quantum c.args.running (said) (λ t. refl) (sided false c.if-other_side.false) (shown_elapsed c.args.when) _ _ _ c.both_or_neither.result k refl c.both_or_neither.ensures
 
@@ -30,7 +30,7 @@ pub returns-in-Before : goal.returns-in-Before
 returns-in-Before c =
     let said : Moment → Message Moment = λ t. replace_order c.args.id c.args.orig c.args.side c.args.volume c.args.price t in
     let sided : (k : Bool) → c.other_side.result ≡ k → (t : Moment) (b : Book) → InBook c.args.quantum c.args.running b
-    → other_side_in b.running (said c t) ≡ k = λ k e t b h. sym (c.other_side.ensures c.args.id c.args.volume c.args.price t b h) ∙ e in
+    → other_side_in b.running (said t) ≡ k = λ k e t b h. sym (c.other_side.ensures c.args.id c.args.volume c.args.price t b h) ∙ e in
     let k = ap shown_elapsed c.in-Before.is in
     said-early c.args.quantum c.args.running (said) (λ t. refl) (sided false c.if-other_side.false) c.untimely.result (shown_elapsed c.args.when) k c.untimely.ensures
 
@@ -38,7 +38,7 @@ pub returns-in-Late : goal.returns-in-Late
 returns-in-Late c =
     let said : Moment → Message Moment = λ t. replace_order c.args.id c.args.orig c.args.side c.args.volume c.args.price t in
     let sided : (k : Bool) → c.other_side.result ≡ k → (t : Moment) (b : Book) → InBook c.args.quantum c.args.running b
-    → other_side_in b.running (said c t) ≡ k = λ k e t b h. sym (c.other_side.ensures c.args.id c.args.volume c.args.price t b h) ∙ e in
+    → other_side_in b.running (said t) ≡ k = λ k e t b h. sym (c.other_side.ensures c.args.id c.args.volume c.args.price t b h) ∙ e in
     let k = ap shown_elapsed c.in-Late.is in
     said_late c.args.quantum c.args.running (said) (λ t. refl) (sided false c.if-other_side.false) c.untimely-in-Late.result (shown_elapsed c.args.when) k c.untimely-in-Late.ensures
 
