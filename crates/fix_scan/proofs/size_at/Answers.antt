@@ -51,7 +51,7 @@ pub overflow_sub-nine : goal.overflow_sub-nine
 overflow_sub-nine c = omega (arith, c.digits_end-nine.ensures)
 
 pub whole_size-requires : goal.whole_size-requires
-whole_size-requires c = (c.if-n-gt65535.false, omega (arith, c.if-from-nine.false))
+whole_size-requires c = (omega arith, omega (arith, c.if-from-nine.false))
 
 pub returns : goal.returns
 returns c =
