@@ -71,6 +71,7 @@ class Names:
         self.row = row
         self.places = {p[0]: (i, p) for i, p in enumerate(row["places"])}
         self.needs = {same(old): (new, at[0]) for (old, new), at in zip(row["needs"], row["asked_at"])}
+        self.now = {same(new): (new, at[0]) for (_, new), at in zip(row["needs"], row["asked_at"])}
         self.order = [old for old, _ in row["needs"]]
         self.missed = []
         self.asked = None
@@ -93,6 +94,8 @@ class Names:
     def found(self, place, parts):
         if not parts:
             return place, []
+        if re.match(r"Is[A-Z]", parts[0]):
+            parts = [parts[0][2:]] + parts[1:]
         if parts[0].endswith("_lem"):
             parts = [parts[0].removesuffix("_lem")] + parts[1:]
         if parts[0] == "type-inv":
@@ -119,10 +122,10 @@ class Names:
                 rest = ["type_inv" if w == "type-inv" else w for w in parts[1:]]
                 if rest and (p[2][0].startswith("if") or p[2][0].endswith("test")):
                     rest[0] = {"taken": "true", "left": "false"}.get(rest[0], rest[0])
-                if len(rest) > 1 and rest[0] == "new" and re.fullmatch(r"[01]", rest[1]) and p[3] in self.row["params"]:
+                if len(rest) > 1 and rest[0] in ("new", "auto") and re.fullmatch(r"[01]", rest[1]) and p[3] in self.row["params"]:
                     k = next((k for k, w in enumerate(rest[1:]) if w == "0"), 0)
                     if k < len(self.row["params"][p[3]]):
-                        rest = ["new", self.row["params"][p[3]][k]] + rest[k + 2 :]
+                        rest = [rest[0], self.row["params"][p[3]][k]] + rest[k + 2 :]
                 if rest:
                     for old, new in p[4]:
                         if rest[0] == old:
@@ -141,7 +144,7 @@ class Names:
         return rest
 
 
-def turned(body, names, place, var="c"):
+def turned(body, names, place, var="c", out="c"):
     """The body of an answer, with today's paths"""
     aliases = {var: (place, [])}
     names.asked = place
@@ -156,7 +159,8 @@ def turned(body, names, place, var="c"):
                 continue
             at, before = aliases[parts[0]]
             parts = before + parts[1:]
-            if all(p == "before" for p in parts) or "given" in parts or "match" in parts:
+            bare = [p for p in parts if p != "before"]
+            if len(bare) < 2 and bare not in (["args"], ["requires"]) or "given" in parts or "match" in parts:
                 aliases[m[1]] = (at, parts)
                 body = body[: m.start()] + body[m.end() :]
                 again = True
@@ -168,7 +172,7 @@ def turned(body, names, place, var="c"):
             return m[0]
         place, before = aliases[parts[0]]
         at, rest = names.step(place, before + parts[1:])
-        return ".".join([var] + rest) if rest else var
+        return ".".join([out] + rest) if rest else out
 
     return re.sub(r"(?<![\w\-'.◌])" + PATH, one, body)
 
@@ -202,7 +206,9 @@ def inlined(body, helpers, names, place, var, depth=0):
         if depth < 4 and call.search(body):
             inner = inlined(text, helpers, names, at, param, depth + 1)
             value = turned(inner, names, at, param)
-            kind = turned(kind, names, at, binder)
+            for other in helpers:
+                kind = re.sub(r"(?<![\w\-'.])%s (?:[\w\-']+(?:\.before)*)(?= [\w(]|\))" % re.escape(other), other, kind)
+            kind = turned(kind, names, at, binder or param)
             lets += f"\n    let {name} : {kind} = " + (f"λ {' '.join(others)}. " if others else "") + value + " in"
             body = call.sub(name, body)
     return (lets + ("" if body.startswith("\n") else "\n   ") + body) if lets else body
@@ -255,41 +261,53 @@ def turn(crate, function, old, row):
     spec = next(d for d in decls if "tie.spec" in "\n".join(d["lines"]))
     args = arguments("\n".join(spec["lines"]))
     first = len(args) - len(names.order)
-    needed = dict(zip(args[first:], names.order)) if first >= 0 else {}
-    inline = list(zip(args[first:], names.order)) if first >= 0 else []
+    needs_of = {d["name"]: m[1] for d in decls if (m := re.search(r":\s+tie\.Need-([\w\-]+)", "\n".join(d["lines"])))}
+    trivial = re.compile(r"\(\s*λ [\wκ' ]+\.\s*(tt|search (rules|needs))\s*\)$")
+    inline = [(a, n) for a, n in zip(args[first:], names.order) if not trivial.match(a)] if first >= 0 else []
+    # where the goals are others now, the places do not fit
+    apart = any(a in needs_of and same(needs_of[a]) not in (same(n), "overflow_" + same(n)) for a, n in inline)
     imports = [i for i in imports if not re.search(r"\.(Statement\.\{|Tie as )", i)]
     answers, invariants, kept, bad = [], [], [], []
     clauses = ensured(crate, function)
-    helpers = {}
+    helpers, opened = {}, {}
     for d in decls:
         text = "\n".join(d["lines"])
-        at = re.match(r"(?:pub )?([\w\-']+) : \(([\w']+) : tie\.([\w\-]+)(?: [\w]+)*\) →", text)
-        if at and d is not spec and not re.search(r"^unfolding", text, re.M):
+        at = re.match(r"(?:pub )?([\w\-']+) : \(([\w']+) : tie\.([\w\-]+)(?: [\w]+)*\)\s*(?:→|(?=[({]))", text)
+        bare = re.match(r"(?:pub |abbrev |unfoldable )*([\w\-']+) :() tie\.([\w\-]+)(?: [\w]+)*\s*→", text)
+        at = at or bare
+        if at and d is not spec:
             place = next((p[0] for p in row["places"] if same(p[0]) == same(at[3])), None)
             head = re.search(r"^%s ([\w'₀]+)((?: [\w'₀]+)*) =" % re.escape(at[1]), text, re.M)
             if place and head and "where" not in text:
-                helpers[at[1]] = (at[2], text[at.end() : head.start()].strip(), head[1], head[2].split(), text[head.end() :].strip(), place)
+                kind = re.sub(r"^unfolding.*$", "", text[at.end() : head.start()], flags=re.M).strip()
+                opened[at[1]] = re.findall(r"^unfolding.*$", text, re.M)
+                helpers[at[1]] = (at[2], kind, head[1], head[2].split(), text[head.end() :].strip(), place)
 
     def answer(need, unfold, params, body):
-        found = names.needs.get(same(need)) or names.needs.get(same(need).removeprefix("overflow_"))
+        said = same(need)
+        others = [said, said.removeprefix("overflow_"), said.removeprefix("nonzero_"), said.replace("slice_bounds_", "part_"), said.replace("slice_bounds_", "sub_")]
+        found = next((names.needs[n] for n in others if n in names.needs), None) or names.now.get(said)
         if not found:
             bad.append(f"no goal is called {need} now")
             return
         new, place = found
         if re.fullmatch(r"\s*\(?\s*search (rules|needs)\s*\)?\s*", body):
             return
-        out = f"pub {new} : goal.{new}\n" + "".join(u + "\n" for u in unfold)
+        unfold = unfold + [u for n, us in opened.items() if re.search(r"(?<![\w\-'.])%s(?![\w\-'])" % re.escape(n), body) for u in us]
+        if len(unfold) > 1:
+            unfold = ["unfolding " + " ".join(dict.fromkeys(w for u in unfold for w in u.split()[1:]))]
         more = "".join(" " + p for p in params[1:] if not p.startswith("κ"))
         body = turned(inlined(body, helpers, names, place, params[0]), names, place, params[0]).replace("\n\n", "\n")
         if need.startswith("returns") and len(clauses) > 1:
             body = as_record(body, clauses)
+        out = f"pub {new} : goal.{new}\n" + "".join(u + "\n" for u in unfold)
         answers.append(out + f"{new} c{more} =" + body)
 
     for d in decls:
         text = "\n".join(d["lines"])
         if d is spec:
             continue
-        m = re.search(r": tie\.Need-([\w\-]+)", text)
+        m = re.search(r":\s+tie\.Need-([\w\-]+)", text)
         loop = re.search(r": tie\.(invariant|decreases)_(\w+)", text)
         if m:
             signature = next(i for i, l in enumerate(d["lines"]) if re.match(re.escape(d["name"]) + r"(?: [\w'₀κ]+)* =", l))
@@ -314,10 +332,12 @@ def turn(crate, function, old, row):
                 place = next((p[0] for p in row["places"] if same(p[0]) == same(at[2])), None)
                 new = dict(zip([same(p[0]) for p in row["places"]], row["places_by_name"]))
                 words = re.sub(r"tie\.([\w\-]+)", lambda w: "goal." + new.get(same(w[1]), w[1]), kept[-1])
-                kept[-1] = turned(words, names, place, at[1]) if place else words
+                kept[-1] = turned(words, names, place, at[1], at[1]) if place else words
     for arg, need in inline:
         m = re.match(r"\(\s*λ ([\wκ' ]+)\.\s*(.*)\)$", arg, re.S)
-        if m:
+        if m and apart:
+            bad.append(f"an answer in the list, for some goal: {arg[:200]}")
+        elif m:
             params = m[1].split()
             body = m[2]
             more = re.match(r"λ ([\wκ' ]+)\.\s*(.*)$", body, re.S)

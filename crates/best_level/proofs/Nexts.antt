@@ -141,6 +141,7 @@ module _ (ks vs : List ℕ) (key : ℕ) where
 -- ---- a step
 
 member_most : (b : ℕ) (ks : List ℕ) → ((i : ℕ) → get_or ks i 0 ≤ b) → (k : ℕ) → Memᴰ k ks → k ≤ b
+member_most b [] h k m = elim m [ ]
 member_most b (x ∷ ks) h k (Memᴰ.head e) = omega (arith, e, h 0)
 member_most b (x ∷ ks) h k (Memᴰ.tail m) = member_most b ks (λ i. h (suc i)) k m
 

@@ -4,8 +4,8 @@ use native.Mathlib.Omega.{arith}
 use native.Mathlib.Nat.{mul-le-mul}
 use mathlib.Core.Path.{◌≡◌, refl, sym, ap, ◌∙◌}
 use mathlib.Core.List.{List, [], ◌∷◌}
-use mathlib.Core.Bool.{Bool, true, false, true≢false, not, ◌&&◌, and-true, and-false}
-use borrow.Author.Tests.{le-leb, lt-leb, not-true, not-false}
+use mathlib.Core.Bool.{Bool, true, false, true≢false, ◌&&◌, and-true, and-false}
+use borrow.Author.Tests.{le-leb, lt-leb}
 use lib.Dec.{leb, ltb, eqb}
 use lib.ListN.{length, get_or}
 use Rattle.lists.specs.Lists.{within, every}
@@ -56,15 +56,15 @@ pub record Bounds (l first second : ℕ) : Type 0 where
 
 -- by the test of the number of strikes
 module _ (first second : ℕ) (strikes : List (List ℕ)) (size : Bool) (s : size ≡ within 1 32 (length strikes)) where
-  pub size_refused : not size ≡ true → refused 18 ≡ judged first second strikes
+  pub size_refused : size ≡ false → refused 18 ≡ judged first second strikes
   unfolding judged good_board first_number
-  size_refused e = simp (sym s ∙ not-true size e)
+  size_refused e = simp (sym s ∙ e)
 
-  pub size_bounds : not size ≡ false → (1 ≤ length strikes) × (length strikes ≤ 32)
-  size_bounds e = within-parts 1 32 (length strikes) (sym s ∙ not-false size e)
+  pub size_bounds : size ≡ true → (1 ≤ length strikes) × (length strikes ≤ 32)
+  size_bounds e = within-parts 1 32 (length strikes) (sym s ∙ e)
 
   -- and by that of the numbers
-  module _ (sized : not size ≡ false) (l : ℕ) (e : l ≡ length_in (get_or strikes 0 [])) (good : Bool)
+  module _ (sized : size ≡ true) (l : ℕ) (e : l ≡ length_in (get_or strikes 0 [])) (good : Bool)
       (g : good ≡ numbers_good l first second strikes) where
     length_is : board_length strikes ≡ l
     length_is = first-length strikes (size_bounds sized).0 ∙ sym e
@@ -72,17 +72,17 @@ module _ (first second : ℕ) (strikes : List (List ℕ)) (size : Bool) (s : siz
     good_is : good_board first second strikes ≡ good
     unfolding good_board
     good_is =
-        rw (length_is, sym s ∙ not-false size sized, ← every_is (good_quantum_of l) strikes)
+        rw (length_is, sym s ∙ sized, ← every_is (good_quantum_of l) strikes)
         (regroup (good_length l) (every (good_quantum_of l) strikes) (within 1 100 first) (within 1 100 second) ∙ sym g)
 
-    pub numbers_refused : not good ≡ true → refused 18 ≡ judged first second strikes
+    pub numbers_refused : good ≡ false → refused 18 ≡ judged first second strikes
     unfolding judged first_number
-    numbers_refused f = simp (good_is ∙ not-true good f)
+    numbers_refused f = simp (good_is ∙ f)
 
-    pub numbers_bounds : not good ≡ false → Bounds l first second
+    pub numbers_bounds : good ≡ true → Bounds l first second
     numbers_bounds f =
         let quanta = good_length l && every (good_quantum_of l) strikes in
-        let all = both quanta (within 1 100 first && within 1 100 second) (sym g ∙ not-false good f) in
+        let all = both quanta (within 1 100 first && within 1 100 second) (sym g ∙ f) in
         let lengths = both (good_length l) (every (good_quantum_of l) strikes) all.0 in
         let shares = both (within 1 100 first) (within 1 100 second) all.1 in
         record {
@@ -91,10 +91,10 @@ module _ (first second : ℕ) (strikes : List (List ℕ)) (size : Bool) (s : siz
           second_most = (within-parts 1 100 second shares.1).1;
         }
 
-    pub answered : not good ≡ false → (met t : Bool) → met ≡ shares_met l first second strikes → met ≡ t
+    pub answered : good ≡ true → (met t : Bool) → met ≡ shares_met l first second strikes → met ≡ t
         → accepted t ≡ judged first second strikes
     unfolding judged first_number board_met
-    answered f met t m h = rw (good_is ∙ not-false good f, length_is) (ap accepted (sym h ∙ m ∙ rw (every_is (reaches first l) strikes) refl))
+    answered f met t m h = rw (good_is ∙ f, length_is) (ap accepted (sym h ∙ m ∙ rw (every_is (reaches first l) strikes) refl))
 
 same-verdict : (a b : Bool) → ◌≡◌ {A = Outcome Bool} (accepted a) (accepted b) → a ≡ b
 same-verdict a b e = cc

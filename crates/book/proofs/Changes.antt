@@ -30,6 +30,7 @@ module _ (id : ℕ) where
 
   side_in_lem : (os : List Order) → Distinct os → {o : Order} → Memᴰ o os → has_id id o ≡ true → side_with id os ≡ o.side
   unfolding side_with is_live
+  side_in_lem [] d {o = o} m h = elim m [ ]
   side_in_lem (x ∷ xs) d (Memᴰ.head q) h = rw (ap (has_id id) (sym q) ∙ h) (ap (λ (o : Order). o.side) (sym q))
   side_in_lem (x ∷ xs) d {o} (Memᴰ.tail m) h = go (has_id id x) refl (side_in_lem xs d.1 m h)
     where

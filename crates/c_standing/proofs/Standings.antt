@@ -13,7 +13,6 @@ use Rattle.standing_rules.specs.Calls.{Standing, Call, after, outcomes_from}
 use Rattle.standing.specs.declared.Ran.{Ran}
 use Rattle.standing.specs.Words.{readable, calls_of}
 use Rattle.standing.specs.Claim.{ListAnswers}
-use Rattle.c_answers.specs.Answers.{refused_number}
 use Rattle.c_standing.specs.Standings.{count_number, made_number, made_records, made_outcomes, AnswersStanding, standing_number}
 
 -- ---- the number
@@ -23,12 +22,6 @@ count_great n h = rw (lt-ltb 4294967295 n h) refl
 
 pub count_whole : (n : ℕ) → n ≤ 4294967295 → n ≡ count_number n
 count_whole n h = rw (le-ltb 4294967295 n h) refl
-
-pub ran-all : (listed fits : Bool) (n r : ℕ) → fits ≡ true → r ≡ count_number n → r ≡ standing_number listed fits n
-ran-all listed fits n r h e = e ∙ rw h refl
-
-pub ran-none : (listed fits b : Bool) (n r : ℕ) → fits ≡ false → listed ≡ b → r ≡ (if b then refused_number 16 else refused_number 3) → r ≡ standing_number listed fits n
-ran-none listed fits b n r h l e = e ∙ rw (h, l) refl
 
 -- ---- the calls that are made, by whether the words are a list and whether its outcomes fit
 

@@ -1,7 +1,7 @@
 -- One cell among the words of all of them: read, put, and what a call that names it answers.
-use Prim.Native.Nat.{ℕ, zero, suc, ◌+◌, ◌*◌, ◌≤◌, ◌<◌}
+use Prim.Native.Nat.{ℕ, zero, suc, ◌+◌, ◌*◌, ◌<◌}
 use native.Mathlib.Omega.{arith}
-use mathlib.Core.Path.{◌≡◌, refl, sym, ap, ◌∙◌}
+use mathlib.Core.Path.{◌≡◌, sym, ap, ◌∙◌}
 use mathlib.Core.Bool.{Bool, true, false}
 use mathlib.Core.List.{List, [], ◌∷◌, ◌++◌, append_assoc}
 use lib.ListN.{length, take, drop, set}
@@ -12,7 +12,7 @@ use Rattle.rules.specs.Cells.{blank_cell, cell_at}
 use Rattle.rules.specs.Bounds.{CellBounds}
 use Rattle.lists.proofs.Members.{get_d_in}
 use Rattle.lent.specs.Words.{cell_words, cells_words}
-use Rattle.lent.proofs.Back.{cell_at_lem, cell_length, cells_length, cells_many}
+use Rattle.lent.proofs.Back.{cell_at_lem, cell_length, cells_many}
 use Rattle.cells_in_place.specs.Cells.{HoldsCells, cell_refusal, cells_after, ChangesCell}
 
 -- ---- read

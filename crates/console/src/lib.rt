@@ -8,8 +8,13 @@ ghost use Rattle.rules.specs.Records.{signed_of, word_at};
 ghost use Rattle.words.specs.Bytes.{words_from};
 ghost use Rattle.console.specs.Reading.{prices_from};
 
-use libc::{STDIN_FILENO, STDOUT_FILENO};
 use rules::Steps;
+use std::io::{Read, Stdin};
+
+// The numbers by which C knows a program's standard input and output.
+const STDIN_FILENO: i32 = 0;
+
+const STDOUT_FILENO: i32 = 1;
 
 pub fn text(bytes: &[u8]) {
     io::write_all(STDOUT_FILENO, bytes);
@@ -64,14 +69,12 @@ pub fn read(bytes: &mut [u8]) -> usize
 }
 
 // One read of standard input, into the bytes from a place on: how many have come, 0 at the end of the input. It waits only where none are
-// there yet.
-pub fn read_more(bytes: &mut [u8], from: usize) -> usize
+// there yet. A read that fails counts as the end.
+pub fn read_more(input: &mut Stdin, bytes: &mut [u8], from: usize) -> usize
     requires { from ≤ length bytes.old }
     ensures { from + result ≤ length bytes.new }
 {
-    let room = &mut bytes[from..];
-    let got = libc::read(STDIN_FILENO, room);
-    io::count(got, room)
+    input.read(&mut bytes[from..]).unwrap_or(0)
 }
 
 // Fills the lent words with those that start at a byte.

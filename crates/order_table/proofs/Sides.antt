@@ -77,6 +77,7 @@ module _ (id : ℕ) where
 
   pub left_in : (os : List Order) → Distinct os → {o : Order} → Memᴰ o os → has_id id o ≡ true → left id os ≡ o.volume.0
   unfolding left
+  left_in [] d {o = o} m h = elim m [ ]
   left_in (x ∷ xs) d (Memᴰ.head q) h = rw (ap (has_id id) (sym q) ∙ h) (ap (λ (o : Order). o.volume.0) (sym q))
   left_in (x ∷ xs) d {o} (Memᴰ.tail m) h = go (has_id id x) refl (left_in xs d.1 m h)
     where
@@ -85,6 +86,7 @@ module _ (id : ℕ) where
       go false e r = r
 
   pub one_only : (os : List Order) → Distinct os → {a b : Order} → Memᴰ a os → Memᴰ b os → has_id id a ≡ true → has_id id b ≡ true → a ≡ b
+  one_only [] d {a = a} {b = b} m _ h k = elim m [ ]
   one_only (x ∷ xs) d (Memᴰ.head p) (Memᴰ.head q) h k = p ∙ sym q
   one_only (x ∷ xs) d (Memᴰ.head p) (Memᴰ.tail n) h k = absurd (twice x xs d.0 n (ap (has_id id) (sym p) ∙ h) k)
   one_only (x ∷ xs) d (Memᴰ.tail m) (Memᴰ.head q) h k = absurd (twice x xs d.0 m (ap (has_id id) (sym q) ∙ k) h)

@@ -204,8 +204,7 @@ pub extern "C" fn quoting_calls_words(calls: &[u8]) -> u64
 
 // ---- the standing of makers
 
-// A list of calls on lent records, of which the first ones are used. It is proved by a walk of its code, by hand, as is every function that
-// takes the records.
+// A list of calls on lent records, of which the first ones are used.
 #[unsafe(no_mangle)]
 pub extern "C" fn quoting_standing(
     records: &mut [Maker],

@@ -1,7 +1,3 @@
-pub mod Again
-pub mod Calling
-pub mod Machine
-pub mod Thin
+pub mod Afresh
 pub mod Reading
 pub mod Running
-pub mod Afresh

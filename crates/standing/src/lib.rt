@@ -1,5 +1,5 @@
-// The standing of makers in a lent list of records with a count of those used: join, change and leave. Every function here that takes
-// the records is proved by a walk of its code, by hand; the work on records by value is in `standing_rules`.
+// The standing of makers in a lent list of records with a count of those used: join, change and leave. The work on records by value is in
+// `standing_rules`.
 //
 // One function works all three calls (`apply`), and join, change and leave are thin over it. It takes the call as three words, kind, number
 // and rating, whatever they are: 1 is a join, 2 a change, any other kind a leave. It judges the records (`judge`), looks through the used
@@ -39,8 +39,7 @@ struct Ready {
     fits: bool,
 }
 
-// What is found of `m` among the first records. The list is lent as one that may change, and is left as it was: so a caller lends its
-// own again by one rule.
+// What is found of `m` among the first records. The list is lent as one that may change, and is left as it was.
 fn scan(list: &mut [Maker], upto: usize, m: Maker) -> Seen
     requires { upto ≤ length list.old }
     ensures { (result ≡ seen_in list.old m upto) × (list.new ≡ list.old) }
@@ -134,7 +133,7 @@ pub fn apply(list: &mut [Maker], count: usize, asked: Asked) -> Answer
     work(&mut *list, count, bad, asked)
 }
 
-// A maker joins with a rating. This, `change` and `leave` are `apply` at one kind: one walk proves all three (`proofs/Thin.antt`).
+// A maker joins with a rating. This, `change` and `leave` are `apply` at one kind.
 pub fn join(list: &mut [Maker], count: usize, m: Maker) -> Answer
     ensures { (result ≡ answer_of (standing list.old count) (Join m)) × (list.new ≡ (step (standing list.old count) (Join m)).records) }
 {

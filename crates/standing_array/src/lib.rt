@@ -1,8 +1,5 @@
 // The standing in an array of 512 records by value, for programs: its front part is lent to `standing::apply`, and the array is handed
-// back. `apply` is proved by a walk of its code, by hand; the three calls over it, and who calls them, need none.
-//
-// It requires that at most 512 records are lent. A function that makes a lent slice of records of its own array needs a walk, and one that
-// calls this crate does not.
+// back. It requires that at most 512 records are lent.
 #![tactic(auto)]
 
 ghost use Rattle.std.specs.Prelude.{◌≡◌, ◌++◌, ◌≤◌, take, drop};

@@ -9,7 +9,7 @@ use borrow.Author.Tests.{le-leb, lt-leb, leb-true, leb-false}
 use lib.Dec.{leb, ltb}
 use lib.ListN.{length}
 use Rattle.lists.specs.Lists.{if◌then◌else◌, any, All}
-use Rattle.lists.proofs.Members.{any_append, or-false}
+use Rattle.lists.proofs.Members.{any_append, or_false}
 use Rattle.sigma.proofs.Differences.{lt_or_ge}
 use Rattle.volatile.specs.Periods.{Period, first_from, is_in, is_early, sigma_on, average, last_day, period_from, periods}
 
@@ -116,7 +116,7 @@ over : (d : ℕ) (ps : List Period) → Begun d ps → any (is_in d) ps ≡ fals
 unfolding any
 over d [] b e = refl
 over d (p ∷ ps) b e =
-    let h = or-false (is_in d p) (any (is_in d) ps) e in
+    let h = or_false (is_in d p) (any (is_in d) ps) e in
     rw (one h.0) (over d ps b.1 h.1)
   where
     one : is_in d p ≡ false → is_in (suc d) p ≡ false

@@ -18,7 +18,7 @@ use Rattle.sigma.proofs.Differences.{lt_or_ge}
 use Rattle.sigma.proofs.Lists.{length_changes, length_previous, length_sigmas, changes-at, previous-at, sigmas-at}
 use Rattle.volatile.specs.declared.State.{State}
 use Rattle.volatile.specs.Periods.{is_in, is_early, periods}
-use Rattle.volatile.specs.Internal.{pushed, phase, phase_after, state, sigma_with, judged, state_after, fresh, Ready, early}
+use Rattle.volatile.specs.Internal.{pushed, phase_after, state, sigma_with, judged, state_after, fresh, Ready, early}
 use Rattle.volatile.proofs.Periods.{any_snoc, early_later}
 use Rattle.volatile.proofs.Windows.{Holds, roomy, pushed-holds, average_is, fresh_holds}
 use Rattle.volatile.proofs.Phases.{Phased, phased_none, phase-after}

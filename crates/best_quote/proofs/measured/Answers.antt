@@ -10,47 +10,29 @@ use Rattle.best_quote.specs.Levels.{held, level_at}
 use Rattle.best_quote.proofs.Loops.{held_next, held_fits, held_all}
 use Rattle.best_quote.proofs.measured.Goals as goal
 
--- the turn of the loop at which a need arises
-abbrev Turn : Type 0
-Turn = tie.At-loop invariant_loop decreases_loop
-
--- a sum with the contracts at the next key, by the test of the sum
-module _ (u : Turn) (t : ℕ → Bool) (h s : ℕ) (more : u.loop.i < length u.before.before.before.args.keys.now)
-    (so_far : h ≡ held t (take u.loop.i u.before.before.before.args.keys.now) (take u.loop.i u.before.before.before.args.volumes.now))
-    (volume_where : s ≡ (if t (get_or u.before.before.before.args.keys.now u.loop.i 0) then get_or u.before.before.before.args.volumes.now u.loop.i 0 else 0)) where
-  added : h + s ≡ held t (take (u.loop.i + 1) u.before.before.before.args.keys.now) (take (u.loop.i + 1) u.before.before.before.args.volumes.now)
-  added =
-      let b = u.before.before.before in
-      held_next t u.loop.i b.args.keys.now b.args.volumes.now h s more b.pre.even so_far volume_where
-  small : h + s ≤ 64000000
-  small =
-      let b = u.before.before.before in
-      omega (arith, held_fits t u.loop.i b.args.keys.now b.args.volumes.now h s more b.pre.even so_far volume_where, b.pre.small)
-
 pub loop-i-init : goal.loop-i-init
 unfolding held
 loop-i-init c = (omega arith, refl, refl)
 
 pub sum-before-requires : goal.sum-before-requires
 sum-before-requires c =
-    let h = c.loop-i.before in
-    let fits : h + c.volume_where.result ≤ 64000000 =
-    small c (ltb c.args.key) h c.volume_where.result (omega arith) c.loop-i.invariant.1 c.volume_where.ensures in
-    omega arith
+    let n = c.loop-i in
+    let a = c.args in
+    omega (arith, held_fits (ltb a.key) n.i a.keys.now a.volumes.now n.before c.volume_where.result (omega arith) c.requires.even n.invariant.1 c.volume_where.ensures, c.requires.small)
 
 pub sum-at-requires : goal.sum-at-requires
 sum-at-requires c =
-    let h = c.loop-i.at in
-    let fits : h + c.volume_where-in-loop-i.result ≤ 64000000 =
-    small c (eqb c.args.key) h c.volume_where-in-loop-i.result (omega arith) c.loop-i.invariant.2 c.volume_where-in-loop-i.ensures in
-    omega arith
+    let n = c.loop-i in
+    let a = c.args in
+    omega (arith, held_fits (eqb a.key) n.i a.keys.now a.volumes.now n.at c.volume_where-in-loop-i.result (omega arith) c.requires.even n.invariant.2 c.volume_where-in-loop-i.ensures, c.requires.small)
 
 pub loop-i-preserved : goal.loop-i-preserved
 loop-i-preserved c =
-    let key = c.args.key in (
+    let n = c.loop-i in
+    let a = c.args in (
       omega arith,
-      c.sum-before.ensures ∙ added c (ltb key) c.loop-i.before c.volume_where.result (omega arith) c.loop-i.invariant.1 c.volume_where.ensures,
-      c.sum-at.ensures ∙ added c (eqb key) c.loop-i.at c.volume_where-in-loop-i.result (omega arith) c.loop-i.invariant.2 c.volume_where-in-loop-i.ensures,
+      c.sum-before.ensures ∙ held_next (ltb a.key) n.i a.keys.now a.volumes.now n.before c.volume_where.result (omega arith) c.requires.even n.invariant.1 c.volume_where.ensures,
+      c.sum-at.ensures ∙ held_next (eqb a.key) n.i a.keys.now a.volumes.now n.at c.volume_where-in-loop-i.result (omega arith) c.requires.even n.invariant.2 c.volume_where-in-loop-i.ensures,
     )
 
 pub returns : goal.returns

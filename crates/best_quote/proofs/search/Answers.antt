@@ -18,208 +18,137 @@ use Rattle.best_quote.proofs.Short.{short_enough, short_few, short_worse, short_
 use Rattle.best_quote.proofs.Finding.{finds}
 use Rattle.best_quote.proofs.search.Goals as goal
 
-abbrev Candidates : Type 0
-Candidates = tie.At-candidates invariant_volumes decreases_volumes invariant_candidates decreases_candidates
-
-abbrev Volumes : Type 0
-Volumes = tie.At-volumes invariant_volumes decreases_volumes invariant_candidates decreases_candidates
-
--- the outer loop's turn that the inner loop is in
-abbrev outer : Volumes → Candidates
-outer v = v.before.before.before.before
-
-abbrev keys_of : Candidates → List ℕ
-keys_of u = u.before.before.before.args.keys.now
-
-abbrev volumes_of : Candidates → List ℕ
-volumes_of u = u.before.before.before.args.volumes.now
-
-abbrev candidate : Candidates → ℕ
-candidate u = get_or (keys_of u) u.candidates.i 0
-
-abbrev minimum_of : Candidates → ℕ
-minimum_of u = u.before.before.before.args.minimum.0
-
-abbrev even : (u : Candidates) → length (keys_of u) ≡ length (volumes_of u)
-even u = u.before.before.before.pre.columns.even
-
 -- where the inner loop is left, the contracts at the candidate's key or better
-whole : (w : goal.Then-keys-j invariant_volumes decreases_volumes invariant_candidates decreases_candidates)
-    → let u = outer w in
-    w.volumes.held ≡ L.held (leb (candidate u)) (keys_of u) (volumes_of u)
-whole w =
-    let u = outer w in
-    let n = w.volumes in
-    let end : n.j ≡ length (keys_of u) = omega arith in
-    held_all (leb (candidate u)) n.j (keys_of u) (volumes_of u) n.held end (even u) n.invariant.1
+whole : (ks vs : List ℕ) (key held j : ℕ) → j ≤ length ks → length ks ≤ j → length ks ≡ length vs → held ≡ L.held (leb key) (take j ks) (take j vs)
+    → held ≡ L.held (leb key) ks vs
+whole ks vs key held j most least even so_far =
+    let end : j ≡ length ks = omega arith in
+    held_all (leb key) j ks vs held end even so_far
 
 -- where the inner loop is left, whether there are enough at the candidate's key or better
-judged : (w : goal.Then-keys-j invariant_volumes decreases_volumes invariant_candidates decreases_candidates) (b : Bool)
-    → let u = outer w in
-    leb (minimum_of u) w.volumes.held ≡ b → enough (minimum_of u) (keys_of u) (volumes_of u) (candidate u) ≡ b
+judged : (ks vs : List ℕ) (key held m : ℕ) (b : Bool) → held ≡ L.held (leb key) ks vs → leb m held ≡ b → enough m ks vs key ≡ b
 unfolding enough
-judged w b h = ap (leb (minimum_of (outer w))) (sym (whole w)) ∙ h
+judged ks vs key held m b all h = ap (leb m) (sym all) ∙ h
 
 -- the contracts at the found key or better: none yet at the start, else its depth
-depth-start : (start : ℕ) (ks vs : List ℕ) → depth_from start start ks vs ≡ 0
-depth-start start ks vs = rw (le-ltb start start (omega arith)) refl
+depth_start : (start : ℕ) (ks vs : List ℕ) → depth_from start start ks vs ≡ 0
+depth_start start ks vs = rw (le-ltb start start (omega arith)) refl
 
-depth-found : (start found : ℕ) (ks vs : List ℕ) → start < found → depth_from start found ks vs ≡ L.held (leb found) ks vs
-depth-found start found ks vs h = rw (lt-ltb start found h) refl
+depth_found : (start found : ℕ) (ks vs : List ℕ) → start < found → depth_from start found ks vs ≡ L.held (leb found) ks vs
+depth_found start found ks vs h = rw (lt-ltb start found h) refl
 
--- what the search has come to after a turn
-abbrev After : Candidates → ℕ → ℕ → ℕ → Type 0
-After u found sums short =
-    let a = u.before.before.before.args in
-    let i = u.candidates.i + 1 in
-    (found ≡ found_by a.start (minimum_of u) (keys_of u) (volumes_of u) i) × (sums ≡ key_sums (enough (minimum_of u) (keys_of u) (volumes_of u)) a.start (take i (keys_of u)))
-    × (short ≡ short_by a.start (minimum_of u) (keys_of u) (volumes_of u) i)
+module _ (ks vs : List ℕ) (start m i found sums short : ℕ) (more : i < length ks) where
+  -- what the search has come to after a turn
+  abbrev After : ℕ → ℕ → ℕ → Type 0
+  After f n s =
+      (f ≡ found_by start m ks vs (i + 1)) × (n ≡ key_sums (enough m ks vs) start (take (i + 1) ks)) × (s ≡ short_by start m ks vs (i + 1))
 
-module _ (u : Candidates) (more : u.candidates.i < length (keys_of u)) where
-  better : u.candidates.found < candidate u → enough (minimum_of u) (keys_of u) (volumes_of u) (candidate u) ≡ true
-      → After u (candidate u) (u.candidates.sums + 1) u.candidates.short
-  better h e =
-      let a = u.before.before.before.args in
-      let n = u.candidates in
-      let s = short_next a.start (minimum_of u) (keys_of u) (volumes_of u) n.i more in
-      let z = short_enough a.start (minimum_of u) (keys_of u) (volumes_of u) (candidate u) e in (
-        found-better a.start (minimum_of u) (keys_of u) (volumes_of u) n.i n.found more n.inv.3 h e,
-        sums_better a.start (minimum_of u) (keys_of u) (volumes_of u) n.i n.found n.sums more n.inv.3 n.inv.4 h,
-        omega (arith, n.inv.5, s, z),
-      )
-  few : u.candidates.found < candidate u → enough (minimum_of u) (keys_of u) (volumes_of u) (candidate u) ≡ false
-      → (d short : ℕ) → d ≡ L.held (leb (candidate u)) (keys_of u) (volumes_of u) → short ≡ max u.candidates.short d
-      → After u u.candidates.found (u.candidates.sums + 1) short
-  few h e d short q r =
-      let a = u.before.before.before.args in
-      let n = u.candidates in
-      let s = short_next a.start (minimum_of u) (keys_of u) (volumes_of u) n.i more in
-      let z = short_few a.start (minimum_of u) (keys_of u) (volumes_of u) (candidate u) (omega (arith, n.inv.3, h)) e in (
-        found_few a.start (minimum_of u) (keys_of u) (volumes_of u) n.i n.found more n.inv.3 e,
-        sums_better a.start (minimum_of u) (keys_of u) (volumes_of u) n.i n.found n.sums more n.inv.3 n.inv.4 h,
-        omega (arith, n.inv.5, s, z, q, r),
-      )
-  worse : candidate u ≤ u.candidates.found → After u u.candidates.found u.candidates.sums u.candidates.short
-  worse h =
-      let a = u.before.before.before.args in
-      let n = u.candidates in
-      let s = short_next a.start (minimum_of u) (keys_of u) (volumes_of u) n.i more in
-      let z = short_worse a.start (minimum_of u) (keys_of u) (volumes_of u) n.i (candidate u) (omega (arith, n.inv.3, h)) in (
-        found_worse a.start (minimum_of u) (keys_of u) (volumes_of u) n.i n.found more n.inv.3 h,
-        sums_worse a.start (minimum_of u) (keys_of u) (volumes_of u) n.i n.found n.sums more n.inv.3 n.inv.4 h,
-        omega (arith, n.inv.5, s, z),
-      )
+  abbrev Before : Type 0
+  Before = (found ≡ found_by start m ks vs i) × (sums ≡ key_sums (enough m ks vs) start (take i ks)) × (short ≡ short_by start m ks vs i)
 
-shared-slice-read-key :
-    tie.Need-shared-slice-read-key invariant_volumes decreases_volumes invariant_candidates decreases_candidates
-shared-slice-read-key c = omega arith
+  abbrev key : ℕ
+  key = get_or ks i 0
 
-shared-slice-read-volume-where :
-    tie.Need-shared-slice-read-volume-where invariant_volumes decreases_volumes invariant_candidates decreases_candidates
-shared-slice-read-volume-where c = omega arith
+  better : Before → found < key → enough m ks vs key ≡ true → After key (sums + 1) short
+  better n h e =
+      let s = short_next start m ks vs i more in
+      let z = short_enough start m ks vs key e in
+      (found-better start m ks vs i found more n.0 h e, sums_better start m ks vs i found sums more n.0 n.1 h, omega (arith, n.2, s, z))
 
-shared-slice-read-volume-where-2 :
-    tie.Need-shared-slice-read-volume-where-2 invariant_volumes decreases_volumes invariant_candidates decreases_candidates
-shared-slice-read-volume-where-2 c = omega (arith, even (outer c.before.before.before))
+  few : Before → found < key → enough m ks vs key ≡ false → (d t : ℕ) → d ≡ L.held (leb key) ks vs → t ≡ max short d → After found (sums + 1) t
+  few n h e d t q r =
+      let s = short_next start m ks vs i more in
+      let z = short_few start m ks vs key (omega (arith, n.0, h)) e in
+      (found_few start m ks vs i found more n.0 e, sums_better start m ks vs i found sums more n.0 n.1 h, omega (arith, n.2, s, z, q, r))
+
+  worse : Before → key ≤ found → After found sums short
+  worse n h =
+      let s = short_next start m ks vs i more in
+      let z = short_worse start m ks vs i key (omega (arith, n.0, h)) in
+      (found_worse start m ks vs i found more n.0 h, sums_worse start m ks vs i found sums more n.0 n.1 h, omega (arith, n.2, s, z))
 
 pub candidates-init : goal.candidates-init
 unfolding greatest filter key_sums
-candidates-init c = (omega arith, omega (arith, c.requires.start_most), omega arith, omega arith, refl, refl, sym (depth-start c.args.start c.args.keys.now c.args.volumes.now))
+candidates-init c = (omega arith, omega (arith, c.requires.start_most), omega arith, omega arith, refl, refl, sym (depth_start c.args.start c.args.keys.now c.args.volumes.now))
 
 pub volumes-init : goal.volumes-init
 unfolding L.held
 volumes-init c = (omega arith, refl)
 
+pub bounds-volumes-j : goal.bounds-volumes-j
+bounds-volumes-j c = omega (arith, c.requires.columns.even)
+
 pub sum-held-requires : goal.sum-held-requires
 sum-held-requires c =
-    let u = outer c in
     let n = c.volumes in
+    let a = c.args in
     omega (
       arith,
-      held_fits (leb (candidate u)) n.j (keys_of u) (volumes_of u) n.held c.volume_where.result (omega arith) (even u) n.invariant.1 c.volume_where.ensures,
-      u.before.before.before.pre.columns.small,
+      held_fits (leb (get_or a.keys.now c.candidates.i 0)) n.j a.keys.now a.volumes.now n.held c.volume_where.result (omega arith) c.requires.columns.even n.invariant.1 c.volume_where.ensures,
+      c.requires.columns.small,
     )
 
 pub volumes-preserved : goal.volumes-preserved
 volumes-preserved c =
-    let u = outer c in
     let n = c.volumes in
-    (omega arith, c.sum-held.ensures ∙ held_next (leb (candidate u)) n.j (keys_of u) (volumes_of u) n.held c.volume_where.result (omega arith) (even u) n.invariant.1 c.volume_where.ensures)
+    let a = c.args in (
+      omega arith,
+      c.sum-held.ensures
+          ∙ held_next (leb (get_or a.keys.now c.candidates.i 0)) n.j a.keys.now a.volumes.now n.held c.volume_where.result (omega arith) c.requires.columns.even n.invariant.1 c.volume_where.ensures,
+    )
 
 pub overflow_add-sums : goal.overflow_add-sums
-overflow_add-sums c = omega (arith, (outer c).before.before.before.pre.few)
+overflow_add-sums c = omega (arith, c.requires.few)
 
 pub candidates-preserved-then-m-depth : goal.candidates-preserved-then-m-depth
 candidates-preserved-then-m-depth c =
-    let u = outer c in
-    let e = judged c true (le-leb (minimum_of u) c.volumes.held (omega arith)) in
-    let next = better u (omega arith) (omega arith) e in (
+    let u = c.candidates in
+    let a = c.args in
+    let m = a.minimum.0 in
+    let key = get_or a.keys.now u.i 0 in
+    let all = whole a.keys.now a.volumes.now key c.volumes.held c.volumes.j (omega arith) (omega arith) c.requires.columns.even c.volumes.invariant.1 in
+    let e = judged a.keys.now a.volumes.now key c.volumes.held m true all (le-leb m c.volumes.held (omega arith)) in
+    let next = better a.keys.now a.volumes.now a.start m u.i u.found u.sums u.short (omega arith) (u.invariant.3, u.invariant.4, u.invariant.5) (omega arith) e in (
       omega arith,
-      u.before.before.before.pre.keys u.candidates.i,
+      c.requires.keys u.i,
       omega arith,
       next.0,
       next.1,
       next.2,
-      whole c ∙ sym (depth-found u.before.before.before.args.start (candidate u) (keys_of u) (volumes_of u) (omega (arith, u.candidates.inv.3))),
+      all ∙ sym (depth_found a.start key a.keys.now a.volumes.now (omega (arith, u.invariant.3))),
     )
 
 pub candidates-preserved-else-m-depth : goal.candidates-preserved-else-m-depth
 candidates-preserved-else-m-depth c =
-    let u = outer c in
-    let e = judged c false (lt-leb (minimum_of u) c.volumes.held (omega arith)) in
-    let next = few u (omega arith) (omega arith) e c.volumes.held c.max-short.result (whole c) c.max-short.ensures in
-    (omega arith, omega arith, omega arith, next.0, next.1, next.2, u.candidates.inv.6)
+    let u = c.candidates in
+    let a = c.args in
+    let m = a.minimum.0 in
+    let key = get_or a.keys.now u.i 0 in
+    let all = whole a.keys.now a.volumes.now key c.volumes.held c.volumes.j (omega arith) (omega arith) c.requires.columns.even c.volumes.invariant.1 in
+    let e = judged a.keys.now a.volumes.now key c.volumes.held m false all (lt-leb m c.volumes.held (omega arith)) in
+    let next =
+    few a.keys.now a.volumes.now a.start m u.i u.found u.sums u.short (omega arith) (u.invariant.3, u.invariant.4, u.invariant.5) (omega arith) e c.volumes.held c.max-short.result all c.max-short.ensures in
+    (omega arith, omega arith, omega arith, next.0, next.1, next.2, u.invariant.6)
 
 pub candidates-preserved : goal.candidates-preserved
 candidates-preserved c =
-    let next = worse c (omega arith) (omega arith) in
-    (omega arith, omega arith, omega arith, next.0, next.1, next.2, c.candidates.invariant.6)
+    let u = c.candidates in
+    let a = c.args in
+    let next = worse a.keys.now a.volumes.now a.start a.minimum.0 u.i u.found u.sums u.short (omega arith) (u.invariant.3, u.invariant.4, u.invariant.5) (omega arith) in
+    (omega arith, omega arith, omega arith, next.0, next.1, next.2, u.invariant.6)
 
 pub returns : goal.returns
 returns c =
     let n = c.candidates in
     let a = c.args in
-    let end : n.i ≡ length (keys_of c) = omega arith in
-    let last = n.invariant.3 ∙ ap (found_by a.start (minimum_of c) (keys_of c) (volumes_of c)) end in
-    finds a.side (keys_of c) (volumes_of c) a.start (minimum_of c)
+    let ks = a.keys.now in
+    let vs = a.volumes.now in
+    let m = a.minimum.0 in
+    let end : n.i ≡ length ks = omega arith in
+    let last = n.invariant.3 ∙ ap (found_by a.start m ks vs) end in
+    finds a.side ks vs a.start m
     (record { quote = c.quote_at-quote.result; before = n.short; depth = n.enough; sums = n.sums })
     c.requires.start_most
-    (c.quote_at-quote.ensures ∙ ap (quote_at a.side) last) (n.invariant.4 ∙ ap (λ (l : List ℕ). key_sums (enough (minimum_of c) (keys_of c) (volumes_of c)) a.start l) (ap (λ (j : ℕ). take j (keys_of c)) end ∙ take-length (keys_of c)))
-    (n.invariant.5 ∙ ap (short_by a.start (minimum_of c) (keys_of c) (volumes_of c)) end)
-    (n.invariant.6 ∙ ap (λ (k : ℕ). depth_from a.start k (keys_of c) (volumes_of c)) last)
-
-pub quote_at-quote-requires : goal.quote_at-quote-requires
-quote_at-quote-requires c = omega arith
-
-pub offset_bounds-keys-i : goal.offset_bounds-keys-i
-offset_bounds-keys-i c = omega arith
-
-pub overflow_add-i : goal.overflow_add-i
-overflow_add-i c = omega arith
-
-pub offset_bounds-keys-j : goal.offset_bounds-keys-j
-offset_bounds-keys-j c = omega arith
-
-pub offset_bounds-volumes-j : goal.offset_bounds-volumes-j
-offset_bounds-volumes-j c = omega arith
-
-pub volume_where-requires : goal.volume_where-requires
-volume_where-requires c = tt
-
-pub overflow_add-j : goal.overflow_add-j
-overflow_add-j c = omega arith
-
-pub volumes-smaller : goal.volumes-smaller
-volumes-smaller c = omega arith
-
-pub candidates-smaller-then-m-depth : goal.candidates-smaller-then-m-depth
-candidates-smaller-then-m-depth c = omega arith
-
-pub max-short-requires : goal.max-short-requires
-max-short-requires c = tt
-
-pub candidates-smaller-else-m-depth : goal.candidates-smaller-else-m-depth
-candidates-smaller-else-m-depth c = omega arith
-
-pub candidates-smaller : goal.candidates-smaller
-candidates-smaller c = omega arith
+    (c.quote_at-quote.ensures ∙ ap (quote_at a.side) last) (n.invariant.4 ∙ ap (λ (l : List ℕ). key_sums (enough m ks vs) a.start l) (ap (λ (j : ℕ). take j ks) end ∙ take-length ks))
+    (n.invariant.5 ∙ ap (short_by a.start m ks vs) end)
+    (n.invariant.6 ∙ ap (λ (k : ℕ). depth_from a.start k ks vs) last)

@@ -1,5 +1,4 @@
 -- `call_blocks::amendment_at` meets its contract: word by word.
-use borrow.Author.Rules.{rules}
 use Rattle.call_blocks.proofs.amendment_at.Goals as goal
 
 pub returns : goal.returns

@@ -1,7 +1,6 @@
 -- `call_blocks::charge_at` meets its contract: the number at its place.
 use mathlib.Core.Path.{ap}
 use Rattle.rules.specs.Units.{kopecks}
-use borrow.Author.Rules.{rules}
 use Rattle.call_blocks.proofs.charge_at.Goals as goal
 
 pub returns : goal.returns

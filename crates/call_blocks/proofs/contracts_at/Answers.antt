@@ -1,7 +1,6 @@
 -- `call_blocks::contracts_at` meets its contract: the word at its place.
 use mathlib.Core.Path.{ap}
 use Rattle.rules.specs.Units.{contracts}
-use borrow.Author.Rules.{rules}
 use Rattle.call_blocks.proofs.contracts_at.Goals as goal
 
 pub returns : goal.returns

@@ -2,7 +2,6 @@
 use Rattle.call_blocks.proofs.Decoding.{by_kind, open_is, strike_is, other_is}
 use mathlib.Core.Path.{◌∙◌}
 use Rattle.words.specs.Bytes.{words_in}
-use borrow.Author.Rules.{rules}
 use Rattle.call_blocks.proofs.decode.Goals as goal
 
 pub returns-in-1 : goal.returns-in-1

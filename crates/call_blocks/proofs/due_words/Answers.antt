@@ -4,7 +4,6 @@ use mathlib.Core.Path.{ap, ◌∙◌}
 use Rattle.words.specs.Bytes.{words_in}
 use Rattle.call_blocks.specs.Kinds.{add_due, due}
 use Rattle.call_blocks.proofs.Sizes.{due_is, other-due}
-use borrow.Author.Rules.{rules}
 use Rattle.call_blocks.proofs.due_words.Goals as goal
 
 pub returns-in-1 : goal.returns-in-1

@@ -1,10 +1,8 @@
 -- The invariant is `Passed`: what is read of the whole list is what was read so far and what is read from there on. The measure is the
 use Prim.Native.Nat.{◌-◌}
-use native.Mathlib.Omega.{arith}
 use lib.ListN.{length}
 use Rattle.words.specs.Bytes.{words_in}
-use Rattle.words.proofs.Bytes.{words_length}
-use Rattle.call_blocks.proofs.Loops.{Passed, at_start, one_more, measured}
+use Rattle.call_blocks.proofs.Loops.{Passed}
 use Rattle.call_blocks.proofs.measure.Given as goal
 
 abbrev pub invariant-loop-size : goal.invariant-loop-size

@@ -2,7 +2,6 @@
 use mathlib.Core.Path.{◌∙◌}
 use lib.ListN.{take, drop}
 use Rattle.words.specs.Bytes.{words_in, bytes_of}
-use borrow.Author.Rules.{rules}
 use Rattle.call_blocks.proofs.message.Goals as goal
 
 pub returns : goal.returns

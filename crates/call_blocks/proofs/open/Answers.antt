@@ -4,7 +4,6 @@ use mathlib.Core.Path.{ap, ◌∙◌}
 use lib.ListN.{get_or}
 use Rattle.call_blocks.specs.declared.Decoded.TheVariants as D
 use Rattle.words.specs.Bytes.{words_in}
-use borrow.Author.Rules.{rules}
 use Rattle.call_blocks.proofs.open.Goals as goal
 
 pub returns : goal.returns

@@ -1,6 +1,5 @@
 -- `call_blocks::opening_at` meets its contract: a price and the word after it.
 use Rattle.rules.specs.declared.SpreadRule.TheVariants.{Settled}
-use borrow.Author.Rules.{rules}
 use Rattle.call_blocks.proofs.opening_at.Goals as goal
 
 pub returns : goal.returns

@@ -4,7 +4,6 @@ use mathlib.Core.Path.{◌≡◌, ap, ◌∙◌}
 use lib.ListN.{length}
 use Rattle.words.proofs.Bytes.{words_length}
 use Rattle.call_blocks.proofs.Decoding.{part_is}
-use borrow.Author.Rules.{rules}
 use Rattle.call_blocks.proofs.part.Goals as goal
 
 pub returns : goal.returns

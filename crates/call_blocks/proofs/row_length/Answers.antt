@@ -4,7 +4,6 @@ use mathlib.Core.Path.{◌≡◌, ◌∙◌}
 use lib.ListN.{length, get_or}
 use Rattle.words.specs.Bytes.{words_in}
 use Rattle.call_blocks.proofs.Decoding.{row-length_is}
-use borrow.Author.Rules.{rules}
 use Rattle.call_blocks.proofs.row_length.Goals as goal
 
 pub returns : goal.returns

@@ -1,7 +1,6 @@
 -- `call_blocks::side_at` meets its contract: the side of the word.
 use mathlib.Core.Path.{ap, ◌∙◌}
 use Rattle.words.specs.Sides.{side_by}
-use borrow.Author.Rules.{rules}
 use Rattle.call_blocks.proofs.side_at.Goals as goal
 
 pub returns : goal.returns

@@ -3,7 +3,6 @@ use native.Mathlib.Omega.{arith}
 use mathlib.Core.Path.{sym}
 use Rattle.words.specs.Bytes.{words_in}
 use Rattle.call_blocks.proofs.Reading.{whole, cut}
-use borrow.Author.Rules.{rules}
 use Rattle.call_blocks.proofs.size.Goals as goal
 
 pub returns-then-n-count : goal.returns-then-n-count

@@ -3,7 +3,6 @@ use Prim.Native.Nat.{◌*◌}
 use mathlib.Core.Path.{refl, ap, ◌∙◌}
 use Rattle.call_blocks.specs.Kinds.{block_size}
 use Rattle.words.proofs.Bytes.{part_words_lem}
-use borrow.Author.Rules.{rules}
 use Rattle.call_blocks.proofs.size_at.Goals as goal
 
 pub returns : goal.returns

@@ -3,7 +3,6 @@ use Prim.Native.Nat.{ℕ}
 use mathlib.Core.Path.{ap, ◌∙◌}
 use lib.ListN.{take, drop}
 use Rattle.words.specs.Bytes.{words_in, bytes_of}
-use borrow.Author.Rules.{rules}
 use Rattle.call_blocks.proofs.start.Goals as goal
 
 pub returns : goal.returns

@@ -3,7 +3,6 @@ use Prim.Native.Nat.{ℕ}
 use mathlib.Core.Path.{ap, ◌∙◌}
 use Rattle.rules.specs.Units.{steps}
 use Rattle.rules.specs.Records.{signed_of}
-use borrow.Author.Rules.{rules}
 use Rattle.call_blocks.proofs.steps_at.Goals as goal
 
 pub returns : goal.returns

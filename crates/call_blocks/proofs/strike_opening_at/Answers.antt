@@ -1,6 +1,5 @@
 -- `call_blocks::strike_opening_at` meets its contract: a strike and the word after it.
 use Rattle.rules.specs.declared.SpreadRule.TheVariants.{OfStrike}
-use borrow.Author.Rules.{rules}
 use Rattle.call_blocks.proofs.strike_opening_at.Goals as goal
 
 pub returns : goal.returns

@@ -1,5 +1,4 @@
 -- `call_blocks::ticket_at` meets its contract: the amendment and the count after it.
-use borrow.Author.Rules.{rules}
 use Rattle.call_blocks.proofs.ticket_at.Goals as goal
 
 pub returns : goal.returns

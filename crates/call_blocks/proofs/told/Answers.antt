@@ -2,7 +2,6 @@
 use mathlib.Core.Path.{ap, ◌∙◌}
 use lib.Dec.{leb}
 use Rattle.call_blocks.specs.Pieces.{telling, is_told}
-use borrow.Author.Rules.{rules}
 use Rattle.call_blocks.proofs.told.Goals as goal
 
 pub returns : goal.returns

@@ -1,7 +1,6 @@
 -- `call_blocks::wide_at` meets its contract: the two words and their places.
 use Rattle.call_blocks.proofs.Decoding.{wide_is}
 use Rattle.words.specs.Bytes.{words_in}
-use borrow.Author.Rules.{rules}
 use Rattle.call_blocks.proofs.wide_at.Goals as goal
 
 pub returns : goal.returns

@@ -4,7 +4,6 @@ use mathlib.Core.Path.{sym, ◌∙◌}
 use lib.ListN.{get_or-eq_default}
 use Rattle.words.specs.Bytes.{words_in}
 use Rattle.words.proofs.Bytes.{words_length, word_in_lem}
-use borrow.Author.Rules.{rules}
 use Rattle.call_blocks.proofs.word.Goals as goal
 
 pub returns-then-i-count : goal.returns-then-i-count

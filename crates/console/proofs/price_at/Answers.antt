@@ -3,7 +3,6 @@ use native.Mathlib.Omega.{arith}
 use mathlib.Core.Path.{ap}
 use Rattle.rules.specs.declared.Steps.{Steps}
 use Rattle.console.proofs.Prices.{read_is}
-use borrow.Author.Rules.{rules}
 use Rattle.console.proofs.price_at.Goals as goal
 
 pub returns : goal.returns

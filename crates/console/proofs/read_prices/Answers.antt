@@ -1,14 +1,11 @@
 -- The prices before the place are read, and the rest is as it was. The measure is the number of prices left.
-use Prim.Native.Nat.{ℕ, ◌+◌, ◌-◌, ◌*◌, ◌≤◌}
 use native.Mathlib.Omega.{arith}
-use mathlib.Core.Path.{◌≡◌, refl, ap, ◌∙◌}
-use mathlib.Core.List.{List}
-use borrow.Author.Rules.{rules}
-use lib.IntN.{ℤ, pos}
+use mathlib.Core.Path.{refl, ap, ◌∙◌}
+use lib.IntN.{pos}
 use lib.ListN.{length}
 use mir.Facts.{to_z-of_z}
-use Rattle.rules.specs.Records.{signed_of, word_at}
-use Rattle.console.proofs.Filling.{filled, none_filled, one_more as again, all-filled as all, filled-length}
+use mir.Syntax.{w32}
+use Rattle.console.proofs.Filling.{none_filled, one_more as again, all-filled as all, filled-length}
 use Rattle.console.proofs.read_prices.Goals as goal
 use Rattle.console.proofs.read_prices.Invariants.{due}
 
@@ -26,7 +23,7 @@ loop-i-preserved c =
     let a = c.args in (
       omega arith,
       l.invariant.1,
-      again (due a.bytes.now a.from) (pos 0) a.prices.now l.prices l.i _ (omega (arith, l.invariant.1)) l.invariant.2 (to_z-of_z (record { sfits = c.price_at-p.type_inv }) ∙ c.price_at-p.ensures),
+      again (due a.bytes.now a.from) (pos 0) a.prices.now l.prices l.i _ (omega (arith, l.invariant.1)) l.invariant.2 (to_z-of_z {w = w32} (record { sfits = c.price_at-p.type_inv }) ∙ c.price_at-p.ensures),
     )
 
 pub returns : goal.returns

@@ -1,14 +1,11 @@
 -- The prices before the place are read, and the rest is as it was. The measure is the number of prices left.
 use Prim.Native.Nat.{ℕ, ◌+◌, ◌-◌, ◌*◌, ◌≤◌}
-use native.Mathlib.Omega.{arith}
-use mathlib.Core.Path.{◌≡◌, refl, ap, ◌∙◌}
+use mathlib.Core.Path.{◌≡◌}
 use mathlib.Core.List.{List}
-use borrow.Author.Rules.{rules}
-use lib.IntN.{ℤ, pos}
+use lib.IntN.{ℤ}
 use lib.ListN.{length}
-use mir.Facts.{to_z-of_z}
 use Rattle.rules.specs.Records.{signed_of, word_at}
-use Rattle.console.proofs.Filling.{filled, none_filled, one_more as again, all-filled as all, filled-length}
+use Rattle.console.proofs.Filling.{filled}
 use Rattle.console.proofs.read_prices.Given as goal
 
 -- The prices before the place are read, and the rest is as it was. The measure is the number of prices left.

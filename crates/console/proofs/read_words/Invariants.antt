@@ -1,12 +1,10 @@
 -- The words before the place are read, and the rest is as it was. The measure is the number of words left.
 use Prim.Native.Nat.{ℕ, ◌+◌, ◌-◌, ◌*◌, ◌≤◌}
-use native.Mathlib.Omega.{arith}
-use mathlib.Core.Path.{◌≡◌, refl, ap, ◌∙◌}
+use mathlib.Core.Path.{◌≡◌}
 use mathlib.Core.List.{List}
-use borrow.Author.Rules.{rules}
 use lib.ListN.{length}
 use Rattle.rules.specs.Records.{word_at}
-use Rattle.console.proofs.Filling.{filled, none_filled, one_more as again, all-filled as all, filled-length}
+use Rattle.console.proofs.Filling.{filled}
 use Rattle.console.proofs.read_words.Given as goal
 
 -- The words before the place are read, and the rest is as it was. The measure is the number of words left.

@@ -1,7 +1,6 @@
 -- `fix_frame::head_good` meets its contract: it is `head_right`'s own test, byte by byte.
 use mathlib.Core.Path.{refl}
 use Rattle.fix_frame.specs.Frames.{head_right}
-use borrow.Author.Rules.{rules}
 use Rattle.fix_frame.proofs.head_good.Goals as goal
 
 pub returns : goal.returns

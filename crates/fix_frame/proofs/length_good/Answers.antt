@@ -1,9 +1,9 @@
 -- `fix_frame::length_good` meets its contract: no number is no length (`no_length`), and the capped number is the length just where the number
+-- is (`a-length`).
 use mathlib.Core.Path.{ap, sym, ◌∙◌}
 use Rattle.rules.specs.Digits.{in_digits}
 use Rattle.fix_digits.specs.Answers.{shown_number}
 use Rattle.fix_fields.proofs.Slots.{no_length, a-length}
-use borrow.Author.Rules.{rules}
 use Rattle.fix_frame.proofs.length_good.Goals as goal
 
 pub returns-in_default : goal.returns-in_default

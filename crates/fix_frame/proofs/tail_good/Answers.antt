@@ -1,7 +1,6 @@
 -- `fix_frame::tail_good` meets its contract: it is `tail_right`'s own test, byte by byte.
 use mathlib.Core.Path.{refl}
 use Rattle.fix_frame.specs.Frames.{tail_right}
-use borrow.Author.Rules.{rules}
 use Rattle.fix_frame.proofs.tail_good.Goals as goal
 
 pub returns : goal.returns

@@ -1,7 +1,6 @@
 -- `fix_frame::type_good` meets its contract: it is `type_right`'s own test, byte by byte.
 use mathlib.Core.Path.{refl}
 use Rattle.fix_frame.specs.Frames.{type_right}
-use borrow.Author.Rules.{rules}
 use Rattle.fix_frame.proofs.type_good.Goals as goal
 
 pub returns : goal.returns

@@ -3,7 +3,6 @@ use native.Mathlib.Omega.{arith}
 use mathlib.Core.Path.{sym}
 use lib.Seq.{length-take-le}
 use Rattle.fix_writer.proofs.Framing.{closing, closed_text}
-use borrow.Author.Rules.{rules}
 use Rattle.fix_writer.proofs.closed.Goals as goal
 
 pub slice_bounds-byte_sum-end : goal.slice_bounds-byte_sum-end

@@ -1,13 +1,8 @@
 -- `fix_writer::put_all` meets its contract. The loop's invariant: the first bytes are copied.
-use Prim.Native.Nat.{◌-◌, ◌≤◌}
-use mathlib.Core.Path.{◌≡◌}
-use lib.ListN.{length}
-use lib.Seq.{paste, paste-zero}
+use lib.Seq.{paste-zero}
 use native.Mathlib.Omega.{arith}
 use Rattle.fix_writer.proofs.Laying.{copied_on, copied_all}
 use borrow.Author.Rules.{rules}
-use Rattle.fix_writer.proofs.put_all.Reads as reads
-use Rattle.fix_writer.proofs.put_all.Lts as lts
 use Rattle.fix_writer.proofs.put_all.Goals as goal
 
 pub loop-i-init : goal.loop-i-init

@@ -2,12 +2,7 @@
 use Prim.Native.Nat.{◌-◌, ◌≤◌}
 use mathlib.Core.Path.{◌≡◌}
 use lib.ListN.{length}
-use lib.Seq.{paste, paste-zero}
-use native.Mathlib.Omega.{arith}
-use Rattle.fix_writer.proofs.Laying.{copied_on, copied_all}
-use borrow.Author.Rules.{rules}
-use Rattle.fix_writer.proofs.put_all.Reads as reads
-use Rattle.fix_writer.proofs.put_all.Lts as lts
+use lib.Seq.{paste}
 use Rattle.fix_writer.proofs.put_all.Given as goal
 
 abbrev pub invariant-loop-i : goal.invariant-loop-i

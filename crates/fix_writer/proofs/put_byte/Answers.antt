@@ -1,6 +1,5 @@
 -- `fix_writer::put_byte` meets its contract: a byte set at a place is a byte laid there (`one-laid`).
 use native.Mathlib.Omega.{arith}
-use borrow.Author.Rules.{rules}
 use Rattle.fix_writer.proofs.Laying.{one-laid}
 use Rattle.fix_writer.proofs.put_byte.Goals as goal
 

@@ -5,7 +5,6 @@ use Rattle.rules.specs.Fields.{field_bytes}
 use Rattle.fix_writer.specs.Internal.{head_bytes}
 use Rattle.fix_writer.proofs.Laying.{three}
 use Rattle.fix_writer.proofs.Decimals.{two_digits}
-use borrow.Author.Rules.{rules}
 use Rattle.fix_writer.proofs.put_head.Goals as goal
 
 pub put_number-b-requires : goal.put_number-b-requires

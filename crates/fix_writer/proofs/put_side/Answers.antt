@@ -4,7 +4,6 @@ use mathlib.Core.Path.{ap}
 use mathlib.Core.List.{[], ◌∷◌, ◌++◌}
 use Rattle.rules.specs.Fields.{field_bytes}
 use Rattle.fix_writer.proofs.Laying.{three, named}
-use borrow.Author.Rules.{rules}
 use Rattle.fix_writer.proofs.put_side.Goals as goal
 
 pub returns : goal.returns

@@ -6,7 +6,6 @@ use mir.Facts.{to_z-of_z}
 use Rattle.rules.specs.Records.{unsigned_of}
 use Rattle.fix_writer.proofs.Decimals.{ten_at_most}
 use Rattle.fix_writer.proofs.Numbers.{without_sign, with_sign}
-use borrow.Author.Rules.{rules}
 use Rattle.fix_writer.proofs.put_signed.Goals as goal
 
 pub put_number-requires : goal.put_number-requires

@@ -1,7 +1,6 @@
 -- `fix_writer::put_tail` meets its contract: 10=, three digits and byte 1, laid in a row, are the field (`join`).
 use Rattle.rules.specs.Fields.{field_bytes}
 use Rattle.fix_writer.proofs.Laying.{join}
-use borrow.Author.Rules.{rules}
 use Rattle.fix_writer.proofs.put_tail.Goals as goal
 
 pub returns : goal.returns

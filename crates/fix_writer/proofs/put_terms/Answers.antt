@@ -6,7 +6,6 @@ use Rattle.rules.specs.Digits.{decimal_of, signed_decimal}
 use Rattle.rules.specs.Fields.{field_bytes, fields_bytes}
 use Rattle.rules.specs.Messages.{field_with, side_tag, volume_tag, price_tag, side_text}
 use Rattle.fix_writer.proofs.Laying.{three, named}
-use borrow.Author.Rules.{rules}
 use Rattle.fix_writer.proofs.put_terms.Goals as goal
 
 pub returns : goal.returns

@@ -5,7 +5,6 @@ use mathlib.Core.List.{append-nil}
 use Rattle.rules.specs.Fields.{field_bytes, fields_bytes}
 use Rattle.rules.specs.Messages.{field_with, time_tag}
 use Rattle.fix_writer.proofs.Laying.{three, named}
-use borrow.Author.Rules.{rules}
 use Rattle.fix_writer.proofs.put_time.Goals as goal
 
 pub returns : goal.returns

@@ -2,7 +2,6 @@
 use native.Mathlib.Omega.{arith}
 use Rattle.rules.specs.Fields.{field_bytes}
 use Rattle.fix_writer.proofs.Laying.{three}
-use borrow.Author.Rules.{rules}
 use Rattle.fix_writer.proofs.put_type.Goals as goal
 
 pub returns : goal.returns

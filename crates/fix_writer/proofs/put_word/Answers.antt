@@ -3,7 +3,6 @@ use native.Mathlib.Omega.{arith}
 use mathlib.Core.Path.{◌∙◌}
 use Rattle.fix_writer.proofs.Laying.{three}
 use Rattle.fix_writer.proofs.Decimals.{ten_at_most}
-use borrow.Author.Rules.{rules}
 use Rattle.fix_writer.proofs.put_word.Goals as goal
 
 pub put_number-b-requires : goal.put_number-b-requires

@@ -1,6 +1,5 @@
 -- `fix_writer::side_digit` meets its contract: each arm is the byte that `side_text` says.
 use mathlib.Core.Path.{sym, ap}
-use borrow.Author.Rules.{rules}
 use Rattle.rules.specs.Messages.{side_text}
 use Rattle.fix_writer.proofs.side_digit.Goals as goal
 

@@ -1,6 +1,5 @@
 -- `fix_writer::time_good` meets its contract: it says whether `time_in` reads a time, as the definition `is_time` does.
 use mathlib.Core.Path.{sym, ap, ◌∙◌}
-use borrow.Author.Rules.{rules}
 use Rattle.fix_dates.specs.Answers.{shown_time}
 use Rattle.fix_writer.specs.Internal.{is_some, is_time}
 use Rattle.fix_writer.proofs.time_good.Goals as goal

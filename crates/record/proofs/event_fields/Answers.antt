@@ -1,6 +1,5 @@
 -- The fields of each event are those of `fields_for`.
 use mathlib.Core.Path.{sym, ap, ◌∙◌}
-use borrow.Author.Rules.{rules}
 use Rattle.record.specs.Fields.{fields_for}
 use Rattle.record.proofs.Writing.{add-fields}
 use Rattle.record.proofs.event_fields.Goals as goal

@@ -1,5 +1,4 @@
 -- The event of each kind is that of `event_by` (`buy_of` .. `tick_of`).
-use borrow.Author.Rules.{rules}
 use Rattle.record.proofs.Reading.{buy_of, sell_of, amend_of_lem, cancel_of_lem, deal_of, tick_of}
 use Rattle.record.proofs.event_of.Goals as goal
 

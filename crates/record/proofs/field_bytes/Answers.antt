@@ -1,5 +1,4 @@
 -- Each byte is one of `word_bytes`.
-use borrow.Author.Rules.{rules}
 use Rattle.rules.specs.Records.{field_bytes, word_bytes}
 use Rattle.record.proofs.field_bytes.Goals as goal
 

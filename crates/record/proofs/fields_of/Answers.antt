@@ -17,4 +17,4 @@ returns c =
     let h : Fits w32 price.result = search rules in
     let is = fields_are bytes c.word_at.ensures c.word_at-2.ensures c.word_at-3.ensures
     (c.to_steps.ensures ∙ ap (λ w. steps (signed_of w)) price.ensures) c.word_at-5.ensures in
-    record { fields = is; read = ap read_fields is ∙ fields_read bytes c.requires (omega (arith, h.fits, price.ensures)); }
+    record { fields = is; read = ap read_fields is ∙ fields_read bytes c.requires (omega (arith, h.fits, price.ensures)) }

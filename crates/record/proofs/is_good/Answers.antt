@@ -1,5 +1,4 @@
 -- The tests of `good_fields`, kind by kind.
-use borrow.Author.Rules.{rules}
 use Rattle.record.proofs.Reading.{good_cancel, good_deal, good_tick, good_other}
 use Rattle.record.proofs.is_good.Goals as goal
 

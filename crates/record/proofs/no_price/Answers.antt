@@ -1,5 +1,4 @@
 -- The word of the price is tested.
-use borrow.Author.Rules.{rules}
 use mathlib.Core.Path.{ap}
 use lib.Dec.{eqb}
 use Rattle.record.proofs.no_price.Goals as goal

@@ -1,5 +1,4 @@
 -- The bytes of the event's fields (`written`).
-use borrow.Author.Rules.{rules}
 use mathlib.Core.Path.{ap, ◌∙◌}
 use Rattle.rules.specs.Records.{field_bytes}
 use Rattle.record.specs.declared.Fields.{Fields}

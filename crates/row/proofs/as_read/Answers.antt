@@ -2,7 +2,6 @@
 use mathlib.Core.Path.{sym, ap}
 use Rattle.rules.specs.declared.SpreadRule.{SpreadRule}
 use Rattle.rules.specs.Rows.{as_read}
-use borrow.Author.Rules.{rules}
 use Rattle.row.proofs.as_read.Goals as goal
 
 pub returns-in-OfStrike : goal.returns-in-OfStrike

@@ -1,13 +1,9 @@
 -- The invariant: no row passed is for that expiry and quantum.
-use Prim.Native.Nat.{ℕ, ◌-◌, ◌≤◌, ◌<◌}
-use mathlib.Core.Path.{◌≡◌, sym, ◌∙◌}
-use mathlib.Core.Bool.{false}
+use mathlib.Core.Path.{sym, ◌∙◌}
 use native.Mathlib.Omega.{arith}
 use native.Mathlib.Nat.{mul-div-le}
 use borrow.Author.Count.{below_more}
-use borrow.Author.Rules.{rules}
 use lib.ListN.{length}
-use Rattle.rules.specs.Choosing.{row_words, is_for}
 use Rattle.row.proofs.find.Goals as goal
 
 pub loop-k-init : goal.loop-k-init

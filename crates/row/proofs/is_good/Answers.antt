@@ -1,5 +1,4 @@
 -- The tests of `good_row`, in its order.
-use borrow.Author.Rules.{rules}
 use Rattle.rules.specs.Rows.{good_row}
 use Rattle.row.proofs.is_good.Goals as goal
 

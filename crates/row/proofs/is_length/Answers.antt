@@ -1,6 +1,5 @@
 -- The two tests of `good_length`.
 use mathlib.Core.Path.{◌∙◌}
-use borrow.Author.Rules.{rules}
 use Rattle.row.proofs.is_length.Goals as goal
 
 pub returns : goal.returns

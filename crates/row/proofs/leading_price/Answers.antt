@@ -3,7 +3,6 @@ use Prim.Native.Nat.{ℕ}
 use mathlib.Core.Path.{ap, ◌∙◌}
 use Rattle.rules.specs.Units.{steps}
 use Rattle.rules.specs.Records.{signed_of}
-use borrow.Author.Rules.{rules}
 use Rattle.row.proofs.leading_price.Goals as goal
 
 pub returns : goal.returns

@@ -1,6 +1,5 @@
 -- The seven words.
 use Rattle.row.proofs.Heads.{words_read_lem}
-use borrow.Author.Rules.{rules}
 use Rattle.row.proofs.leading_words.Goals as goal
 
 pub returns : goal.returns

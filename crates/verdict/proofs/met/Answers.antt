@@ -1,5 +1,4 @@
 -- `met` meets its contract: the share, then the lapses.
-use borrow.Author.Rules.{rules}
 use Rattle.verdict.proofs.met.Goals as goal
 
 pub returns-then-reaches : goal.returns-then-reaches

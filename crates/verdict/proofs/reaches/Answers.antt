@@ -1,7 +1,6 @@
 -- `reaches` meets its contract: a product of two 32-bit numbers fits 64 bits.
 use mathlib.Core.Path.{refl}
 use native.Mathlib.Omega.{arith}
-use borrow.Author.Rules.{rules}
 use Rattle.rules.specs.Pay.{met}
 use Rattle.verdict.proofs.Weights.{product_fits}
 use Rattle.verdict.proofs.reaches.Goals as goal

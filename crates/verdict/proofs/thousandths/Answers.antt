@@ -1,6 +1,5 @@
 -- `thousandths` meets its contract: it computes what the definition says.
 use mathlib.Core.Path.{refl}
-use borrow.Author.Rules.{rules}
 use Rattle.verdict.proofs.thousandths.Goals as goal
 
 pub returns : goal.returns

@@ -1,6 +1,5 @@
 -- `pay::view` meets its contract: its verdict and weight are `view_of`'s, as `met` and `weight` promise.
 use Rattle.rules.specs.Pay.{view_of}
-use borrow.Author.Rules.{rules}
 use Rattle.verdict.proofs.view.Goals as goal
 
 pub returns : goal.returns

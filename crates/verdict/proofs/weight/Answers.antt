@@ -1,6 +1,5 @@
 -- `weight` meets its contract: what `weight_of` ensures of the cell's fields, or 0 with too many lapses.
 use mathlib.Core.Path.{sym, ◌∙◌}
-use borrow.Author.Rules.{rules}
 use Rattle.rules.specs.Terms.{paper}
 use Rattle.rules.specs.Lapses.{within_lapse_limit}
 use Rattle.rules.specs.Pay.{met, weight}

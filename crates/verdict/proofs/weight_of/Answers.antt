@@ -7,7 +7,6 @@ use Rattle.rules.specs.Terms.{paper}
 use Rattle.rules.specs.Pay.{met, weight_met, weight_at}
 use Rattle.rules.proofs.Weights.{weight_by_f}
 use Rattle.verdict.proofs.Weights.{met-least, weight-met, weight_failed}
-use borrow.Author.Rules.{rules}
 use Rattle.verdict.proofs.weight_of.Goals as goal
 
 pub look_up-requires : goal.look_up-requires

@@ -1,7 +1,6 @@
 -- Each answer by its tests.
 use mathlib.Core.Path.{sym, ◌∙◌}
 use Rattle.volatile.proofs.Steps.{joined, ended, goes_on, begun, stays_out}
-use borrow.Author.Rules.{rules}
 use Rattle.volatile.proofs.after.Goals as goal
 
 pub returns-then-both : goal.returns-then-both

@@ -1,6 +1,5 @@
 -- Both tests.
 use mathlib.Core.Path.{◌∙◌}
-use borrow.Author.Rules.{rules}
 use Rattle.volatile.proofs.is_early.Goals as goal
 
 pub returns : goal.returns

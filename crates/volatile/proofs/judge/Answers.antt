@@ -1,6 +1,5 @@
 -- The sigma, pushed and checked.
 use Rattle.volatile.proofs.Steps.{judge_is}
-use borrow.Author.Rules.{rules}
 use Rattle.volatile.proofs.judge.Goals as goal
 
 pub returns : goal.returns

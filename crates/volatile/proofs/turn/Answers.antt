@@ -2,7 +2,6 @@
 use native.Mathlib.Omega.{arith}
 use mathlib.Core.Path.{◌∙◌}
 use Rattle.volatile.proofs.Steps.{first_two, from_third}
-use borrow.Author.Rules.{rules}
 use Rattle.volatile.proofs.turn.Goals as goal
 
 pub returns-then-i-lt2 : goal.returns-then-i-lt2

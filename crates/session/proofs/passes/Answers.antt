@@ -1,0 +1,20 @@
+-- Refused, too long for the buffer, or written by the second pass.
+use native.Mathlib.Omega.{arith}
+use Rattle.rules.specs.Terms.{paper}
+use Rattle.rules.specs.Session.{session}
+use Rattle.session.proofs.Endings.{ends_refused, ends_short, ends_written}
+use borrow.Author.Rules.{rules}
+use Rattle.session.proofs.passes.Goals as goal
+
+pub returns-then-buffer-filled : goal.returns-then-buffer-filled
+returns-then-buffer-filled c =
+    ends_short (session paper c.args.most c.args.row.now c.args.sp c.args.records.now) _ _ c.pass-first.result c.pass-first.ensures c.args.buffer.now _ _ _ c.in-Finished.is (omega (arith, c.filled.ensures))
+
+pub returns-in-Refused : goal.returns-in-Refused
+returns-in-Refused c =
+    ends_refused (session paper c.args.most c.args.row.now c.args.sp c.args.records.now) _ _ c.pass-first.result c.pass-first.ensures c.args.buffer.now _ _ c.in-Refused.is
+
+pub returns-else-buffer-filled : goal.returns-else-buffer-filled
+returns-else-buffer-filled c =
+    ends_written (session paper c.args.most c.args.row.now c.args.sp c.args.records.now) _ _ c.pass-first.result c.pass-first.ensures c.args.buffer.now _ _ _ c.in-Finished.is _ c.pass.result
+    (omega (arith, c.filled.ensures)) c.pass.ensures

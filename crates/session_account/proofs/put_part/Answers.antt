@@ -1,0 +1,20 @@
+-- The three words where they fit, or none.
+use native.Mathlib.Omega.{arith}
+use lib.ListN.{length-set}
+use Rattle.session_account.proofs.Growing.{put-fits, put_not}
+use borrow.Author.Rules.{rules}
+use Rattle.session_account.proofs.put_part.Goals as goal
+
+pub bounds-buffer-at-then-at-buffer : goal.bounds-buffer-at-then-at-buffer
+bounds-buffer-at-then-at-buffer c = simp length-set (omega arith)
+
+pub bounds-buffer-at-then-at-buffer-2 : goal.bounds-buffer-at-then-at-buffer-2
+bounds-buffer-at-then-at-buffer-2 c = simp length-set (omega arith)
+
+pub returns-then-at-buffer : goal.returns-then-at-buffer
+returns-then-at-buffer c =
+    put-fits c.args.buffer.now c.args.n c.args.start c.args.length c.args.state (omega arith)
+
+pub returns-else-at-buffer : goal.returns-else-at-buffer
+returns-else-at-buffer c =
+    put_not c.args.buffer.now c.args.n c.args.start c.args.length c.args.state (omega arith)

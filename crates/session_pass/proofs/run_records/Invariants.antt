@@ -1,0 +1,22 @@
+-- The loop's invariant: some events led to the run so far and its table, the records passed are theirs, and the pairs are in the buffer as
+use Prim.Native.Nat.{ℕ, ◌+◌, ◌*◌, ◌-◌, ◌/◌, min}
+use native.Mathlib.Omega.{arith}
+use mathlib.Core.Path.{◌≡◌, refl, sym, ap, ◌∙◌}
+use lib.ListN.{length}
+use borrow.Author.Rules.{rules}
+use Rattle.rules.specs.declared.Steps.{Steps}
+use Rattle.rules.specs.declared.SpreadRule.TheVariants.{Settled}
+use Rattle.rules.specs.Rows.{good_row_for}
+use Rattle.clock.specs.Clocks.{duty_of}
+use Rattle.session_pass.specs.Internal.{LoopState}
+use Rattle.record_runs.proofs.Turns.{LoopBytes, turn_ahead, turn_place, turn_small, turn_rest, turn_next, part_is, part_long, none-live}
+use Rattle.session_pass.proofs.Loop.{loop_start, loop_reached, loop_at-end, loop_end, loop_short, loop_numbered, loop_refused, loop_on, next_place, placed}
+use Rattle.session_pass.proofs.run_records.Given as goal
+
+abbrev pub invariant-loop-at : goal.invariant-loop-at
+invariant-loop-at l =
+    LoopBytes l.at l.full (length l.records) l.most × (length l.buffer ≡ length l.initial.buffer) × (length l.table ≡ 512) × (length l.hints ≡ 2048)
+    × ((sp : Steps) → l.duty ≡ duty_of l.row (Settled sp) → LoopState l.most l.row sp l.records l.initial.buffer l.progress l.at (l.at / 20 + 1) l.table l.buffer)
+
+abbrev pub decreases-loop-at : goal.decreases-loop-at
+decreases-loop-at l = length l.records - l.at
