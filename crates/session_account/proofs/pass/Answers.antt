@@ -1,6 +1,5 @@
 -- The row is refused, or SP or a strike's numbers are, or the pass over the records answers.
 use mathlib.Core.Path.{ap, sym, ◌∙◌}
-use borrow.Author.Tests.{not-true, not-false}
 use Rattle.rules.specs.Answers.{shown_row}
 use Rattle.record_runs.proofs.Openings.{read_good}
 use Rattle.session_account.proofs.Endings.{passed_row, passed_price, passed_strike, passed_opened}
@@ -10,17 +9,17 @@ use Rattle.session_account.proofs.pass.Goals as goal
 pub returns-then-not-settlement : goal.returns-then-not-settlement
 returns-then-not-settlement c =
     let read = ap shown_row (sym c.in-Read.is) ∙ c.read-read.ensures in
-    passed_price c.args.most c.args.row.now c.args.spread c.args.records.now c.args.buffer.now _ _ read (sym c.settlement.ensures ∙ not-true _ c.if-not-settlement.true-raw)
+    passed_price c.args.most c.args.row.now c.args.spread c.args.records.now c.args.buffer.now _ _ read (sym c.settlement.ensures ∙ c.if-not-settlement.true)
 
 pub returns-then-not-in_range : goal.returns-then-not-in_range
 returns-then-not-in_range c =
     let read = ap shown_row (sym c.in-Read.is) ∙ c.read-read.ensures in
-    passed_strike c.args.most c.args.row.now c.args.spread c.args.records.now c.args.buffer.now _ _ read (sym c.settlement.ensures ∙ not-false _ c.if-not-settlement.false-raw) (sym c.in_range.ensures ∙ not-true _ c.if-not-in_range.true-raw)
+    passed_strike c.args.most c.args.row.now c.args.spread c.args.records.now c.args.buffer.now _ _ read (sym c.settlement.ensures ∙ c.if-not-settlement.false) (sym c.in_range.ensures ∙ c.if-not-in_range.true)
 
 pub run_records-requires : goal.run_records-requires
 run_records-requires c =
     let read = ap shown_row (sym c.in-Read.is) ∙ c.read-read.ensures in
-    (c.requires, read_good c.args.row.now c.args.spread _ read, (sym c.in_range.ensures ∙ not-false _ c.if-not-in_range.false-raw))
+    (c.requires, read_good c.args.row.now c.args.spread _ read, (sym c.in_range.ensures ∙ c.if-not-in_range.false))
 
 pub returns-in-Refused : goal.returns-in-Refused
 returns-in-Refused c =
@@ -29,4 +28,4 @@ returns-in-Refused c =
 pub returns-else-not-in_range : goal.returns-else-not-in_range
 returns-else-not-in_range c =
     let read = ap shown_row (sym c.in-Read.is) ∙ c.read-read.ensures in
-    passed_opened c.args.most c.args.row.now c.args.spread c.args.records.now c.args.buffer.now _ _ read (sym c.settlement.ensures ∙ not-false _ c.if-not-settlement.false-raw) (sym c.in_range.ensures ∙ not-false _ c.if-not-in_range.false-raw) c.run_records.result c.run_records.ensures
+    passed_opened c.args.most c.args.row.now c.args.spread c.args.records.now c.args.buffer.now _ _ read (sym c.settlement.ensures ∙ c.if-not-settlement.false) (sym c.in_range.ensures ∙ c.if-not-in_range.false) c.run_records.result c.run_records.ensures

@@ -1,4 +1,4 @@
--- The loop's invariant: some events led to the run so far and its table, the records passed are theirs, and the stretches are in the buffer
+-- Each answer by the laws of the loop, at what its invariant says.
 use Prim.Native.Nat.{ℕ, ◌+◌, ◌*◌, ◌-◌, ◌/◌, min}
 use native.Mathlib.Omega.{arith}
 use mathlib.Core.Path.{◌≡◌, refl, sym, ap, ◌∙◌}
@@ -19,20 +19,19 @@ pub overflow_mul-full : goal.overflow_mul-full
 overflow_mul-full c = record { fits = omega (arith, c.min_length-full.ensures, c.length.ensures, c.requires.0) }
 
 pub loop-at-init : goal.loop-at-init
-loop-at-init c =
-    (
-      record {
-        whole = refl;
-        to = ap (λ (n : ℕ). 20 * n) (c.min_length-full.ensures ∙ ap (min (length c.args.records.now / 20)) c.length.ensures.0);
-        below = omega arith;
-      },
-      refl,
-      search rules,
-      refl,
-      λ row sp is.
-          loop_start c.args.most row sp c.args.records.now c.args.buffer.now c.begin-progress.result _ c.empty-table.result
-          (c.begin-progress.ensures row sp) is (none-live row c.empty-table.result (c.empty-table.ensures row.minimum.0)),
-    )
+loop-at-init c = (
+  record {
+    whole = refl;
+    to = ap (λ (n : ℕ). 20 * n) (c.min_length-full.ensures ∙ ap (min (length c.args.records.now / 20)) c.length.ensures.0);
+    below = omega arith;
+  },
+  refl,
+  search rules,
+  refl,
+  λ row sp is.
+      loop_start c.args.most row sp c.args.records.now c.args.buffer.now c.begin-progress.result _ c.empty-table.result
+      (c.begin-progress.ensures row sp) is (none-live row c.empty-table.result (c.empty-table.ensures row.minimum.0)),
+)
 
 pub overflow_add-at : goal.overflow_add-at
 overflow_add-at c =

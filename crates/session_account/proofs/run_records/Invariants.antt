@@ -1,4 +1,5 @@
 -- The loop's invariant: some events led to the run so far and its table, the records passed are theirs, and the stretches are in the buffer
+-- as far as they fit.
 use Prim.Native.Nat.{ℕ, ◌+◌, ◌*◌, ◌-◌, ◌/◌, min}
 use native.Mathlib.Omega.{arith}
 use mathlib.Core.Path.{◌≡◌, refl, sym, ap, ◌∙◌}

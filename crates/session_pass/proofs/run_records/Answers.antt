@@ -1,4 +1,4 @@
--- The loop's invariant: some events led to the run so far and its table, the records passed are theirs, and the pairs are in the buffer as
+-- Each answer by the laws of the loop, at what its invariant says.
 use Prim.Native.Nat.{ℕ, ◌+◌, ◌*◌, ◌-◌, ◌/◌, min}
 use native.Mathlib.Omega.{arith}
 use mathlib.Core.Path.{◌≡◌, refl, sym, ap, ◌∙◌}
@@ -21,20 +21,19 @@ pub overflow_mul-full : goal.overflow_mul-full
 overflow_mul-full c = record { fits = omega (arith, c.min_length-full.ensures, c.length.ensures, c.requires.0) }
 
 pub loop-at-init : goal.loop-at-init
-loop-at-init c =
-    (
-      record {
-        whole = refl;
-        to = ap (λ (n : ℕ). 20 * n) (c.min_length-full.ensures ∙ ap (min (length c.args.records.now / 20)) c.length.ensures.0);
-        below = omega arith;
-      },
-      refl,
-      search rules,
-      refl,
-      λ sp is.
-          loop_start c.args.most c.args.row sp c.args.records.now c.args.buffer.now c.begin-progress.result c.empty-table.result
-          (c.begin-progress.ensures c.args.row (Settled sp)) (none-live c.args.row c.empty-table.result (c.empty-table.ensures c.args.row.minimum.0)),
-    )
+loop-at-init c = (
+  record {
+    whole = refl;
+    to = ap (λ (n : ℕ). 20 * n) (c.min_length-full.ensures ∙ ap (min (length c.args.records.now / 20)) c.length.ensures.0);
+    below = omega arith;
+  },
+  refl,
+  search rules,
+  refl,
+  λ sp is.
+      loop_start c.args.most c.args.row sp c.args.records.now c.args.buffer.now c.begin-progress.result c.empty-table.result
+      (c.begin-progress.ensures c.args.row (Settled sp)) (none-live c.args.row c.empty-table.result (c.empty-table.ensures c.args.row.minimum.0)),
+)
 
 pub overflow_add-at : goal.overflow_add-at
 overflow_add-at c =
