@@ -28,7 +28,7 @@ INSTEAD = {
 # Lemmas that have the name that a definition gets: only in .antt files.
 LEMMAS = {f"{name}": f"{name}_lem" for name in ("best_key", "count_at", "kept_in", "back_at", "all_digits", "best_of", "is_live", "in_place")}
 # A definition that has the name of a tactic: in .antt files and in clauses.
-CLAUSES = {"first_of": "first_refused"}
+CLAUSES = {"first_of": "first_of_two"}
 CLAUSE = re.compile(r"(?<![\w.'◌\-·])first_of(?![\w'◌\-(])")
 LEMMA = re.compile(r"(?<![\w.'◌\-·])(?:" + "|".join(LEMMAS) + r")(?![\w'◌\-])")
 

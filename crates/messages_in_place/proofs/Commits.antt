@@ -20,7 +20,7 @@ use Rattle.month.proofs.Calls.{idle_send}
 use Rattle.month.proofs.Asks.{commit_stops, commit_wrong, commit_passes, commit_step}
 use Rattle.month.proofs.Words.{month-fits, word_in_lem}
 use Rattle.month_in_place.specs.Events.{ChangesMonth}
-use Rattle.messages_in_place.specs.Internal.{first_refused, Refuses}
+use Rattle.messages_in_place.specs.Internal.{first_of_two, Refuses}
 use Rattle.messages_in_place.proofs.Changes.{stays, changes_as, both_refused, closed-book, refuses_is}
 
 idle_refusal : (b : Book) (a : Amendment) → is_open b.running ≡ false → refusal_of paper b (Send (amend_of a)) ≡ 7
@@ -53,16 +53,16 @@ module _ (ws : List ℕ) (a : Amendment) (ticket : Ticket) where
             (commit_step a ticket b z g, answer-accepted paper b (Send (amend_of a)) z ∙ sym (answer-accepted paper b (Commit a ticket) (commit_passes a ticket b z g)))
         same b g (suc j) z = both_refused b (Send (amend_of a)) (Commit a ticket) j z (commit_stops a ticket b j z)
 
-    pub commit_refused : good_ticket ticket a count ≡ false → (get_or ws 0 0 ≡ 0 → ⊥) → (own n : ℕ) → Refuses (take 598 (drop 6 ws)) (amend_of a) own → n ≡ first_refused own 19
+    pub commit_refused : good_ticket ticket a count ≡ false → (get_or ws 0 0 ≡ 0 → ⊥) → (own n : ℕ) → Refuses (take 598 (drop 6 ws)) (amend_of a) own → n ≡ first_of_two own 19
         → (0 < n) × ChangesMonth ws (Commit a ticket) ws n
     commit_refused t h own n r e =
         let some : 0 < n = by own n e in
         (some, stays ws (Commit a ticket) n some (λ calls is. e ∙ go (after paper calls) (ticket_is false t calls is) own (refuses_is ws calls is h (amend_of a) own r)))
       where
-        by : (k m : ℕ) → m ≡ first_refused k 19 → 0 < m
+        by : (k m : ℕ) → m ≡ first_of_two k 19 → 0 < m
         by zero m f = omega arith
         by (suc k) m f = omega arith
 
-        go : (b : Book) → good_ticket ticket a b.count ≡ false → (k : ℕ) → k ≡ refusal_of paper b (Send (amend_of a)) → first_refused k 19 ≡ refusal_of paper b (Commit a ticket)
+        go : (b : Book) → good_ticket ticket a b.count ≡ false → (k : ℕ) → k ≡ refusal_of paper b (Send (amend_of a)) → first_of_two k 19 ≡ refusal_of paper b (Commit a ticket)
         go b g zero z = sym (commit_wrong a ticket b (sym z) g)
         go b g (suc j) z = sym (commit_stops a ticket b j (sym z))

@@ -37,7 +37,7 @@ use Rattle.month.specs.Words.{month_words, words_after}
 use Rattle.month.proofs.Fields.{in_book}
 use Rattle.month.proofs.Words.{month-fits, quantum_in_lem}
 use Rattle.month_in_place.specs.Events.{ChangesMonth}
-use Rattle.messages_in_place.specs.Internal.{first_refused, none_open_or, OfEvents, Refuses, RefusesThen, replaced_at, MessageChanges, BothOrNeither}
+use Rattle.messages_in_place.specs.Internal.{first_of_two, none_open_or, OfEvents, Refuses, RefusesThen, replaced_at, MessageChanges, BothOrNeither}
 use Rattle.messages_in_place.proofs.Changes.{stays, changes_as, both_refused, number_is, open_book, closed-book, refuses_is, refuses_then, between_is, behind_is, passed_first, passed_second, second_is}
 
 -- ---- a message that is read, or not
@@ -100,18 +100,18 @@ module _ (ws start bytes : List ℕ) where
 
           module _ (on : get_or ws 0 0 ≡ 0 → ⊥) (own : ℕ) (then-refused : RefusesThen (take 598 (drop 6 ws)) first second own) where
             -- the second would be refused: what refuses the first comes before it
-            pub message_second : 0 < own → (lead n : ℕ) → Refuses (take 598 (drop 6 ws)) first lead → n ≡ first_refused lead own
+            pub message_second : 0 < own → (lead n : ℕ) → Refuses (take 598 (drop 6 ws)) first lead → n ≡ first_of_two lead own
                 → (0 < n) × ChangesMonth ws (Message start bytes) ws n
             message_second l lead n r e =
                 let some : 0 < n = by lead e in
                 (some, stays ws (Message start bytes) n some (λ calls is. e ∙ go calls is lead (refuses_is ws calls is on first lead r)))
               where
-                by : (k : ℕ) → n ≡ first_refused k own → 0 < n
+                by : (k : ℕ) → n ≡ first_of_two k own → 0 < n
                 by zero f = omega (arith, f, l)
                 by (suc k) f = omega (arith, f)
 
                 go : (calls : List Call) → take 2464 ws ≡ words_after calls → (k : ℕ) → k ≡ refusal_of paper (after paper calls) (Send first)
-                    → first_refused k own ≡ refusal_of paper (after paper calls) (Message start bytes)
+                    → first_of_two k own ≡ refusal_of paper (after paper calls) (Message start bytes)
                 go calls is zero z =
                     refuses_then ws calls is on first second own then-refused (sym z)
                     ∙ sym (second-refusal paper (after paper calls) start bytes x h (s calls is) t time first second two (sym z))

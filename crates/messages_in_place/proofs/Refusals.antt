@@ -28,21 +28,21 @@ use Rattle.clock.specs.Clocks.{duty_of, clock_of}
 use Rattle.quantum.specs.Represents.{quantum_of}
 use Rattle.quantum.specs.Words.{quantum_words}
 use Rattle.quantum.proofs.Words.{table_part, of_sized}
-use Rattle.messages_in_place.specs.Internal.{first_refused, add_of, untimely}
+use Rattle.messages_in_place.specs.Internal.{first_of_two, add_of, untimely}
 
 -- ---- the first of two numbers
 
-pub first_some : (a b : ℕ) → 0 < a → a ≡ first_refused a b
+pub first_some : (a b : ℕ) → 0 < a → a ≡ first_of_two a b
 first_some zero b h = absurd (omega arith)
 first_some (suc a) b h = refl
 
-pub first-none : (a b : ℕ) → a ≤ 0 → b ≡ first_refused a b
+pub first-none : (a b : ℕ) → a ≤ 0 → b ≡ first_of_two a b
 first-none zero b h = refl
 first-none (suc a) b h = absurd (omega arith)
 
 -- ---- a cancel, and an amendment
 
-three : (a b c : Bool) → first_refused (first_refused (if a then 8 else 0) (if b then 9 else 0)) (if c then 11 else 0) ≡ first_number (cause 8 a ∷ cause 9 b ∷ cause 11 c ∷ [])
+three : (a b c : Bool) → first_of_two (first_of_two (if a then 8 else 0) (if b then 9 else 0)) (if c then 11 else 0) ≡ first_number (cause 8 a ∷ cause 9 b ∷ cause 11 c ∷ [])
 unfolding first_number
 three true b c = refl
 three false true c = refl
@@ -50,12 +50,12 @@ three false false true = refl
 three false false false = refl
 
 pub cancel_refusal : (row : Row) (events : List Event) (t : Millis) (id : ℕ)
-    → first_refused (untimely row events t.0) (if not (is_live id (live events)) then 11 else 0) ≡ event_refusal row events (Cancel t id)
+    → first_of_two (untimely row events t.0) (if not (is_live id (live events)) then 11 else 0) ≡ event_refusal row events (Cancel t id)
 unfolding event_refusal event_causes
 cancel_refusal row events t id = three (ltb t.0 (present events)) (ltb row.length.0 t.0) (not (is_live id (live events)))
 
 four : (a b c d : Bool)
-    → first_refused (first_number (cause 8 a ∷ cause 9 b ∷ cause 11 c ∷ [])) (if d then 12 else 0) ≡ first_number (cause 8 a ∷ cause 9 b ∷ cause 11 c ∷ cause 12 d ∷ [])
+    → first_of_two (first_number (cause 8 a ∷ cause 9 b ∷ cause 11 c ∷ [])) (if d then 12 else 0) ≡ first_number (cause 8 a ∷ cause 9 b ∷ cause 11 c ∷ cause 12 d ∷ [])
 unfolding first_number
 four true b c d = refl
 four false true c d = refl
@@ -64,7 +64,7 @@ four false false false true = refl
 four false false false false = refl
 
 pub amend_refusal : (row : Row) (events : List Event) (a : Amendment)
-    → first_refused (event_refusal row events (Cancel a.t a.id)) (if not (good_price a.price.0 && good_volume a.volume.0) then 12 else 0)
+    → first_of_two (event_refusal row events (Cancel a.t a.id)) (if not (good_price a.price.0 && good_volume a.volume.0) then 12 else 0)
     ≡ event_refusal row events (amend_of a)
 unfolding event_refusal event_causes
 amend_refusal row events a =
@@ -105,7 +105,7 @@ fewer p (o ∷ os) h = go (p o) h (length_filter (λ (x : Order). not (p x)) os)
     go false h l r = omega (arith, r h)
 
 two : (a b c d : Bool) → a ≡ b → d ≡ false
-    → first_number (cause 10 a ∷ cause 12 c ∷ cause 13 d ∷ []) ≡ first_refused (if b then 10 else 0) (if c then 12 else 0)
+    → first_number (cause 10 a ∷ cause 12 c ∷ cause 13 d ∷ []) ≡ first_of_two (if b then 10 else 0) (if c then 12 else 0)
 unfolding first_number
 two true true c d e f = refl
 two true false c d e f = absurd (false≢true (sym e))
@@ -133,7 +133,7 @@ module _ (row : Row) (events : List Event) (g : EventBounds row events) (t : Mil
 
   -- 8, 9 and 13 cannot be: the time is the cancel's, and there is room
   pub add-refusal : (o : Order)
-      → first_refused (if (not (eqb o.id orig) && is_live o.id (live events)) then 10 else 0) (if not (good_price o.price.0 && good_volume o.volume.0) then 12 else 0)
+      → first_of_two (if (not (eqb o.id orig) && is_live o.id (live events)) then 10 else 0) (if not (good_price o.price.0 && good_volume o.volume.0) then 12 else 0)
       ≡ event_refusal row longer (add_of t o)
   unfolding event_refusal event_causes
   add-refusal o =
@@ -151,6 +151,6 @@ unfolding quantum_of
 table_of_lem ws row sp es g e = table_part ws (quantum_of row sp es) e (of_sized row sp es g)
 
 pub untimely_is : (ws : List ℕ) (row : Row) (sp : SpreadRule) (es : List Event) (t : ℕ) → ws ≡ quantum_words (quantum_of row sp es)
-    → first_refused (if ltb t (get_or ws 3 0) then 8 else 0) (if ltb (get_or ws 0 0) t then 9 else 0) ≡ untimely row es t
+    → first_of_two (if ltb t (get_or ws 3 0) then 8 else 0) (if ltb (get_or ws 0 0) t then 9 else 0) ≡ untimely row es t
 unfolding quantum_words quantum_of duty_of clock_of
-untimely_is ws row sp es t e = λ i. first_refused (if ltb t (get_or (e i) 3 0) then 8 else 0) (if ltb (get_or (e i) 0 0) t then 9 else 0)
+untimely_is ws row sp es t e = λ i. first_of_two (if ltb t (get_or (e i) 3 0) then 8 else 0) (if ltb (get_or (e i) 0 0) t then 9 else 0)

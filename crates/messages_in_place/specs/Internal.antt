@@ -27,9 +27,9 @@ use Rattle.month_in_place.specs.Events.{ChangesMonth}
 -- ---- numbers
 
 -- the first of two that is not 0
-abbrev pub first_refused : ℕ → ℕ → ℕ
-first_refused zero b = b
-first_refused (suc a) b = suc a
+abbrev pub first_of_two : ℕ → ℕ → ℕ
+first_of_two zero b = b
+first_of_two (suc a) b = suc a
 
 -- a refusal's number where its cause applies, else 0
 abbrev pub number_where : Bool → Refusal → ℕ
@@ -48,7 +48,7 @@ OfEvents words P =
 
 -- the time's causes, 8 and 9
 abbrev pub untimely : Row → List Event → ℕ → ℕ
-untimely row events t = first_refused (if ltb t (present events) then 8 else 0) (if ltb row.length.0 t then 9 else 0)
+untimely row events t = first_of_two (if ltb t (present events) then 8 else 0) (if ltb row.length.0 t then 9 else 0)
 
 -- what refuses an event
 abbrev pub Refuses : List ℕ → Event → ℕ → Type 0

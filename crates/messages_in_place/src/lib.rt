@@ -17,7 +17,7 @@ ghost use Rattle.fix_dates.specs.Answers.{shown_elapsed};
 ghost use Rattle.quantum_in_place.specs.Events.{HoldsQuantum};
 ghost use Rattle.month.specs.Words.{HoldsMonth};
 ghost use Rattle.month_in_place.specs.Events.{ChangesMonth};
-ghost use Rattle.messages_in_place.specs.Internal.{first_refused, number_where, none_open_or, OfEvents, untimely as untimely_by, Refuses, RefusesThen, add_of, new_at, replaced_at, MessageChanges, BothOrNeither};
+ghost use Rattle.messages_in_place.specs.Internal.{first_of_two, number_where, none_open_or, OfEvents, untimely as untimely_by, Refuses, RefusesThen, add_of, new_at, replaced_at, MessageChanges, BothOrNeither};
 
 use fix_dates::{Elapsed, after};
 use fix_reader::MessageRead;
@@ -30,7 +30,7 @@ use rules::{Amendment, Contracts, Event, Millis, Order, Refusal, Side, Steps, Ti
 
 // The first of two that is not 0.
 fn first_of(a: u32, b: u32) -> u32
-    ensures { result ≡ first_refused a b }
+    ensures { result ≡ first_of_two a b }
 {
     if 0 < a {
         return a;

@@ -1,40 +1,40 @@
 -- `call_step::call` meets its contract: each call by the month's promise of it (`told`).
 use Rattle.call_step.proofs.Performing.{told}
-use borrow.Author.Rules.{rules}
+use Rattle.words.specs.Bytes.{words_in}
 use Rattle.call_step.proofs.call.Goals as goal
 
 pub returns-in-Open : goal.returns-in-Open
-returns-in-Open c = told _ c.in-Open.is c.«open».ensures c.tell.ensures
+returns-in-Open c = told (words_in c.args.bytes.now) c.in-Open.is c.«open».ensures c.tell.ensures
 
 pub returns-in-Send : goal.returns-in-Send
-returns-in-Send c = told _ c.in-Send.is c.send.ensures c.tell-in-Send.ensures
+returns-in-Send c = told (words_in c.args.bytes.now) c.in-Send.is c.send.ensures c.tell-in-Send.ensures
 
 pub returns-in-Message : goal.returns-in-Message
-returns-in-Message c = told _ c.in-Message.is c.message.ensures c.tell-in-Message.ensures
+returns-in-Message c = told (words_in c.args.bytes.now) c.in-Message.is c.message.ensures c.tell-in-Message.ensures
 
 pub returns-in-Ask : goal.returns-in-Ask
-returns-in-Ask c = told _ c.in-Ask.is c.ask.ensures.1 c.tell_asked.ensures
+returns-in-Ask c = told (words_in c.args.bytes.now) c.in-Ask.is c.ask.ensures.1 c.tell_asked.ensures
 
 pub returns-in-Commit : goal.returns-in-Commit
-returns-in-Commit c = told _ c.in-Commit.is c.commit.ensures c.tell-in-Commit.ensures
+returns-in-Commit c = told (words_in c.args.bytes.now) c.in-Commit.is c.commit.ensures c.tell-in-Commit.ensures
 
 pub returns-in-Close : goal.returns-in-Close
-returns-in-Close c = told _ c.in-Close.is c.close.ensures c.tell-in-Close.ensures
+returns-in-Close c = told (words_in c.args.bytes.now) c.in-Close.is c.close.ensures c.tell-in-Close.ensures
 
 pub returns-in-Drop : goal.returns-in-Drop
-returns-in-Drop c = told _ c.in-Drop.is c.drop.ensures c.tell-in-Drop.ensures
+returns-in-Drop c = told (words_in c.args.bytes.now) c.in-Drop.is c.drop.ensures c.tell-in-Drop.ensures
 
 pub returns-in-Charge : goal.returns-in-Charge
-returns-in-Charge c = told _ c.in-Charge.is c.charge.ensures c.tell-in-Charge.ensures
+returns-in-Charge c = told (words_in c.args.bytes.now) c.in-Charge.is c.charge.ensures c.tell-in-Charge.ensures
 
 pub returns-in-Withdraw : goal.returns-in-Withdraw
-returns-in-Withdraw c = told _ c.in-Withdraw.is c.withdraw.ensures c.tell-in-Withdraw.ensures
+returns-in-Withdraw c = told (words_in c.args.bytes.now) c.in-Withdraw.is c.withdraw.ensures c.tell-in-Withdraw.ensures
 
 pub returns-in-Look : goal.returns-in-Look
-returns-in-Look c = told _ c.in-Look.is c.look.ensures.1 c.tell_looked.ensures
+returns-in-Look c = told (words_in c.args.bytes.now) c.in-Look.is c.look.ensures.1 c.tell_looked.ensures
 
 pub returns-in-Report : goal.returns-in-Report
-returns-in-Report c = told _ c.in-Report.is c.report.ensures.1 c.tell_report.ensures
+returns-in-Report c = told (words_in c.args.bytes.now) c.in-Report.is c.report.ensures.1 c.tell_report.ensures
 
 pub returns-in-Outlook : goal.returns-in-Outlook
-returns-in-Outlook c = told _ c.in-Outlook.is c.outlook.ensures.1 c.tell_outlook.ensures
+returns-in-Outlook c = told (words_in c.args.bytes.now) c.in-Outlook.is c.outlook.ensures.1 c.tell_outlook.ensures

@@ -7,7 +7,7 @@ use Rattle.rules.specs.Calls.{Commit, amend_of}
 use Rattle.record.specs.Fields.{fields_for}
 use Rattle.month_in_place.specs.Events.{ChangesMonth}
 use Rattle.month_in_place.proofs.Months.{holds_quantum}
-use Rattle.messages_in_place.specs.Internal.{first_number}
+use Rattle.messages_in_place.specs.Internal.{first_of_two}
 use Rattle.messages_in_place.proofs.Commits.{commit_idle, commit_sent, commit_refused}
 use borrow.Author.Rules.{rules}
 use Rattle.messages_in_place.proofs.commit.Goals as goal
@@ -32,5 +32,5 @@ refuses_amendment-requires c =
 pub returns : goal.returns
 returns c =
     let k = commit_refused c.args.words.now c.args.a c.args.ticket c.wide-count.result c.wide-count.ensures (sym c.is_present.ensures ∙ c.if-is_present.false)
-    c.if-words-eq0.false c.refuses_amendment.result c.first_of.result c.refuses_amendment.ensures (c.first_of.ensures ∙ ap (first_number c.refuses_amendment.result) c.number-2.ensures) in
+    c.if-words-eq0.false c.refuses_amendment.result c.first_of.result c.refuses_amendment.ensures (c.first_of.ensures ∙ ap (first_of_two c.refuses_amendment.result) c.number-2.ensures) in
     (k.1, λ refused. refl)

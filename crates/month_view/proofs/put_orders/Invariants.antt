@@ -19,8 +19,8 @@ use Rattle.month_view.proofs.put_orders.Given as goal
 
 abbrev pub invariant-loop-i : goal.invariant-loop-i
 invariant-loop-i l =
-    (l.i ≤ length l.ids) × (length l.into ≡ 4 * length l.ids) × ((l : Listed l.table l.ids) → l.into ≡ orders_words (take l.i l.live) ++ drop (4 * l.i) l.initial.into)
-    × (l.buys ≤ l.i) × ((l : Listed l.table l.ids) → l.buys ≡ length (of_side Buy (take l.i l.live)))
+    (l.i ≤ length l.ids) × (length l.into ≡ 4 * length l.ids) × ((k : Listed l.table l.ids) → l.into ≡ orders_words (take l.i k.live) ++ drop (4 * l.i) l.initial.into)
+    × (l.buys ≤ l.i) × ((k : Listed l.table l.ids) → l.buys ≡ length (of_side Buy (take l.i k.live)))
 
 abbrev pub decreases-loop-i : goal.decreases-loop-i
 decreases-loop-i l = length l.ids - l.i
