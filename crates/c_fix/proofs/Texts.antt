@@ -39,29 +39,29 @@ module _ (ws sixty : List ℕ) where
     a_cancel k = rw (le-ltb (length ws) 6 long, eq-eqb (get_or ws 0 0) 2 k) refl
 
     module _ (other : get_or ws 0 0 ≡ 2 → ⊥) (good : Bool) (is : good ≡ within 1 2 (get_or ws 3 0)) where
-      pub no_side : not good ≡ true → refused 3 ≡ text_for (message_for ws sixty)
+      pub no_side : good ≡ false → refused 3 ≡ text_for (message_for ws sixty)
       unfolding message_for
-      no_side h = rw (le-ltb (length ws) 6 long, ne_eqb (get_or ws 0 0) 2 other, sym is ∙ not-true good h) refl
+      no_side h = rw (le-ltb (length ws) 6 long, ne_eqb (get_or ws 0 0) 2 other, sym is ∙ h) refl
 
-      module _ (h : not good ≡ false) (price : Steps) (same : price ≡ steps (signed_of (get_or ws 5 0))) (side : Side) (which : side ≡ side_by (get_or ws 3 0)) where
+      module _ (h : good ≡ true) (price : Steps) (same : price ≡ steps (signed_of (get_or ws 5 0))) (side : Side) (which : side ≡ side_by (get_or ws 3 0)) where
         pub a-new : get_or ws 0 0 ≡ 1
             → write_message (new_order (get_or ws 1 0) side (contracts (get_or ws 4 0)) price sixty) ≡ text_for (message_for ws sixty)
         unfolding message_for
         a-new k =
             (λ i. write_message (new_order (get_or ws 1 0) (which i) (contracts (get_or ws 4 0)) (same i) sixty))
-            ∙ rw (le-ltb (length ws) 6 long, ne_eqb (get_or ws 0 0) 2 other, sym is ∙ not-false good h, eq-eqb (get_or ws 0 0) 1 k) refl
+            ∙ rw (le-ltb (length ws) 6 long, ne_eqb (get_or ws 0 0) 2 other, sym is ∙ h, eq-eqb (get_or ws 0 0) 1 k) refl
 
         pub a_replace : (get_or ws 0 0 ≡ 1 → ⊥) → get_or ws 0 0 ≡ 3
             → write_message (replace_order (get_or ws 1 0) (get_or ws 2 0) side (contracts (get_or ws 4 0)) price sixty) ≡ text_for (message_for ws sixty)
         unfolding message_for
         a_replace l k =
             (λ i. write_message (replace_order (get_or ws 1 0) (get_or ws 2 0) (which i) (contracts (get_or ws 4 0)) (same i) sixty))
-            ∙ rw (le-ltb (length ws) 6 long, ne_eqb (get_or ws 0 0) 2 other, sym is ∙ not-false good h, ne_eqb (get_or ws 0 0) 1 l, eq-eqb (get_or ws 0 0) 3 k) refl
+            ∙ rw (le-ltb (length ws) 6 long, ne_eqb (get_or ws 0 0) 2 other, sym is ∙ h, ne_eqb (get_or ws 0 0) 1 l, eq-eqb (get_or ws 0 0) 3 k) refl
 
         pub no_kind : (get_or ws 0 0 ≡ 1 → ⊥) → (get_or ws 0 0 ≡ 3 → ⊥) → refused 3 ≡ text_for (message_for ws sixty)
         unfolding message_for
         no_kind l k =
-            rw (le-ltb (length ws) 6 long, ne_eqb (get_or ws 0 0) 2 other, sym is ∙ not-false good h, ne_eqb (get_or ws 0 0) 1 l, ne_eqb (get_or ws 0 0) 3 k) refl
+            rw (le-ltb (length ws) 6 long, ne_eqb (get_or ws 0 0) 2 other, sym is ∙ h, ne_eqb (get_or ws 0 0) 1 l, ne_eqb (get_or ws 0 0) 3 k) refl
 
 -- ---- the text that was written
 pub no_text : (t : MessageText) → not t.good ≡ true → refused 21 ≡ shown_text t
