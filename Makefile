@@ -1,6 +1,6 @@
 # `install`, `dist`, `wheel` and `deb` take what `make library` has built. Every other target needs the Rattle kit (`rt` on the path) and Python 3;
 # `test` also what tests/packages lists, `client`, `library`, `statement` and `card` a C compiler, `bench` Rust with cargo.
-.PHONY: test help demo statement card client library archives link built install dist wheel deb bench clean
+.PHONY: test help demo programs statement card client library archives link built install dist wheel deb bench clean
 
 VERSION := $(shell cat VERSION)
 MAJOR := $(firstword $(subst ., ,$(VERSION)))
@@ -10,9 +10,11 @@ LIBDIR ?= $(PREFIX)/lib
 PYTHON ?= /usr/bin/python3
 LIBRARY := target/library
 ARCHIVES := target/staticlib
+PROGRAMS := account card probe replay safe_table sheet
 # The archives of which the library is made: crate `quoting` with every call, then those with one call each that must be fast. In an archive of
 # its own the compiler inlines all that a call runs; with two callers in one archive it inlines that into neither.
-HOT := session c_call c_records $(if $(wildcard crates/c_scan),c_scan)
+STATIC := quoting session_c c_call c_records c_scan
+HOT := session c_call c_records c_scan
 HEADERS := quoting.h quoting_typed.h quoting_lines.h quoting.hpp
 # The values of this build in a file of lib/: $(call filled,NAME,PREFIX)
 filled = sed -e 's|@PREFIX@|$(2)|' -e 's|@LIBDIR@|$(patsubst $(PREFIX)/%,$${prefix}/%,$(LIBDIR))|' -e 's|@VERSION@|$(VERSION)|' -e 's|@MAJOR@|$(MAJOR)|' lib/$(1).in
@@ -28,6 +30,11 @@ help:  ## this list
 demo:  ## a session, a month and a month's statement, each as soon as it is proved
 	@$(PYTHON) tools/demo.py
 
+# As they are now in their crates' folders; where one is not, nothing is put down.
+programs:  ## target/bin: the programs, as the gate or `rt run` has built them
+	rm -rf target/bin && mkdir -p target/bin
+	for name in $(PROGRAMS); do [ ! -e crates/$$name/out/$$name ] || cp crates/$$name/out/$$name target/bin/$$name || exit 1; done
+
 # The statement of a shipped month as a page that can be printed: target/brent.html. Two of its messages are refused, so the command ends with 1.
 statement: library  ## target/brent.html: the statement of a shipped month
 	rm -f target/brent.html
@@ -41,7 +48,7 @@ card: library  ## target/card.html: the weight card
 
 # The C client of examples/client.c, over the proved session run: target/client FILE
 client:  ## target/client: the C client of examples/client.c
-	rt staticlib session
+	lib/archive session_c
 	cc -O2 -Iinclude -o target/client examples/client.c target/staticlib/libsession.a
 
 # Every proved call for C, with the refusals' sentences: target/library has both libraries, the header and what pkg-config reads.
@@ -50,19 +57,20 @@ library: archives link  ## target/library: the library for C, with its headers a
 	{ echo "version $(VERSION)"; echo "commit $$(git describe --always --dirty --abbrev=40 --exclude '*')"; echo "kit $$(rt version)"; } > $(LIBRARY)/BUILT
 
 archives:
-	for crate in quoting $(HOT); do rt staticlib $$crate || exit 1; done
+	lib/archive $(STATIC)
 
-# The library of archives that are there, so that one that was built elsewhere can be linked too: make link ARCHIVES=FOLDER
+# The library of archives that are there, so that one that was built elsewhere can be linked too: make link ARCHIVES=FOLDER. Its other names
+# are hard links, since `rt ci` refuses a tree with symbolic ones; so what `dist` and `deb` put together goes when it is packed.
 link:
 	mkdir -p $(LIBRARY)
 	lib/link $(LIBRARY)/libquoting.a $(foreach crate,quoting $(HOT),$(ARCHIVES)/lib$(crate).a)
 	cc $(STRICT) -fPIC -c lib/refusals.c -o $(LIBRARY)/refusals.o
 	cc $(STRICT) -fPIC -c lib/version.c -o $(LIBRARY)/version.o
 	ar rcs $(LIBRARY)/libquoting.a $(LIBRARY)/refusals.o $(LIBRARY)/version.o
+	rm -f $(LIBRARY)/libquoting.so*
 	cc -shared -Wl,-soname,libquoting.so.$(MAJOR) -Wl,--version-script=lib/quoting.map -Wl,-z,defs -Wl,-z,now -Wl,--gc-sections \
 		-Wl,--whole-archive $(LIBRARY)/libquoting.a -Wl,--no-whole-archive -o $(LIBRARY)/libquoting.so.$(VERSION)
-	ln -sf libquoting.so.$(VERSION) $(LIBRARY)/libquoting.so.$(MAJOR)
-	ln -sf libquoting.so.$(MAJOR) $(LIBRARY)/libquoting.so
+	for name in libquoting.so.$(MAJOR) libquoting.so; do ln -f $(LIBRARY)/libquoting.so.$(VERSION) $(LIBRARY)/$$name || exit 1; done
 	cp $(addprefix include/,$(HEADERS)) $(LIBRARY)
 	$(call filled,quoting.pc,$(PREFIX)) > $(LIBRARY)/quoting.pc
 	$(PYTHON) tools/manual.py page > $(LIBRARY)/quoting.1
@@ -94,6 +102,7 @@ dist: built wheel  ## target/quoting-VERSION.tar.gz and a wheel: the library for
 	sed -e 's|@PREFIX@|$${pcfiledir}/../..|' -e 's|@LIBDIR@|$${prefix}/lib|' -e 's|@VERSION@|$(VERSION)|' lib/quoting.pc.in > target/dist/quoting-$(VERSION)/lib/pkgconfig/quoting.pc
 	cp $(wildcard $(LIBRARY)/BUILT) docs/FORMATS.md CHANGELOG.md examples/client.c examples/month.c examples/pairs.cpp target/dist/quoting-$(VERSION)/
 	tar -C target/dist --sort=name --owner=0 --group=0 --numeric-owner -czf target/quoting-$(VERSION).tar.gz quoting-$(VERSION)
+	rm -rf target/dist
 
 # The package has no extension module, so one wheel serves every Python 3 of this system: target/quoting-VERSION-py3-none-linux_x86_64.whl
 wheel: built  ## target/quoting-VERSION-py3-none-*.whl: the Python package with the library
@@ -108,15 +117,16 @@ deb: built  ## target/libquoting_VERSION_*.deb: the library as a Debian package
 	sed -e 's|@VERSION@|$(VERSION)|' -e 's|@ARCHITECTURE@|$(ARCHITECTURE)|' lib/control.in > target/deb/DEBIAN/control
 	echo "activate-noawait ldconfig" > target/deb/DEBIAN/triggers
 	dpkg-deb --build --root-owner-group target/deb target/libquoting_$(VERSION)_$(ARCHITECTURE).deb >/dev/null
+	rm -rf target/deb
 
 # The proved meter's C call against two meters in Rust, the proved reader of FIX messages against two in Rust, and a call of the proved
 # month against two months in Rust.
 bench:  ## the proved meter against meters in Rust
-	for crate in session c_call c_records quoting; do rt staticlib $$crate || exit 1; done
+	lib/archive session_c c_call c_records quoting
 	objcopy --redefine-sym quoting_session=library_session target/staticlib/libquoting.a target/staticlib/libquoting_others.a
 	cd bench && cargo run --release --offline --quiet
 
-# The next gate proves all crates again.
+# What the gate has passed is kept beside the kit, so the next one still proves only what has changed.
 clean:  ## removes all that is built, with the proofs' results
-	rm -rf target build python/*.egg-info .mypy_cache bench/target
+	rm -rf target build crates/*/out python/*.egg-info .mypy_cache bench/target
 	find . -name __pycache__ -prune -exec rm -rf {} +

@@ -1,6 +1,6 @@
 """What a call of the month costs, by the program `replay`: a loop over calls in one process.
 
-    python3 bench/month.py        (after `rt check replay`, or the gate)
+    python3 bench/month.py        (after `rt run` in crates/replay and `make programs`, or the gate)
 
 It times lists of calls that differ in one thing: how many calls went before, how many cells are filled, how many orders are live and
 what the calls are. The time of a list includes reading it and writing its lines; the difference of two lists of different length is

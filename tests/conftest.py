@@ -50,7 +50,7 @@ def built(path: Path, command: str) -> Path:
 def programs() -> Path:
     """The folder of the programs."""
     for name in PROGRAMS:
-        built(BIN / name, f"rt check {name}")
+        built(BIN / name, f"rt run in crates/{name}, then make programs")
     return BIN
 
 

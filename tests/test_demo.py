@@ -11,15 +11,16 @@ from tests.paths import ROOT
 
 pytestmark = [pytest.mark.usefixtures("library", "programs"), pytest.mark.xdist_group("demo")]
 
-# As rt prints them; of a library for C the last line alone.
-RT = """#!/bin/sh
-for name in $(grep -o '^[a-z_0-9]*:' crates.txt | tr -d :); do [ $name = quoting ] || echo "rt: $name proved (1 s)"; done
+# As rt prints them; what it says of a crate begins with how it checks it.
+RT = f"""#!/bin/sh
+for name in $(grep -o '^[a-z_0-9]*' {ROOT}/crates.txt); do printf 'rt: chose --jobs 2 for %s\nlogic=proved functions=1 sum=0\n' $name; done
 """
-MAKE = RT + """echo "rt: target/staticlib/libquoting.a has the functions of quoting"
+SOME = """#!/bin/sh
+printf 'rt: chose --jobs 2 for sheet\nlogic=proved functions=1 sum=0\n'
 """
+MAKE = RT
 REFUSES = """#!/bin/sh
-echo "rt: lists proved (1 s)"
-echo "rt: rules NOT PROVED"
+printf 'rt: chose --jobs 2 for lists\nlogic=proved functions=0 sum=0\nrt: chose --jobs 2 for rules\nlogic=not-proved functions=1\n'
 exit 1
 """
 
@@ -41,13 +42,18 @@ def test_each_result_follows_its_proof(tmp_path: Path) -> None:
     ]
     places = [done.stdout.index(text) for text in shown]
     assert places == sorted(places) and len(done.stdout.splitlines()) < 45, done.stdout
-    assert done.stdout.count(", 0 left") == 2 and "<svg" in (ROOT / "target" / "demo" / "silver.svg").read_text(encoding="utf-8")
+    assert done.stdout.count(", 0 left") == 2 and "proved before" not in done.stdout and "<svg" in (ROOT / "target" / "demo" / "silver.svg").read_text(encoding="utf-8")
+
+
+def test_what_was_proved_before_is_counted(tmp_path: Path) -> None:
+    done = run_demo(tmp_path, SOME, MAKE)
+    assert done.returncode == 0 and "the others were proved before; " in done.stdout and done.stdout.count(", 0 left") == 2, done
 
 
 @pytest.mark.parametrize("rt, make, shown", [(REFUSES, MAKE, False), (RT, REFUSES, True)], ids=["session", "library"])
 def test_what_is_not_proved_is_not_shown(tmp_path: Path, rt: str, make: str, shown: bool) -> None:
     done = run_demo(tmp_path, rt, make)
-    assert done.returncode == 1 and "rt: rules NOT PROVED" in done.stderr and "has failed" in done.stderr, done
+    assert done.returncode == 1 and "logic=not-proved" in done.stderr and "has failed" in done.stderr, done
     assert ("74.12%" in done.stdout) is shown and "the fee" not in done.stdout
 
 

@@ -1,7 +1,7 @@
 """`make demo`: proves what it shows, and shows each result as soon as what it rests on is proved.
 
 First the silver session's sheet and picture, then a month, then a month's statement. What rt prints is summed up in one line that says what is
-proved and how much is left.
+proved and how much is left; a crate that was proved before is counted at the end.
 """
 
 import os
@@ -18,7 +18,9 @@ from typing import Iterator
 ROOT = Path(__file__).resolve().parent.parent
 MADE = ROOT / "target" / "demo"
 QUOTING = ROOT / "quoting"
-PROVED = re.compile(r"rt: (?:(\w+) proved\b|target/staticlib/lib(\w+)\.a has )")
+BEGUN = re.compile(r"rt: chose --jobs \d+ for (\w+)$")
+PROVED = "logic=proved "
+SHEET = ROOT / "crates" / "sheet"
 SILVER = ROOT / "examples" / "silver"
 OPENS = 10 * 3_600_000  # 10:00:00, when the silver quantum starts
 
@@ -29,7 +31,7 @@ OPENS = 10 * 3_600_000  # 10:00:00, when the silver quantum starts
 def needs() -> dict[str, list[str]]:
     """The crates, each with those that it needs, as crates.txt lists them."""
     lines = (line for line in (ROOT / "crates.txt").read_text(encoding="utf-8").splitlines() if ":" in line and not line.startswith("#"))
-    return {name.strip(): rest.split() for name, _, rest in (line.partition(":") for line in lines)}
+    return {name.split()[0]: rest.split() for name, _, rest in (line.partition(":") for line in lines)}
 
 
 def below(name: str) -> set[str]:
@@ -50,30 +52,40 @@ class Progress:
     crates: set[str]
     done: set[str] = field(default_factory=set)
     since: float = field(default_factory=time.monotonic)
+    begun: str = ""
 
     def take(self, line: str) -> None:
-        found = PROVED.match(line)
-        name = (found[1] or found[2]) if found else ""
-        if name not in self.crates - self.done:
-            return
-        self.done.add(name)
+        if found := BEGUN.match(line):
+            self.begun = found[1]
+        elif line.startswith(PROVED) and self.begun in self.crates - self.done:
+            self.done.add(self.begun)
+            self.show(f"proved {self.begun}")
+
+    def end(self) -> None:
+        """The command has ended well, so what it rests on is proved, here or before."""
+        if self.done != self.crates:
+            self.done |= self.crates
+            self.show("the others were proved before")
+
+    def show(self, what: str) -> None:
         left, minutes = len(self.crates - self.done), int(time.monotonic() - self.since) // 60
-        text = f"  proved {name}; {len(self.done)} of {len(self.crates)} crates, {left} left, {minutes} min"
+        text = f"  {what}; {len(self.done)} of {len(self.crates)} crates, {left} left, {minutes} min"
         if sys.stdout.isatty():
             print(f"\r\033[K{text}", end="" if left else "\n", flush=True)
         elif left % 10 == 0:
             print(text, flush=True)
 
 
-def run_checked(command: list[str], progress: Progress) -> None:
+def run_checked(command: list[str], folder: Path, progress: Progress) -> None:
     """Runs rt or make; where something is not proved or built, its last lines are shown and the demo ends."""
     lines: list[str] = []
-    with subprocess.Popen(command, cwd=ROOT, stdout=subprocess.PIPE, stderr=subprocess.STDOUT, text=True) as started:
+    with subprocess.Popen(command, cwd=folder, stdin=subprocess.DEVNULL, stdout=subprocess.PIPE, stderr=subprocess.STDOUT, text=True) as started:
         for line in started.stdout or []:
             lines.append(line)
             progress.take(line)
     if started.returncode:
         sys.exit("".join(["\n", *lines[-12:], f"`{' '.join(command)}` has failed, see above\n"]))
+    progress.end()
 
 
 # ---------------------------------------------------------------- what is shown
@@ -96,7 +108,7 @@ def stretches(sheet: str) -> Iterator[tuple[int, int]]:
 
 def show_silver() -> None:
     data = quoting("bytes", "examples/silver/silver.session", "--start", "10:00:00").stdout
-    sheet = subprocess.run([ROOT / "target" / "bin" / "sheet"], input=data, capture_output=True, check=True).stdout.decode()
+    sheet = subprocess.run([SHEET / "out" / "sheet"], input=data, capture_output=True, check=True).stdout.decode()
     kept = MADE / "proved.csv"
     kept.write_text("start,end\n" + "".join(f"{clock(OPENS + start)},{clock(OPENS + end)}\n" for start, end in stretches(sheet)), encoding="utf-8")
     print("\nOne silver quantum by the proved meter, and by one that carries an amended order's old volume on:\n")
@@ -140,13 +152,13 @@ def main() -> None:
     MADE.mkdir(parents=True, exist_ok=True)
     session, library = below("sheet"), below("quoting")
     print(f"1. A session: {len(session)} crates are to be proved, of {len(session | library)} for all that is shown here.", flush=True)
-    run_checked(["rt", "check", "sheet"], Progress(session))
+    run_checked(["rt", "run"], SHEET, Progress(session))  # of no bytes, which end well
     show_silver()
     if shutil.which("cc") is None:
         print("\nFor a month and its statement: apt-get install gcc python3-jinja2, then make demo")
         return
     print(f"\n2. A month: the library, {len(library - session)} crates more.", flush=True)
-    run_checked(["make", "library"], Progress(library - session))
+    run_checked(["make", "library"], ROOT, Progress(library - session))
     show_month()
     show_statement()
     print("\nNext: docs/GUIDE.md, by person, with examples to run.")

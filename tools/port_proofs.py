@@ -206,7 +206,9 @@ def inlined(body, helpers, names, place, var, depth=0):
         if depth < 4 and call.search(body):
             inner = inlined(text, helpers, names, at, param, depth + 1)
             value = turned(inner, names, at, param)
-            kind = turned(kind, names, at, binder)
+            for other in helpers:
+                kind = re.sub(r"(?<![\w\-'.])%s (?:[\w\-']+(?:\.before)*)(?= [\w(]|\))" % re.escape(other), other, kind)
+            kind = turned(kind, names, at, binder or param)
             lets += f"\n    let {name} : {kind} = " + (f"λ {' '.join(others)}. " if others else "") + value + " in"
             body = call.sub(name, body)
     return (lets + ("" if body.startswith("\n") else "\n   ") + body) if lets else body
@@ -271,6 +273,8 @@ def turn(crate, function, old, row):
     for d in decls:
         text = "\n".join(d["lines"])
         at = re.match(r"(?:pub )?([\w\-']+) : \(([\w']+) : tie\.([\w\-]+)(?: [\w]+)*\)\s*(?:→|(?=[({]))", text)
+        bare = re.match(r"(?:pub |abbrev |unfoldable )*([\w\-']+) :() tie\.([\w\-]+)(?: [\w]+)*\s*→", text)
+        at = at or bare
         if at and d is not spec:
             place = next((p[0] for p in row["places"] if same(p[0]) == same(at[3])), None)
             head = re.search(r"^%s ([\w'₀]+)((?: [\w'₀]+)*) =" % re.escape(at[1]), text, re.M)

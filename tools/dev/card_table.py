@@ -38,7 +38,7 @@ def proof():
     text = """\
 -- The constants of the weight card once more, written by tools/dev/card_table.py.
 use Prim.Native.Nat.{ℕ}
-use mathlib.Core.List.{List, [], _∷_}
+use mathlib.Core.List.{List, [], ◌∷◌}
 """
     for share, weights in COLUMNS.items():
         for part, fs in PARTS.items():

@@ -1,10 +1,15 @@
-"""Counts functions and lines, crate by crate: `python3 tools/dev/counts.py`. Blank lines and comments are left out."""
+"""Counts functions and lines, crate by crate: `python3 tools/dev/counts.py`. Blank lines and comments are left out.
+
+`--write` puts the table into docs/PROOFS.md.
+"""
 
 import argparse
 import re
 from pathlib import Path
 
 ROOT = Path(__file__).resolve().parent.parent.parent
+PAGE = ROOT / "docs" / "PROOFS.md"
+HEAD = "| crate | functions | code | clauses | definitions | proof | must-fail edits |\n"
 
 
 def lines(files):
@@ -32,19 +37,25 @@ def counts(crate):
 
 
 def row(name, cells):
-    print("| " + " | ".join([name, *(f"{cell:,}" for cell in cells)]) + " |")
+    return "| " + " | ".join([name, *(f"{cell:,}" for cell in cells)]) + " |\n"
+
+
+def table():
+    listed = (ROOT / "crates.txt").read_text(encoding="utf-8").splitlines()
+    names = [line.split(":")[0].split()[0] for line in listed if line.strip() and not line.startswith("#")]
+    cells = [counts(ROOT / "crates" / name) for name in names]
+    rows = "".join(row(f"`{name}`", each) for name, each in zip(names, cells))
+    return HEAD + "|---|--:|--:|--:|--:|--:|--:|\n" + rows + row("all", [sum(column) for column in zip(*cells)])
 
 
 def main():
-    argparse.ArgumentParser(description=__doc__).parse_args()
-    listed = (ROOT / "crates.txt").read_text(encoding="utf-8").splitlines()
-    names = [line.split(":")[0] for line in listed if line.strip() and not line.startswith("#")]
-    table = [counts(ROOT / "crates" / name) for name in names]
-    print("| crate | functions | code | clauses | definitions | proof | must-fail edits |")
-    print("|---|--:|--:|--:|--:|--:|--:|")
-    for name, cells in zip(names, table):
-        row(f"`{name}`", cells)
-    row("all", [sum(column) for column in zip(*table)])
+    parser = argparse.ArgumentParser(description=__doc__, formatter_class=argparse.RawDescriptionHelpFormatter)
+    parser.add_argument("--write", action="store_true", help="put the table into docs/PROOFS.md")
+    if not parser.parse_args().write:
+        print(table(), end="")
+        return
+    before, rest = PAGE.read_text(encoding="utf-8").split(HEAD)
+    PAGE.write_text(before + table() + rest[rest.index("\n\n") + 1 :], encoding="utf-8")
 
 
 if __name__ == "__main__":

@@ -36,7 +36,7 @@ def groups(text: str) -> list[tuple[str, list[str]]]:
             continue
         in_comment = False
         if line.strip():
-            found[-1][1].append(line.split(":")[0])
+            found[-1][1].append(line.split(":")[0].split()[0])
     return found
 
 

@@ -12,7 +12,6 @@ from html import escape
 from pathlib import Path
 
 ROOT = Path(__file__).resolve().parent.parent.parent
-KIT = {"io", "libc"}  # crates of the kit, not of this tree
 COLOURS = ("#dbe7f3", "#e3f0dc", "#f6ead0", "#f3dede", "#e6e0f2", "#dcefee", "#f0e2ec", "#e8e8e8")
 WIDTH, TITLE, EDGE = 1180, 140, 16
 BOX, GAP, LINE = 116, 8, 13
@@ -28,7 +27,7 @@ class Group:
 
 
 def listed(text: str) -> tuple[list[Group], dict[str, list[str]]]:
-    """The groups in their order, and what each crate names after its colon."""
+    """The groups in their order, and the crates of this tree that each crate names after its colon."""
     groups: list[Group] = []
     needs: dict[str, list[str]] = {}
     in_comment = False
@@ -40,10 +39,11 @@ def listed(text: str) -> tuple[list[Group], dict[str, list[str]]]:
             continue
         in_comment = False
         if line.strip():
-            name, rest = line.split(":")
+            kind, rest = line.split(":")
+            name = kind.split()[0]
             groups[-1].crates.append(name)
-            needs[name] = [need for need in rest.split() if need not in KIT]
-    return groups, needs
+            needs[name] = rest.split()
+    return groups, {name: [need for need in named if need in needs] for name, named in needs.items()}
 
 
 def below(needs: dict[str, list[str]]) -> dict[str, set[str]]:

@@ -1,7 +1,7 @@
 // The library for programs in C. Each call takes numbers and lent slices, requires nothing of its caller but that a month's words are what
 // these calls left, and answers by one number and by what it leaves in a lent buffer: a refused call leaves each as it was.
 // include/quoting.h says word for word what each one does. Calls that must be fast are in crates of their own, an archive each (`c_call`,
-// `c_records`, `c_scan`, `session`).
+// `c_records`, `c_scan`, `session_c`).
 #![tactic(auto)]
 
 ghost use Rattle.std.specs.Prelude.{◌≡◌, true, not, [], ◌≤◌, eqb, length};

@@ -124,9 +124,8 @@ fn one_number(answer: SessionAnswer) -> u64
     }
 }
 
-// The C call: K, or 4,294,967,296 × refusal + place.
-#[unsafe(no_mangle)]
-pub extern "C" fn quoting_session(head: &[u8], records: &[u8]) -> u64
+// What the C call answers: K, or 4,294,967,296 × refusal + place.
+pub fn quoting_session(head: &[u8], records: &[u8]) -> u64
     ensures { result ≡ one_number (session_bytes paper most_records head.now records.now) }
 {
     if head.len() != 32 {

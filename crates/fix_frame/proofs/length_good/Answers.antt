@@ -1,4 +1,5 @@
 -- `fix_frame::length_good` meets its contract: no number is no length (`no_length`), and the capped number is the length just where the number
+-- is (`a-length`).
 use mathlib.Core.Path.{ap, sym, ◌∙◌}
 use Rattle.rules.specs.Digits.{in_digits}
 use Rattle.fix_digits.specs.Answers.{shown_number}

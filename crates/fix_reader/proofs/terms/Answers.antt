@@ -1,4 +1,5 @@
 -- `fix_reader::terms` meets its contract: without one of 54, 38 and 44 there are none (`no_side`, `no_volume`, `no_price`), else the three make
+-- them (`all_terms`).
 use mathlib.Core.Path.{sym, ap, ◌∙◌}
 use Rattle.fix_digits.specs.Answers.{shown_unsigned, shown_signed}
 use Rattle.fix_reader.specs.Internal.{shown_side}

@@ -1,4 +1,5 @@
 -- `fix_writer::write_cancel` meets its contract: where 60 is no time nothing is written (`unwritten`), else the fields laid are the
+-- message's (`cancel_body`, `answered`).
 use mathlib.Core.Path.{sym, ◌∙◌}
 use lib.IntN.{pos}
 use lib.ListN.{replicate}

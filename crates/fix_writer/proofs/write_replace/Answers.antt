@@ -1,4 +1,5 @@
 -- `fix_writer::write_replace` meets its contract: where 60 is no time nothing is written (`unwritten`), else the fields laid are the
+-- message's (`replace_body`, `answered`).
 use mathlib.Core.Path.{sym, ◌∙◌}
 use lib.ListN.{replicate}
 use Rattle.rules.specs.Fields.{field_bytes}

@@ -20,7 +20,7 @@ pub overflow_mul-result : goal.overflow_mul-result
 overflow_mul-result c = omega (arith, product_most (powers c))
 
 pub nonzero_div-result : goal.nonzero_div-result
-nonzero_div-result c = divisor_least (powers c)
+nonzero_div-result c = omega (arith, divisor_least (powers c))
 
 pub overflow_cast-result : goal.overflow_cast-result
 overflow_cast-result c = omega (arith, quotient_most (powers c))

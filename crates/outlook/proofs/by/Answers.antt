@@ -1,0 +1,21 @@
+-- Each case by its tests.
+use Prim.Native.Nat.{ℕ}
+use mathlib.Core.Path.{ap}
+use borrow.Author.Rules.{rules}
+use Rattle.rules.specs.declared.Possible.TheVariants.{At}
+use Rattle.rules.specs.Units.{millis}
+use Rattle.outlook.proofs.by.Goals as goal
+
+pub returns-then-rest : goal.returns-then-rest
+returns-then-rest c = simp c.if-rest.true
+
+pub returns-then-waits : goal.returns-then-waits
+returns-then-waits c =
+    simp (c.if-rest.false, c.if-possible.true, c.if-waits.true)
+    (ap (λ (n : ℕ). At (millis n)) c.start.ensures)
+
+pub returns-then-possible : goal.returns-then-possible
+returns-then-possible c = simp (c.if-rest.false, c.if-possible.true, c.if-waits.false)
+
+pub returns : goal.returns
+returns c = simp (c.if-rest.false, c.if-possible.false)
