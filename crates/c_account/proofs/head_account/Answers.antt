@@ -24,7 +24,9 @@ pub bounds-buffer-6 : goal.bounds-buffer-6
 bounds-buffer-6 c = simp length-set (omega arith)
 
 pub returns-in-Finished : goal.returns-in-Finished
-returns-in-Finished c = account_finished c.args.answer _ _ c.args.buffer.now c.in-Finished.is
+returns-in-Finished c =
+    let p = account_finished c.args.answer _ _ c.args.buffer.now c.in-Finished.is in record { number = p.0; words = p.1 }
 
 pub returns-in-Refused : goal.returns-in-Refused
-returns-in-Refused c = account_refused c.args.answer _ _ c.refused_at.result c.args.buffer.now c.in-Refused.is c.refused_at.ensures
+returns-in-Refused c =
+    let p = account_refused c.args.answer _ _ c.refused_at.result c.args.buffer.now c.in-Refused.is c.refused_at.ensures in record { number = p.0; words = p.1 }
