@@ -11,7 +11,6 @@ use Rattle.session_account.specs.Shown.{shown_account, filled_by}
 use Rattle.session_account.proofs.Endings.{filled-fits}
 use Rattle.account.proofs.account.Goals as goal
 
--- The words that the run has filled lie within the buffer.
 room : (a : Account) (entry exit : List ℕ) (r : AccountAnswer) (n : ℕ) → (shown_account r ≡ account_ran (length entry) a) × (exit ≡ account_buffer entry a)
     → n ≡ filled_by r → n ≤ length exit
 unfolding account_buffer

@@ -8,7 +8,6 @@ use Rattle.rules.specs.Records.{signed_of, word_at}
 use Rattle.console.proofs.Filling.{filled}
 use Rattle.console.proofs.read_prices.Given as goal
 
--- The prices before the place are read, and the rest is as it was. The measure is the number of prices left.
 -- the value that is due at a place
 abbrev pub due : List ℕ → ℕ → ℕ → ℤ
 due bytes from i = signed_of (word_at bytes (from + 4 * i))

@@ -7,7 +7,6 @@ use Rattle.rules.specs.Records.{word_at}
 use Rattle.console.proofs.Filling.{filled}
 use Rattle.console.proofs.read_words.Given as goal
 
--- The words before the place are read, and the rest is as it was. The measure is the number of words left.
 -- the value that is due at a place
 abbrev pub due : List ℕ → ℕ → ℕ → ℕ
 due bytes from i = word_at bytes (from + 4 * i)

@@ -4,7 +4,6 @@ use mathlib.Core.Path.{◌≡◌, sym}
 use lib.ListN.{length, replicate, length-replicate}
 use Rattle.probe.proofs.room.Goals as goal
 
--- The length comes from a law, and not by counting: a list this long is too deep to count.
 zeros_length : (n : ℕ) → n ≡ length {A = ℕ} (replicate n 0)
 zeros_length n = sym (length-replicate n 0)
 
