@@ -256,6 +256,10 @@ def used(shared, crate, path, text):
 
 
 def turn(crate, function, old, row):
+    # a name for a place's type
+    for name, place in re.findall(r"^abbrev (\w+) : Type 0\n\1 = (tie\.[\w\-]+)(?: \w+)*$", old, re.M):
+        old = re.sub(r"^abbrev %s : Type 0\n.*\n" % name, "", old, flags=re.M)
+        old = re.sub(r"(?<![\w\-'.])%s(?![\w\-'])" % name, place, old)
     imports, decls, _ = blocks(old)
     names = Names(row)
     spec = next(d for d in decls if "tie.spec" in "\n".join(d["lines"]))

@@ -15,7 +15,7 @@ pub returns-in-Open : goal.returns-in-Open
 returns-in-Open c =
     let x = c.«open» in
     let k = ap (call_with (words_in c.args.bytes.now)) c.in-Open.is in
-    λ e. (subst (λ (y : Call). ChangesMonth c.args.words.now y x.new.0 x.result) (sym k) x.ensures, untouched c.args.words.now _ c.args.hints.now)
+    λ e. (subst (λ (y : Call). ChangesMonth c.args.words.now y x.new.words x.result) (sym k) x.ensures, untouched c.args.words.now _ c.args.hints.now)
 
 pub returns-in-Send : goal.returns-in-Send
 returns-in-Send c =

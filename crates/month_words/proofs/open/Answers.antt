@@ -18,5 +18,5 @@ slice_bounds-open-end c =
 pub returns : goal.returns
 returns c =
     let x = c.«open» in
-    handed_changes c.args.day c.args.opening c.args.words.now x.new.0 x.result c.handed_on-n.result c.row-row.result (row_at (words_in c.args.bytes.now))
+    handed_changes c.args.day c.args.opening c.args.words.now x.new.words x.result c.handed_on-n.result c.row-row.result (row_at (words_in c.args.bytes.now))
     (c.handed_on-n.ensures.0 ∙ ap (λ (k : ℕ). if eqb k 7 then 7 else 0) c.row_length.ensures) c.row-row.ensures x.ensures

@@ -1,5 +1,6 @@
 -- A call that shows something leaves the words; of the others `change` says what they leave.
 use mathlib.Core.Path.{sym, ap, subst, ◌∙◌}
+use borrow.Enum.Refused.{opened}
 use Rattle.rules.specs.Calls.{Call}
 use Rattle.words.specs.Bytes.{words_in}
 use Rattle.call_blocks.specs.Decoded.{call_with}
@@ -34,7 +35,7 @@ returns-in-Outlook c =
 
 pub returns-in_default : goal.returns-in_default
 returns-in_default c =
-    let y = c.change-n.ensures (tags_unshown c.decode-said.result c.in_default.in_default-own.keys5) in (
+    let y = c.change-n.ensures (tags_unshown c.decode-said.result (opened c.in_default.in_default-own.keys5)) in (
       changes_performs c.args.words.now c.args.answer.now c.args.bytes.now c.change-n.new.words c.put_number.new.answer _ c.decode-said.ensures (changes-shown c.args.words.now _ c.change-n.new.words c.put_number.new.answer c.change-n.result y.0 c.put_number.ensures),
       of_call c.args.words.now _ (call_of (words_in c.args.bytes.now)) c.args.hints.now c.change-n.new.hints c.decode-said.ensures y.1,
     )
