@@ -98,6 +98,8 @@ class Names:
             parts = [parts[0][2:]] + parts[1:]
         if parts[0].endswith("_lem"):
             parts = [parts[0].removesuffix("_lem")] + parts[1:]
+        if parts[0] == "well-formed":
+            parts = ["well_formed"] + parts[1:]
         if parts[0] == "type-inv":
             parts = ["type_inv"] + parts[1:]
         if parts[0] in ("args", "requires", "lifetimes", "ranges", "type_inv", "well_formed"):
