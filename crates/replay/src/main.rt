@@ -15,6 +15,7 @@ use call_step::{Outcome, Shown};
 use console::{field_line, number, text};
 use month::Month;
 use replay_pieces::Rest;
+use std::io::Stdin;
 
 fn line(shown: Shown) {
     let outcome = shown.outcome;
@@ -99,13 +100,13 @@ fn answer(month: Month, bytes: &mut [u8], end: usize) -> Played
 // Reads what has come, after what is held in the buffer and not answered yet, and answers the calls that are whole, to the end of the input
 // or to what is no call. `word` is the first word held, counted from 1. The loop ends for its bound alone only at 2^62 words, which no
 // input reaches.
-fn stream(bytes: &mut [u8]) {
+fn stream(input: &mut Stdin, bytes: &mut [u8]) {
     let room = bytes.len() / 4;
     let mut month = Month::fresh();
     let mut held: usize = 0;
     let mut word: u64 = 1;
     while word < 4611686018427387904 {
-        let got = console::read_more(bytes, held);
+        let got = console::read_more(input, bytes, held);
         if got == 0 {
             cut_short(held, word);
             return;
@@ -129,7 +130,7 @@ fn room() -> [u8; 262144]
     [0; 262144]
 }
 
-fn main() {
+fn main(rt: HostRuntime) {
     let mut bytes = room();
-    stream(&mut bytes);
+    stream(&mut rt.stdin(), &mut bytes);
 }
