@@ -98,6 +98,8 @@ class Names:
             parts = [parts[0][2:]] + parts[1:]
         if parts[0].endswith("_lem"):
             parts = [parts[0].removesuffix("_lem")] + parts[1:]
+        if parts[0] == "well-formed":
+            parts = ["well_formed"] + parts[1:]
         if parts[0] == "type-inv":
             parts = ["type_inv"] + parts[1:]
         if parts[0] in ("args", "requires", "lifetimes", "ranges", "type_inv", "well_formed"):
@@ -256,6 +258,10 @@ def used(shared, crate, path, text):
 
 
 def turn(crate, function, old, row):
+    # a name for a place's type
+    for name, place in re.findall(r"^abbrev (\w+) : Type 0\n\1 = (tie\.[\w\-]+)(?: \w+)*$", old, re.M):
+        old = re.sub(r"^abbrev %s : Type 0\n.*\n" % name, "", old, flags=re.M)
+        old = re.sub(r"(?<![\w\-'.])%s(?![\w\-'])" % name, place, old)
     imports, decls, _ = blocks(old)
     names = Names(row)
     spec = next(d for d in decls if "tie.spec" in "\n".join(d["lines"]))

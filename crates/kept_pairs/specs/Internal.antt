@@ -1,8 +1,6 @@
 -- The pairs of a session so far, and what the functions on them promise to each other.
 use Rattle.std.specs.Prelude.{ℕ, ◌+◌, ◌*◌, ◌≤◌, ◌<◌, ◌≡◌, List, [], ◌∷◌, Bool, true, length}
 use Rattle.rules.specs.declared.Millis.{Millis}
-use Rattle.rules.specs.declared.SessionAnswer.{SessionAnswer}
-use Rattle.rules.specs.declared.SessionAnswer.TheVariants as S
 use Rattle.lists.specs.Lists.{if◌then◌else◌}
 use Rattle.rules.specs.Stretches.{Stretch, stretches, pair_words}
 use Rattle.rules.specs.Runs.{before}

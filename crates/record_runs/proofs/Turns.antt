@@ -6,8 +6,6 @@ use mathlib.Core.List.{List, []}
 use lib.ListN.{length, take, drop, length-take, length-drop}
 use Rattle.rules.specs.declared.Row.{Row}
 use Rattle.rules.specs.declared.Event.{Event}
-use Rattle.rules.specs.declared.SessionAnswer.{SessionAnswer}
-use Rattle.rules.specs.declared.SessionAnswer.TheVariants as S
 use Rattle.rules.specs.Orders.{live, apply_all}
 use Rattle.rules.specs.Answers.{Outcome, accepted, refused}
 use Rattle.rules.specs.Bounds.{EventBounds}

@@ -4,8 +4,6 @@ use Rattle.std.proofs.lemmas.List.Edits.{sets}
 use Rattle.rules.specs.declared.Row.{Row}
 use Rattle.rules.specs.declared.SpreadRule.{SpreadRule}
 use Rattle.rules.specs.declared.Event.{Event}
-use Rattle.rules.specs.declared.SessionAnswer.{SessionAnswer}
-use Rattle.rules.specs.declared.SessionAnswer.TheVariants as S
 use Rattle.lists.specs.Lists.{if◌then◌else◌}
 use Rattle.rules.specs.Cells.{blank_cells}
 use Rattle.rules.specs.Answers.{Outcome, accepted, refused}

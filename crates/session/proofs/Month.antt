@@ -16,7 +16,7 @@ use Rattle.rules.specs.Terms.{paper}
 use Rattle.rules.specs.Units.{kopecks}
 use Rattle.rules.specs.Rows.{row_of, good_row}
 use Rattle.rules.specs.Cells.{good_cell, cell_at}
-use Rattle.rules.specs.Pay.{weight, view_of, cell_weight}
+use Rattle.rules.specs.Pay.{view_of, cell_weight}
 use Rattle.rules.specs.Stretches.{Stretch}
 use Rattle.rules.specs.Answers.{accepted, cell}
 use Rattle.rules.specs.Calls.{Call, Open, Send, Close, Look, Book}

@@ -6,7 +6,6 @@ use Rattle.rules.specs.declared.SpreadRule.{SpreadRule}
 use Rattle.rules.specs.declared.SpreadRule.TheVariants.{Settled}
 use Rattle.rules.specs.declared.Event.{Event}
 use Rattle.rules.specs.declared.SessionAnswer.{SessionAnswer}
-use Rattle.rules.specs.declared.SessionAnswer.TheVariants as S
 use Rattle.rules.specs.Terms.{paper}
 use Rattle.rules.specs.Rows.{good_row}
 use Rattle.rules.specs.Orders.{present}

@@ -1,6 +1,5 @@
 -- 16, or the refusal before it.
 use Rattle.c_account.proofs.Accounting.{account_short_is}
-use borrow.Author.Rules.{rules}
 use Rattle.c_account.proofs.account_short.Goals as goal
 
 pub returns : goal.returns

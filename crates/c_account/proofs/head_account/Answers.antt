@@ -2,7 +2,6 @@
 use native.Mathlib.Omega.{arith}
 use lib.ListN.{length-set}
 use Rattle.c_account.proofs.Accounting.{account_finished, account_refused}
-use borrow.Author.Rules.{rules}
 use Rattle.c_account.proofs.head_account.Goals as goal
 
 pub bounds-buffer-1 : goal.bounds-buffer-1

@@ -1,7 +1,6 @@
 -- The stretches, and the times and their number before them.
 use mathlib.Core.Path.{refl}
 use Rattle.c_account.proofs.Accounting.{account-lent}
-use borrow.Author.Rules.{rules}
 use Rattle.c_account.proofs.run_account.Goals as goal
 
 pub returns : goal.returns

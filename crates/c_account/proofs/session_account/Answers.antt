@@ -4,7 +4,6 @@ use lib.ListN.{length}
 use Rattle.rules.specs.declared.Steps.{Steps}
 use Rattle.c_account.specs.Accounts.{strike_of, rule_of}
 use Rattle.c_account.proofs.Accounting.{short_fills, fills_by}
-use borrow.Author.Rules.{rules}
 use Rattle.c_account.proofs.session_account.Goals as goal
 
 pub returns-then-buffer-lt7 : goal.returns-then-buffer-lt7

@@ -1,6 +1,5 @@
 -- 16, or the refusal with its place.
 use Rattle.c_account.proofs.Accounting.{account-stopped}
-use borrow.Author.Rules.{rules}
 use Rattle.c_account.proofs.short_account.Goals as goal
 
 pub returns-in-Refused : goal.returns-in-Refused

@@ -2,7 +2,6 @@
 use native.Mathlib.Omega.{arith}
 use lib.ListN.{length-set}
 use Rattle.c_session.proofs.Pairs.{head_finished, head-stopped}
-use borrow.Author.Rules.{rules}
 use Rattle.c_session.proofs.put_head.Goals as goal
 
 pub bounds-buffer-1 : goal.bounds-buffer-1

@@ -1,7 +1,6 @@
 -- The pairs, and K, w and their number before them.
 use mathlib.Core.Path.{refl}
 use Rattle.c_session.proofs.Pairs.{pairs_lent}
-use borrow.Author.Rules.{rules}
 use Rattle.c_session.proofs.run_pairs.Goals as goal
 
 pub returns : goal.returns

@@ -3,7 +3,6 @@ use lib.ListN.{length}
 use Rattle.rules.specs.Session.{most_records}
 use Rattle.session.proofs.Endings.{by_head}
 use Rattle.c_session.proofs.Pairs.{no_head, fills_same, short_fills}
-use borrow.Author.Rules.{rules}
 use Rattle.c_session.proofs.session_pairs.Goals as goal
 
 pub returns-then-head-ne32 : goal.returns-then-head-ne32

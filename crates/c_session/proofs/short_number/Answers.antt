@@ -1,6 +1,5 @@
 -- 16, or the refusal with its place.
 use Rattle.c_session.proofs.Pairs.{short_stopped}
-use borrow.Author.Rules.{rules}
 use Rattle.c_session.proofs.short_number.Goals as goal
 
 pub returns-in-Refused : goal.returns-in-Refused

@@ -1,5 +1,4 @@
 -- By whether the last pair reaches the time.
-use borrow.Author.Rules.{rules}
 use Rattle.kept_pairs.proofs.Pairs.{begun_last, begun_new}
 use Rattle.kept_pairs.proofs.begun.Goals as goal
 

@@ -2,7 +2,6 @@
 use native.Mathlib.Omega.{arith}
 use mathlib.Core.Path.{◌∙◌}
 use Rattle.kept_pairs.proofs.Pairs.{grows_still, grows_none, grows_by, begun_bounds}
-use borrow.Author.Rules.{rules}
 use Rattle.kept_pairs.proofs.grow.Goals as goal
 
 pub returns-then-to-from : goal.returns-then-to-from

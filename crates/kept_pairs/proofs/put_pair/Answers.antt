@@ -2,7 +2,6 @@
 use native.Mathlib.Omega.{arith}
 use lib.ListN.{length-set}
 use Rattle.kept_pairs.proofs.Pairs.{put-fits, put_not}
-use borrow.Author.Rules.{rules}
 use Rattle.kept_pairs.proofs.put_pair.Goals as goal
 
 pub bounds-buffer-at-then-at-buffer : goal.bounds-buffer-at-then-at-buffer

@@ -1,6 +1,5 @@
 -- Two words a pair where the run is finished, none where it is refused (`filled_is`).
 use Rattle.session.proofs.Endings.{filled_is}
-use borrow.Author.Rules.{rules}
 use Rattle.session.proofs.filled.Goals as goal
 
 pub returns-in-Finished : goal.returns-in-Finished

@@ -4,7 +4,6 @@ use lib.Seq.{length-take-le}
 use Rattle.rules.specs.Terms.{paper}
 use Rattle.rules.specs.Session.{most_records, session}
 use Rattle.session.proofs.Endings.{front_is}
-use borrow.Author.Rules.{rules}
 use Rattle.session.proofs.front.Goals as goal
 
 pub slice_bounds-result-end : goal.slice_bounds-result-end

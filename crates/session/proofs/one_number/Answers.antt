@@ -1,6 +1,5 @@
 -- K where the run is finished, the refusal over the place where not (`refused_is`).
 use Rattle.session.proofs.Endings.{refused_is}
-use borrow.Author.Rules.{rules}
 use Rattle.session.proofs.one_number.Goals as goal
 
 pub returns-in-Refused : goal.returns-in-Refused

@@ -3,7 +3,6 @@ use native.Mathlib.Omega.{arith}
 use Rattle.rules.specs.Terms.{paper}
 use Rattle.rules.specs.Session.{session}
 use Rattle.session.proofs.Endings.{ends_refused, ends_short, ends_written}
-use borrow.Author.Rules.{rules}
 use Rattle.session.proofs.passes.Goals as goal
 
 pub returns-then-buffer-filled : goal.returns-then-buffer-filled

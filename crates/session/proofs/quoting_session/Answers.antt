@@ -1,6 +1,5 @@
 -- The leading bytes are not 32, or the pass over the records answers.
 use Rattle.session.proofs.Endings.{bytes_short, bytes_number}
-use borrow.Author.Rules.{rules}
 use Rattle.session.proofs.quoting_session.Goals as goal
 
 pub returns-then-head-ne32 : goal.returns-then-head-ne32

@@ -1,5 +1,4 @@
 -- Each state's time with what counts for it.
-use borrow.Author.Rules.{rules}
 use Rattle.session_account.proofs.added.Goals as goal
 
 pub returns : goal.returns

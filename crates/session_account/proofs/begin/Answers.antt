@@ -1,6 +1,5 @@
 -- No events, no stretch.
 use Rattle.session_account.proofs.Steps.{begins}
-use borrow.Author.Rules.{rules}
 use Rattle.session_account.proofs.begin.Goals as goal
 
 pub returns : goal.returns

@@ -1,5 +1,4 @@
 -- By whether the last stretch has the state.
-use borrow.Author.Rules.{rules}
 use Rattle.session_account.proofs.Growing.{begun_last, begun_new}
 use Rattle.session_account.proofs.begun.Goals as goal
 

@@ -1,7 +1,6 @@
 -- Three words a stretch where the run is finished, none where it is refused.
 use mathlib.Core.Path.{sym, ap}
 use Rattle.session_account.specs.Shown.{filled_by}
-use borrow.Author.Rules.{rules}
 use Rattle.session_account.proofs.filled.Goals as goal
 
 pub returns-in-Finished : goal.returns-in-Finished

@@ -1,6 +1,5 @@
 -- Time runs on to L in the live orders' state.
 use Rattle.session_account.proofs.Steps.{reached_long, end_bounds, ended_is}
-use borrow.Author.Rules.{rules}
 use Rattle.session_account.proofs.finish.Goals as goal
 
 pub state-state-requires : goal.state-state-requires

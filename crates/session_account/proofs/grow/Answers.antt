@@ -2,7 +2,6 @@
 use Prim.Native.Nat.{◌-◌}
 use native.Mathlib.Omega.{arith}
 use Rattle.session_account.proofs.Growing.{grows_still, grows_at, begun_bounds}
-use borrow.Author.Rules.{rules}
 use Rattle.session_account.proofs.grow.Goals as goal
 
 pub returns-then-to-from : goal.returns-then-to-from

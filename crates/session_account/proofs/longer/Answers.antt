@@ -6,7 +6,6 @@ use mathlib.Core.Bool.{Bool, true, false}
 use mir.Val.{bool_byte}
 use Rattle.lists.specs.Lists.{if◌then◌else◌}
 use Rattle.rules.specs.Units.{millis}
-use borrow.Author.Rules.{rules}
 use Rattle.session_account.proofs.longer.Goals as goal
 
 -- The time with what counts.

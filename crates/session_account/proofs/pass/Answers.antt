@@ -3,7 +3,6 @@ use mathlib.Core.Path.{ap, sym, ◌∙◌}
 use Rattle.rules.specs.Answers.{shown_row}
 use Rattle.record_runs.proofs.Openings.{read_good}
 use Rattle.session_account.proofs.Endings.{passed_row, passed_price, passed_strike, passed_opened}
-use borrow.Author.Rules.{rules}
 use Rattle.session_account.proofs.pass.Goals as goal
 
 pub returns-then-not-settlement : goal.returns-then-not-settlement

@@ -2,7 +2,6 @@
 use native.Mathlib.Omega.{arith}
 use lib.ListN.{length-set}
 use Rattle.session_account.proofs.Growing.{put-fits, put_not}
-use borrow.Author.Rules.{rules}
 use Rattle.session_account.proofs.put_part.Goals as goal
 
 pub bounds-buffer-at-then-at-buffer : goal.bounds-buffer-at-then-at-buffer

@@ -1,5 +1,5 @@
 -- Each answer by the laws of the loop, at what its invariant says.
-use Prim.Native.Nat.{ℕ, ◌+◌, ◌*◌, ◌-◌, ◌/◌, min}
+use Prim.Native.Nat.{ℕ, ◌+◌, ◌*◌, ◌/◌, min}
 use native.Mathlib.Omega.{arith}
 use mathlib.Core.Path.{◌≡◌, refl, sym, ap, ◌∙◌}
 use lib.ListN.{length}
@@ -8,7 +8,7 @@ use Rattle.rules.specs.declared.Row.{Row}
 use Rattle.rules.specs.declared.SpreadRule.{SpreadRule}
 use Rattle.clock.specs.Clocks.{duty_of}
 use Rattle.session_account.specs.Internal.{LoopState}
-use Rattle.record_runs.proofs.Turns.{LoopBytes, turn_ahead, turn_place, turn_small, turn_rest, turn_next, part_is, part_long, none-live}
+use Rattle.record_runs.proofs.Turns.{turn_ahead, turn_place, turn_small, turn_rest, turn_next, part_is, part_long, none-live}
 use Rattle.session_account.proofs.Loop.{loop_start, loop_reached, loop_end, loop_short, loop_numbered, loop_refused, loop_on, next_place, placed}
 use Rattle.session_account.proofs.run_records.Goals as goal
 

@@ -1,7 +1,6 @@
 -- The record's event passes, and time runs on to it in the live orders' state; or it is refused.
 use Rattle.rules.specs.Records.{read_record}
 use Rattle.session_account.proofs.Steps.{reached_long, reached-parts, bounds_taken, advanced_taken, advanced_refused}
-use borrow.Author.Rules.{rules}
 use Rattle.session_account.proofs.step.Goals as goal
 
 pub state-state-requires : goal.state-state-requires

@@ -1,6 +1,5 @@
 -- No events, no pair.
 use Rattle.session_pass.proofs.Steps.{begins}
-use borrow.Author.Rules.{rules}
 use Rattle.session_pass.proofs.begin.Goals as goal
 
 pub returns : goal.returns

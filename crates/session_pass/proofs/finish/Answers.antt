@@ -6,7 +6,6 @@ use Rattle.rules.proofs.Bounds.{row_bounds}
 use Rattle.clock.specs.declared.Clock.{Clock}
 use Rattle.clock.proofs.Clocks.{time_is, kept-at}
 use Rattle.session_pass.proofs.Steps.{clock_is, marks_bounds, may_end, ended_is}
-use borrow.Author.Rules.{rules}
 use Rattle.session_pass.proofs.finish.Goals as goal
 
 pub onward-end-requires : goal.onward-end-requires

@@ -2,7 +2,6 @@
 use mathlib.Core.Path.{ap, sym, ◌∙◌}
 use Rattle.rules.specs.Answers.{shown_row}
 use Rattle.session_pass.proofs.Opened.{opens_good, passed_opened, passed_price, passed_row}
-use borrow.Author.Rules.{rules}
 use Rattle.session_pass.proofs.pass.Goals as goal
 
 pub run_records-requires : goal.run_records-requires

@@ -1,5 +1,5 @@
 -- Each answer by the laws of the loop, at what its invariant says.
-use Prim.Native.Nat.{ℕ, ◌+◌, ◌*◌, ◌-◌, ◌/◌, min}
+use Prim.Native.Nat.{ℕ, ◌+◌, ◌*◌, ◌/◌, min}
 use native.Mathlib.Omega.{arith}
 use mathlib.Core.Path.{◌≡◌, refl, sym, ap, ◌∙◌}
 use lib.ListN.{length}
@@ -9,7 +9,7 @@ use Rattle.rules.specs.declared.SpreadRule.TheVariants.{Settled}
 use Rattle.rules.specs.Rows.{good_row_for}
 use Rattle.clock.specs.Clocks.{duty_of}
 use Rattle.session_pass.specs.Internal.{LoopState}
-use Rattle.record_runs.proofs.Turns.{LoopBytes, turn_ahead, turn_place, turn_small, turn_rest, turn_next, part_is, part_long, none-live}
+use Rattle.record_runs.proofs.Turns.{turn_ahead, turn_place, turn_small, turn_rest, turn_next, part_is, part_long, none-live}
 use Rattle.session_pass.proofs.Loop.{loop_start, loop_reached, loop_at-end, loop_end, loop_short, loop_numbered, loop_refused, loop_on, next_place, placed}
 use Rattle.session_pass.proofs.run_records.Goals as goal
 

@@ -1,17 +1,13 @@
 -- The loop's invariant: some events led to the run so far and its table, the records passed are theirs, and the pairs are in the buffer as
 -- far as they fit.
-use Prim.Native.Nat.{ℕ, ◌+◌, ◌*◌, ◌-◌, ◌/◌, min}
-use native.Mathlib.Omega.{arith}
-use mathlib.Core.Path.{◌≡◌, refl, sym, ap, ◌∙◌}
+use Prim.Native.Nat.{◌+◌, ◌-◌, ◌/◌}
+use mathlib.Core.Path.{◌≡◌}
 use lib.ListN.{length}
-use borrow.Author.Rules.{rules}
 use Rattle.rules.specs.declared.Steps.{Steps}
 use Rattle.rules.specs.declared.SpreadRule.TheVariants.{Settled}
-use Rattle.rules.specs.Rows.{good_row_for}
 use Rattle.clock.specs.Clocks.{duty_of}
 use Rattle.session_pass.specs.Internal.{LoopState}
-use Rattle.record_runs.proofs.Turns.{LoopBytes, turn_ahead, turn_place, turn_small, turn_rest, turn_next, part_is, part_long, none-live}
-use Rattle.session_pass.proofs.Loop.{loop_start, loop_reached, loop_at-end, loop_end, loop_short, loop_numbered, loop_refused, loop_on, next_place, placed}
+use Rattle.record_runs.proofs.Turns.{LoopBytes}
 use Rattle.session_pass.proofs.run_records.Given as goal
 
 abbrev pub invariant-loop-at : goal.invariant-loop-at

@@ -1,7 +1,6 @@
 -- The record's event passes, and time runs on to it; or it is refused.
 use mathlib.Core.Path.{refl}
 use Rattle.session_pass.proofs.Steps.{reached-parts, bounds_taken, advanced_taken, advanced_refused}
-use borrow.Author.Rules.{rules}
 use Rattle.rules.specs.Records.{read_record}
 use Rattle.session_pass.proofs.step.Goals as goal
 

@@ -1,0 +1,8 @@
+-- Word by word.
+use lib.IntN.{pos}
+use Rattle.rules.specs.Units.{millis, steps, contracts}
+use borrow.Author.Rules.{rules}
+use Rattle.month_words.proofs.cancel_in.Goals as goal
+
+pub returns : goal.returns
+returns c = λ i. record { kind = 4; t = millis (c.word.ensures i); id = c.word-2.ensures i; price = steps (pos 0); volume = contracts 0 }
