@@ -1,5 +1,6 @@
 -- The candidates' keys are those of the columns (`candidate_keys_lem`), each candidate is a live order (`candidates-live`), and W3's number for
 -- the candidates is that of their keys (`candidate_sums`).
+use Rattle.std.specs.Prelude.{if◌then◌else◌}
 use Prim.Native.Nat.{ℕ, ◌≤◌, ◌<◌}
 use native.Mathlib.Omega.{arith}
 use mathlib.Core.Path.{◌≡◌, refl, sym, ap, ◌∙◌, subst}
@@ -12,7 +13,7 @@ use lib.Dec.{leb, ltb, eqb}
 use lib.ListN.{length, length-map}
 use Rattle.rules.specs.declared.Side.{Side}
 use Rattle.rules.specs.declared.Order.{Order}
-use Rattle.lists.specs.Lists.{if◌then◌else◌, filter}
+use Rattle.lists.specs.Lists.{filter}
 use Rattle.rules.specs.Search.{sums_for}
 use Rattle.lists.proofs.Lists.{kept_in_lem, in_kept}
 use Rattle.price_keys.specs.Keys.{key_in}

@@ -1,11 +1,11 @@
 -- For how many keys volumes are added up at most.
+use Rattle.std.specs.Prelude.{if◌then◌else◌}
 use Prim.Native.Nat.{ℕ, ◌≤◌}
 use native.Mathlib.Omega.{arith}
 use mathlib.Core.List.{List, [], ◌∷◌}
 use mathlib.Core.Bool.{Bool, true, false}
 use lib.Dec.{ltb}
 use lib.ListN.{length}
-use Rattle.lists.specs.Lists.{if◌then◌else◌}
 use Rattle.best_quote.specs.Sums.{found_with, key_sums}
 
 pub at_most_one : (b : Bool) → (if b then 1 else 0) ≤ 1

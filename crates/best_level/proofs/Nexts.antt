@@ -1,4 +1,5 @@
 -- The keys next to one: there is no order between it and the next, so that what is before one is at the other or before it.
+use Rattle.std.specs.Prelude.{if◌then◌else◌}
 use Prim.Native.Nat.{ℕ, suc, ◌+◌, ◌-◌, ◌≤◌, ◌<◌, min, max}
 use native.Mathlib.Omega.{arith}
 use native.Mathlib.Numerals.{add-one}
@@ -13,7 +14,7 @@ use mir.Syntax.{w32}
 use mir.Val.{to_z}
 use lib.ListN.{length, get_or, take}
 use lib.Seq.{take-suc}
-use Rattle.lists.specs.Lists.{if◌then◌else◌, filter}
+use Rattle.lists.specs.Lists.{filter}
 use Rattle.lists.proofs.Lists.{filter-append, filter-one, kept_in_lem, in_kept}
 use Rattle.best_quote.specs.declared.Level.{Level}
 use Rattle.best_quote.specs.Levels.{held, greatest, level_at, is_best, Searchable}

@@ -1,4 +1,5 @@
 -- The words of a side whose orders have changed: the level in them, and the front of their columns of keys and volumes.
+use Rattle.std.specs.Prelude.{if◌then◌else◌}
 use Prim.Native.Nat.{ℕ, zero, suc, ◌+◌, ◌-◌, ◌≤◌}
 use native.Mathlib.Omega.{arith}
 use mathlib.Core.Path.{◌≡◌, refl, ap, ◌∙◌}
@@ -7,7 +8,7 @@ use mathlib.Core.Bool.{Bool, false}
 use lib.Dec.{leb, eqb}
 use borrow.Author.Tests.{ne_eqb}
 use lib.ListN.{length, get_or, take, drop, replicate, length-append, length-map, length-replicate}
-use Rattle.lists.specs.Lists.{if◌then◌else◌, sum}
+use Rattle.lists.specs.Lists.{sum}
 use Rattle.lists.proofs.Lists.{sum-append}
 use Rattle.best_quote.specs.declared.Level.{Level}
 use Rattle.best_quote.specs.Levels.{held, enough, level_at, level_of, best_key, Columns, Searchable}

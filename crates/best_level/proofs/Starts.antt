@@ -1,4 +1,5 @@
 -- Guesses, what the search starts from after them, and what it finds.
+use Rattle.std.specs.Prelude.{if◌then◌else◌}
 use Prim.Native.Nat.{ℕ, suc, ◌+◌, ◌-◌, ◌≤◌, ◌<◌}
 use native.Mathlib.Omega.{arith}
 use mathlib.Core.Path.{◌≡◌, refl, sym, ap, ◌∙◌, subst}
@@ -12,7 +13,7 @@ use lib.Seq.{take-length}
 use Rattle.rules.specs.declared.Side.{Side}
 use Rattle.rules.specs.declared.Steps.{Steps as Price}
 use Rattle.rules.specs.declared.Quote.TheVariants.{At}
-use Rattle.lists.specs.Lists.{if◌then◌else◌, filter}
+use Rattle.lists.specs.Lists.{filter}
 use Rattle.rules.specs.Units.{good_price}
 use Rattle.lists.proofs.Lists.{both}
 use Rattle.best_quote.specs.declared.Level.{Level}

@@ -1,8 +1,7 @@
 -- The keys of the candidates (`Candidates`), from columns: `candidate_keys_lem` in proofs/Candidates shows that they are.
-use Rattle.std.specs.Prelude.{ℕ, List, [], ◌∷◌, ◌++◌, leb, ltb, length}
+use Rattle.std.specs.Prelude.{ℕ, List, [], ◌∷◌, ◌++◌, leb, ltb, length, if◌then◌else◌}
 use Rattle.rules.specs.declared.Side.{Side}
 use Rattle.rules.specs.declared.Order.{Order}
-use Rattle.lists.specs.Lists.{if◌then◌else◌}
 use Rattle.price_keys.specs.Keys.{key_in}
 use Rattle.best_quote.specs.declared.Level.{Level}
 use Rattle.best_quote.specs.Levels.{level_at, best_key, is_best}

@@ -2,10 +2,10 @@
 -- here (crates/price_keys): the better price has the greater key, and 0 is the key of none. `before` and `after` are the live orders of the
 -- side before and after the event, as they were added; `changed` is the order that the event added or changed, none where it removed one.
 -- Each candidate is an order of `after` (`candidates-live` in proofs/Candidates).
-use Rattle.std.specs.Prelude.{ℕ, ◌+◌, ◌-◌, ◌*◌, min, List, [], ◌∷◌, ◌++◌, map, Bool, ◌&&◌, leb, ltb, eqb, length}
+use Rattle.std.specs.Prelude.{ℕ, ◌+◌, ◌-◌, ◌*◌, min, List, [], ◌∷◌, ◌++◌, map, Bool, ◌&&◌, leb, ltb, eqb, length, if◌then◌else◌}
 use Rattle.rules.specs.declared.Side.{Side}
 use Rattle.rules.specs.declared.Order.{Order}
-use Rattle.lists.specs.Lists.{if◌then◌else◌, filter}
+use Rattle.lists.specs.Lists.{filter}
 use Rattle.rules.specs.Quotes.{volume_of}
 use Rattle.price_keys.specs.Keys.{key_in}
 use Rattle.best_quote.specs.declared.Level.{Level}

@@ -1,6 +1,5 @@
 -- What the functions on the best level promise to each other.
-use Rattle.std.specs.Prelude.{ℕ, ◌+◌, ◌≤◌, ◌≡◌, ◌⊎◌, List, leb, ltb, eqb, get_or, set}
-use Rattle.lists.specs.Lists.{if◌then◌else◌}
+use Rattle.std.specs.Prelude.{ℕ, ◌+◌, ◌≤◌, ◌≡◌, ◌⊎◌, List, leb, ltb, eqb, get_or, set, if◌then◌else◌}
 use Rattle.best_quote.specs.declared.Level.{Level}
 use Rattle.best_quote.specs.Levels.{held, enough, level_at, level_of}
 use Rattle.best_quote.specs.Sums.{key_sums}

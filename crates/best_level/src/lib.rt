@@ -10,8 +10,7 @@
 // changed order's key is tried where the best level can be there. The search starts from the best price found so far.
 #![tactic(auto)]
 
-ghost use Rattle.std.specs.Prelude.{◌≡◌, ◌&&◌, true, false, List, ℕ, ◌+◌, ◌-◌, ◌≤◌, min, max, ltb, eqb, length, get_or, take, drop};
-ghost use Rattle.lists.specs.Lists.{if◌then◌else◌};
+ghost use Rattle.std.specs.Prelude.{◌≡◌, ◌&&◌, true, false, List, ℕ, ◌+◌, ◌-◌, ◌≤◌, min, max, ltb, eqb, length, get_or, take, drop, if◌then◌else◌};
 ghost use Rattle.best_quote.specs.Levels.{level_at, is_best, Columns, Searchable};
 ghost use Rattle.order_side.specs.Slots.{Slot, level_in, GoodSlots};
 ghost use Rattle.order_side.specs.Internal.{StaleLevel, Changed, brings};

@@ -1,5 +1,6 @@
 -- The best quote of some orders is that of the best key in their columns, and what the search finds and counts in the columns is what
 -- document 02 says of the orders.
+use Rattle.std.specs.Prelude.{if◌then◌else◌}
 use Prim.Native.Nat.{ℕ, ◌+◌, ◌≤◌, max}
 use native.Mathlib.Omega.{arith}
 use mathlib.Core.Path.{◌≡◌, refl, sym, ap, ◌∙◌}
@@ -15,7 +16,7 @@ use lib.Seq.{take-length}
 use Rattle.rules.specs.declared.Side.{Side}
 use Rattle.rules.specs.declared.Quote.TheVariants.{At}
 use Rattle.rules.specs.declared.Order.{Order}
-use Rattle.lists.specs.Lists.{if◌then◌else◌, filter, any}
+use Rattle.lists.specs.Lists.{filter, any}
 use Rattle.rules.specs.Units.{good_price}
 use Rattle.rules.specs.Quotes.{same, in_depth, volume_of, depth, qualifies, better, lead, best}
 use Rattle.rules.specs.Search.{matched, adds_up, sums_after}

@@ -1,4 +1,5 @@
 -- Laws of a side's depth in columns: what a test passes, blanks after the orders, and when a key's level is the best one's.
+use Rattle.std.specs.Prelude.{if◌then◌else◌}
 use Prim.Native.Nat.{ℕ, zero, suc, ◌+◌, ◌≤◌, ◌<◌, max}
 use native.Mathlib.Omega.{arith}
 use mathlib.Core.Path.{◌≡◌, refl, sym, ap, ◌∙◌, fun_ext}
@@ -10,7 +11,7 @@ use borrow.Author.Tests.{ltb-true, ltb-false, leb-true, leb-false, eqb-true, eqb
 use lib.Dec.{leb, ltb, eqb}
 use lib.ListN.{length, replicate}
 use lib.Seq.{take-length}
-use Rattle.lists.specs.Lists.{if◌then◌else◌, sum, filter}
+use Rattle.lists.specs.Lists.{sum, filter}
 use Rattle.lists.proofs.Lists.{filter-append, kept_in_lem, in_kept, both}
 use Rattle.best_quote.specs.Levels.{held, level_at, enough, greatest, best_key, level_of, is_best, found_by}
 

@@ -1,5 +1,6 @@
 -- A loop over columns, one step further: what the contracts at the keys that pass come to, the best key found, and for how many keys
 -- volumes were added up.
+use Rattle.std.specs.Prelude.{if◌then◌else◌}
 use Prim.Native.Nat.{ℕ, zero, suc, ◌+◌, ◌≤◌, ◌<◌, max}
 use native.Mathlib.Omega.{arith}
 use native.Mathlib.Numerals.{add-one}
@@ -10,7 +11,7 @@ use borrow.Author.Tests.{lt-ltb, le-ltb}
 use lib.Dec.{ltb}
 use lib.ListN.{length, get_or, take}
 use lib.Seq.{take-suc, take-length}
-use Rattle.lists.specs.Lists.{if◌then◌else◌, sum, filter}
+use Rattle.lists.specs.Lists.{sum, filter}
 use Rattle.lists.proofs.Lists.{filter-append, filter-one}
 use Rattle.best_quote.specs.Levels.{held, enough, greatest, found_by}
 use Rattle.best_quote.specs.Sums.{key_sums}

@@ -1,5 +1,6 @@
 -- The sums of the search that were not enough: they are those of the keys better than what is found, so the most of them is what is
 -- before it.
+use Rattle.std.specs.Prelude.{if◌then◌else◌}
 use Prim.Native.Nat.{ℕ, ◌+◌, ◌-◌, ◌≤◌, ◌<◌, max}
 use native.Mathlib.Omega.{arith}
 use native.Mathlib.Numerals.{add-one}
@@ -11,7 +12,7 @@ use borrow.Author.Tests.{ltb-true, leb-true, leb-false, lt-ltb, le-leb}
 use lib.Dec.{leb, ltb}
 use lib.ListN.{length, get_or, take}
 use lib.Seq.{take-suc, take-length}
-use Rattle.lists.specs.Lists.{if◌then◌else◌, filter}
+use Rattle.lists.specs.Lists.{filter}
 use Rattle.lists.proofs.Lists.{kept_in_lem, in_kept}
 use Rattle.best_quote.specs.Levels.{held, enough, greatest, found_by, short_at, short_by}
 use Rattle.best_quote.proofs.Levels.{held-le, held-le_in, held_none, greatest-over, greatest_under, nearest}

@@ -1,5 +1,6 @@
 -- Laws of W3's count in keys: of one list after another, of blanks, and of keys sorted downwards, where the keys better than the best one
 -- count, and the first at it.
+use Rattle.std.specs.Prelude.{if◌then◌else◌}
 use Prim.Native.Nat.{ℕ, zero, suc, ◌+◌, ◌≤◌, ◌<◌, max}
 use native.Mathlib.Omega.{arith}
 use mathlib.Core.Path.{◌≡◌, refl, sym, ap, ◌∙◌}
@@ -11,7 +12,7 @@ use borrow.Author.Tests.{ltb-true, ltb-false, leb-true, leb-false, lt-ltb, le-lt
 use lib.Dec.{leb, ltb}
 use lib.ListN.{length, get_or, take, replicate}
 use lib.Seq.{take-suc}
-use Rattle.lists.specs.Lists.{if◌then◌else◌, filter, how_many}
+use Rattle.lists.specs.Lists.{filter, how_many}
 use Rattle.lists.proofs.Lists.{filter-append}
 use Rattle.best_quote.specs.Levels.{greatest}
 use Rattle.best_quote.specs.Sums.{found_with, found_in, key_sums, placed, downward}

@@ -1,7 +1,7 @@
 -- The depth of one side in columns: the keys of its orders and their volumes, one beside the other. A blank, key 0 and volume 0, counts
 -- for nothing in them.
-use Rattle.std.specs.Prelude.{ℕ, ◌+◌, ◌≤◌, max, ◌≡◌, List, [], ◌∷◌, map, Bool, not, ◌&&◌, ◌||◌, leb, ltb, eqb, length, get_or, take}
-use Rattle.lists.specs.Lists.{if◌then◌else◌, sum, filter}
+use Rattle.std.specs.Prelude.{ℕ, ◌+◌, ◌≤◌, max, ◌≡◌, List, [], ◌∷◌, map, Bool, not, ◌&&◌, ◌||◌, leb, ltb, eqb, length, get_or, take, if◌then◌else◌}
+use Rattle.lists.specs.Lists.{sum, filter}
 use Rattle.best_quote.specs.declared.Level.{Level}
 
 -- the contracts at the keys that pass

@@ -1,7 +1,6 @@
 -- Document 02, W3, in keys: for how many of some candidates volumes are added up, and the best key found to qualify, 0 for none. A key is
 -- added up only where it is better than every one already found to qualify.
-use Rattle.std.specs.Prelude.{ℕ, ◌+◌, List, [], ◌∷◌, Bool, ◌&&◌, leb, ltb}
-use Rattle.lists.specs.Lists.{if◌then◌else◌}
+use Rattle.std.specs.Prelude.{ℕ, ◌+◌, List, [], ◌∷◌, Bool, ◌&&◌, leb, ltb, if◌then◌else◌}
 
 -- the best key found to qualify, after one candidate more
 abbrev pub found_with : (ℕ → Bool) → ℕ → ℕ → ℕ

@@ -5,8 +5,7 @@
 // those at it. Keeping both sums apart in the inner loop would give the same and cost jumping sessions 23% more instructions.
 #![tactic(auto)]
 
-ghost use Rattle.std.specs.Prelude.{◌≡◌, ◌+◌, ◌≤◌, eqb};
-ghost use Rattle.lists.specs.Lists.{if◌then◌else◌};
+ghost use Rattle.std.specs.Prelude.{◌≡◌, ◌+◌, ◌≤◌, eqb, if◌then◌else◌};
 ghost use Rattle.best_quote.specs.Levels.{held, level_at, is_best, Columns, Searchable};
 ghost use Rattle.best_quote.specs.Searches.{SearchFinds};
 

@@ -1,4 +1,5 @@
 -- What the fields of a record say, by their kind.
+use Rattle.std.specs.Prelude.{if◌then◌else◌}
 use Prim.Native.Nat.{ℕ, zero, suc, ◌≤◌}
 use native.Mathlib.Omega.{arith}
 use mathlib.Core.Path.{◌≡◌, refl, sym, ap, ◌∙◌}
@@ -7,7 +8,7 @@ use borrow.Author.Tests.{eqb-true, eqb-false}
 use lib.Dec.{eqb}
 use Rattle.rules.specs.declared.Event.TheVariants.{Add, Amend, Cancel, Deal}
 use Rattle.rules.specs.declared.Side.TheVariants.{Buy, Sell}
-use Rattle.lists.specs.Lists.{if◌then◌else◌, within}
+use Rattle.lists.specs.Lists.{within}
 use Rattle.rules.specs.Answers.{accepted}
 use Rattle.rules.specs.Records.{unused_zero}
 use Rattle.lists.proofs.Lists.{both}

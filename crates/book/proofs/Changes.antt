@@ -1,4 +1,5 @@
 -- The side of an event that names a live order, and the key of the order that an event added or changed.
+use Rattle.std.specs.Prelude.{if◌then◌else◌}
 use Prim.Native.Nat.{ℕ, zero, suc}
 use native.Mathlib.Nat.{not-suc-le-zero, le_of_suc-le-suc}
 use mathlib.Core.Path.{◌≡◌, refl, sym, ap, ◌∙◌}
@@ -8,7 +9,7 @@ use borrow.Author.Tests.{eqb-true}
 use lib.ListN.{set}
 use Rattle.rules.specs.declared.Side.{Side}
 use Rattle.rules.specs.declared.Order.{Order}
-use Rattle.lists.specs.Lists.{if◌then◌else◌, any, filter}
+use Rattle.lists.specs.Lists.{any, filter}
 use Rattle.rules.specs.Orders.{has_id, is_live}
 use Rattle.rules.specs.Bounds.{Distinct}
 use Rattle.lists.proofs.Lists.{filter-append, filter-one, kept_in_lem}

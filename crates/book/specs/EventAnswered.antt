@@ -1,12 +1,11 @@
 -- What an event promises: the trader's refusal and the table after it (`TableChanged`), whether the live orders then keep the quote, and the
 -- sums that were made for the best quote of its side. All of it holds whatever the hints contain. A refused event leaves the hints (the contract
 -- of `send` says so); what an accepted one leaves in these 2,048 bytes is free.
-use Rattle.std.specs.Prelude.{ℕ, ◌<◌, ◌≡◌, List}
+use Rattle.std.specs.Prelude.{ℕ, ◌<◌, ◌≡◌, List, if◌then◌else◌}
 use Rattle.rules.specs.declared.Order.{Order}
 use Rattle.rules.specs.declared.Event.{Event}
 use Rattle.rules.specs.declared.Row.{Row}
 use Rattle.rules.specs.declared.SpreadRule.{SpreadRule}
-use Rattle.lists.specs.Lists.{if◌then◌else◌}
 use Rattle.rules.specs.Orders.{apply}
 use Rattle.rules.specs.Answers.{Outcome, accepted, refused}
 use Rattle.rules.specs.Kept.{orders_keep}

@@ -1,11 +1,11 @@
 -- What an event does to the live orders, and to the table that represents them.
-use Rattle.std.specs.Prelude.{ℕ, zero, suc, ◌≡◌, List, [], ◌∷◌}
+use Rattle.std.specs.Prelude.{ℕ, zero, suc, ◌≡◌, List, [], ◌∷◌, if◌then◌else◌}
 use Rattle.rules.specs.declared.Side.{Side}
 use Rattle.rules.specs.declared.Side.TheVariants.{Buy}
 use Rattle.rules.specs.declared.Order.{Order}
 use Rattle.rules.specs.declared.Event.{Event}
 use Rattle.rules.specs.declared.Event.TheVariants.{Add, Amend, Cancel, Deal, Tick}
-use Rattle.lists.specs.Lists.{if◌then◌else◌, filter}
+use Rattle.lists.specs.Lists.{filter}
 use Rattle.rules.specs.Orders.{has_id, apply}
 use Rattle.rules.specs.Causes.{first_number, trader_causes}
 use Rattle.order_table.specs.Table.{table_of, GoodOrders}

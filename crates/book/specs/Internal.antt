@@ -1,5 +1,5 @@
 -- What the functions of the events promise to each other.
-use Rattle.std.specs.Prelude.{ℕ, ◌<◌, ◌≡◌, List, false, get_or}
+use Rattle.std.specs.Prelude.{ℕ, ◌<◌, ◌≡◌, List, false, get_or, if◌then◌else◌}
 use Rattle.rules.specs.declared.Millis.{Millis}
 use Rattle.rules.specs.declared.Steps.{Steps}
 use Rattle.rules.specs.declared.Contracts.{Contracts}
@@ -8,7 +8,7 @@ use Rattle.rules.specs.declared.Event.{Event}
 use Rattle.rules.specs.declared.Event.TheVariants.{Add}
 use Rattle.rules.specs.Orders.{apply}
 use Rattle.rules.specs.Causes.{first_number, trader_causes}
-use Rattle.lists.specs.Lists.{if◌then◌else◌, within}
+use Rattle.lists.specs.Lists.{within}
 use Rattle.rules.specs.Answers.{Outcome, accepted, refused}
 use Rattle.words.specs.Sides.{side_by}
 use Rattle.record.specs.declared.Fields.{Fields}

@@ -2,11 +2,11 @@
 // nothing.
 #![tactic(auto)]
 
-ghost use Rattle.std.specs.Prelude.{◌≡◌, List, ◌&&◌, ℕ, ◌<◌, length};
+ghost use Rattle.std.specs.Prelude.{◌≡◌, List, ◌&&◌, ℕ, ◌<◌, length, if◌then◌else◌};
 ghost use Rattle.rules.specs.declared.Order.{Order};
 ghost use Rattle.rules.specs.declared.Millis.{Millis};
 ghost use Rattle.rules.specs.declared.Event.TheVariants.{Amend, Cancel, Deal};
-ghost use Rattle.lists.specs.Lists.{if◌then◌else◌, within};
+ghost use Rattle.lists.specs.Lists.{within};
 ghost use Rattle.rules.specs.Units.{good_price, good_volume};
 ghost use Rattle.order_table.specs.Table.{slot_in, Held, Holding};
 ghost use Rattle.order_table.specs.Internal.{Represents, Located};

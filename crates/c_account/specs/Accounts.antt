@@ -1,10 +1,9 @@
 -- A session's account in a lent buffer.
-use Rattle.std.specs.Prelude.{ℕ, ◌+◌, ◌*◌, ◌≡◌, List, ◌∷◌, ◌++◌, Bool, eqb, ltb, length, drop, set}
+use Rattle.std.specs.Prelude.{ℕ, ◌+◌, ◌*◌, ◌≡◌, List, ◌∷◌, ◌++◌, Bool, eqb, ltb, length, drop, set, if◌then◌else◌}
 use Rattle.rules.specs.declared.Steps.{Steps}
 use Rattle.rules.specs.declared.Strike.{Strike}
 use Rattle.rules.specs.declared.SpreadRule.{SpreadRule}
 use Rattle.rules.specs.declared.SpreadRule.TheVariants.{Settled, OfStrike}
-use Rattle.lists.specs.Lists.{if◌then◌else◌}
 use Rattle.rules.specs.Accounts.{Part, part_words, Account, AccountRan}
 use Rattle.session_account.specs.declared.Times.{Times}
 use Rattle.session_account.specs.declared.AccountAnswer.{AccountAnswer}

@@ -1,6 +1,5 @@
 -- What a call for C answers: one number, and the words or bytes that it leaves in a lent buffer.
-use Rattle.std.specs.Prelude.{ℕ, ◌*◌, ◌≡◌, Bool, true, false, List, ◌++◌, ltb, length, drop}
-use Rattle.lists.specs.Lists.{if◌then◌else◌}
+use Rattle.std.specs.Prelude.{ℕ, ◌*◌, ◌≡◌, Bool, true, false, List, ◌++◌, ltb, length, drop, if◌then◌else◌}
 use Rattle.rules.specs.Answers.{Outcome, accepted, refused}
 
 -- a refusal: 4,294,967,296 × its number

@@ -1,11 +1,11 @@
 -- A view, as the number that is answered.
+use Rattle.std.specs.Prelude.{if◌then◌else◌}
 use Prim.Native.Nat.{ℕ, ◌+◌}
 use mathlib.Core.Path.{◌≡◌, refl, sym, ap, ◌∙◌}
 use mathlib.Core.Bool.{Bool, true, false}
 use mathlib.Core.List.{List}
 use lib.Dec.{leb}
 use lib.ListN.{length}
-use Rattle.lists.specs.Lists.{if◌then◌else◌}
 use Rattle.month_view.specs.declared.Viewed.{Viewed}
 use Rattle.month_view.specs.declared.Viewed.TheVariants.{BufferShort, Written}
 use Rattle.rules.specs.Terms.{paper}

@@ -1,6 +1,5 @@
 -- What the private functions promise each other.
-use Rattle.std.specs.Prelude.{ℕ, ◌+◌, Bool}
-use Rattle.lists.specs.Lists.{if◌then◌else◌}
+use Rattle.std.specs.Prelude.{ℕ, ◌+◌, Bool, if◌then◌else◌}
 use Rattle.month_words.specs.declared.Called.{Called}
 use Rattle.month_words.specs.declared.Called.TheVariants.{Done, WordsShort, NoMonth, HintsShort, AnswerShort, NoCall}
 use Rattle.month_view.specs.declared.Viewed.{Viewed}

@@ -1,6 +1,5 @@
 -- A month in lent words for C, one call at a time.
-use Rattle.std.specs.Prelude.{ℕ, ◌+◌, ◌≡◌, Bool, List, leb, length}
-use Rattle.lists.specs.Lists.{if◌then◌else◌}
+use Rattle.std.specs.Prelude.{ℕ, ◌+◌, ◌≡◌, Bool, List, leb, length, if◌then◌else◌}
 use Rattle.month_in_place.specs.Entry.{may_be_month}
 use Rattle.month_words.specs.Calling.{is_call, Performs, LeavesHints}
 use Rattle.c_answers.specs.Answers.{refused_number}

@@ -1,6 +1,5 @@
 -- The state now, for C: a view of the open quantum of a month's words.
-use Rattle.std.specs.Prelude.{ℕ, ◌+◌, ◌≤◌, ◌<◌, ◌≡◌, false, List, ◌++◌, leb, length, take, drop}
-use Rattle.lists.specs.Lists.{if◌then◌else◌}
+use Rattle.std.specs.Prelude.{ℕ, ◌+◌, ◌≤◌, ◌<◌, ◌≡◌, false, List, ◌++◌, leb, length, take, drop, if◌then◌else◌}
 use Rattle.rules.specs.Terms.{paper}
 use Rattle.rules.specs.Calls.{Call}
 use Rattle.rules.specs.Book.{after}

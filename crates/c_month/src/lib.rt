@@ -1,8 +1,7 @@
 // A month in lent words, for C: a fresh one, one call on it, and its view, each answered by one number.
 #![tactic(auto)]
 
-ghost use Rattle.std.specs.Prelude.{◌≡◌, true, [], ◌+◌, ◌≤◌, length};
-ghost use Rattle.lists.specs.Lists.{if◌then◌else◌};
+ghost use Rattle.std.specs.Prelude.{◌≡◌, true, [], ◌+◌, ◌≤◌, length, if◌then◌else◌};
 ghost use Rattle.rules.specs.Answers.{accepted};
 ghost use Rattle.c_answers.specs.Answers.{refused_number, Fills};
 ghost use Rattle.c_month.specs.Internal.{called_number, viewed_number};

@@ -1,9 +1,9 @@
 -- The weight of K, L and p, the words of a sigma, and what a row is eased for.
-use Rattle.std.specs.Prelude.{ℕ, not, ◌&&◌, List, [], ◌∷◌, pos, ltb, eqb}
+use Rattle.std.specs.Prelude.{ℕ, not, ◌&&◌, List, [], ◌∷◌, pos, ltb, eqb, if◌then◌else◌}
 use Rattle.rules.specs.declared.Strike.{Strike}
 use Rattle.rules.specs.declared.SpreadRule.{SpreadRule}
 use Rattle.rules.specs.declared.SpreadRule.TheVariants.{Settled, OfStrike}
-use Rattle.lists.specs.Lists.{if◌then◌else◌, within}
+use Rattle.lists.specs.Lists.{within}
 use Rattle.rules.specs.Terms.{paper}
 use Rattle.rules.specs.Units.{steps}
 use Rattle.rules.specs.Rows.{good_length}

@@ -1,6 +1,5 @@
 -- A log of FIX messages as words.
-use Rattle.std.specs.Prelude.{ℕ, ◌+◌, ◌-◌, ◌/◌, ◌&&◌, List, ◌∷◌, ltb, length}
-use Rattle.lists.specs.Lists.{if◌then◌else◌}
+use Rattle.std.specs.Prelude.{ℕ, ◌+◌, ◌-◌, ◌/◌, ◌&&◌, List, ◌∷◌, ltb, length, if◌then◌else◌}
 use Rattle.rules.specs.Answers.{Outcome, accepted, refused}
 use Rattle.fix_scan_rules.specs.Wanted.{wanted_tags}
 use Rattle.fix_scan_rules.specs.Scans.{Scan, scanned}

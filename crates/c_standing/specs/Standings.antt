@@ -1,6 +1,5 @@
 -- A list of calls on the standing of makers for C (document 02, W13).
-use Rattle.std.specs.Prelude.{ℕ, ◌≡◌, Bool, List, ◌++◌, leb, ltb, length, drop}
-use Rattle.lists.specs.Lists.{if◌then◌else◌}
+use Rattle.std.specs.Prelude.{ℕ, ◌≡◌, Bool, List, ◌++◌, leb, ltb, length, drop, if◌then◌else◌}
 use Rattle.rules.specs.Answers.{Outcome, accepted, refused}
 use Rattle.standing_rules.specs.declared.Maker.{Maker}
 use Rattle.standing_rules.specs.Calls.{Standing, Call, after, outcomes_from}

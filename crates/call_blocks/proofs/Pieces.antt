@@ -1,5 +1,6 @@
 -- A list of words that comes in pieces. What has come tells a block's length whatever comes behind it, a block that is whole stays what it
 -- is, and so the words of a list, and its calls, are those of its first piece and then those of what that leaves with the rest behind it.
+use Rattle.std.specs.Prelude.{if◌then◌else◌}
 use Prim.Native.Nat.{ℕ, zero, suc, ◌+◌, ◌*◌, ◌/◌, ◌≤◌, ◌<◌}
 use native.Mathlib.Omega.{arith}
 use mathlib.Core.Path.{◌≡◌, refl, sym, ap, subst, ◌∙◌}
@@ -10,7 +11,6 @@ use borrow.Author.Tests.{leb-true, leb-false, eqb-true, eqb-false, le-leb}
 use lib.Dec.{leb, eqb}
 use lib.ListN.{length, get_or, take, drop, length-append, length-drop, take-append-drop}
 use lib.Seq.{get_or-take, take-append_seam, drop-append-le, take-append-le, drop-drop, length-take-le}
-use Rattle.lists.specs.Lists.{if◌then◌else◌}
 use Rattle.rules.specs.declared.SpreadRule.TheVariants.{Settled, OfStrike}
 use Rattle.rules.specs.declared.Amendment.{Amendment}
 use Rattle.rules.specs.declared.Event.TheVariants.{Add, Amend, Cancel, Deal, Tick}

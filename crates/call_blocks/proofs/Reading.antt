@@ -1,4 +1,5 @@
 -- Laws of reading a list of words, block by block.
+use Rattle.std.specs.Prelude.{if◌then◌else◌}
 use Prim.Native.Nat.{ℕ, zero, suc, ◌+◌, ◌-◌, ◌≤◌, ◌<◌}
 use native.Mathlib.Omega.{arith}
 use mathlib.Core.Path.{◌≡◌, refl, sym, ap, ◌∙◌}
@@ -7,7 +8,6 @@ use mathlib.Core.Bool.{Bool, true, false}
 use borrow.Author.Tests.{le-leb, lt-leb, leb-true, eq-eqb, ne_eqb, eqb-true, eqb-false}
 use lib.Dec.{leb, eqb}
 use lib.ListN.{length, drop, length-drop}
-use Rattle.lists.specs.Lists.{if◌then◌else◌}
 use Rattle.call_blocks.specs.Kinds.{due_at, block_size, call_of}
 use Rattle.call_blocks.specs.Reading.{calls_from, words_from, calls_of, words_read}
 

@@ -1,7 +1,6 @@
 -- A list of words that comes in pieces: what those that have come tell of the block at the front. That they tell it whatever comes
 -- behind them, and that a list read piece by piece is read as the whole, is in proofs/Pieces.
-use Rattle.std.specs.Prelude.{ℕ, List, Bool, leb, eqb, length}
-use Rattle.lists.specs.Lists.{if◌then◌else◌}
+use Rattle.std.specs.Prelude.{ℕ, List, Bool, leb, eqb, length, if◌then◌else◌}
 use Rattle.call_blocks.specs.Kinds.{word}
 
 -- How many words tell the length of a block of a kind: an open says it in its second word, an add by its side, which is its fourth, a

@@ -1,6 +1,5 @@
 -- The calls and words that are read from a list of words, block by block.
-use Rattle.std.specs.Prelude.{ℕ, zero, suc, ◌+◌, List, [], ◌∷◌, eqb, length, drop}
-use Rattle.lists.specs.Lists.{if◌then◌else◌}
+use Rattle.std.specs.Prelude.{ℕ, zero, suc, ◌+◌, List, [], ◌∷◌, eqb, length, drop, if◌then◌else◌}
 use Rattle.rules.specs.Calls.{Call}
 use Rattle.call_blocks.specs.Kinds.{block_size, call_of}
 

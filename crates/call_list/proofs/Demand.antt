@@ -1,6 +1,7 @@
 -- Demand 3, for every list of calls whose numbers fit their types:
 --     demand_3            of what `call_list::run` promises on the bytes of the list
 --     demand_3_by_value   of the months and answers that the calls hand back by value, from a fresh month on
+use Rattle.std.specs.Prelude.{if◌then◌else◌}
 use Prim.Native.Nat.{ℕ, zero, suc, ◌+◌, ◌*◌, ◌≤◌, ◌<◌}
 use native.Mathlib.Omega.{arith}
 use mathlib.Core.Path.{◌≡◌, refl, sym, ap, subst, ◌∙◌}
@@ -10,7 +11,6 @@ use borrow.Author.Tests.{le-leb}
 use lib.ListN.{length, get_or, take, drop, length-append, get_or-append}
 use lib.Seq.{take_at, drop_at}
 use Rattle.rules.specs.declared.Report.{Report}
-use Rattle.lists.specs.Lists.{if◌then◌else◌}
 use Rattle.rules.specs.Terms.{paper}
 use Rattle.rules.specs.Answers.{Outcome, Reply, done, cell, asked, report, outlook, outcome_by, shown_report}
 use Rattle.rules.specs.Calls.{Call, Book, fresh_book}

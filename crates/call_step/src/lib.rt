@@ -8,8 +8,7 @@
 // is refused by 1 whatever it holds, and is handed on as no words at all.
 #![tactic(auto)]
 
-ghost use Rattle.std.specs.Prelude.{◌≡◌, ◌≤◌, eqb};
-ghost use Rattle.lists.specs.Lists.{if◌then◌else◌};
+ghost use Rattle.std.specs.Prelude.{◌≡◌, ◌≤◌, eqb, if◌then◌else◌};
 ghost use Rattle.rules.specs.Answers.{shown_answer, shown_looked, shown_asked, shown_report, shown_outlook};
 ghost use Rattle.rules.specs.Calls as B;
 ghost use Rattle.month.specs.Represents.{Reached, Answered};

@@ -1,11 +1,11 @@
 -- The cell that a day, an expiry and a quantum name.
+use Rattle.std.specs.Prelude.{if◌then◌else◌}
 use Prim.Native.Nat.{ℕ}
 use mathlib.Core.Path.{◌≡◌, refl, ap, sym, ◌∙◌}
 use mathlib.Core.Bool.{Bool, true, false}
 use mathlib.Core.List.{List}
 use native.Mathlib.Omega.{arith}
 use Rattle.rules.specs.declared.Cell.{Cell}
-use Rattle.lists.specs.Lists.{if◌then◌else◌}
 use Rattle.rules.specs.Cells.{good_cell, place_of, cell_at}
 use Rattle.cells.specs.declared.Named.{Named}
 use Rattle.cells.specs.declared.Named.TheVariants.{OutOfRange, Blank, Filled}

@@ -1,7 +1,6 @@
 -- The cell that a day, an expiry and a quantum name, among the month's 186.
-use Rattle.std.specs.Prelude.{ℕ, List}
+use Rattle.std.specs.Prelude.{ℕ, List, if◌then◌else◌}
 use Rattle.rules.specs.declared.Cell.{Cell}
-use Rattle.lists.specs.Lists.{if◌then◌else◌}
 use Rattle.rules.specs.Cells.{good_cell, place_of, cell_at}
 use Rattle.cells.specs.declared.Named.{Named}
 use Rattle.cells.specs.declared.Named.TheVariants.{OutOfRange, Blank, Filled}

@@ -1,8 +1,7 @@
 -- The words of a month's cells, and what a call that names one of them promises.
-use Rattle.std.specs.Prelude.{ℕ, zero, suc, ◌≡◌, Bool, true, set}
+use Rattle.std.specs.Prelude.{ℕ, zero, suc, ◌≡◌, Bool, true, set, if◌then◌else◌}
 use mathlib.Core.List.{List, Memᴰ}
 use Rattle.rules.specs.declared.Cell.{Cell}
-use Rattle.lists.specs.Lists.{if◌then◌else◌}
 use Rattle.rules.specs.Terms.{paper}
 use Rattle.rules.specs.Cells.{cell_at}
 use Rattle.rules.specs.Bounds.{CellBounds}

@@ -1,4 +1,5 @@
 -- Cells of milliseconds that are kept or not, whatever the reason: the best that may follow is that all is kept, and how many are needed.
+use Rattle.std.specs.Prelude.{if◌then◌else◌}
 use Prim.Native.Nat.{ℕ, zero, suc, ◌+◌, ◌-◌, ◌*◌, ◌≤◌, ◌<◌}
 use native.Mathlib.Nat.{lt_irrefl, lt_of_lt_of_le, lt_of_not-le}
 use native.Mathlib.Omega.{arith}
@@ -10,7 +11,7 @@ use borrow.Author.Tests.{leb-true, leb-false, le-leb, lt-leb, lt-ltb, le-ltb}
 use Rattle.rules.specs.declared.Row.{Row}
 use Rattle.rules.specs.declared.Opening.{Opening}
 use Rattle.rules.specs.declared.LapsesLeft.TheVariants.{Unlimited, Over, Left}
-use Rattle.lists.specs.Lists.{if◌then◌else◌, count_below}
+use Rattle.lists.specs.Lists.{count_below}
 use Rattle.rules.specs.Terms.{paper}
 use Rattle.rules.specs.Units.{millis, kopecks}
 use Rattle.rules.specs.Runs.{before}

@@ -1,5 +1,6 @@
 -- The outlook's answers hold of every list of events and a close that the book accepts. The cell that they leave is worked out from the
 -- milliseconds that are kept then, which are those of before below the present.
+use Rattle.std.specs.Prelude.{if◌then◌else◌}
 use Prim.Native.Nat.{ℕ, ◌+◌, ◌-◌, ◌≤◌, ◌<◌}
 use native.Mathlib.Omega.{arith}
 use mathlib.Core.Path.{◌≡◌, refl, sym, ap, ◌∙◌, subst}
@@ -17,7 +18,7 @@ use Rattle.rules.specs.declared.Opening.{Opening}
 use Rattle.rules.specs.declared.Row.{Row}
 use Rattle.rules.specs.declared.Cell.{Cell}
 use Rattle.rules.specs.declared.Event.{Event}
-use Rattle.lists.specs.Lists.{if◌then◌else◌, count_below}
+use Rattle.lists.specs.Lists.{count_below}
 use Rattle.rules.specs.Terms.{paper}
 use Rattle.rules.specs.Units.{millis, kopecks, good_charge}
 use Rattle.rules.specs.Cells.{blank_cell, cell_at}

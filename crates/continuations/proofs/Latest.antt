@@ -1,4 +1,5 @@
 -- The latest number that passes a test: it passes and none after it does, or none passes.
+use Rattle.std.specs.Prelude.{if◌then◌else◌}
 use Prim.Native.Nat.{ℕ, zero, suc, ◌+◌, ◌≤◌, ◌<◌}
 use native.Mathlib.Omega.{arith}
 use mathlib.Core.Path.{◌≡◌, refl, sym, ap, ◌∙◌}
@@ -7,7 +8,6 @@ use lib.Dec.{eqb}
 use borrow.Author.Tests.{eqb-true, eqb-false}
 use Rattle.rules.specs.declared.Possible.{Possible}
 use Rattle.rules.specs.declared.Possible.TheVariants.{Never, At}
-use Rattle.lists.specs.Lists.{if◌then◌else◌}
 use Rattle.rules.specs.Units.{millis}
 use Rattle.rules.specs.Outlook.{latest, is_never}
 

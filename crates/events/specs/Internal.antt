@@ -1,7 +1,6 @@
 -- What the functions of an event promise to each other.
-use Rattle.std.specs.Prelude.{ℕ, ◌≤◌, ltb}
+use Rattle.std.specs.Prelude.{ℕ, ◌≤◌, ltb, if◌then◌else◌}
 use Rattle.rules.specs.declared.Millis.{Millis}
-use Rattle.lists.specs.Lists.{if◌then◌else◌}
 use Rattle.record.specs.declared.Fields.{Fields}
 use Rattle.record.specs.Fields.{good_fields}
 use Rattle.clock.specs.declared.Duty.{Duty}

@@ -1,4 +1,5 @@
 -- The first field of some bytes: its value is one byte or more, and has no byte 1.
+use Rattle.std.specs.Prelude.{if◌then◌else◌}
 use Prim.Native.Nat.{ℕ, ◌<◌}
 use native.Mathlib.Omega.{arith}
 use mathlib.Core.Path.{◌≡◌, refl, sym, ap, ◌∙◌}
@@ -7,7 +8,6 @@ use mathlib.Core.List.{List, [], ◌∷◌, ◌++◌, append_assoc}
 use mathlib.Core.Option.{Option, none, some}
 use lib.ListN.{length, take, length-append}
 use lib.Seq.{take_at}
-use Rattle.lists.specs.Lists.{if◌then◌else◌}
 use Rattle.rules.specs.Fields.{Field, field_bytes, pieces, good_tag, good_value, good_field, split_field, field_of, add_field, fields_in, fields_of}
 use Rattle.fix_fields.proofs.Pieces.{clear, clear-tail, one_field, Cut, whole, at, cut_of, all_one}
 use Rattle.fix_fields.proofs.Bytes.{added, fields_bytes_lem}

@@ -1,9 +1,9 @@
 -- Numbers in digits, as the loop reads them and as 32 bits hold them.
+use Rattle.std.specs.Prelude.{if◌then◌else◌}
 use Rattle.std.proofs.Common.{◌≡◌, ℕ, zero, suc, ◌+◌, ◌-◌, ◌*◌, ◌<◌, ◌≤◌, Bool, true, false, ◌&&◌, leb, List, [], ◌∷◌, length, get_or, take, drop, pos, negsuc, sym, refl, ap, ◌∙◌, true≢false, add-one, arith, drop_of_length-le, drop-cons, le-ltb, lt-ltb, eq-eqb, ne_eqb, le-leb, leb-false, leb-true}
 use mathlib.Core.Option.{Option, none, some}
 use lib.Seq.{take-length}
 use borrow.Author.Tests.{lt-leb}
-use Rattle.lists.specs.Lists.{if◌then◌else◌}
 use Rattle.rules.specs.Digits.{is_digit, all_digits, number_from, in_digits, word_within, positive, negative, steps_in}
 use Rattle.fix_digits.specs.Answers.{capped, capped_by}
 use Rattle.fix_digits.specs.Internal.{more_of}

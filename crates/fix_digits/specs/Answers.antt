@@ -1,7 +1,6 @@
 -- What the answers of the readers of numbers show: the number, or nothing.
-use Rattle.std.specs.Prelude.{ℕ, ℤ, nat_le}
+use Rattle.std.specs.Prelude.{ℕ, ℤ, nat_le, if◌then◌else◌}
 use Rattle.std.proofs.Math.Option.{Option, none, some}
-use Rattle.lists.specs.Lists.{if◌then◌else◌}
 use Rattle.fix_digits.specs.declared.Number.{Number}
 use Rattle.fix_digits.specs.declared.Number.TheVariants as N
 use Rattle.fix_digits.specs.declared.Unsigned.{Unsigned}

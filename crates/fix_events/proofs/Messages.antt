@@ -1,4 +1,5 @@
 -- A message, by the calls that it means: the quantum answers it as it answers them.
+use Rattle.std.specs.Prelude.{if◌then◌else◌}
 use Prim.Native.Nat.{ℕ, suc}
 use mathlib.Core.Path.{◌≡◌, refl, ap, sym, ◌∙◌, subst}
 use mathlib.Core.Bool.{Bool, true, false, not, ◌&&◌}
@@ -18,7 +19,7 @@ use Rattle.rules.specs.declared.Timestamp.{Timestamp}
 use Rattle.rules.specs.declared.Answer.TheVariants.{Accepted, Refused}
 use Rattle.rules.specs.declared.Refusal.{Refusal}
 use Rattle.rules.specs.declared.Refusal.TheVariants.{NoQuantumOpen, TimeBackwards, TimePastEnd, FieldWrong}
-use Rattle.lists.specs.Lists.{if◌then◌else◌, any}
+use Rattle.lists.specs.Lists.{any}
 use Rattle.rules.specs.Units.{steps}
 use Rattle.rules.specs.Orders.{has_id, live, apply_all}
 use Rattle.rules.specs.Quotes.{same}

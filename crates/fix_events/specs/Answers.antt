@@ -1,6 +1,5 @@
 -- What a call promises of the quantum that a book has, open or idle: the month's promise without its cells.
-use Rattle.std.specs.Prelude.{◌≤◌, ◌≡◌, Bool}
-use Rattle.lists.specs.Lists.{if◌then◌else◌}
+use Rattle.std.specs.Prelude.{◌≤◌, ◌≡◌, Bool, if◌then◌else◌}
 use Rattle.rules.specs.Terms.{paper}
 use Rattle.rules.specs.Answers.{shown_answer}
 use Rattle.rules.specs.Calls.{Call, Running, Idle, Quoting, Book, is_open, counts}

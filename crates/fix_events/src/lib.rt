@@ -1,9 +1,8 @@
 // A FIX message (W11) on a quantum, open or idle: the one or two events that it means, both or neither.
 #![tactic(auto)]
 
-ghost use Rattle.std.specs.Prelude.{◌≡◌, ℕ};
+ghost use Rattle.std.specs.Prelude.{◌≡◌, ℕ, if◌then◌else◌};
 ghost use Rattle.rules.specs.declared.Refusal.TheVariants.{NoQuantumOpen};
-ghost use Rattle.lists.specs.Lists.{if◌then◌else◌};
 ghost use Rattle.rules.specs.Dates.{Moment};
 ghost use Rattle.rules.specs.Messages.{new_order, cancel_order, replace_order};
 ghost use Rattle.rules.specs.Calls as B;

@@ -1,4 +1,5 @@
 -- The fields of some bytes, written one behind the other, are those bytes.
+use Rattle.std.specs.Prelude.{if◌then◌else◌}
 use Prim.Native.Nat.{ℕ}
 use native.Mathlib.Omega.{arith}
 use mathlib.Core.Path.{◌≡◌, refl, sym, ap, ◌∙◌}
@@ -8,7 +9,6 @@ use mathlib.Core.Option.{Option, none, some}
 use borrow.Author.Tests.{eqb-true}
 use lib.Dec.{eqb}
 use lib.ListN.{length}
-use Rattle.lists.specs.Lists.{if◌then◌else◌}
 use Rattle.rules.specs.Fields.{Field, field_bytes, fields_bytes, grown, pieces, tagged_by, split_field, good_tag, good_value, good_field, field_of, add_field, fields_in, fields_of}
 use Rattle.fix_fields.proofs.Pieces.{some_piece}
 

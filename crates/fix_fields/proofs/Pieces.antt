@@ -1,4 +1,5 @@
 -- The bytes cut after each byte 1, and one field in front of the others.
+use Rattle.std.specs.Prelude.{if◌then◌else◌}
 use Prim.Native.Nat.{ℕ, suc, ◌<◌}
 use native.Mathlib.Omega.{arith}
 use mathlib.Core.Path.{◌≡◌, refl, sym, ap, ◌∙◌}
@@ -8,7 +9,6 @@ use mathlib.Core.Option.{Option, none, some}
 use borrow.Author.Tests.{ne_eqb, eqb-true}
 use lib.Dec.{eqb}
 use lib.ListN.{length, get_or}
-use Rattle.lists.specs.Lists.{if◌then◌else◌}
 use Rattle.rules.specs.Fields.{Field, grown, pieces, field_of, add_field, fields_in, fields_of}
 use Rattle.fix_fields.specs.Tags.{piece_of}
 

@@ -1,4 +1,5 @@
 -- What is a field and what is none, by the bytes up to the first that is no digit.
+use Rattle.std.specs.Prelude.{if◌then◌else◌}
 use Prim.Native.Nat.{ℕ, ◌≤◌, ◌<◌}
 use native.Mathlib.Omega.{arith}
 use mathlib.Core.Path.{◌≡◌, refl, sym, ap, ◌∙◌}
@@ -8,7 +9,6 @@ use mathlib.Core.Option.{Option, none, some}
 use borrow.Author.Tests.{ne_eqb, eqb-false, le-leb, lt-leb, ltb-true, ltb-false, not-true}
 use lib.Dec.{eqb, leb, ltb}
 use lib.ListN.{length}
-use Rattle.lists.specs.Lists.{if◌then◌else◌}
 use Rattle.rules.specs.Digits.{is_digit, all_digits}
 use Rattle.rules.specs.Fields.{Field, tagged_by, split_field, good_tag, good_field, field_of}
 use Rattle.fix_fields.specs.Tags.{piece_of}

@@ -1,7 +1,7 @@
 -- What the search for fields keeps: the fields up to the last, and where the values of the used tags are.
-use Rattle.std.specs.Prelude.{ℕ, zero, suc, ◌+◌, ◌-◌, ◌≤◌, ◌<◌, ◌≡◌, Bool, true, false, ◌&&◌, not, List, [], ◌∷◌, eqb, length, get_or, take, drop, set}
+use Rattle.std.specs.Prelude.{ℕ, zero, suc, ◌+◌, ◌-◌, ◌≤◌, ◌<◌, ◌≡◌, Bool, true, false, ◌&&◌, not, List, [], ◌∷◌, eqb, length, get_or, take, drop, set, if◌then◌else◌}
 use Rattle.std.proofs.Math.Option.{Option, none, some}
-use Rattle.lists.specs.Lists.{if◌then◌else◌, any}
+use Rattle.lists.specs.Lists.{any}
 use Rattle.rules.specs.Fields.{Field, fields_of, has_tag, values_of}
 use Rattle.rules.specs.Frame.{checksum_tag, is_frame_tag, Ending, ending_of}
 use Rattle.rules.specs.Messages.{id_tag, orig_tag, side_tag, volume_tag, price_tag, time_tag}

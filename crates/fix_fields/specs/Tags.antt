@@ -1,7 +1,6 @@
 -- The slots that tags belong to, and what is found where a tag should stand.
-use Rattle.std.specs.Prelude.{ℕ, ◌<◌, ◌≡◌, true, false, List, [], ◌∷◌, ◌++◌, eqb, leb, length, drop}
+use Rattle.std.specs.Prelude.{ℕ, ◌<◌, ◌≡◌, true, false, List, [], ◌∷◌, ◌++◌, eqb, leb, length, drop, if◌then◌else◌}
 use Rattle.std.proofs.Math.Option.{none}
-use Rattle.lists.specs.Lists.{if◌then◌else◌}
 use Rattle.rules.specs.Digits.{is_digit, all_digits, number_from}
 use Rattle.rules.specs.Fields.{good_tag, field_of}
 

@@ -1,8 +1,7 @@
 // The fields of a message, tag and value, one after the other in its bytes.
 #![tactic(auto)]
 
-ghost use Rattle.std.specs.Prelude.{◌≡◌, ◌+◌, ◌-◌, ◌<◌, eqb, length, get_or, replicate};
-ghost use Rattle.lists.specs.Lists.{if◌then◌else◌};
+ghost use Rattle.std.specs.Prelude.{◌≡◌, ◌+◌, ◌-◌, ◌<◌, eqb, length, get_or, replicate, if◌then◌else◌};
 ghost use Rattle.fix_fields.specs.Ends.{ClosedFrom, EndOf};
 ghost use Rattle.fix_fields.specs.Tags.{slot_number, TagAt, LongTag};
 ghost use Rattle.fix_fields.specs.Spans.{noted, EndsAt, SpansFound};

@@ -1,4 +1,5 @@
 -- A message that passes every test of the frame: its body is what the fields behind 35 say.
+use Rattle.std.specs.Prelude.{if◌then◌else◌}
 use Prim.Native.Nat.{ℕ, ◌-◌, ◌%◌, ◌<◌}
 use native.Mathlib.Omega.{arith}
 use mathlib.Core.Path.{◌≡◌, refl, sym, ap, ◌∙◌}
@@ -9,7 +10,7 @@ use borrow.Author.Tests.{eqb-true, eqb-false}
 use lib.Dec.{eqb}
 use lib.ListN.{length, take, drop, length-append}
 use lib.Seq.{take_at, drop_at}
-use Rattle.lists.specs.Lists.{if◌then◌else◌, sum, any}
+use Rattle.lists.specs.Lists.{sum, any}
 use Rattle.rules.specs.Digits.{all_digits, in_digits, three_digits}
 use Rattle.rules.specs.Fields.{Field, field_bytes, fields_bytes, good_tag, add_field, fields_of, same_bytes, has_tag}
 use Rattle.rules.specs.Frame.{version_tag, length_tag, type_tag, checksum_tag, version, new, cancel, replace, kind_in, is_number, length_right, checksum_right, is_frame_tag, Ending, ending_of, good_frame, body_by, framed_by, framed, framed_in, body_in}

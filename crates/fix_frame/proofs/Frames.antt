@@ -1,4 +1,5 @@
 -- The tests of the frame at places of the message, and the bytes that stand there.
+use Rattle.std.specs.Prelude.{if◌then◌else◌}
 use Prim.Native.Nat.{ℕ, zero, suc, ◌+◌, ◌/◌, ◌%◌, ◌≤◌}
 use native.Mathlib.Nat.{add-zero}
 use native.Mathlib.Omega.{arith}
@@ -9,7 +10,6 @@ use borrow.Author.Tests.{eqb-true, eq-eqb}
 use lib.Dec.{eqb}
 use lib.ListN.{length, get_or, drop, length-drop, drop_of_length-le}
 use lib.Seq.{get_or-drop, drop-drop}
-use Rattle.lists.specs.Lists.{if◌then◌else◌}
 use Rattle.fix_fields.specs.Tags.{piece_of}
 use Rattle.fix_frame.specs.Frames.{byte_is, head_right, type_right, tail_right}
 use Rattle.fix_digits.proofs.Numbers.{both}

@@ -1,4 +1,5 @@
 -- Each test of the frame passes on a message with a right frame: where one fails, there is no body.
+use Rattle.std.specs.Prelude.{if◌then◌else◌}
 use Prim.Native.Nat.{ℕ, ◌+◌, ◌-◌, ◌%◌, ◌<◌}
 use native.Mathlib.Omega.{arith}
 use mathlib.Core.Path.{◌≡◌, refl, sym, ap, ◌∙◌}
@@ -7,7 +8,7 @@ use mathlib.Core.List.{List, [], ◌∷◌, ◌++◌}
 use mathlib.Core.Option.{none, some}
 use lib.ListN.{length, get_or, take, drop, length-append, length-drop}
 use lib.Seq.{get_or-append-add, take_at, drop_at}
-use Rattle.lists.specs.Lists.{if◌then◌else◌, sum}
+use Rattle.lists.specs.Lists.{sum}
 use Rattle.rules.specs.Digits.{all_digits, number_from, in_digits, three_digits}
 use Rattle.rules.specs.Fields.{Field, field_bytes, fields_bytes}
 use Rattle.rules.specs.Frame.{is_number}

@@ -1,4 +1,5 @@
 -- The bytes of a message whose frame is right.
+use Rattle.std.specs.Prelude.{if◌then◌else◌}
 use Prim.Native.Nat.{ℕ, ◌%◌}
 use native.Mathlib.Omega.{arith}
 use mathlib.Core.Path.{◌≡◌, refl, sym, ap, ◌∙◌}
@@ -6,7 +7,7 @@ use mathlib.Core.Bool.{Bool, true, false, not}
 use mathlib.Core.List.{List, [], ◌∷◌, ◌++◌, append_assoc, append-nil}
 use mathlib.Core.Option.{Option, none, some}
 use lib.ListN.{length}
-use Rattle.lists.specs.Lists.{if◌then◌else◌, sum, any}
+use Rattle.lists.specs.Lists.{sum, any}
 use Rattle.rules.specs.Digits.{in_digits, three_digits}
 use Rattle.rules.specs.Fields.{Field, field_bytes, fields_bytes, fields_of, same_bytes, has_tag}
 use Rattle.rules.specs.Frame.{version_tag, length_tag, type_tag, checksum_tag, version, Kind, new, cancel, replace, kind_text, kind_in, is_number, length_right, checksum_right, is_frame_tag, Body, Ending, behind, ending_of, good_frame, body_by, framed_by, framed, framed_in, body_in}

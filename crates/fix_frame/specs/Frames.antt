@@ -1,9 +1,8 @@
 -- What the tests of the frame say, and what they find together.
-use Rattle.std.specs.Prelude.{ℕ, ◌+◌, ◌/◌, ◌%◌, ◌≡◌, Bool, true, ◌&&◌, ◌||◌, List, eqb, get_or, drop}
+use Rattle.std.specs.Prelude.{ℕ, ◌+◌, ◌/◌, ◌%◌, ◌≡◌, Bool, true, ◌&&◌, ◌||◌, List, eqb, get_or, drop, if◌then◌else◌}
 use Rattle.std.proofs.Math.Option.{Option, none, some}
 use Rattle.rules.specs.Fields.{Field}
 use Rattle.rules.specs.Frame.{Kind, new, cancel, replace, Body, body_in}
-use Rattle.lists.specs.Lists.{if◌then◌else◌}
 use Rattle.fix_frame.specs.declared.Frame.{Frame}
 use Rattle.fix_frame.specs.declared.Frame.TheVariants.{Of, Wrong}
 use Rattle.fix_fields.specs.Spans.{closed, EndsAt}

@@ -1,8 +1,8 @@
 -- Two different answers never show the same number and values.
+use Rattle.std.specs.Prelude.{if◌then◌else◌}
 use mathlib.Core.Path.{◌≡◌, refl, sym, ap, ◌∙◌}
 use lib.Dec.{eqb}
 use Rattle.rules.specs.declared.Timestamp.{Timestamp}
-use Rattle.lists.specs.Lists.{if◌then◌else◌}
 use Rattle.rules.specs.Answers.{Outcome, accepted, refused}
 use Rattle.rules.specs.Messages.{Message, new_order, cancel_order, replace_order}
 use Rattle.fix_reader.specs.declared.MessageRead.{MessageRead}

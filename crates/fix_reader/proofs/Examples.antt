@@ -1,4 +1,5 @@
 -- The definitions on small messages, by computation; the bar is byte 1.
+use Rattle.std.specs.Prelude.{if◌then◌else◌}
 use Prim.Native.Nat.{ℕ}
 use mathlib.Core.Path.{◌≡◌, refl}
 use mathlib.Core.List.{List, [], ◌∷◌}
@@ -6,7 +7,7 @@ use mathlib.Core.Option.{none, some}
 use lib.Dec.{eqb}
 use lib.IntN.{pos, negsuc}
 use Rattle.rules.specs.declared.Side.TheVariants.{Buy, Sell}
-use Rattle.lists.specs.Lists.{if◌then◌else◌, sum, any}
+use Rattle.lists.specs.Lists.{sum, any}
 use Rattle.rules.specs.Units.{steps, contracts}
 use Rattle.rules.specs.Answers.{accepted, refused}
 use Rattle.rules.specs.Text.{ascii}

@@ -1,4 +1,5 @@
 -- What every message that was read keeps: its time is a time, and its numbers are of 32 bits.
+use Rattle.std.specs.Prelude.{if◌then◌else◌}
 use Prim.Native.Nat.{ℕ, zero, suc}
 use native.Mathlib.Omega.{arith}
 use mathlib.Core.Path.{◌≡◌, refl, subst}
@@ -9,7 +10,6 @@ use borrow.Author.Tests.{ltb-true}
 use lib.Dec.{ltb, eqb}
 use lib.IntN.{ℤ, pos, negsuc}
 use Rattle.rules.specs.declared.Timestamp.{Timestamp}
-use Rattle.lists.specs.Lists.{if◌then◌else◌}
 use Rattle.rules.specs.Units.{steps, contracts}
 use Rattle.rules.specs.Widths.{Word, SignedWord}
 use Rattle.rules.specs.Answers.{accepted, refused}

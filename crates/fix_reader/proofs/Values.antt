@@ -1,4 +1,5 @@
 -- What a slot says: the one value of its tag, or nothing.
+use Rattle.std.specs.Prelude.{if◌then◌else◌}
 use Prim.Native.Nat.{ℕ, ◌+◌, ◌-◌, ◌≤◌, ◌<◌}
 use native.Mathlib.Omega.{arith}
 use mathlib.Core.Path.{◌≡◌, refl, sym, ap}
@@ -9,7 +10,6 @@ use borrow.Author.Tests.{eq-eqb, ne_eqb}
 use lib.Dec.{eqb}
 use lib.ListN.{length, get_or, take, drop}
 use Rattle.rules.specs.declared.Side.TheVariants.{Buy, Sell}
-use Rattle.lists.specs.Lists.{if◌then◌else◌}
 use Rattle.rules.specs.Fields.{Field, same_bytes, values_of}
 use Rattle.rules.specs.Messages.{once, side_in}
 use Rattle.fix_fields.specs.Spans.{slot_tag, SlotHolds, Spanned}

@@ -1,5 +1,6 @@
 -- Chunks make no difference: the rows of some bytes and others after them are those of the first bytes up to where their scan stops, then
 -- those from there on. The scan looks at no byte after the message that it decides on.
+use Rattle.std.specs.Prelude.{if◌then◌else◌}
 use Prim.Native.Nat.{ℕ, zero, suc, ◌+◌, ◌-◌, ◌≤◌, ◌<◌}
 use native.Mathlib.Nat.{add-zero}
 use native.Mathlib.Numerals.{add-one}
@@ -12,7 +13,6 @@ use borrow.Author.Tests.{le-ltb, ltb-true, ltb-false}
 use lib.Dec.{eqb, leb, ltb}
 use lib.ListN.{length, get_or, take, drop, length-append, length-drop, get_or-append}
 use lib.Seq.{take-append-le, drop-append-le, drop-drop}
-use Rattle.lists.specs.Lists.{if◌then◌else◌}
 use Rattle.rules.specs.Text.{ascii}
 use Rattle.rules.specs.Digits.{is_digit, in_digits}
 use Rattle.rules.specs.Fields.{same_bytes}

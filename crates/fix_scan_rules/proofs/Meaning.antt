@@ -1,5 +1,6 @@
 -- What a row says. A row of status 0 is that of a message at its place; any other says that 8=FIX. begins there and no message is there.
 -- The words of a tag are the place, the length and the repeat of its first value.
+use Rattle.std.specs.Prelude.{if◌then◌else◌}
 use Prim.Native.Nat.{ℕ, zero, suc, ◌+◌, ◌-◌, ◌≤◌}
 use native.Mathlib.Numerals.{add-one}
 use native.Mathlib.Omega.{arith}
@@ -11,7 +12,7 @@ use borrow.Author.Tests.{ltb-false, lt-ltb}
 use lib.Dec.{ltb}
 use lib.ListN.{length, take, drop, length-append}
 use lib.Seq.{length-take-le, drop-drop, drop_at, take_at}
-use Rattle.lists.specs.Lists.{if◌then◌else◌, any, All}
+use Rattle.lists.specs.Lists.{any, All}
 use Rattle.rules.specs.Fields.{Field, field_bytes, fields_bytes, has_tag, values_of}
 use Rattle.fix_scan_rules.specs.AnyFrame.{AnyBody, any_body_in}
 use Rattle.fix_scan_rules.specs.Rows.{begin_in, size_of_in, row_with, row_by, row_in}

@@ -1,7 +1,7 @@
 -- The row of a message: its length, its status, its type, and where the first value of each wanted tag is.
-use Rattle.std.specs.Prelude.{ℕ, ◌+◌, ◌-◌, ◌*◌, List, [], ◌∷◌, length}
+use Rattle.std.specs.Prelude.{ℕ, ◌+◌, ◌-◌, ◌*◌, List, [], ◌∷◌, length, if◌then◌else◌}
 use Rattle.std.proofs.Math.Option.{Option, none, some}
-use Rattle.lists.specs.Lists.{if◌then◌else◌, any}
+use Rattle.lists.specs.Lists.{any}
 use Rattle.rules.specs.Digits.{decimal_of}
 use Rattle.rules.specs.Fields.{Field, field_bytes, fields_bytes, has_tag}
 use Rattle.fix_scan_rules.specs.AnyFrame.{AnyBody, any_body_in}

@@ -1,6 +1,6 @@
 -- The tags that a caller may want: at most 100, each from 1 to 999, none of the frame (8, 9, 10, 35), none twice.
-use Rattle.std.specs.Prelude.{ℕ, suc, Bool, true, ◌&&◌, ◌||◌, not, List, [], ◌∷◌, ◌++◌, eqb, leb, ltb, length}
-use Rattle.lists.specs.Lists.{if◌then◌else◌, any}
+use Rattle.std.specs.Prelude.{ℕ, suc, Bool, true, ◌&&◌, ◌||◌, not, List, [], ◌∷◌, ◌++◌, eqb, leb, ltb, length, if◌then◌else◌}
+use Rattle.lists.specs.Lists.{any}
 
 -- 0, and the tags of the frame
 abbrev pub reserved : ℕ → Bool

@@ -1,4 +1,5 @@
 -- The wanted tags one by one, and the table that they make.
+use Rattle.std.specs.Prelude.{if◌then◌else◌}
 use Prim.Native.Nat.{ℕ, zero, suc, ◌+◌, ◌≤◌, ◌<◌}
 use native.Mathlib.Omega.{arith}
 use native.Mathlib.Numerals.{add-one}
@@ -9,7 +10,7 @@ use borrow.Author.Tests.{eqb-true, eqb-false, eq-eqb, leb-true, ltb-true, le-leb
 use lib.Dec.{eqb, leb, ltb}
 use lib.ListN.{length, get_or, take, drop, set, replicate, length-append, length-set, length-replicate, get_or-replicate}
 use lib.Seq.{take-suc, drop-cons, take-length, length-take-le, get_or-set_same, get_or-set_other, drop-length}
-use Rattle.lists.specs.Lists.{if◌then◌else◌, any}
+use Rattle.lists.specs.Lists.{any}
 use Rattle.lists.proofs.Lists.{both}
 use Rattle.fix_scan_rules.specs.Wanted.{reserved, wanted_from, wanted_tags, place_from, slot_for}
 use Rattle.fix_tag_spans.specs.Slots.{SlotTable, SlotsMade}

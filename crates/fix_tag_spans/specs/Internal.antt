@@ -1,7 +1,6 @@
 -- What is found where a tag should be, and how a value is noted.
-use Rattle.std.specs.Prelude.{ℕ, ◌+◌, ◌-◌, ◌*◌, ◌<◌, ◌≡◌, true, false, List, ◌∷◌, ◌++◌, eqb, leb, ltb, length, get_or, drop, set}
+use Rattle.std.specs.Prelude.{ℕ, ◌+◌, ◌-◌, ◌*◌, ◌<◌, ◌≡◌, true, false, List, ◌∷◌, ◌++◌, eqb, leb, ltb, length, get_or, drop, set, if◌then◌else◌}
 use Rattle.std.proofs.Math.Option.{none}
-use Rattle.lists.specs.Lists.{if◌then◌else◌}
 use Rattle.rules.specs.Digits.{is_digit, all_digits, number_from}
 use Rattle.rules.specs.Fields.{good_tag, field_of}
 use Rattle.fix_fields.specs.Tags.{piece_of}

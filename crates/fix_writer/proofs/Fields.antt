@@ -1,4 +1,5 @@
 -- Fields that are written are read again.
+use Rattle.std.specs.Prelude.{if◌then◌else◌}
 use Prim.Native.Nat.{ℕ}
 use native.Mathlib.Omega.{arith}
 use mathlib.Core.Path.{◌≡◌, refl, sym, ap, ◌∙◌}
@@ -7,7 +8,6 @@ use mathlib.Core.List.{List, [], ◌∷◌, ◌++◌, append_assoc}
 use mathlib.Core.Option.{some}
 use borrow.Author.Tests.{eq-eqb, ne_eqb, eqb-true}
 use lib.Dec.{eqb, leb}
-use Rattle.lists.specs.Lists.{if◌then◌else◌}
 use Rattle.rules.specs.Digits.{is_digit, all_digits}
 use Rattle.rules.specs.Dates.{fits_place, has_form}
 use Rattle.rules.specs.Fields.{Field, field_bytes, fields_bytes, split_field, good_tag, good_value, good_field, field_of, add_field, pieces, fields_in, fields_of, same_bytes}

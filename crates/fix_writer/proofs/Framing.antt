@@ -1,4 +1,5 @@
 -- The frame laid around the fields, and the text that is answered.
+use Rattle.std.specs.Prelude.{if◌then◌else◌}
 use Prim.Native.Nat.{ℕ, ◌-◌, ◌%◌, ◌≤◌}
 use native.Mathlib.Omega.{arith}
 use mathlib.Core.Path.{◌≡◌, refl, sym, ap, subst, ◌∙◌}
@@ -11,7 +12,7 @@ use Rattle.rules.specs.declared.Side.{Side}
 use Rattle.rules.specs.declared.Contracts.{Contracts}
 use Rattle.rules.specs.declared.Steps.{Steps}
 use Rattle.rules.specs.declared.Timestamp.{Timestamp}
-use Rattle.lists.specs.Lists.{if◌then◌else◌, sum}
+use Rattle.lists.specs.Lists.{sum}
 use Rattle.rules.specs.Answers.{accepted, refused}
 use Rattle.rules.specs.Digits.{decimal_of, three_digits}
 use Rattle.rules.specs.Dates.{form, has_form, parts_of, good_date, good_clock, time_in}

@@ -1,6 +1,5 @@
 -- What the writer of messages answers.
-use Rattle.std.specs.Prelude.{ℕ, ◌-◌, ◌≤◌, ◌≡◌, false, List, length, take, drop, replicate}
-use Rattle.lists.specs.Lists.{if◌then◌else◌}
+use Rattle.std.specs.Prelude.{ℕ, ◌-◌, ◌≤◌, ◌≡◌, false, List, length, take, drop, replicate, if◌then◌else◌}
 use Rattle.rules.specs.Answers.{Outcome, accepted, refused}
 use Rattle.rules.specs.Messages.{Message, write_message}
 use Rattle.fix_writer.specs.declared.MessageText.{MessageText}

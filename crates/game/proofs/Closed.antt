@@ -1,11 +1,11 @@
 -- One minute of the game in the closed form: what the maker's way gets him at each answer, and what the taker's leaves at each quote.
+use Rattle.std.specs.Prelude.{if◌then◌else◌}
 use Prim.Native.Nat.{ℕ, suc, ◌+◌, ◌-◌, ◌/◌, ◌≤◌, ◌<◌, min}
 use mathlib.Core.Path.{◌≡◌, ap, ◌∙◌}
 use mathlib.Core.Bool.{Bool, true, false}
 use native.Mathlib.Omega.{arith}
 use borrow.Author.Tests.{leb-true, leb-false}
 use lib.Dec.{leb}
-use Rattle.lists.specs.Lists.{if◌then◌else◌}
 use Rattle.game.specs.Play.{Volume, single, double}
 use Rattle.game.specs.Value.{closed}
 

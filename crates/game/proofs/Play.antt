@@ -1,4 +1,5 @@
 -- The laws of a play: its length, and that it keeps to both stocks, whatever the two choose.
+use Rattle.std.specs.Prelude.{if◌then◌else◌}
 use Prim.Native.Nat.{ℕ, zero, suc, ◌+◌, ◌≤◌, ◌<◌}
 use mathlib.Core.Path.{◌≡◌, refl, ap}
 use mathlib.Core.List.{[], ◌∷◌}
@@ -7,7 +8,7 @@ use native.Mathlib.Omega.{arith}
 use borrow.Author.Tests.{ltb-true, leb-true}
 use lib.Dec.{ltb}
 use lib.ListN.{length}
-use Rattle.lists.specs.Lists.{if◌then◌else◌, sum, how_many}
+use Rattle.lists.specs.Lists.{sum, how_many}
 use Rattle.lists.proofs.Lists.{both}
 use Rattle.game.specs.Play.{Volume, single, double, knocks_for, Minute, History, doubles, knocks, unvoided, Maker, Taker, quote, is_voided, next, play}
 

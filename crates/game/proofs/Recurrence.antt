@@ -1,11 +1,11 @@
 -- The recurrence of the game has the closed form.
+use Rattle.std.specs.Prelude.{if◌then◌else◌}
 use Prim.Native.Nat.{ℕ, zero, suc, ◌+◌, ◌-◌, ◌≤◌, ◌<◌, max}
 use mathlib.Core.Path.{◌≡◌, refl, sym}
 use mathlib.Core.Bool.{Bool, true, false}
 use native.Mathlib.Omega.{arith}
 use borrow.Author.Tests.{leb-true, le-leb}
 use lib.Dec.{leb}
-use Rattle.lists.specs.Lists.{if◌then◌else◌}
 use Rattle.game.specs.Value.{taken, value, closed}
 use Rattle.game.proofs.Closed.{closed_none, maker_single, maker_double, taker_single, taker_double}
 

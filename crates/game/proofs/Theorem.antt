@@ -1,11 +1,11 @@
 -- The theorem of the game: the value is what the maker can force, by two ways that are given.
+use Rattle.std.specs.Prelude.{if◌then◌else◌}
 use Prim.Native.Nat.{ℕ, zero, suc, ◌+◌, ◌-◌, ◌≤◌, ◌<◌}
 use mathlib.Core.Path.{◌≡◌, refl, sym}
 use mathlib.Core.List.{[], ◌∷◌}
 use mathlib.Core.Bool.{Bool, true, false}
 use native.Mathlib.Omega.{arith}
 use lib.ListN.{length}
-use Rattle.lists.specs.Lists.{if◌then◌else◌}
 use Rattle.rules.specs.Answers.{accepted}
 use Rattle.rules.proofs.Answers.{accepted_by}
 use Rattle.game.specs.Play.{Volume, single, double, knocks_for, Minute, History, doubles, knocks, unvoided, Maker, Taker, quote, is_voided, next, play, Forced}

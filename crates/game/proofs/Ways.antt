@@ -1,11 +1,11 @@
 -- The two ways never choose what the rules do not allow, and what their choices say of the stocks.
+use Rattle.std.specs.Prelude.{if◌then◌else◌}
 use Prim.Native.Nat.{ℕ, ◌+◌, ◌-◌, ◌≤◌}
 use mathlib.Core.Path.{◌≡◌, refl, sym, ◌∙◌}
 use mathlib.Core.Bool.{Bool, true, false, ◌&&◌}
 use native.Mathlib.Omega.{arith}
 use borrow.Author.Tests.{ltb-false, leb-true, leb-false, le-leb, lt-leb}
 use lib.Dec.{leb, ltb}
-use Rattle.lists.specs.Lists.{if◌then◌else◌}
 use Rattle.lists.proofs.Lists.{both}
 use Rattle.game.specs.Play.{Volume, single, double, knocks_for, History, doubles, knocks, quote, is_voided}
 use Rattle.game.specs.Ways.{doubles_first, kept_back, singles_first}

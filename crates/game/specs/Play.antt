@@ -1,7 +1,7 @@
 -- W14: the game, minute by minute. "Of m minutes, the maker quotes single or double volume in each, double in at most h of them. After
 -- seeing it, the taker spends knocks from a stock of k: one voids a single minute, two a double, or he lets it stand."
-use Rattle.std.specs.Prelude.{ℕ, zero, suc, ◌+◌, ◌≤◌, List, [], ◌∷◌, map, Bool, true, false, not, ◌&&◌, leb, ltb}
-use Rattle.lists.specs.Lists.{if◌then◌else◌, sum, how_many}
+use Rattle.std.specs.Prelude.{ℕ, zero, suc, ◌+◌, ◌≤◌, List, [], ◌∷◌, map, Bool, true, false, not, ◌&&◌, leb, ltb, if◌then◌else◌}
+use Rattle.lists.specs.Lists.{sum, how_many}
 
 -- the volume that is quoted in a minute
 pub data Volume : Type 0 where

@@ -1,7 +1,6 @@
 -- W14: G by the recurrence of the game, and its closed form. That they agree is `value-closed` in proofs/Recurrence, and that they
 -- are what the maker can force is `forced` in proofs/Theorem.
-use Rattle.std.specs.Prelude.{ℕ, zero, suc, ◌+◌, ◌-◌, ◌/◌, min, max, leb}
-use Rattle.lists.specs.Lists.{if◌then◌else◌}
+use Rattle.std.specs.Prelude.{ℕ, zero, suc, ◌+◌, ◌-◌, ◌/◌, min, max, leb, if◌then◌else◌}
 use Rattle.game.specs.Play.{single, double, knocks_for}
 
 -- the taker's choice at a minute that `cost` knocks of his k void: the lesser of what comes of it where it stands and where it is voided

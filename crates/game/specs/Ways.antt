@@ -1,7 +1,6 @@
 -- W14: a strategy for the maker and one for the taker. That they are the best, each against every other, is `forced` in
 -- proofs/Theorem.
-use Rattle.std.specs.Prelude.{ℕ, ◌+◌, ◌-◌, leb, ltb, length}
-use Rattle.lists.specs.Lists.{if◌then◌else◌}
+use Rattle.std.specs.Prelude.{ℕ, ◌+◌, ◌-◌, leb, ltb, length, if◌then◌else◌}
 use Rattle.game.specs.Play.{Volume, single, double, History, doubles, knocks, knocks_for, Maker, Taker}
 
 -- The maker quotes double until his h double minutes are used, and then single.

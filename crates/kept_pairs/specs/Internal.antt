@@ -1,7 +1,6 @@
 -- The pairs of a session so far, and what the functions on them promise to each other.
-use Rattle.std.specs.Prelude.{ℕ, ◌+◌, ◌*◌, ◌≤◌, ◌<◌, ◌≡◌, List, [], ◌∷◌, Bool, true, length}
+use Rattle.std.specs.Prelude.{ℕ, ◌+◌, ◌*◌, ◌≤◌, ◌<◌, ◌≡◌, List, [], ◌∷◌, Bool, true, length, if◌then◌else◌}
 use Rattle.rules.specs.declared.Millis.{Millis}
-use Rattle.lists.specs.Lists.{if◌then◌else◌}
 use Rattle.rules.specs.Stretches.{Stretch, stretches, pair_words}
 use Rattle.rules.specs.Runs.{before}
 use Rattle.record_runs.specs.Internal.{Front, put_words}

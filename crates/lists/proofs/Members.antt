@@ -1,4 +1,5 @@
 -- Laws of `any`, `filter`, `map` and `set` by what is in the list, for any test.
+use Rattle.std.specs.Prelude.{if◌then◌else◌}
 use Prim.Native.Nat.{ℕ, zero, suc, ◌≤◌, ◌<◌}
 use native.Mathlib.Omega.{arith}
 use native.Mathlib.Nat.{not-suc-le-zero, le_of_suc-le-suc}
@@ -8,7 +9,7 @@ use mathlib.Core.List.Memᴰ
 use mathlib.Core.List.{List, [], ◌∷◌, ◌++◌, map, Memᴰ}
 use mathlib.Core.Bool.{Bool, true, false, true≢false, ◌||◌}
 use lib.ListN.{length, get_or, set, replicate}
-use Rattle.lists.specs.Lists.{if◌then◌else◌, filter, any}
+use Rattle.lists.specs.Lists.{filter, any}
 use Rattle.lists.proofs.Lists.{kept_in_lem}
 
 -- a failed `||` and its halves

@@ -1,11 +1,6 @@
 -- Terms of general use: choosing by a test, filtering, counting, adding up, and what holds of a whole list.
-use Rattle.std.specs.Prelude.{ℕ, zero, suc, ◌+◌, List, [], ◌∷◌, ◌++◌, Bool, true, false, ◌&&◌, ◌||◌, leb, ℤ}
+use Rattle.std.specs.Prelude.{ℕ, zero, suc, ◌+◌, List, [], ◌∷◌, ◌++◌, Bool, true, false, ◌&&◌, ◌||◌, leb, ℤ, if◌then◌else◌}
 use Rattle.std.specs.Int.Signed.{le_z}
-
-infixr 10 if◌then◌else◌
-abbrev pub if◌then◌else◌ {ℓ} : {A : Type ℓ} → Bool → A → A → A
-if true then a else b = a
-if false then a else b = b
 
 -- a number from low to high, both included
 abbrev pub within : ℕ → ℕ → ℕ → Bool

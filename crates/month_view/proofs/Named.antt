@@ -1,4 +1,5 @@
 -- The live order with an id, and its place in the table.
+use Rattle.std.specs.Prelude.{if◌then◌else◌}
 use Prim.Native.Nat.{ℕ, zero, suc, ◌+◌, ◌*◌, ◌/◌, ◌%◌, ◌≤◌, ◌<◌}
 use native.Mathlib.Omega.{arith}
 use native.Mathlib.Nat.{not-suc-le-zero, le_of_suc-le-suc}
@@ -14,7 +15,7 @@ use Rattle.rules.specs.declared.Side.{Side}
 use Rattle.rules.specs.declared.Side.TheVariants.{Buy, Sell}
 use Rattle.rules.specs.Orders.{has_id}
 use Rattle.rules.specs.Quotes.{same}
-use Rattle.lists.specs.Lists.{if◌then◌else◌, filter}
+use Rattle.lists.specs.Lists.{filter}
 use Rattle.lists.proofs.Lists.{both, and}
 use Rattle.lists.proofs.Members.{get_d_in, length_filter}
 use Rattle.order_side.specs.Slots.{Slot, order_of, kept_in}

@@ -1,4 +1,5 @@
 -- The words of orders, four each, written one after the other.
+use Rattle.std.specs.Prelude.{if◌then◌else◌}
 use Prim.Native.Nat.{ℕ, ◌+◌, ◌-◌, ◌*◌, ◌≤◌, ◌<◌}
 use native.Mathlib.Numerals.{add-one}
 use native.Mathlib.Omega.{arith}
@@ -11,7 +12,7 @@ use Rattle.rules.specs.declared.Order.{Order}
 use Rattle.lent.proofs.Parts.{next-part}
 use Rattle.rules.specs.declared.Side.TheVariants.{Buy}
 use Rattle.rules.specs.Quotes.{same}
-use Rattle.lists.specs.Lists.{if◌then◌else◌, filter}
+use Rattle.lists.specs.Lists.{filter}
 use Rattle.lists.proofs.Lists.{filter-append}
 use Rattle.order_table.specs.Table.{of_side}
 use Rattle.order_table.specs.Internal.{blank_order}

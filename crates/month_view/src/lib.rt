@@ -2,12 +2,11 @@
 // they were.
 #![tactic(auto)]
 
-ghost use Rattle.std.specs.Prelude.{◌≡◌, true, ◌&&◌, List, ◌*◌, ◌≤◌, eqb, ltb, length, get_or};
+ghost use Rattle.std.specs.Prelude.{◌≡◌, true, ◌&&◌, List, ◌*◌, ◌≤◌, eqb, ltb, length, get_or, if◌then◌else◌};
 ghost use Rattle.rules.specs.declared.Row.{Row};
 ghost use Rattle.rules.specs.declared.SpreadRule.{SpreadRule};
 ghost use Rattle.rules.specs.declared.Event.{Event};
 ghost use Rattle.rules.specs.declared.Side.TheVariants.{Buy};
-ghost use Rattle.lists.specs.Lists.{if◌then◌else◌};
 ghost use Rattle.rules.specs.Quotes.{same};
 ghost use Rattle.rules.specs.Bounds.{EventBounds};
 ghost use Rattle.order_table.specs.Internal.{blank_order};

@@ -1,4 +1,5 @@
 -- An open in place: a row of another length than seven is refused by 1 whatever it holds, so that one such row may take another's place.
+use Rattle.std.specs.Prelude.{if◌then◌else◌}
 use Prim.Native.Nat.{ℕ}
 use native.Mathlib.Omega.{arith}
 use mathlib.Core.Path.{◌≡◌, refl, sym, ap, subst, ◌∙◌}
@@ -9,7 +10,6 @@ use lib.Dec.{eqb}
 use lib.ListN.{length, take, drop}
 use lib.Seq.{take_all}
 use Rattle.rules.specs.declared.Opening.{Opening}
-use Rattle.lists.specs.Lists.{if◌then◌else◌}
 use Rattle.rules.specs.Terms.{paper}
 use Rattle.rules.specs.Calls.{Book, Open}
 use Rattle.rules.proofs.Bounds.{after-snoc}

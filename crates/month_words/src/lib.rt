@@ -6,9 +6,8 @@
 // be right only where it says an event (`SaysBlock`). Every call goes in place: none copies the month.
 #![tactic(auto)]
 
-ghost use Rattle.std.specs.Prelude.{◌≡◌, [], ◌++◌, true, false, ◌+◌, ◌*◌, ◌≤◌, ◌<◌, leb, length, drop, get_or};
+ghost use Rattle.std.specs.Prelude.{◌≡◌, [], ◌++◌, true, false, ◌+◌, ◌*◌, ◌≤◌, ◌<◌, leb, length, drop, get_or, if◌then◌else◌};
 ghost use Rattle.rules.specs.declared.Event.{Event};
-ghost use Rattle.lists.specs.Lists.{if◌then◌else◌};
 ghost use Rattle.rules.specs.Terms.{paper};
 ghost use Rattle.rules.specs.Answers.{outcome_by, done};
 ghost use Rattle.rules.specs.Calls.{Open, Send, Message, Look, Ask, Report, Outlook};

@@ -1,4 +1,5 @@
 -- Ids with 0 after them, in whole groups: what is found, and what moves up, is the same as among the ids alone.
+use Rattle.std.specs.Prelude.{if◌then◌else◌}
 use Prim.Native.Nat.{ℕ, zero, suc, ◌+◌, ◌-◌, ◌≤◌, ◌<◌, max}
 use native.Mathlib.Omega.{arith}
 use mathlib.Core.Path.{◌≡◌, refl, sym, ap, ◌∙◌}
@@ -8,7 +9,6 @@ use lib.Dec.{eqb, ltb}
 use lib.ListN.{length, take, drop, set, get_or, replicate, length-drop}
 use lib.Seq.{take-suc, drop-cons, get_or-drop, get_or-append-add, set-get_or}
 use borrow.Author.Tests.{ne_eqb, ltb-true, ltb-false}
-use Rattle.lists.specs.Lists.{if◌then◌else◌}
 use Rattle.order_side.specs.Slots.{seen_from, column}
 use Rattle.order_side.specs.Internal.{shifted}
 use Rattle.order_side.proofs.Shifting.{partly, partly-next}

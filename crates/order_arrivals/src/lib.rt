@@ -6,11 +6,10 @@
 // is decided. They are the month's alone: a session has none.
 #![tactic(auto)]
 
-ghost use Rattle.std.specs.Prelude.{◌≡◌, List, [], ◌∷◌, ◌++◌, ℕ, ◌-◌, ◌≤◌, ◌<◌, length, take, get_or};
+ghost use Rattle.std.specs.Prelude.{◌≡◌, List, [], ◌∷◌, ◌++◌, ℕ, ◌-◌, ◌≤◌, ◌<◌, length, take, get_or, if◌then◌else◌};
 ghost use Rattle.rules.specs.declared.Row.{Row};
 ghost use Rattle.rules.specs.declared.Event.{Event};
 ghost use Rattle.rules.specs.Orders.{live};
-ghost use Rattle.lists.specs.Lists.{if◌then◌else◌};
 ghost use Rattle.order_side.specs.Slots.{seen_from};
 ghost use Rattle.order_side.specs.Internal.{shifted};
 ghost use Rattle.order_arrivals.specs.Arrivals.{arrivals_of, Follows, Notable};

@@ -1,4 +1,5 @@
 -- What the words of a side say of its orders and its level.
+use Rattle.std.specs.Prelude.{if◌then◌else◌}
 use Prim.Native.Nat.{ℕ, ◌+◌, ◌-◌, ◌*◌, ◌/◌, ◌≤◌, ◌<◌}
 use mathlib.Core.Path.{◌≡◌, refl, ap, sym, ◌∙◌}
 use mathlib.Core.List.{List, ◌++◌, map}
@@ -6,7 +7,6 @@ use native.Mathlib.Omega.{arith}
 use mathlib.Core.Bool.{Bool, true, false}
 use borrow.Author.Tests.{le-leb}
 use lib.Dec.{leb}
-use Rattle.lists.specs.Lists.{if◌then◌else◌}
 use Rattle.best_quote.specs.Levels.{level_at, level_of}
 use lib.ListN.{length, take, drop, get_or, replicate, length-map, get_or-map}
 use Rattle.best_quote.specs.declared.Level.{Level}

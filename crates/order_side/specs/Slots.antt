@@ -1,11 +1,10 @@
 -- A side of the book in 256 words: four columns of 64. The orders are at the front of the first three, ids, keys and volumes, in the
 -- order in which they were added, with 0 after them; the last has their number and the best level. So the words are a function of the
 -- orders and the level.
-use Rattle.std.specs.Prelude.{ℕ, ◌+◌, ◌-◌, ◌≤◌, Bool, leb, eqb, length, replicate}
+use Rattle.std.specs.Prelude.{ℕ, ◌+◌, ◌-◌, ◌≤◌, Bool, leb, eqb, length, replicate, if◌then◌else◌}
 use mathlib.Core.List.{List, [], ◌∷◌, ◌++◌, map, Memᴰ}
 use Rattle.rules.specs.declared.Side.{Side}
 use Rattle.rules.specs.declared.Order.{Order}
-use Rattle.lists.specs.Lists.{if◌then◌else◌}
 use Rattle.rules.specs.Units.{steps, contracts}
 use Rattle.best_quote.specs.declared.Level.{Level}
 use Rattle.price_keys.specs.Keys.{price_at, key_in}

@@ -1,10 +1,10 @@
 -- The live orders of both sides in 512 words: the buys' 256, then the sells' (crate order_side).
-use Rattle.std.specs.Prelude.{ℕ, ◌+◌, ◌-◌, ◌≤◌, ◌≡◌, true, ltb, length}
+use Rattle.std.specs.Prelude.{ℕ, ◌+◌, ◌-◌, ◌≤◌, ◌≡◌, true, ltb, length, if◌then◌else◌}
 use mathlib.Core.List.{List, ◌++◌, map, Memᴰ}
 use Rattle.rules.specs.declared.Side.{Side}
 use Rattle.rules.specs.declared.Side.TheVariants.{Buy, Sell}
 use Rattle.rules.specs.declared.Order.{Order}
-use Rattle.lists.specs.Lists.{if◌then◌else◌, filter}
+use Rattle.lists.specs.Lists.{filter}
 use Rattle.rules.specs.Units.{good_price, good_volume}
 use Rattle.rules.specs.Quotes.{same}
 use Rattle.rules.specs.Bounds.{Distinct}

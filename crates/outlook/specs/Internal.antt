@@ -1,10 +1,9 @@
 -- What the functions of an outlook promise to each other, by the fields of the clock.
-use Rattle.std.specs.Prelude.{ℕ, ◌≤◌, ◌-◌, Bool, true, ◌&&◌, ◌||◌, leb, eqb}
+use Rattle.std.specs.Prelude.{ℕ, ◌≤◌, ◌-◌, Bool, true, ◌&&◌, ◌||◌, leb, eqb, if◌then◌else◌}
 use Rattle.rules.specs.declared.Millis.{Millis}
 use Rattle.rules.specs.declared.Cell.{Cell}
 use Rattle.rules.specs.declared.Possible.{Possible}
 use Rattle.rules.specs.declared.Possible.TheVariants.{Never, At}
-use Rattle.lists.specs.Lists.{if◌then◌else◌}
 use Rattle.rules.specs.Units.{millis, kopecks}
 use Rattle.clock.specs.declared.Duty.{Duty}
 use Rattle.clock.specs.declared.Clock.{Clock}

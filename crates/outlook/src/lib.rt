@@ -2,11 +2,10 @@
 // is worth if nothing more is kept or all that is left.
 #![tactic(auto)]
 
-ghost use Rattle.std.specs.Prelude.{◌≡◌, List, ◌-◌, ◌≤◌};
+ghost use Rattle.std.specs.Prelude.{◌≡◌, List, ◌-◌, ◌≤◌, if◌then◌else◌};
 ghost use Rattle.rules.specs.declared.Event.{Event};
 ghost use Rattle.rules.specs.declared.Opening.{Opening};
 ghost use Rattle.rules.specs.declared.Row.{Row};
-ghost use Rattle.lists.specs.Lists.{if◌then◌else◌};
 ghost use Rattle.rules.specs.Terms.{paper};
 ghost use Rattle.rules.specs.Pay.{view_of};
 ghost use Rattle.rules.specs.Outlook.{need_of, lapses_left, is_never, outlook_of};

@@ -1,4 +1,5 @@
 -- Counting along the days, and along an array.
+use Rattle.std.specs.Prelude.{if◌then◌else◌}
 use Prim.Native.Nat.{ℕ, ◌+◌, ◌-◌, ◌*◌, ◌/◌, ◌<◌, min}
 use native.Mathlib.Omega.{arith}
 use native.Mathlib.Numerals.{add-one}
@@ -12,7 +13,7 @@ use Rattle.rules.specs.declared.Cell.{Cell}
 use Rattle.rules.specs.Terms.{paper}
 use Rattle.rules.specs.Cells.{place_of, cell_at}
 use Rattle.rules.specs.Pay.{cell_failed, all_failures, earned, fee}
-use Rattle.lists.specs.Lists.{if◌then◌else◌, sum, below, any, how_many}
+use Rattle.lists.specs.Lists.{sum, below, any, how_many}
 use Rattle.lists.proofs.Lists.{sum-append}
 use Rattle.lists.proofs.Members.{any_append}
 

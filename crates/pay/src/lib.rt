@@ -1,10 +1,10 @@
 // The six failure counts and the fee of a month's cells.
 #![tactic(auto)]
 
-ghost use Rattle.std.specs.Prelude.{◌≡◌, true, ℕ, ◌/◌, ◌≤◌, min, ltb};
+ghost use Rattle.std.specs.Prelude.{◌≡◌, true, ℕ, ◌/◌, ◌≤◌, min, ltb, if◌then◌else◌};
 ghost use mathlib.Core.List.{Memᴰ, map};
 ghost use Rattle.rules.specs.declared.Cell.{Cell};
-ghost use Rattle.lists.specs.Lists.{if◌then◌else◌, sum, any};
+ghost use Rattle.lists.specs.Lists.{sum, any};
 ghost use Rattle.rules.specs.Units.{kopecks};
 ghost use Rattle.rules.specs.Terms.{paper};
 ghost use Rattle.rules.specs.Bounds.{CellBounds};

@@ -1,4 +1,5 @@
 -- The spread test by its limit, and of two best keys, is document 01's.
+use Rattle.std.specs.Prelude.{if◌then◌else◌}
 use Prim.Native.Nat.{ℕ, zero, suc, ◌+◌, ◌-◌, ◌*◌, ◌/◌, ◌≤◌, ◌<◌, max}
 use native.Mathlib.Nat.{le-div_iff_mul-le, div-lt_iff_lt-mul}
 use native.Mathlib.Omega.{arith}
@@ -15,7 +16,6 @@ use Rattle.rules.specs.declared.Quote.TheVariants.{Absent, At}
 use Rattle.rules.specs.declared.Row.{Row}
 use Rattle.rules.specs.declared.SpreadRule.{SpreadRule}
 use Rattle.rules.specs.Units.{good_price}
-use Rattle.lists.specs.Lists.{if◌then◌else◌}
 use Rattle.rules.specs.Kept.{gap, spread_within, spread_keeps, quotes_keep}
 use Rattle.rules.specs.States.{kept, crossed, wide, state_word, quotes_state}
 use Rattle.price_keys.specs.Keys.{key_of, quote_key}

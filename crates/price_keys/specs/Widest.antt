@@ -1,10 +1,9 @@
 -- Document 01's spread test with its limit fixed once, so that the code multiplies no signed numbers and compares D with one
 -- natural number. `keys_law` in proofs/Spread shows that the two tests agree.
-use Rattle.std.specs.Prelude.{ℕ, ◌+◌, ◌*◌, ◌/◌, max, Bool, not, ◌&&◌, eqb, leb, ℤ, pos, negsuc, ◌≡◌}
+use Rattle.std.specs.Prelude.{ℕ, ◌+◌, ◌*◌, ◌/◌, max, Bool, not, ◌&&◌, eqb, leb, ℤ, pos, negsuc, ◌≡◌, if◌then◌else◌}
 use Rattle.std.specs.Int.Signed.{le_z}
 use Rattle.rules.specs.declared.Row.{Row}
 use Rattle.rules.specs.declared.SpreadRule.{SpreadRule}
-use Rattle.lists.specs.Lists.{if◌then◌else◌}
 use Rattle.rules.specs.Kept.{spread_within}
 
 -- the price, or 0 where it is negative

@@ -6,11 +6,10 @@
 // keys agrees with it.
 #![tactic(auto)]
 
-ghost use Rattle.std.specs.Prelude.{◌≡◌, true, ◌≤◌, pos, eqb};
+ghost use Rattle.std.specs.Prelude.{◌≡◌, true, ◌≤◌, pos, eqb, if◌then◌else◌};
 ghost use Rattle.std.specs.Int.Signed.{le_z};
 ghost use Rattle.rules.specs.declared.Steps.{Steps};
 ghost use Rattle.rules.specs.declared.Quote.TheVariants.{At};
-ghost use Rattle.lists.specs.Lists.{if◌then◌else◌};
 ghost use Rattle.rules.specs.Units.{steps, good_price};
 ghost use Rattle.price_keys.specs.Widest.{positive_part, widest_of, keys_keep, keys_state};
 ghost use Rattle.price_keys.specs.Keys.{key_of, price_at, quote_key, quote_at};

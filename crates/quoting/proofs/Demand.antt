@@ -1,13 +1,13 @@
 -- Demand 3 of `quoting_calls`, for every list of calls whose numbers fit their types and whose bytes are below the limit: whatever the call
 -- promises on those bytes, with a buffer that has room, each call is made and answered from scratch (`demand_3` in crates/call_list/proofs has
 -- the rest).
+use Rattle.std.specs.Prelude.{if◌then◌else◌}
 use Prim.Native.Nat.{ℕ, ◌*◌, ◌≤◌, ◌<◌}
 use native.Mathlib.Omega.{arith}
 use mathlib.Core.Path.{◌≡◌, refl, ap, ◌∙◌}
 use mathlib.Core.List.{List}
 use lib.ListN.{length}
 use borrow.Author.Tests.{le-leb, lt-leb}
-use Rattle.lists.specs.Lists.{if◌then◌else◌}
 use Rattle.rules.specs.Answers.{accepted, refused}
 use Rattle.rules.specs.Calls.{Call}
 use Rattle.words.specs.Bytes.{words_in}

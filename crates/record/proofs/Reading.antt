@@ -1,4 +1,5 @@
 -- The laws that the reader's functions use.
+use Rattle.std.specs.Prelude.{if◌then◌else◌}
 use Prim.Native.Nat.{ℕ, ◌+◌, ◌*◌, ◌≤◌, ◌<◌}
 use native.Mathlib.Omega.{arith}
 use mathlib.Core.Path.{◌≡◌, refl, ap, sym, ◌∙◌}
@@ -11,7 +12,7 @@ use Rattle.rules.specs.declared.Steps.{Steps}
 use Rattle.rules.specs.declared.Side.TheVariants.{Buy, Sell}
 use Rattle.rules.specs.declared.Event.{Event}
 use Rattle.rules.specs.declared.Event.TheVariants.{Add, Amend, Cancel, Deal, Tick}
-use Rattle.lists.specs.Lists.{if◌then◌else◌, within}
+use Rattle.lists.specs.Lists.{within}
 use Rattle.rules.specs.Units.{millis, steps, contracts}
 use Rattle.rules.specs.Widths.{Word}
 use Rattle.rules.specs.Orders.{time_of}

@@ -1,9 +1,9 @@
 -- Document 01, "Event records and the session run": a record's fields under their units, and the event that they say.
-use Rattle.std.specs.Prelude.{ℕ, List, Bool, ◌&&◌, eqb, pos}
+use Rattle.std.specs.Prelude.{ℕ, List, Bool, ◌&&◌, eqb, pos, if◌then◌else◌}
 use Rattle.rules.specs.declared.Side.TheVariants.{Buy, Sell}
 use Rattle.rules.specs.declared.Event.{Event}
 use Rattle.rules.specs.declared.Event.TheVariants.{Add, Amend, Cancel, Deal, Tick}
-use Rattle.lists.specs.Lists.{if◌then◌else◌, within}
+use Rattle.lists.specs.Lists.{within}
 use Rattle.rules.specs.Units.{millis, steps, contracts}
 use Rattle.rules.specs.Answers.{Outcome, accepted, refused}
 use Rattle.rules.specs.Records.{word_at, signed_of, unsigned_of, Fields as Numbers, fields, add_kind, unused_zero}

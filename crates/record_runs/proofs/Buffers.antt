@@ -1,4 +1,5 @@
 -- Words in a lent buffer: new ones written after others, or over the last of them.
+use Rattle.std.specs.Prelude.{if◌then◌else◌}
 use Prim.Native.Nat.{ℕ, ◌+◌, ◌-◌, ◌≤◌, ◌<◌}
 use native.Mathlib.Omega.{arith}
 use mathlib.Core.Path.{◌≡◌, refl, sym, ap, ◌∙◌}
@@ -8,7 +9,6 @@ use lib.Dec.{leb}
 use lib.ListN.{length, take, drop, length-append}
 use lib.Seq.{sets, sets-eq, length-sets, take_at, drop-drop, drop-append-add}
 use borrow.Author.Tests.{le-leb, lt-leb, leb-true, leb-false}
-use Rattle.lists.specs.Lists.{if◌then◌else◌}
 use Rattle.record_runs.specs.Internal.{Front, put_words}
 
 pub put-fits : (buffer : List ℕ) (at : ℕ) (new : List ℕ) → at + length new ≤ length buffer → sets buffer at new ≡ put_words buffer at new

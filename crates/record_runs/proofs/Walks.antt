@@ -1,5 +1,6 @@
 -- A run over records, whatever it gathers: each record is past the limit, refused or taken. By what a run makes of one record, how it
 -- stands at a byte of its records, and that one that is not refused has taken them all.
+use Rattle.std.specs.Prelude.{if◌then◌else◌}
 use Prim.Native.Nat.{ℕ, zero, suc, ◌+◌, ◌*◌, ◌-◌, ◌/◌, ◌≤◌, ◌<◌}
 use native.Mathlib.Omega.{arith}
 use native.Mathlib.Nat.{div-eq_of_lt, add-div_left}
@@ -12,7 +13,7 @@ use lib.Seq.{drop-drop}
 use borrow.Author.Tests.{lt-leb, leb-true, leb-false, ltb-true, ltb-false}
 use Rattle.rules.specs.declared.Row.{Row}
 use Rattle.rules.specs.declared.Event.{Event}
-use Rattle.lists.specs.Lists.{if◌then◌else◌, below}
+use Rattle.lists.specs.Lists.{below}
 use Rattle.rules.specs.Answers.{Outcome, accepted, refused}
 use Rattle.rules.specs.Causes.{event_refusal}
 use Rattle.rules.specs.Records.{fields_of, event_of, good_record, read_record}

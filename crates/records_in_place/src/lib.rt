@@ -4,8 +4,7 @@
 // The records go through `quantum_in_place::step`, as an event call does, and the count of accepted calls moves once, after the last one.
 #![tactic(auto)]
 
-ghost use Rattle.std.specs.Prelude.{◌≡◌, [], ◌∷◌, ◌+◌, ◌*◌, ◌/◌, ◌≤◌, eqb, length, get_or};
-ghost use Rattle.lists.specs.Lists.{if◌then◌else◌};
+ghost use Rattle.std.specs.Prelude.{◌≡◌, [], ◌∷◌, ◌+◌, ◌*◌, ◌/◌, ◌≤◌, eqb, length, get_or, if◌then◌else◌};
 ghost use Rattle.rules.specs.Changes.{count_after};
 ghost use Rattle.lent.specs.Words.{low, high};
 ghost use Rattle.quantum_in_place.specs.Events.{HoldsQuantum};

@@ -1,6 +1,5 @@
 -- What may stand behind the calls of a piece.
-use Rattle.std.specs.Prelude.{ℕ, List, ltb, eqb}
-use Rattle.lists.specs.Lists.{if◌then◌else◌}
+use Rattle.std.specs.Prelude.{ℕ, List, ltb, eqb, if◌then◌else◌}
 use Rattle.call_blocks.specs.Kinds.{due_at}
 use Rattle.call_blocks.specs.Pieces.{is_told}
 use Rattle.replay_pieces.specs.declared.Rest.{Rest}

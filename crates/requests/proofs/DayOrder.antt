@@ -1,6 +1,7 @@
 -- The theorem: whole quanta filled in another order leave the same book. A whole quantum that is not refused does one thing to the book,
 -- told by its own calls alone: it puts a filled cell into a blank place. So each place holds the cell of the quantum that names it, in
 -- whatever order they came.
+use Rattle.std.specs.Prelude.{if◌then◌else◌}
 use Prim.Native.Nat.{ℕ, zero, suc, ◌+◌, ◌≤◌, ◌<◌}
 use native.Mathlib.Omega.{arith}
 use mathlib.Core.Path.{◌≡◌, refl, sym, ap, ◌∙◌, subst}
@@ -18,7 +19,7 @@ use Rattle.rules.specs.declared.Kopecks.{Kopecks}
 use Rattle.rules.specs.declared.Row.{Row}
 use Rattle.rules.specs.declared.Cell.{Cell}
 use Rattle.rules.specs.declared.Event.{Event}
-use Rattle.lists.specs.Lists.{if◌then◌else◌, sum, All}
+use Rattle.lists.specs.Lists.{sum, All}
 use Rattle.rules.specs.Terms.{Terms}
 use Rattle.rules.specs.Rows.{row_of}
 use Rattle.rules.specs.Cells.{blank_cell, place_of, cell_at}

@@ -1,5 +1,6 @@
 -- The theorem about old months: with p multiplied by ten, the terms in tenths of a percent answer each call as the terms in percent did.
 -- One relation between the two books, equal but that p is ten times as large, holds from call to call.
+use Rattle.std.specs.Prelude.{if◌then◌else◌}
 use Prim.Native.Nat.{ℕ, zero, suc, ◌+◌, ◌-◌, ◌*◌, ◌/◌, ◌^◌, ◌≤◌, ◌<◌, min}
 use native.Mathlib.Omega.{arith}
 use mathlib.Core.Path.{◌≡◌, refl, sym, ap, ◌∙◌}
@@ -20,7 +21,7 @@ use Rattle.rules.specs.declared.SpreadRule.{SpreadRule}
 use Rattle.rules.specs.declared.SpreadRule.TheVariants.{Settled, OfStrike}
 use Rattle.rules.specs.declared.Event.{Event}
 use Rattle.rules.specs.declared.Amendment.{Amendment}
-use Rattle.lists.specs.Lists.{if◌then◌else◌, within, sum, count_below, below, any, how_many, All}
+use Rattle.lists.specs.Lists.{within, sum, count_below, below, any, how_many, All}
 use Rattle.rules.specs.Units.{millis, contracts, kopecks, good_charge}
 use Rattle.rules.specs.Rows.{good_expiry, good_quantum, good_length, row_of, good_row, as_read, good_row_for}
 use Rattle.rules.specs.Cells.{blank_cell, good_cell, place_of, cell_at, series}

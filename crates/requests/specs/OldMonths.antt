@@ -1,10 +1,10 @@
 -- Document 02, W6: "In old months whose rows all have p at most 79, p is multiplied by ten first, and they must give the verdicts and fee that the
 -- meter gave for the same calls just before this ticket, W2's rule included." proofs/OldMonths shows that they do.
-use Rattle.std.specs.Prelude.{ℕ, ◌*◌, ◌≤◌, ◌≡◌, List, map, eqb, length, get_or, set}
+use Rattle.std.specs.Prelude.{ℕ, ◌*◌, ◌≤◌, ◌≡◌, List, map, eqb, length, get_or, set, if◌then◌else◌}
 use Rattle.rules.specs.declared.Row.{Row}
 use Rattle.rules.specs.declared.Cell.{Cell}
 use Rattle.rules.specs.declared.CellView.{CellView}
-use Rattle.lists.specs.Lists.{if◌then◌else◌, All}
+use Rattle.lists.specs.Lists.{All}
 use Rattle.rules.specs.Cells.{cell_at}
 use Rattle.rules.specs.Pay.{view_of, all_failures, fee}
 use Rattle.rules.specs.Answers.{Outcome, accepted, refused, Reply, done, cell, asked, report, outlook}

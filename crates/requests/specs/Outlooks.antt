@@ -1,7 +1,7 @@
 -- Outlook is no call of the papers. proofs/Outlooks shows that a list of calls without its outlooks leaves the same book, and that every other
 -- call of it is answered as it was: so the papers' calls mean what they mean without ours.
-use Rattle.std.specs.Prelude.{◌≡◌, List, [], ◌∷◌, Bool, true, false, not}
-use Rattle.lists.specs.Lists.{if◌then◌else◌, filter}
+use Rattle.std.specs.Prelude.{◌≡◌, List, [], ◌∷◌, Bool, true, false, not, if◌then◌else◌}
+use Rattle.lists.specs.Lists.{filter}
 use Rattle.rules.specs.Terms.{Terms}
 use Rattle.rules.specs.Calls.{Call, Open, Send, Message, Ask, Commit, Close, Drop, Charge, Withdraw, Look, Report, Outlook, fresh_book}
 use Rattle.rules.specs.Book.{answer_of, after}

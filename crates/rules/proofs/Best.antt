@@ -1,4 +1,5 @@
 -- What `best` means, and when it stays.
+use Rattle.std.specs.Prelude.{if◌then◌else◌}
 use Prim.Native.Nat.{ℕ, ◌+◌}
 use native.Mathlib.Omega.{arith}
 use mathlib.Core.Path.{◌≡◌, refl, sym, ap, ◌∙◌, subst, fun_ext}
@@ -13,7 +14,7 @@ use Rattle.rules.specs.declared.Quote.{Quote}
 use Rattle.rules.specs.declared.Quote.TheVariants.{Absent, At}
 use Rattle.rules.specs.declared.Order.{Order}
 use Rattle.rules.specs.declared.Steps.{Steps}
-use Rattle.lists.specs.Lists.{if◌then◌else◌, sum, filter}
+use Rattle.lists.specs.Lists.{sum, filter}
 use Rattle.rules.specs.Quotes.{same, at_least, in_depth, volume_of, depth, qualifies, better, lead, best, Means}
 use Rattle.lists.proofs.Lists.{sum-append, filter-append, filter-filter, kept_in_lem, in_kept, both}
 use Rattle.rules.proofs.Prices.{at_least_refl, at_least_trans, at_least-total, at_least_antisym}

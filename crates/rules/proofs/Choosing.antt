@@ -1,4 +1,5 @@
 -- The first of a table's full rows that passes, found by its index.
+use Rattle.std.specs.Prelude.{if◌then◌else◌}
 use Prim.Native.Nat.{ℕ, zero, suc, ◌/◌, ◌<◌}
 use mathlib.Core.Path.{◌≡◌, refl, sym, ◌∙◌}
 use mathlib.Core.List.{List, [], ◌∷◌, ◌++◌, map, map-append}
@@ -7,7 +8,7 @@ use mathlib.Core.Logic.{⊎_elim}
 use native.Mathlib.Omega.{arith}
 use native.Mathlib.Nat.{eq-or-lt_of_le}
 use lib.ListN.{length}
-use Rattle.lists.specs.Lists.{if◌then◌else◌, below, first_or}
+use Rattle.lists.specs.Lists.{below, first_or}
 use Rattle.rules.specs.Choosing.{row_words, is_for, rows, first_row, or_if_empty, chosen_row}
 
 module _ {A : Type 0} where

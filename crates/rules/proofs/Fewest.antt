@@ -1,6 +1,7 @@
 -- The theorem: of all lists of pairs, sorted by offset, lengths at least 1, that cover the numbers that pass and no others, the
 -- stretches are the one with the fewest pairs. None has fewer: where a stretch starts, a pair starts. One in which two pairs overlap or
 -- touch has more: the two joined, it is a list with one pair less. One in which none do is ours.
+use Rattle.std.specs.Prelude.{if◌then◌else◌}
 use Prim.Native.Nat.{ℕ, zero, suc, ◌+◌, ◌-◌, ◌≤◌, ◌<◌, max}
 use native.Mathlib.Omega.{arith}
 use lib.ListN.{length, length-append}
@@ -13,7 +14,7 @@ use borrow.Author.Tests.{lt-ltb, leb-true, leb-false, ltb-true, ltb-false, eq-eq
 use Rattle.rules.specs.declared.Row.{Row}
 use Rattle.rules.specs.declared.SpreadRule.{SpreadRule}
 use Rattle.rules.specs.declared.Event.{Event}
-use Rattle.lists.specs.Lists.{if◌then◌else◌, any, count_below}
+use Rattle.lists.specs.Lists.{any, count_below}
 use Rattle.rules.specs.Kept.{kept_at}
 use Rattle.rules.specs.Stretches.{Stretch, stretch, stretches, kept_stretches}
 use Rattle.rules.specs.Runs.{end, Apart, holds, covers, before}

@@ -1,5 +1,6 @@
 -- Laws of kept time: events at or before a millisecond are all seen at it, a later one is not; a locked or crossed quote is never
 -- kept.
+use Rattle.std.specs.Prelude.{if◌then◌else◌}
 use Prim.Native.Nat.{ℕ, zero, suc, ◌+◌, ◌-◌, ◌≤◌, ◌<◌}
 use native.Mathlib.Omega.{arith}
 use mathlib.Core.Path.{◌≡◌, refl, ap, ◌∙◌}
@@ -15,7 +16,7 @@ use Rattle.rules.specs.declared.Quote.TheVariants.{At}
 use Rattle.rules.specs.declared.Row.{Row}
 use Rattle.rules.specs.declared.SpreadRule.{SpreadRule}
 use Rattle.rules.specs.declared.Event.{Event}
-use Rattle.lists.specs.Lists.{if◌then◌else◌, filter, count_below}
+use Rattle.lists.specs.Lists.{filter, count_below}
 use Rattle.rules.specs.Orders.{live, time_of, time_from, present}
 use Rattle.rules.specs.Kept.{gap, spread_keeps, best_bid, best_ask, quotes_keep, orders_keep, up_to, kept_at, kept_below}
 use Rattle.rules.specs.Bounds.{Ordered}

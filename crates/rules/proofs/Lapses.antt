@@ -1,4 +1,5 @@
 -- Lapses: what they are, how a person counts them, and how their number grows as time runs on.
+use Rattle.std.specs.Prelude.{if◌then◌else◌}
 use Prim.Native.Nat.{ℕ, zero, suc, ◌+◌, ◌-◌, ◌≤◌, ◌<◌}
 use native.Mathlib.Omega.{arith}
 use mathlib.Core.Path.{◌≡◌, refl, ap, ◌∙◌}
@@ -9,7 +10,7 @@ use lib.ListN.{length, length-append}
 use Rattle.rules.specs.declared.Row.{Row}
 use Rattle.rules.specs.declared.SpreadRule.{SpreadRule}
 use Rattle.rules.specs.declared.Event.{Event}
-use Rattle.lists.specs.Lists.{if◌then◌else◌, count_below}
+use Rattle.lists.specs.Lists.{count_below}
 use Rattle.rules.specs.Orders.{live, time_of, present}
 use Rattle.rules.specs.Kept.{orders_keep, kept_at}
 use Rattle.rules.specs.Stretches.{stretch, stretches}

@@ -1,4 +1,5 @@
 -- Laws of the live orders: one more event; what each event does to their number, ids, prices and volumes; and what it does by position.
+use Rattle.std.specs.Prelude.{if◌then◌else◌}
 use Prim.Native.Nat.{ℕ, zero, suc, ◌-◌, ◌≤◌, ◌<◌}
 use native.Mathlib.Omega.{arith}
 use native.Mathlib.Nat.{not-suc-le-zero, le_of_suc-le-suc}
@@ -18,7 +19,7 @@ use Rattle.rules.specs.declared.Steps.{Steps}
 use Rattle.rules.specs.declared.Contracts.{Contracts}
 use Rattle.rules.specs.declared.Event.{Event}
 use Rattle.rules.specs.declared.Event.TheVariants.{Add, Amend, Cancel, Deal}
-use Rattle.lists.specs.Lists.{if◌then◌else◌, filter, any}
+use Rattle.lists.specs.Lists.{filter, any}
 use Rattle.rules.specs.Units.{contracts}
 use Rattle.rules.specs.Orders.{has_id, is_live, left, amended_order, lessened_order, something_left, apply, apply_all, live, time_of, time_from, present}
 use Rattle.rules.specs.Bounds.{Distinct}

@@ -1,5 +1,6 @@
 -- Laws of event records, up to the round trip at the end: an event that is written and read is the same event, and a record that is
 -- read and written is the same record.
+use Rattle.std.specs.Prelude.{if◌then◌else◌}
 use Prim.Native.Nat.{ℕ, zero, suc, ◌+◌, ◌-◌, ◌*◌, ◌/◌, ◌%◌, ◌≤◌, ◌<◌}
 use native.Mathlib.Omega.{arith}
 use mathlib.Core.Path.{◌≡◌, refl, sym, ap, ◌∙◌}
@@ -13,7 +14,7 @@ use lib.Seq.{length-take-le, drop-cons, drop-length, get_or-take}
 use Rattle.rules.specs.declared.Side.TheVariants.{Buy, Sell}
 use Rattle.rules.specs.declared.Event.{Event}
 use Rattle.rules.specs.declared.Event.TheVariants.{Add, Amend, Cancel, Deal, Tick}
-use Rattle.lists.specs.Lists.{if◌then◌else◌, within}
+use Rattle.lists.specs.Lists.{within}
 use Rattle.rules.specs.Units.{steps}
 use Rattle.rules.specs.Answers.{accepted, refused}
 use Rattle.rules.specs.Records.{word_at, word_bytes, signed_of, unsigned_of, Fields, fields, event_fields, field_bytes, record_of, fields_of, event_of, unused_zero, padding_zero, good_record, read_record}

@@ -1,5 +1,6 @@
 -- Laws of `first_number`; what an accepted event or call has passed, cause by cause, and that what has passed is accepted; the book's step and
 -- answer by the refusal.
+use Rattle.std.specs.Prelude.{if◌then◌else◌}
 use Prim.Native.Nat.{ℕ, zero, suc, ◌≤◌, ◌<◌}
 use native.Mathlib.Omega.{arith}
 use mathlib.Core.Path.{◌≡◌, refl, sym, ap, ◌∙◌}
@@ -18,7 +19,7 @@ use Rattle.rules.specs.declared.Event.{Event}
 use Rattle.rules.specs.declared.Event.TheVariants.{Add, Amend, Cancel, Deal, Tick}
 use Rattle.rules.specs.declared.Amendment.{Amendment}
 use Rattle.rules.specs.declared.Ticket.{Ticket}
-use Rattle.lists.specs.Lists.{if◌then◌else◌, within, All}
+use Rattle.lists.specs.Lists.{within, All}
 use Rattle.rules.specs.Terms.{Terms}
 use Rattle.rules.specs.Units.{good_price, good_volume, good_charge}
 use Rattle.rules.specs.Rows.{row_of, good_row_for}

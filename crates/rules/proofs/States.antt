@@ -1,4 +1,5 @@
 -- The states of a millisecond: the one state kept is the papers' kept.
+use Rattle.std.specs.Prelude.{if◌then◌else◌}
 use Prim.Native.Nat.{ℕ, ◌≤◌, ◌<◌}
 use mathlib.Core.Path.{◌≡◌, refl, ap}
 use mathlib.Core.List.{List, [], ◌∷◌, ◌++◌}
@@ -11,7 +12,6 @@ use Rattle.rules.specs.declared.Order.{Order}
 use Rattle.rules.specs.declared.Row.{Row}
 use Rattle.rules.specs.declared.SpreadRule.{SpreadRule}
 use Rattle.rules.specs.declared.Event.{Event}
-use Rattle.lists.specs.Lists.{if◌then◌else◌}
 use Rattle.rules.specs.Orders.{live, time_of, present}
 use Rattle.rules.specs.Kept.{gap, spread_within, spread_keeps, quotes_keep, orders_keep, best_bid, best_ask, up_to, kept_at}
 use Rattle.rules.specs.Bounds.{Ordered}

@@ -1,4 +1,5 @@
 -- The stretches of a test below a bound, for any test: what they are, that no other list is that, and how they grow.
+use Rattle.std.specs.Prelude.{if◌then◌else◌}
 use Prim.Native.Nat.{ℕ, zero, suc, ◌+◌, ◌*◌, ◌≤◌, ◌<◌}
 use native.Mathlib.Omega.{arith}
 use lib.ListN.{length}
@@ -10,7 +11,7 @@ use borrow.Author.Tests.{le-leb, lt-leb, leb-true, leb-false, lt-ltb, le-ltb, lt
 use Rattle.rules.specs.declared.Row.{Row}
 use Rattle.rules.specs.declared.SpreadRule.{SpreadRule}
 use Rattle.rules.specs.declared.Event.{Event}
-use Rattle.lists.specs.Lists.{if◌then◌else◌, any, sum, count_below}
+use Rattle.lists.specs.Lists.{any, sum, count_below}
 use Rattle.rules.specs.Kept.{kept_at, kept_below}
 use Rattle.rules.specs.Stretches.{Stretch, stretch, grown, grown_if, stretches, kept_stretches, pair_words}
 use Rattle.rules.specs.Runs.{end, length_of, Apart, Inside, holds, covers, Runs, before, ends_at, lengthened, extended}

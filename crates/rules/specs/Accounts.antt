@@ -1,11 +1,11 @@
 -- Where the time went: the whole quantum, 0 to L, as stretches of one state, each as long as it can be, and the milliseconds of each
 -- state. The account run takes what the session run takes, or a strike's numbers in place of SP, and is refused as that is.
-use Rattle.std.specs.Prelude.{ℕ, zero, suc, ◌+◌, ◌*◌, ◌≤◌, ◌<◌, ◌≡◌, ◌≢◌, List, [], ◌∷◌, ◌++◌, map, Bool, not, ltb, eqb, length, drop}
+use Rattle.std.specs.Prelude.{ℕ, zero, suc, ◌+◌, ◌*◌, ◌≤◌, ◌<◌, ◌≡◌, ◌≢◌, List, [], ◌∷◌, ◌++◌, map, Bool, not, ltb, eqb, length, drop, if◌then◌else◌}
 use Rattle.rules.specs.declared.Row.{Row}
 use Rattle.rules.specs.declared.SpreadRule.{SpreadRule}
 use Rattle.rules.specs.declared.Opening.{Opening}
 use Rattle.rules.specs.declared.Event.{Event}
-use Rattle.lists.specs.Lists.{if◌then◌else◌, filter, count_below, All}
+use Rattle.lists.specs.Lists.{filter, count_below, All}
 use Rattle.rules.specs.Terms.{Terms}
 use Rattle.rules.specs.States.{State, kept, has_no_bid, has_no_ask, neither, crossed, wide, state_word, is_kept, state_at}
 use Rattle.rules.specs.Stretches.{Stretch, stretch}

@@ -1,5 +1,5 @@
 -- Document 01, "Refused calls": the causes of a refusal, each with its number, and the first that applies.
-use Rattle.std.specs.Prelude.{ℕ, List, [], ◌∷◌, ◌++◌, Bool, true, false, not, ◌&&◌, ℤ, leb, ltb, eqb, length}
+use Rattle.std.specs.Prelude.{ℕ, List, [], ◌∷◌, ◌++◌, Bool, true, false, not, ◌&&◌, ℤ, leb, ltb, eqb, length, if◌then◌else◌}
 use Rattle.std.specs.Int.Signed.{le_z}
 use Rattle.rules.specs.declared.SpreadRule.{SpreadRule}
 use Rattle.rules.specs.declared.SpreadRule.TheVariants.{Settled, OfStrike}
@@ -10,7 +10,7 @@ use Rattle.rules.specs.declared.Event.{Event}
 use Rattle.rules.specs.declared.Event.TheVariants.{Add, Amend, Cancel, Deal, Tick}
 use Rattle.rules.specs.declared.Amendment.{Amendment}
 use Rattle.rules.specs.declared.Ticket.{Ticket}
-use Rattle.lists.specs.Lists.{if◌then◌else◌, within, any}
+use Rattle.lists.specs.Lists.{within, any}
 use Rattle.rules.specs.Terms.{Terms}
 use Rattle.rules.specs.Units.{good_price, good_volume, good_charge}
 use Rattle.rules.specs.Rows.{row_of, good_row_for}

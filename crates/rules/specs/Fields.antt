@@ -1,7 +1,6 @@
 -- Document 02, W11: the fields of a message, "tag in digits (the first not 0), equals sign, value (at least one byte), byte 1".
-use Rattle.std.specs.Prelude.{ℕ, Bool, true, false, ◌&&◌, not, List, [], ◌∷◌, ◌++◌, eqb}
+use Rattle.std.specs.Prelude.{ℕ, Bool, true, false, ◌&&◌, not, List, [], ◌∷◌, ◌++◌, eqb, if◌then◌else◌}
 use Rattle.std.proofs.Math.Option.{Option, none, some}
-use Rattle.lists.specs.Lists.{if◌then◌else◌}
 use Rattle.rules.specs.Digits.{all_digits}
 
 -- a field: the digits of its tag, so that a tag of any length is compared digit by digit (4294967304 is not 8), and its value

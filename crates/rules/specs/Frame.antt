@@ -1,7 +1,7 @@
 -- Document 02, W11: the frame of a message: version, body length, type, checksum. What is not so framed is refused by 20.
-use Rattle.std.specs.Prelude.{ℕ, ◌%◌, Bool, true, false, ◌&&◌, ◌||◌, not, List, [], ◌∷◌, eqb, length}
+use Rattle.std.specs.Prelude.{ℕ, ◌%◌, Bool, true, false, ◌&&◌, ◌||◌, not, List, [], ◌∷◌, eqb, length, if◌then◌else◌}
 use Rattle.std.proofs.Math.Option.{Option, none, some}
-use Rattle.lists.specs.Lists.{if◌then◌else◌, sum, any}
+use Rattle.lists.specs.Lists.{sum, any}
 use Rattle.rules.specs.Text.{ascii}
 use Rattle.rules.specs.Digits.{in_digits, three_digits}
 use Rattle.rules.specs.Fields.{Field, fields_bytes, fields_of, same_bytes, has_tag}

@@ -1,11 +1,11 @@
 -- Document 01, "A row and a month" and "Afresh": what events do to the live orders.
-use Rattle.std.specs.Prelude.{ℕ, ◌-◌, List, [], ◌∷◌, ◌++◌, map, Bool, not, eqb, ltb}
+use Rattle.std.specs.Prelude.{ℕ, ◌-◌, List, [], ◌∷◌, ◌++◌, map, Bool, not, eqb, ltb, if◌then◌else◌}
 use Rattle.rules.specs.declared.Order.{Order}
 use Rattle.rules.specs.declared.Steps.{Steps}
 use Rattle.rules.specs.declared.Contracts.{Contracts}
 use Rattle.rules.specs.declared.Event.{Event}
 use Rattle.rules.specs.declared.Event.TheVariants.{Add, Amend, Cancel, Deal, Tick}
-use Rattle.lists.specs.Lists.{if◌then◌else◌, filter, any}
+use Rattle.lists.specs.Lists.{filter, any}
 use Rattle.rules.specs.Units.{contracts}
 
 abbrev pub has_id : ℕ → Order → Bool

@@ -1,7 +1,7 @@
 -- The outlook on an open quantum: how much must still be kept, whether the maker may rest, and until when. No term of the papers, but built
 -- from theirs: a cell that is met or failed, its weight, lapses. What the answers mean of the calls that may follow is in
 -- the crate `continuations`.
-use Rattle.std.specs.Prelude.{ℕ, zero, suc, ◌+◌, ◌-◌, ◌*◌, ◌/◌, List, Bool, true, false, ◌&&◌, ◌||◌, leb, ltb, eqb, pos, length}
+use Rattle.std.specs.Prelude.{ℕ, zero, suc, ◌+◌, ◌-◌, ◌*◌, ◌/◌, List, Bool, true, false, ◌&&◌, ◌||◌, leb, ltb, eqb, pos, length, if◌then◌else◌}
 use Rattle.rules.specs.declared.Row.{Row}
 use Rattle.rules.specs.declared.SpreadRule.{SpreadRule}
 use Rattle.rules.specs.declared.Opening.{Opening}
@@ -12,7 +12,7 @@ use Rattle.rules.specs.declared.Possible.TheVariants.{Never, At}
 use Rattle.rules.specs.declared.LapsesLeft.{LapsesLeft}
 use Rattle.rules.specs.declared.LapsesLeft.TheVariants.{Unlimited, Over, Left}
 use Rattle.rules.specs.declared.Outlook.{Outlook}
-use Rattle.lists.specs.Lists.{if◌then◌else◌, count_below}
+use Rattle.lists.specs.Lists.{count_below}
 use Rattle.rules.specs.Terms.{Terms}
 use Rattle.rules.specs.Units.{millis, kopecks}
 use Rattle.rules.specs.Orders.{present}

@@ -1,8 +1,8 @@
 -- Document 01, "Verdict, weight, fee", with document 02, W6: p in tenths of a percent, "met is 1000 × K ≥ p × L, n = f - p, d = 800 - p".
-use Rattle.std.specs.Prelude.{ℕ, ◌+◌, ◌-◌, ◌*◌, ◌/◌, ◌^◌, min, List, [], ◌∷◌, map, Bool, not, ◌&&◌, leb, ltb}
+use Rattle.std.specs.Prelude.{ℕ, ◌+◌, ◌-◌, ◌*◌, ◌/◌, ◌^◌, min, List, [], ◌∷◌, map, Bool, not, ◌&&◌, leb, ltb, if◌then◌else◌}
 use Rattle.rules.specs.declared.Cell.{Cell}
 use Rattle.rules.specs.declared.CellView.{CellView}
-use Rattle.lists.specs.Lists.{if◌then◌else◌, sum, any, how_many}
+use Rattle.lists.specs.Lists.{sum, any, how_many}
 use Rattle.rules.specs.Terms.{Terms}
 use Rattle.rules.specs.Cells.{series}
 use Rattle.rules.specs.Lapses.{within_lapse_limit}

@@ -1,5 +1,5 @@
 -- Document 01, "Best quote and kept time": the best quote on a side of the live orders.
-use Rattle.std.specs.Prelude.{ℕ, ◌≡◌, Bool, true, false, ◌&&◌, leb, ℤ}
+use Rattle.std.specs.Prelude.{ℕ, ◌≡◌, Bool, true, false, ◌&&◌, leb, ℤ, if◌then◌else◌}
 use mathlib.Core.List.{List, [], ◌∷◌, map, Memᴰ}
 use Rattle.std.specs.Int.Signed.{le_z}
 use Rattle.rules.specs.declared.Side.{Side}
@@ -7,7 +7,7 @@ use Rattle.rules.specs.declared.Side.TheVariants.{Buy, Sell}
 use Rattle.rules.specs.declared.Quote.{Quote}
 use Rattle.rules.specs.declared.Quote.TheVariants.{Absent, At}
 use Rattle.rules.specs.declared.Order.{Order}
-use Rattle.lists.specs.Lists.{if◌then◌else◌, sum, filter}
+use Rattle.lists.specs.Lists.{sum, filter}
 
 abbrev pub same : Side → Side → Bool
 same Buy Buy = true

@@ -1,7 +1,7 @@
 -- What the stretches of a test below a bound are, apart from how they are computed: document 01's "the kept stretches as pairs of
 -- offset and length, sorted by offset, each as long as it can be, so that no two touch". No other list fits it.
-use Rattle.std.specs.Prelude.{ℕ, zero, suc, ◌+◌, ◌≤◌, ◌≡◌, List, [], ◌∷◌, map, Bool, false, ◌&&◌, leb, ltb, eqb}
-use Rattle.lists.specs.Lists.{if◌then◌else◌, any, sum, count_below}
+use Rattle.std.specs.Prelude.{ℕ, zero, suc, ◌+◌, ◌≤◌, ◌≡◌, List, [], ◌∷◌, map, Bool, false, ◌&&◌, leb, ltb, eqb, if◌then◌else◌}
+use Rattle.lists.specs.Lists.{any, sum, count_below}
 use Rattle.rules.specs.Stretches.{Stretch, stretch}
 
 -- the first number past a stretch

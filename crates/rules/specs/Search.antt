@@ -1,8 +1,8 @@
 -- Document 02, W3: for how many live orders the search for a best quote adds up volumes.
-use Rattle.std.specs.Prelude.{ℕ, ◌+◌, List, [], ◌∷◌, ◌++◌, Bool, not, ◌&&◌}
+use Rattle.std.specs.Prelude.{ℕ, ◌+◌, List, [], ◌∷◌, ◌++◌, Bool, not, ◌&&◌, if◌then◌else◌}
 use Rattle.rules.specs.declared.Side.{Side}
 use Rattle.rules.specs.declared.Order.{Order}
-use Rattle.lists.specs.Lists.{if◌then◌else◌, any, filter}
+use Rattle.lists.specs.Lists.{any, filter}
 use Rattle.rules.specs.Quotes.{same, at_least, qualifies}
 
 -- an order's price is at that of another or worse

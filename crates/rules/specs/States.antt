@@ -1,6 +1,6 @@
 -- What a millisecond of a quantum is: kept, or not kept and for which of five reasons. The maker's question where the time went; the papers'
 -- own word is kept alone, and `kept-state` (proofs/States) says that the one state is exactly that.
-use Rattle.std.specs.Prelude.{ℕ, List, Bool, true, false, ℤ, pos}
+use Rattle.std.specs.Prelude.{ℕ, List, Bool, true, false, ℤ, pos, if◌then◌else◌}
 use Rattle.std.specs.Int.Signed.{le_z}
 use Rattle.rules.specs.declared.Quote.{Quote}
 use Rattle.rules.specs.declared.Quote.TheVariants.{Absent, At}
@@ -8,7 +8,6 @@ use Rattle.rules.specs.declared.Order.{Order}
 use Rattle.rules.specs.declared.Row.{Row}
 use Rattle.rules.specs.declared.SpreadRule.{SpreadRule}
 use Rattle.rules.specs.declared.Event.{Event}
-use Rattle.lists.specs.Lists.{if◌then◌else◌}
 use Rattle.rules.specs.Orders.{live}
 use Rattle.rules.specs.Kept.{gap, spread_within, best_bid, best_ask, up_to}
 

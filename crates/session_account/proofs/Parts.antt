@@ -1,5 +1,6 @@
 -- The stretches of one state below a bound, for any states: what they are, that no other list is that, how they grow, and how they
 -- stand to the kept stretches and the lapses.
+use Rattle.std.specs.Prelude.{if◌then◌else◌}
 use Prim.Native.Nat.{ℕ, zero, suc, ◌+◌, ◌≤◌, ◌<◌}
 use native.Mathlib.Omega.{arith}
 use mathlib.Core.Path.{◌≡◌, refl, sym, ap, ◌∙◌, subst}
@@ -9,7 +10,7 @@ use mathlib.Core.Bool.{Bool, true, false}
 use lib.Dec.{eqb, leb}
 use lib.ListN.{length}
 use borrow.Author.Tests.{eq-eqb, eqb-true, eqb-false, leb-true, leb-false}
-use Rattle.lists.specs.Lists.{if◌then◌else◌, sum, All}
+use Rattle.lists.specs.Lists.{sum, All}
 use Rattle.rules.specs.States.{State, kept, has_no_bid, has_no_ask, neither, crossed, wide, state_word}
 use Rattle.rules.specs.Accounts.{Part, part, same_state, grown_by, parts, in_state, time_in, Tiles, Stays, Differ, AccountOf}
 use Rattle.lists.proofs.Counting.{count_stretch, count_le, count_ext}

@@ -1,5 +1,6 @@
 -- The theorems: the lengths of an account add up to L and the states' sums do; its kept stretches are the session run's pairs; its other
 -- stretches, joined where they touch, are W1's lapses; no other list is the account; and the run is refused as the session run is.
+use Rattle.std.specs.Prelude.{if◌then◌else◌}
 use Prim.Native.Nat.{ℕ, zero, suc, ◌+◌, ◌≤◌, ◌<◌}
 use native.Mathlib.Omega.{arith}
 use mathlib.Core.Path.{◌≡◌, refl, sym, ap, ◌∙◌}
@@ -11,7 +12,7 @@ use Rattle.rules.specs.declared.Row.{Row}
 use Rattle.rules.specs.declared.SpreadRule.{SpreadRule}
 use Rattle.rules.specs.declared.SpreadRule.TheVariants.{Settled}
 use Rattle.rules.specs.declared.Event.{Event}
-use Rattle.lists.specs.Lists.{if◌then◌else◌, filter, sum, count_below, All}
+use Rattle.lists.specs.Lists.{filter, sum, count_below, All}
 use Rattle.rules.specs.Terms.{paper}
 use Rattle.rules.specs.Rows.{row_of}
 use Rattle.rules.specs.Units.{kopecks}

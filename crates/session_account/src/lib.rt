@@ -4,10 +4,9 @@
 // Two passes, as in the session run. The state is worked out before each event and at the end, from the two best keys of the table.
 #![tactic(auto)]
 
-ghost use Rattle.std.specs.Prelude.{◌≡◌, ℕ, ◌+◌, ◌≤◌, true, [], length};
+ghost use Rattle.std.specs.Prelude.{◌≡◌, ℕ, ◌+◌, ◌≤◌, true, [], length, if◌then◌else◌};
 ghost use Rattle.rules.specs.declared.Row.{Row};
 ghost use Rattle.rules.specs.declared.SpreadRule.{SpreadRule};
-ghost use Rattle.lists.specs.Lists.{if◌then◌else◌};
 ghost use Rattle.rules.specs.Terms.{paper};
 ghost use Rattle.rules.specs.Rows.{good_row_for};
 ghost use Rattle.rules.specs.Causes.{good_spread_rule};

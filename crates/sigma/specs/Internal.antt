@@ -1,6 +1,5 @@
 -- How the code holds prices and R: unsigned, each raised by a number that makes it positive. 3R - S is the same for raised R.
-use Rattle.std.specs.Prelude.{ℕ, ◌+◌, ◌-◌, ◌≤◌, ltb, ℤ, pos, negsuc, nat_abs, ◌+ℤ◌, ◌-ℤ◌, ◌||◌}
-use Rattle.lists.specs.Lists.{if◌then◌else◌}
+use Rattle.std.specs.Prelude.{ℕ, ◌+◌, ◌-◌, ◌≤◌, ltb, ℤ, pos, negsuc, nat_abs, ◌+ℤ◌, ◌-ℤ◌, ◌||◌, if◌then◌else◌}
 use Rattle.sigma.specs.declared.Change.{Change}
 use Rattle.sigma.specs.declared.Change.TheVariants.{Unusable, By}
 use Rattle.sigma.specs.declared.SigmaAnswer.{SigmaAnswer}

@@ -1,6 +1,5 @@
 -- Document 02, W12: sigma, from three R.
-use Rattle.std.specs.Prelude.{ℕ, ◌+◌, ◌-◌, ◌*◌, List, [], ◌∷◌, ◌||◌, leb, ltb, ℤ, pos, nat_abs, ◌+ℤ◌, ◌-ℤ◌, ◌*ℤ◌, length, get_or, drop}
-use Rattle.lists.specs.Lists.{if◌then◌else◌}
+use Rattle.std.specs.Prelude.{ℕ, ◌+◌, ◌-◌, ◌*◌, List, [], ◌∷◌, ◌||◌, leb, ltb, ℤ, pos, nat_abs, ◌+ℤ◌, ◌-ℤ◌, ◌*ℤ◌, length, get_or, drop, if◌then◌else◌}
 use Rattle.numbers.specs.Greatest.{greatest_up_to}
 use Rattle.sigma.specs.declared.SigmaAnswer.{SigmaAnswer}
 use Rattle.sigma.specs.declared.SigmaAnswer.TheVariants.{Absent, Of}

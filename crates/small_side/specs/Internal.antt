@@ -1,6 +1,5 @@
 -- What the functions on a small side promise to each other.
-use Rattle.std.specs.Prelude.{ℕ, ◌+◌, ◌≤◌, ◌/◌, ◌%◌, ◌≡◌, Bool, List, [], ◌∷◌, ltb, eqb}
-use Rattle.lists.specs.Lists.{if◌then◌else◌}
+use Rattle.std.specs.Prelude.{ℕ, ◌+◌, ◌≤◌, ◌/◌, ◌%◌, ◌≡◌, Bool, List, [], ◌∷◌, ltb, eqb, if◌then◌else◌}
 use Rattle.best_quote.specs.declared.Level.{Level}
 
 -- the key and the volume of an order that is one number

@@ -5,8 +5,8 @@
 // carried sums of such a side are 0.
 #![tactic(auto)]
 
-ghost use Rattle.std.specs.Prelude.{◌≡◌, true, ◌+◌, ◌*◌, ◌≤◌, ◌%◌, min, max, ltb, length};
-ghost use Rattle.lists.specs.Lists.{if◌then◌else◌, how_many};
+ghost use Rattle.std.specs.Prelude.{◌≡◌, true, ◌+◌, ◌*◌, ◌≤◌, ◌%◌, min, max, ltb, length, if◌then◌else◌};
+ghost use Rattle.lists.specs.Lists.{how_many};
 ghost use Rattle.best_quote.specs.Levels.{is_best, Columns};
 ghost use Rattle.small_side.specs.Small.{BestKeyFound};
 ghost use Rattle.small_side.specs.Internal.{Descending, four, level_in};

@@ -2,12 +2,12 @@
 -- list of calls can be written as words and is read back as it was.
 --     afresh       the theorem: a list that ran from count 0 left `Afresh`
 --     read-back    the words of a list of calls are a list of calls, and say those
+use Rattle.std.specs.Prelude.{if◌then◌else◌}
 use Prim.Native.Nat.{ℕ}
 use mathlib.Core.Path.{◌≡◌, refl, sym, ap, subst, ◌∙◌}
 use mathlib.Core.List.{List, [], ◌∷◌, ◌++◌}
 use mathlib.Core.Bool.{true}
 use lib.ListN.{length, drop}
-use Rattle.lists.specs.Lists.{if◌then◌else◌}
 use Rattle.standing_rules.specs.declared.Maker.{Maker}
 use Rattle.standing_rules.specs.Calls.{Standing, standing, used, Call, Join, Change, Leave, call_of, after, outcomes_from}
 use Rattle.standing_rules.specs.Roll.{roll_after, Stands}

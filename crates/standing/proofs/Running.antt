@@ -1,4 +1,5 @@
 -- A list of calls that runs, one call after the other: records, count and outcomes after the first k of them.
+use Rattle.std.specs.Prelude.{if◌then◌else◌}
 use Prim.Native.Nat.{ℕ, zero, suc, ◌+◌, ◌*◌, ◌≤◌, ◌<◌}
 use native.Mathlib.Omega.{arith}
 use native.Mathlib.Numerals.{add-one}
@@ -9,7 +10,6 @@ use lib.Dec.{leb}
 use lib.ListN.{length, get_or, take, drop, set, length-append, length-drop}
 use lib.Seq.{take-suc, drop-cons, set_at, take-length, length-take-le}
 use borrow.Author.Tests.{leb-true}
-use Rattle.lists.specs.Lists.{if◌then◌else◌}
 use Rattle.lists.proofs.Lists.{both}
 use Rattle.standing_rules.specs.Calls.{Standing, Call, Leave, asked, call_of, wrong, refusal_of, step, after, outcomes_from}
 use Rattle.standing_rules.proofs.Working.{wrong-after}

@@ -1,7 +1,6 @@
 -- The claim about lists of calls, about running code: what is promised of a list of calls that runs on lent records.
-use Rattle.std.specs.Prelude.{ℕ, ◌≡◌, true, ◌&&◌, leb, length, drop}
+use Rattle.std.specs.Prelude.{ℕ, ◌≡◌, true, ◌&&◌, leb, length, drop, if◌then◌else◌}
 use mathlib.Core.List.{List, [], ◌++◌, Memᴰ}
-use Rattle.lists.specs.Lists.{if◌then◌else◌}
 use Rattle.standing_rules.specs.declared.Maker.{Maker}
 use Rattle.standing_rules.specs.Order.{sorted}
 use Rattle.standing_rules.specs.Calls.{Standing, standing, used, after, outcomes_from}

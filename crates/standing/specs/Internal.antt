@@ -1,6 +1,5 @@
 -- How the code goes through a list of calls. A reader of the promises needs none of it.
-use Rattle.std.specs.Prelude.{ℕ, ◌+◌, ◌*◌, List, Bool, ◌&&◌, leb, length, get_or}
-use Rattle.lists.specs.Lists.{if◌then◌else◌}
+use Rattle.std.specs.Prelude.{ℕ, ◌+◌, ◌*◌, List, Bool, ◌&&◌, leb, length, get_or, if◌then◌else◌}
 use Rattle.standing_rules.specs.declared.Asked.{Asked}
 use Rattle.standing_rules.specs.Calls.{asked}
 use Rattle.standing.specs.declared.Measured.{Measured}

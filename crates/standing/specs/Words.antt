@@ -1,6 +1,5 @@
 -- A list of calls as 32-bit words, three a call: 1 join, 2 change or 3 leave, the maker's number, the rating; a leave's rating is 0.
-use Rattle.std.specs.Prelude.{ℕ, List, [], ◌∷◌, ◌++◌, Bool, true, false, ◌&&◌, ◌||◌, eqb}
-use Rattle.lists.specs.Lists.{if◌then◌else◌}
+use Rattle.std.specs.Prelude.{ℕ, List, [], ◌∷◌, ◌++◌, Bool, true, false, ◌&&◌, ◌||◌, eqb, if◌then◌else◌}
 use Rattle.standing_rules.specs.Calls.{Call, Join, Change, Leave, asked, call_of}
 
 -- three words that say a call: the kind and the rating decide

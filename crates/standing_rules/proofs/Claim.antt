@@ -3,6 +3,7 @@
 --     claim        the theorem, as `Claimed`
 --     same-list    two lists in order with the same records are one
 --     stands_step  one call, on the standing and on the roll
+use Rattle.std.specs.Prelude.{if◌then◌else◌}
 use Prim.Native.Nat.{ℕ, zero, suc, ◌+◌, ◌-◌, zero-le}
 use native.Mathlib.Omega.{arith}
 use mathlib.Core.Path.{◌≡◌, refl, sym, ap, subst, ◌∙◌}
@@ -14,7 +15,6 @@ use lib.Dec.{eqb, leb}
 use lib.ListN.{length, take, drop, length-append, length-drop}
 use lib.Seq.{take_at}
 use borrow.Author.Tests.{eqb-true, eqb-false, eq-eqb, ne_eqb}
-use Rattle.lists.specs.Lists.{if◌then◌else◌}
 use Rattle.rules.specs.Causes.{cause}
 use Rattle.lists.proofs.Members.{any_none, some_any}
 use Rattle.rules.proofs.Refusals.{skip}

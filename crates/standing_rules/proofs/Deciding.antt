@@ -1,11 +1,11 @@
 -- What a decision says of the tests that led to it, by the kind of the call.
+use Rattle.std.specs.Prelude.{if◌then◌else◌}
 use Prim.Native.Nat.{ℕ, suc}
 use native.Mathlib.Omega.{arith}
 use mathlib.Core.Path.{◌≡◌, refl, ap, sym, ◌∙◌}
 use mathlib.Core.Bool.{Bool, true, false}
 use lib.Dec.{eqb}
 use borrow.Author.Tests.{eq-eqb, ne_eqb}
-use Rattle.lists.specs.Lists.{if◌then◌else◌}
 use Rattle.standing_rules.specs.declared.Asked.{Asked}
 use Rattle.standing_rules.specs.Order.{maker}
 use Rattle.standing_rules.specs.Calls.{Call, Join, Change, Leave, call_of}

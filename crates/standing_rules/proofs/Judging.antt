@@ -2,6 +2,7 @@
 --     marked_is   a mark is there exactly where a record before has left it
 --     look_back   whether the maker has a record before is seen from as many as the mark says
 --     good_is     what was checked is whether the records are sorted, each maker once
+use Rattle.std.specs.Prelude.{if◌then◌else◌}
 use Prim.Native.Nat.{ℕ, zero, suc, ◌≤◌, ◌<◌, ◌%◌, min}
 use native.Mathlib.Omega.{arith}
 use native.Mathlib.Nat.{mod-lt, min-eq_left}
@@ -12,7 +13,7 @@ use lib.Dec.{eqb, ltb}
 use lib.ListN.{length, take, get_or, set, length-set, length-replicate, get_or-replicate}
 use lib.Seq.{take-suc, get_or-set_same, get_or-set_other}
 use borrow.Author.Tests.{eq-eqb, ne_eqb, eqb-true, eqb-false, ltb-false}
-use Rattle.lists.specs.Lists.{if◌then◌else◌, any, every}
+use Rattle.lists.specs.Lists.{any, every}
 use Rattle.lists.proofs.Lists.{both}
 use Rattle.lists.proofs.Members.{any_append, any_none, none_any}
 use Rattle.standing_rules.specs.declared.Maker.{Maker}

@@ -1,5 +1,6 @@
 -- The order of the standing: `above` goes on, and decides between any two makers; what `every`, `sorted` and `once` say of members and
 -- of a list that grows at its end.
+use Rattle.std.specs.Prelude.{if◌then◌else◌}
 use Prim.Native.Nat.{ℕ, ◌<◌}
 use native.Mathlib.Omega.{arith}
 use mathlib.Core.Path.{◌≡◌, refl, sym, ap, ◌∙◌}
@@ -8,7 +9,7 @@ use mathlib.Core.List.{List, [], ◌∷◌, ◌++◌, Memᴰ}
 use mathlib.Core.Bool.{Bool, true, false, not, ◌&&◌, ◌||◌, and_assoc, and-true, or-false}
 use lib.Dec.{eqb, ltb}
 use borrow.Author.Tests.{ltb-true, ltb-false, lt-ltb, eqb-true, eqb-false, eq-eqb, ne_eqb, not-true}
-use Rattle.lists.specs.Lists.{if◌then◌else◌, any, filter, every}
+use Rattle.lists.specs.Lists.{any, filter, every}
 use Rattle.lists.proofs.Lists.{both, and, kept_in_lem}
 use Rattle.lists.proofs.Members.{any_append, any-filter}
 use Rattle.standing_rules.specs.declared.Maker.{Maker}

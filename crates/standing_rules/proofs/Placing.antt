@@ -1,4 +1,5 @@
 -- A record at its place: by how many rank above it, and what `placed` and `without` leave of members, order and length.
+use Rattle.std.specs.Prelude.{if◌then◌else◌}
 use Prim.Native.Nat.{ℕ, suc, ◌+◌, ◌≤◌, zero-le}
 use native.Mathlib.Omega.{arith}
 use native.Mathlib.Numerals.{one-add}
@@ -10,7 +11,7 @@ use mathlib.Core.Bool.{Bool, true, false, true≢false, not, ◌&&◌, ◌||◌}
 use lib.ListN.{length, take, drop}
 use lib.Seq.{take-append-le, drop-append-le, take_at, drop_at}
 use borrow.Author.Tests.{eqb-true, eqb-false, ne_eqb, not-true}
-use Rattle.lists.specs.Lists.{if◌then◌else◌, any, filter, how_many, every}
+use Rattle.lists.specs.Lists.{any, filter, how_many, every}
 use Rattle.lists.proofs.Lists.{kept_in_lem, in_kept}
 use Rattle.lists.proofs.Members.{any_none, none_any, or_false, filter-all}
 use Rattle.standing_rules.specs.declared.Maker.{Maker}

@@ -1,4 +1,5 @@
 -- What a look through the first records finds, in the words of the standing.
+use Rattle.std.specs.Prelude.{if◌then◌else◌}
 use Prim.Native.Nat.{ℕ, zero, suc, ◌+◌, ◌≤◌, ◌<◌, zero-le}
 use native.Mathlib.Omega.{arith}
 use mathlib.Core.Path.{◌≡◌, refl, sym, ap, subst, ◌∙◌}
@@ -7,7 +8,7 @@ use mathlib.Core.Bool.{Bool, true, false, true≢false, not, ◌&&◌, ◌||◌}
 use lib.ListN.{length, take, drop, get_or, length-append, drop_of_length-le}
 use lib.Seq.{take-suc, take_at, take-append-le, drop-append-le, length-take-le}
 use borrow.Author.Tests.{eqb-true, not-true}
-use Rattle.lists.specs.Lists.{if◌then◌else◌, any, filter, how_many, every}
+use Rattle.lists.specs.Lists.{any, filter, how_many, every}
 use Rattle.lists.proofs.Lists.{both, filter-append, filter-one}
 use Rattle.lists.proofs.Members.{any_append}
 use Rattle.standing_rules.specs.declared.Maker.{Maker}

@@ -1,5 +1,6 @@
 -- A record that is taken out at one place and put in at another, the records between moving by one place, one after the other: the list
 -- while a hole is at i is the rest with something put in there.
+use Rattle.std.specs.Prelude.{if◌then◌else◌}
 use Prim.Native.Nat.{ℕ, suc, ◌+◌, ◌-◌, ◌≤◌, ◌<◌}
 use native.Mathlib.Omega.{arith}
 use native.Mathlib.Numerals.{add-one}
@@ -10,7 +11,6 @@ use lib.Dec.{ltb}
 use lib.ListN.{length, take, drop, set, get_or, length-append, length-take, length-drop}
 use lib.Seq.{take-suc, drop-cons, split_at, set_at, get_or_at, length-take-le, get_or-append-add}
 use borrow.Author.Tests.{ltb-true, ltb-false}
-use Rattle.lists.specs.Lists.{if◌then◌else◌}
 use Rattle.standing_rules.specs.Internal.{inserted, removed, shifted, nearer}
 use Rattle.standing_rules.proofs.Placing.{inserted_between}
 

@@ -1,4 +1,5 @@
 -- What was found and decided does what the call is to do: the refusal, the count and the records of `step`.
+use Rattle.std.specs.Prelude.{if◌then◌else◌}
 use Prim.Native.Nat.{ℕ, zero, suc, ◌+◌, ◌-◌, ◌≤◌, ◌<◌, min}
 use native.Mathlib.Omega.{arith}
 use native.Mathlib.Nat.{min-eq_left}
@@ -9,7 +10,7 @@ use lib.Dec.{leb, ltb}
 use lib.ListN.{length, take, drop, take-append-drop, length-append}
 use lib.Seq.{take-append-le, drop-append-le, take_at, length-take-le}
 use borrow.Author.Tests.{ltb-false, le-ltb, leb-false, eq-eqb, ne_eqb, not-false}
-use Rattle.lists.specs.Lists.{if◌then◌else◌, how_many}
+use Rattle.lists.specs.Lists.{how_many}
 use Rattle.rules.specs.Answers.{outcome_by}
 use Rattle.rules.specs.Causes.{cause, first_number}
 use Rattle.lists.proofs.Lists.{both}

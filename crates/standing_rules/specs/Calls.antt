@@ -1,7 +1,7 @@
 -- Document 02, W13: "Keep the standing in a lent list of records, maker number and rating, .. with a count of those used. Makers join, change
 -- rating and leave." The three calls on such a list and count, and what each answers and leaves.
-use Rattle.std.specs.Prelude.{ℕ, ◌+◌, ◌-◌, List, [], ◌∷◌, ◌++◌, Bool, not, ◌&&◌, ◌||◌, eqb, leb, ltb, length, take, drop}
-use Rattle.lists.specs.Lists.{if◌then◌else◌, filter}
+use Rattle.std.specs.Prelude.{ℕ, ◌+◌, ◌-◌, List, [], ◌∷◌, ◌++◌, Bool, not, ◌&&◌, ◌||◌, eqb, leb, ltb, length, take, drop, if◌then◌else◌}
+use Rattle.lists.specs.Lists.{filter}
 use Rattle.rules.specs.Answers.{Outcome, outcome_by}
 use Rattle.rules.specs.Causes.{Cause, cause, first_number}
 use Rattle.rules.specs.Lowest.{FirstIsLowest}

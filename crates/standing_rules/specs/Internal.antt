@@ -1,7 +1,6 @@
 -- How the code performs the calls: what a look through the used records finds, what is to be done, and how a record moves. A reader of the
 -- promises needs none of it.
-use Rattle.std.specs.Prelude.{ℕ, zero, suc, ◌+◌, ◌-◌, ◌%◌, List, ◌∷◌, ◌++◌, Bool, true, false, not, ◌&&◌, ◌||◌, eqb, ltb, take, drop, get_or, set, replicate}
-use Rattle.lists.specs.Lists.{if◌then◌else◌}
+use Rattle.std.specs.Prelude.{ℕ, zero, suc, ◌+◌, ◌-◌, ◌%◌, List, ◌∷◌, ◌++◌, Bool, true, false, not, ◌&&◌, ◌||◌, eqb, ltb, take, drop, get_or, set, replicate, if◌then◌else◌}
 use Rattle.standing_rules.specs.declared.Maker.{Maker}
 use Rattle.standing_rules.specs.declared.Seen.{Seen}
 use Rattle.standing_rules.specs.declared.Checked.{Checked}

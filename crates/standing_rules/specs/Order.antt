@@ -1,6 +1,6 @@
 -- Document 02, W13: the order of the standing, "sorted by rating downwards, equal ratings by lower maker number, each once".
-use Rattle.std.specs.Prelude.{ℕ, List, [], ◌∷◌, Bool, true, not, ◌&&◌, eqb, ltb}
-use Rattle.lists.specs.Lists.{if◌then◌else◌, any, every}
+use Rattle.std.specs.Prelude.{ℕ, List, [], ◌∷◌, Bool, true, not, ◌&&◌, eqb, ltb, if◌then◌else◌}
+use Rattle.lists.specs.Lists.{any, every}
 use Rattle.standing_rules.specs.declared.Maker.{Maker}
 
 abbrev pub maker : ℕ → ℕ → Maker

@@ -1,9 +1,8 @@
 -- Document 02, W13, the claim about lists: "the present makers with the ratings last accepted", worked out afresh from the list of calls. A
 -- roll knows of each number whether a maker has it, and with what rating, and how many makers are present; it knows no records and no
 -- order of them.
-use Rattle.std.specs.Prelude.{ℕ, ◌+◌, ◌-◌, ◌≤◌, ◌≡◌, Bool, true, false, not, eqb, leb, length}
+use Rattle.std.specs.Prelude.{ℕ, ◌+◌, ◌-◌, ◌≤◌, ◌≡◌, Bool, true, false, not, eqb, leb, length, if◌then◌else◌}
 use mathlib.Core.List.{List, [], ◌∷◌, Memᴰ}
-use Rattle.lists.specs.Lists.{if◌then◌else◌}
 use Rattle.rules.specs.Causes.{Cause, cause, first_number}
 use Rattle.standing_rules.specs.declared.Maker.{Maker}
 use Rattle.standing_rules.specs.Order.{sorted, once}

@@ -2,8 +2,7 @@
 // look through the used ones, what a call is answered and where its record moves. The calls themselves are in `standing`.
 #![tactic(auto)]
 
-ghost use Rattle.std.specs.Prelude.{◌≡◌, true, not, ◌&&◌, ◌||◌, ◌+◌, ◌≤◌, ◌<◌, ◌^◌, min, leb, ltb};
-ghost use Rattle.lists.specs.Lists.{if◌then◌else◌};
+ghost use Rattle.std.specs.Prelude.{◌≡◌, true, not, ◌&&◌, ◌||◌, ◌+◌, ◌≤◌, ◌<◌, ◌^◌, min, leb, ltb, if◌then◌else◌};
 ghost use Rattle.standing_rules.specs.Order.{above};
 ghost use Rattle.standing_rules.specs.Calls.{call_of};
 ghost use Rattle.standing_rules.specs.Internal.{look_of, back_to, marked, is_behind, check_of, nearer, record_of, judged, accepted, planned};

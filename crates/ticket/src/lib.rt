@@ -3,8 +3,7 @@
 // A crate of its own, so that an edit of the test of a ticket proves little again.
 #![tactic(auto)]
 
-ghost use Rattle.std.specs.Prelude.{◌≡◌, eqb};
-ghost use Rattle.lists.specs.Lists.{if◌then◌else◌};
+ghost use Rattle.std.specs.Prelude.{◌≡◌, eqb, if◌then◌else◌};
 ghost use Rattle.rules.specs.Causes.{same_price, same_amendment, good_ticket};
 ghost use Rattle.rules.specs.Changes.{following};
 

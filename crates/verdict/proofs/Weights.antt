@@ -1,4 +1,5 @@
 -- The numbers of verdict and weight: what fits, and the bounds of a weight.
+use Rattle.std.specs.Prelude.{if◌then◌else◌}
 use Prim.Native.Nat.{ℕ, ◌+◌, ◌-◌, ◌*◌, ◌/◌, ◌^◌, ◌≤◌, ◌<◌}
 use native.Mathlib.Nat.{mul_assoc, mul_comm, one-mul, mul-le-mul, mul-le-mul_left, pow-le-pow_left, pow-suc, pow-zero, one-le-pow, div-le_of_le-mul, le-div_iff_mul-le}
 use native.Mathlib.Omega.{arith}
@@ -6,7 +7,6 @@ use mathlib.Core.Path.{◌≡◌, refl}
 use mathlib.Core.Bool.{Bool, true, false, ◌&&◌, and-true, and-false}
 use borrow.Author.Tests.{leb-true, leb-false, le-leb, lt-leb}
 use lib.Dec.{leb}
-use Rattle.lists.specs.Lists.{if◌then◌else◌}
 use Rattle.rules.specs.Terms.{paper}
 use Rattle.rules.specs.Pay.{thousandths, met, weight_met, weight_by, weight}
 

@@ -1,4 +1,5 @@
 -- The answer by its causes, and that two different answers never show the same.
+use Rattle.std.specs.Prelude.{if◌then◌else◌}
 use Prim.Native.Nat.{ℕ}
 use native.Mathlib.Omega.{arith}
 use mathlib.Core.Path.{◌≡◌, refl, sym, ap}
@@ -6,7 +7,7 @@ use mathlib.Core.List.{List}
 use mathlib.Core.Bool.{Bool, true, false, true≢false, ◌||◌}
 use lib.IntN.{ℤ}
 use lib.ListN.{length}
-use Rattle.lists.specs.Lists.{if◌then◌else◌, any}
+use Rattle.lists.specs.Lists.{any}
 use Rattle.rules.specs.Answers.{Outcome, accepted, refused}
 use Rattle.sigma.specs.Changes.{changes, bad_prices}
 use Rattle.sigma.specs.Sigmas.{sigmas}

@@ -1,4 +1,5 @@
 -- The periods from one day to the next.
+use Rattle.std.specs.Prelude.{if◌then◌else◌}
 use Prim.Native.Nat.{ℕ, zero, suc, ◌+◌, ◌-◌, ◌≤◌, ◌<◌}
 use native.Mathlib.Omega.{arith}
 use mathlib.Core.Path.{◌≡◌, refl, sym, ap, ◌∙◌}
@@ -8,7 +9,7 @@ use mathlib.Core.Bool.{Bool, true, false, true≢false, not, ◌&&◌, ◌||◌,
 use borrow.Author.Tests.{le-leb, lt-leb, leb-true, leb-false}
 use lib.Dec.{leb, ltb}
 use lib.ListN.{length}
-use Rattle.lists.specs.Lists.{if◌then◌else◌, any, All}
+use Rattle.lists.specs.Lists.{any, All}
 use Rattle.lists.proofs.Members.{any_append, or_false}
 use Rattle.sigma.proofs.Differences.{lt_or_ge}
 use Rattle.volatile.specs.Periods.{Period, first_from, is_in, is_early, sigma_on, average, last_day, period_from, periods}

@@ -1,6 +1,6 @@
 -- Document 02, W12: what is answered, and what each case of the answer shows.
-use Rattle.std.specs.Prelude.{ℕ, List, Bool, true, false, ◌||◌, ℤ, length}
-use Rattle.lists.specs.Lists.{if◌then◌else◌, any}
+use Rattle.std.specs.Prelude.{ℕ, List, Bool, true, false, ◌||◌, ℤ, length, if◌then◌else◌}
+use Rattle.lists.specs.Lists.{any}
 use Rattle.rules.specs.Answers.{Outcome, accepted, refused}
 use Rattle.sigma.specs.Changes.{changes, bad_prices}
 use Rattle.sigma.specs.Sigmas.{sigmas}

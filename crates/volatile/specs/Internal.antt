@@ -1,6 +1,5 @@
 -- What the code carries from day to day, one step at a time. The laws between it and the definitions are in proofs/.
-use Rattle.std.specs.Prelude.{ℕ, ◌+◌, ◌-◌, ◌/◌, ◌%◌, ◌≤◌, ◌<◌, ◌≡◌, Bool, true, false, ◌&&◌, leb, ltb, length, get_or, set, replicate}
-use Rattle.lists.specs.Lists.{if◌then◌else◌}
+use Rattle.std.specs.Prelude.{ℕ, ◌+◌, ◌-◌, ◌/◌, ◌%◌, ◌≤◌, ◌<◌, ◌≡◌, Bool, true, false, ◌&&◌, leb, ltb, length, get_or, set, replicate, if◌then◌else◌}
 use Rattle.sigma.specs.Sigmas.{sigma_of}
 use Rattle.sigma.specs.Internal.{lowered}
 use Rattle.volatile.specs.declared.Window.{Window}

@@ -1,7 +1,7 @@
 -- Document 02, W12: the periods, as stretches of days, found from the list of sigmas. A day is counted by the sigmas before it: day 0 is that
 -- of the first sigma, and the asked day is the one after the last.
-use Rattle.std.specs.Prelude.{ℕ, zero, suc, ◌-◌, ◌/◌, List, [], ◌∷◌, ◌++◌, Bool, not, ◌&&◌, leb, ltb, length, get_or, take, drop}
-use Rattle.lists.specs.Lists.{if◌then◌else◌, sum, any}
+use Rattle.std.specs.Prelude.{ℕ, zero, suc, ◌-◌, ◌/◌, List, [], ◌∷◌, ◌++◌, Bool, not, ◌&&◌, leb, ltb, length, get_or, take, drop, if◌then◌else◌}
+use Rattle.lists.specs.Lists.{sum, any}
 
 -- a period's first and last day
 pub record Period : Type 0 where

@@ -1,5 +1,6 @@
 -- The laws of two's complement that `to_steps` and `from_steps` use. The machine holds a signed number by its 32 bits, so a signed
 -- value in a goal is what is read back from them, `again z`.
+use Rattle.std.specs.Prelude.{if◌then◌else◌}
 use Prim.Native.Nat.{ℕ, zero, suc, ◌+◌, ◌-◌, ◌≤◌, ◌<◌}
 use native.Mathlib.Omega.{arith}
 use mathlib.Core.Path.{◌≡◌, refl, ap, ◌∙◌}
@@ -11,7 +12,6 @@ use lib.Signed.{mag, le_z, non_neg}
 use mir.Syntax.{w32}
 use mir.Val.{to_z, of_z, Fits, SFits}
 use mir.Facts.{to_z-of_z}
-use Rattle.lists.specs.Lists.{if◌then◌else◌}
 use Rattle.rules.specs.Units.{steps}
 use Rattle.rules.specs.Records.{signed_of, unsigned_of}
 

@@ -1,4 +1,5 @@
 -- The loop's invariant: the key next to it among those that were passed.
+use Rattle.std.specs.Prelude.{if◌then◌else◌}
 use Prim.Native.Nat.{ℕ, ◌-◌, ◌≤◌, min}
 use native.Mathlib.Omega.{arith}
 use mathlib.Core.Path.{◌≡◌, refl, ap, ◌∙◌}
@@ -6,7 +7,7 @@ use mathlib.Core.Bool.{Bool}
 use lib.Dec.{ltb}
 use lib.ListN.{length, get_or, take}
 use lib.Seq.{take-length}
-use Rattle.lists.specs.Lists.{if◌then◌else◌, filter}
+use Rattle.lists.specs.Lists.{filter}
 use Rattle.best_quote.specs.Levels.{greatest}
 use Rattle.best_level.specs.Candidates.{least, key_above}
 use Rattle.best_level.proofs.Nexts.{where_most, above-next}

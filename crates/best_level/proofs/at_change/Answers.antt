@@ -1,8 +1,8 @@
 -- By its test: one level more, or the guess itself.
+use Rattle.std.specs.Prelude.{if◌then◌else◌}
 use mathlib.Core.Path.{sym, ap, ◌∙◌}
 use mathlib.Core.Bool.{Bool}
 use borrow.Author.Rules.{rules}
-use Rattle.lists.specs.Lists.{if◌then◌else◌}
 use Rattle.best_quote.specs.declared.Level.{Level}
 use Rattle.best_quote.specs.Levels.{level_at}
 use Rattle.best_level.specs.Internal.{with_level}

@@ -1,8 +1,8 @@
 -- By its test: the guess itself, or one with the level next to its own.
+use Rattle.std.specs.Prelude.{if◌then◌else◌}
 use mathlib.Core.Path.{sym, ap, ◌∙◌}
 use mathlib.Core.Bool.{Bool}
 use borrow.Author.Rules.{rules}
-use Rattle.lists.specs.Lists.{if◌then◌else◌}
 use Rattle.best_quote.specs.declared.Level.{Level}
 use Rattle.best_level.specs.Internal.{next_level, with_level}
 use Rattle.best_level.proofs.Depths.{own_level, level_small}

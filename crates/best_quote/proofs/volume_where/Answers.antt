@@ -1,10 +1,10 @@
 -- `best_quote::volume_where` meets its contract, by its test.
+use Rattle.std.specs.Prelude.{if◌then◌else◌}
 use Prim.Native.Nat.{ℕ, ◌*◌, ◌≤◌}
 use native.Mathlib.Omega.{arith}
 use mathlib.Core.Path.{◌≡◌}
 use mathlib.Core.Bool.{Bool, true, false}
 use mir.Val.{bool_byte}
-use Rattle.lists.specs.Lists.{if◌then◌else◌}
 use borrow.Author.Rules.{rules}
 use Rattle.best_quote.proofs.volume_where.Goals as goal
 

@@ -1,8 +1,8 @@
 -- By whether a best key moved.
+use Rattle.std.specs.Prelude.{if◌then◌else◌}
 use mathlib.Core.Path.{sym, ap, ◌∙◌}
 use mathlib.Core.Bool.{Bool}
 use borrow.Author.Rules.{rules}
-use Rattle.lists.specs.Lists.{if◌then◌else◌}
 use Rattle.book.specs.Internal.{keeps_by}
 use Rattle.book.proofs.keeps_after.Goals as goal
 

@@ -1,10 +1,10 @@
 -- `call_step::open` meets its contract: seven words are the row, and of another length no word is needed (`handed`).
+use Rattle.std.specs.Prelude.{if◌then◌else◌}
 use Prim.Native.Nat.{ℕ}
 use native.Mathlib.Omega.{arith}
 use mathlib.Core.Path.{ap, ◌∙◌}
 use lib.Dec.{eqb}
 use lib.ListN.{length-take}
-use Rattle.lists.specs.Lists.{if◌then◌else◌}
 use Rattle.words.specs.Bytes.{words_in}
 use Rattle.call_blocks.specs.Kinds.{row_at}
 use Rattle.call_step.proofs.Rows.{handed}

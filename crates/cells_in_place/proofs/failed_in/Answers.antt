@@ -1,9 +1,10 @@
 -- The invariant: the count is that of the days passed, at most one for each.
+use Rattle.std.specs.Prelude.{if◌then◌else◌}
 use Prim.Native.Nat.{ℕ}
 use mathlib.Core.Path.{◌≡◌, refl, ap, ◌∙◌}
 use native.Mathlib.Omega.{arith}
 use Rattle.rules.specs.declared.Cell.{Cell}
-use Rattle.lists.specs.Lists.{if◌then◌else◌, below, how_many}
+use Rattle.lists.specs.Lists.{below, how_many}
 use Rattle.rules.specs.Terms.{paper}
 use Rattle.rules.specs.Cells.{series}
 use Rattle.rules.specs.Pay.{cell_failed, failures}

@@ -1,9 +1,9 @@
 -- With none open 7; else the refusal.
+use Rattle.std.specs.Prelude.{if◌then◌else◌}
 use mathlib.Core.Path.{ap, sym, ◌∙◌}
 use mathlib.Core.Bool.{Bool}
 use borrow.Author.Tests.{not-true, not-false}
 use Rattle.rules.specs.declared.Refusal.TheVariants.{NoQuantumOpen}
-use Rattle.lists.specs.Lists.{if◌then◌else◌}
 use Rattle.fix_events.specs.Internal.{unchanged}
 use borrow.Author.Rules.{rules}
 use Rattle.fix_events.proofs.untimely.Goals as goal

@@ -1,8 +1,8 @@
 -- By the flag.
+use Rattle.std.specs.Prelude.{if◌then◌else◌}
 use mathlib.Core.Path.{sym, ap, ◌∙◌}
 use mathlib.Core.Bool.{Bool}
 use borrow.Author.Tests.{eq-eqb, ne_eqb}
-use Rattle.lists.specs.Lists.{if◌then◌else◌}
 use Rattle.rules.specs.Answers.{number_of}
 use borrow.Author.Rules.{rules}
 use Rattle.messages_in_place.proofs.none_open_or.Goals as goal

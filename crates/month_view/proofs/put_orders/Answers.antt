@@ -1,11 +1,12 @@
 -- The loop's invariant: the orders before i are done, and so many of them are buys.
+use Rattle.std.specs.Prelude.{if◌then◌else◌}
 use Prim.Native.Nat.{◌+◌, ◌*◌, ◌-◌, ◌≤◌}
 use native.Mathlib.Omega.{arith}
 use mathlib.Core.Path.{◌≡◌, refl, sym, ap, ◌∙◌}
 use mathlib.Core.List.{◌++◌}
 use lib.ListN.{length, get_or, take, drop, length-drop}
 use lib.Seq.{length-take-le}
-use Rattle.lists.specs.Lists.{if◌then◌else◌, filter}
+use Rattle.lists.specs.Lists.{filter}
 use Rattle.rules.specs.declared.Order.{Order}
 use Rattle.rules.specs.declared.Side.TheVariants.{Buy}
 use Rattle.rules.specs.Quotes.{same}

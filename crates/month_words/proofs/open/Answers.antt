@@ -1,10 +1,10 @@
 -- Seven words are the row, and of another length no word is needed (`handed_changes`).
+use Rattle.std.specs.Prelude.{if◌then◌else◌}
 use Prim.Native.Nat.{ℕ}
 use native.Mathlib.Omega.{arith}
 use mathlib.Core.Path.{ap, ◌∙◌}
 use lib.Dec.{eqb}
 use lib.ListN.{length-take}
-use Rattle.lists.specs.Lists.{if◌then◌else◌}
 use Rattle.words.specs.Bytes.{words_in}
 use Rattle.call_blocks.specs.Kinds.{row_at}
 use Rattle.month_words.proofs.Rows.{handed_changes}

@@ -1,9 +1,9 @@
 -- `price_keys::keys_keep` meets its contract, which is its tests.
+use Rattle.std.specs.Prelude.{if◌then◌else◌}
 use mathlib.Core.Path.{◌≡◌, refl}
 use mathlib.Core.Bool.{Bool, true, false}
 use mir.Val.{bool_byte}
 use borrow.Author.Rules.{rules}
-use Rattle.lists.specs.Lists.{if◌then◌else◌}
 use Rattle.price_keys.specs.Widest.{keys_keep}
 use Rattle.price_keys.proofs.keys_keep.Goals as goal
 

@@ -1,4 +1,5 @@
 -- By its test.
+use Rattle.std.specs.Prelude.{if◌then◌else◌}
 use Prim.Native.Nat.{◌≤◌}
 use native.Mathlib.Omega.{arith}
 use mathlib.Core.Path.{◌≡◌, refl}
@@ -6,7 +7,6 @@ use mathlib.Core.Bool.{Bool, true, false}
 use mir.Val.{bool_byte}
 use lib.Dec.{ltb}
 use borrow.Author.Rules.{rules}
-use Rattle.lists.specs.Lists.{if◌then◌else◌}
 use Rattle.small_side.proofs.above.Goals as goal
 
 -- By its test.

@@ -1,7 +1,7 @@
 -- One more, or as it was.
+use Rattle.std.specs.Prelude.{if◌then◌else◌}
 use mathlib.Core.Path.{ap, sym, ◌∙◌}
 use mathlib.Core.Bool.{Bool}
-use Rattle.lists.specs.Lists.{if◌then◌else◌}
 use Rattle.rules.specs.Changes.{following}
 use borrow.Author.Rules.{rules}
 use Rattle.ticket.proofs.further.Goals as goal
