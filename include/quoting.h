@@ -14,7 +14,7 @@
  *   - Nothing is allocated and no state is kept between calls. Threads may call at the same time on different buffers only: while a call
  *     writes to a buffer, a month's words or its hints for one, no other call may read or write it. A month that several threads use needs
  *     a lock of theirs around each call.
- *   - A call works on its thread's stack, with QUOTING_STACK_BYTES at most, which are 16 KB.
+ *   - A call works on its thread's stack, with QUOTING_STACK_BYTES at most; but for quoting_standing 16 KB are enough.
  *   - The words of a month are written by quoting_month_fresh, quoting_month_call and quoting_month_records alone: a caller may keep, copy
  *     and store them, and hands these calls and quoting_month_view no others.
  * A caller has no other duties: whatever numbers, bytes and words are passed, each call ends and answers as described here. That is proved
@@ -72,7 +72,7 @@
 /* The most stack that a call uses, in bytes, as measured on x86-64 (tests/stack.c) and rounded up. What the thread itself needs comes on top.
    BYTES is for every call, STANDING for quoting_standing, MONTH for quoting_calls, OTHERS for the rest, a month's single calls among them. */
 #define QUOTING_STACK_BYTES QUOTING_STACK_STANDING
-#define QUOTING_STACK_STANDING 16384
+#define QUOTING_STACK_STANDING 69632
 #define QUOTING_STACK_MONTH 16384
 #define QUOTING_STACK_OTHERS 8192
 

@@ -37,12 +37,6 @@ def test_everything_is_inlined(objects: dict[str, dict[str, set[str]]], name: st
     assert not objects[name]["t"], f"{name} has functions of its own, which {call} calls for every record: {sorted(objects[name]['t'])}"
 
 
-def test_an_event_of_a_month_is_one_call(objects: dict[str, dict[str, set[str]]]) -> None:
-    """Events, asks and messages share one function; all that leads to it and all that it runs is inlined, a tick among that."""
-    shared = {name for name in objects["c_call.o"]["t"] if re.match(r"(month|quantum)_in_place\b|events\b|book\b|order_\w+\b|best_\w+\b|clock\b", name)}
-    assert shared == {"quantum_in_place::step_noted"}
-
-
 def test_the_check_finds_functions(objects: dict[str, dict[str, set[str]]]) -> None:
     """The main object has many of its own, so `nm` does show them."""
     assert len(objects["quoting.o"]["t"]) > 10
